@@ -1,0 +1,75 @@
+ghost use Rattle.std.specs.Prelude.{◌≡◌, ◌<◌, [], length, slice_get, IsTrue, ◌↔◌, OnSome};
+ghost use Rattle.std.specs.Option.{option_copied};
+ghost use Rattle.sig_lists.specs.Pushing.{IsPushed};
+
+use crate::pushed::Pushed;
+use std::alloc::Global;
+use std::marker::Model;
+
+/// A list of items, added to at its end. Contracts see the items alone, so a copy equals what it
+/// copies, and a type that holds a sequence of itself is plain data.
+#[derive(Debug, Drop)]
+pub struct Sequence<T> {
+    items: Vec<T>,
+}
+
+impl<T> Model for Sequence<T> {
+    ghost use Rattle.std.specs.Prelude.{List};
+    ghost use Rattle.std.specs.Coded.{coded_list};
+
+    ghost Value = { List T };
+
+    ghost coded = { coded_list T.code };
+
+    ghost view = { λ s. s.items.items };
+}
+
+impl<T> Sequence<T> {
+    /// The empty list. It takes no memory.
+    pub fn new(alloc: Global) -> Sequence<T>
+        ensures { result ≡ [] }
+    {
+        Sequence {
+            items: Vec::new(alloc),
+        }
+    }
+
+    /// How many items there are.
+    pub fn len(&self) -> usize
+        ensures { result ≡ length self.now }
+    {
+        self.items.len()
+    }
+
+    /// Whether there is no item.
+    pub fn is_empty(&self) -> bool
+        ensures { IsTrue result ↔ (self.now ≡ []) }
+    {
+        self.items.is_empty()
+    }
+
+    /// The item at this place, from 0. `None` exactly where the place isn't below the length.
+    pub fn get(&self, index: usize) -> Option<&T>
+        ensures value { option_copied result ≡ slice_get self.now index }
+        ensures within { OnSome result (index < length self.now) }
+    {
+        self.items.get(index)
+    }
+
+    /// The items, from the first to the last.
+    pub fn as_slice(&self) -> &[T]
+        ensures { result.now ≡ self.now }
+    {
+        self.items.as_slice()
+    }
+
+    /// Adds an item at the end.
+    pub fn push(&mut self, item: T) -> Pushed<T>
+        ensures { IsPushed self.old self.new item result }
+    {
+        match self.items.push(item) {
+            Ok(()) => Pushed::Added,
+            Err(full) => Pushed::Memory { item: full.value },
+        }
+    }
+}
