@@ -1,0 +1,3 @@
+pub mod Words
+pub mod TermText
+pub mod TermTest

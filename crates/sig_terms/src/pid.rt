@@ -1,0 +1,23 @@
+ghost use Rattle.std.specs.Prelude.{◌≡◌, OnOk, ◌++◌};
+ghost use Rattle.sig_terms.specs.TermText.{pid_text};
+
+use itoa::Buffer;
+use std::alloc::AllocError;
+
+/// A process identifier: the place of the process in its script, from 0.
+/// (Erlang Reference Manual, Data Types, Pid.)
+#[derive(Clone, Copy, Debug, PartialEq, Eq)]
+pub struct Pid(pub u32);
+
+impl Pid {
+    /// Appends the pid's text, `<N>`.
+    pub fn print(self, into: &mut Vec<u8>) -> Result<(), AllocError>
+        ensures { OnOk result (into.new.items ≡ into.old.items ++ pid_text self.0) }
+    {
+        let mut buffer = Buffer::new();
+        into.extend_from_slice(b"<")?;
+        into.extend_from_slice(buffer.format(self.0).as_bytes())?;
+        into.extend_from_slice(b">")?;
+        Ok(())
+    }
+}

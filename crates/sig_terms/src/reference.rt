@@ -1,0 +1,31 @@
+ghost use Rattle.std.specs.Prelude.{◌≡◌, OnOk, ◌++◌};
+ghost use Rattle.sig_terms.specs.TermText.{reference_text};
+
+use crate::pid::Pid;
+use itoa::Buffer;
+use std::alloc::AllocError;
+
+/// A reference, unique in a run. (Erlang Reference Manual, Data Types, Reference.)
+#[derive(Clone, Copy, Debug, PartialEq, Eq)]
+pub struct Ref {
+    /// The process that made it.
+    pub owner: Pid,
+    /// The number of this reference among those of its owner, from 1.
+    pub serial: u64,
+}
+
+impl Ref {
+    /// Appends the reference's text, `#Ref<O.S>`.
+    pub fn print(self, into: &mut Vec<u8>) -> Result<(), AllocError>
+        ensures { OnOk result (into.new.items ≡ into.old.items ++ reference_text self) }
+    {
+        let mut owner = Buffer::new();
+        let mut serial = Buffer::new();
+        into.extend_from_slice(b"#Ref<")?;
+        into.extend_from_slice(owner.format(self.owner.0).as_bytes())?;
+        into.extend_from_slice(b".")?;
+        into.extend_from_slice(serial.format(self.serial).as_bytes())?;
+        into.extend_from_slice(b">")?;
+        Ok(())
+    }
+}

@@ -1,0 +1,159 @@
+ghost use Rattle.std.specs.Prelude.{◌≡◌, ◌++◌, IfOk, OnOk, IsTrue, ◌↔◌, map};
+ghost use Rattle.std.specs.Fmt.{signed_decimal};
+ghost use Rattle.sig_terms.specs.TermText.{term_text, joined};
+ghost use Rattle.sig_terms.specs.TermTest.{same_term, same_list};
+
+use crate::atom::Atom;
+use crate::pid::Pid;
+use crate::reference::Ref;
+use itoa::Buffer;
+use sig_lists::{Pushed, Sequence};
+use std::alloc::{AllocError, Global};
+
+/// A list of terms.
+pub type Terms = Sequence<Term>;
+
+/// A value of Erlang: what is sent, stored and compared.
+/// (Erlang Reference Manual, Data Types.)
+#[derive(Debug, Drop)]
+pub enum Term {
+    /// An integer of 64 bits.
+    Int(i64),
+    /// An atom.
+    Atom(Atom),
+    /// A process.
+    Pid(Pid),
+    /// A reference.
+    Ref(Ref),
+    /// A tuple of these elements.
+    Tuple(Terms),
+    /// A proper list of these elements.
+    List(Terms),
+}
+
+/// Copies of the terms, in their order.
+#[cycle(copy)]
+fn copy_all(alloc: Global, items: &[Term]) -> Result<Terms, AllocError>
+    ensures { IfOk result (λ ts. ts ≡ items.now) }
+{
+    let mut copies = Sequence::new(alloc);
+    for item in items {
+        let copy = item.copy(alloc)?;
+        match copies.push(copy) {
+            Pushed::Added => {}
+            Pushed::Memory { item: _ } => return Err(AllocError),
+        }
+    }
+    Ok(copies)
+}
+
+/// Whether the two have equal terms in the same order.
+#[cycle(same)]
+fn same_all(a: &[Term], b: &[Term]) -> bool
+    ensures equal { IsTrue result ↔ (a.now ≡ b.now) }
+    ensures test { result ≡ same_list (map same_term a.now) b.now }
+{
+    if a.len() != b.len() {
+        return false;
+    }
+    let mut i = 0;
+    while i < a.len() {
+        if !a[i].same(&b[i]) {
+            return false;
+        }
+        i += 1;
+    }
+    true
+}
+
+/// Appends the texts of the terms, with a comma between two.
+#[cycle(print)]
+fn print_all(items: &[Term], into: &mut Vec<u8>) -> Result<(), AllocError>
+    ensures { OnOk result (into.new.items ≡ into.old.items ++ joined (map term_text items.now)) }
+{
+    match items {
+        [] => Ok(()),
+        [first, rest @ ..] => {
+            first.print(into)?;
+            for item in rest {
+                into.extend_from_slice(b",")?;
+                item.print(into)?;
+            }
+            Ok(())
+        }
+    }
+}
+
+/// Appends the text of an integer.
+fn print_int(n: i64, into: &mut Vec<u8>) -> Result<(), AllocError>
+    ensures { OnOk result (into.new.items ≡ into.old.items ++ signed_decimal n) }
+{
+    let mut buffer = Buffer::new();
+    into.extend_from_slice(buffer.format(n).as_bytes())
+}
+
+impl Term {
+    /// An equal term.
+    #[cycle(copy)]
+    pub fn copy(&self, alloc: Global) -> Result<Term, AllocError>
+        ensures { IfOk result (λ t. t ≡ self.now) }
+    {
+        match self {
+            Term::Int(n) => Ok(Term::Int(*n)),
+            Term::Atom(atom) => {
+                let atom = atom.copy(alloc)?;
+                Ok(Term::Atom(atom))
+            }
+            Term::Pid(pid) => Ok(Term::Pid(*pid)),
+            Term::Ref(reference) => Ok(Term::Ref(*reference)),
+            Term::Tuple(items) => {
+                let copies = copy_all(alloc, items.as_slice())?;
+                Ok(Term::Tuple(copies))
+            }
+            Term::List(items) => {
+                let copies = copy_all(alloc, items.as_slice())?;
+                Ok(Term::List(copies))
+            }
+        }
+    }
+
+    /// Whether the two are equal.
+    #[cycle(same)]
+    pub fn same(&self, other: &Term) -> bool
+        ensures equal { IsTrue result ↔ (self.now ≡ other.now) }
+        ensures test { result ≡ same_term self.now other.now }
+    {
+        match (self, other) {
+            (Term::Int(a), Term::Int(b)) => a == b,
+            (Term::Atom(a), Term::Atom(b)) => a.bytes() == b.bytes(),
+            (Term::Pid(a), Term::Pid(b)) => a == b,
+            (Term::Ref(a), Term::Ref(b)) => a == b,
+            (Term::Tuple(a), Term::Tuple(b)) => same_all(a.as_slice(), b.as_slice()),
+            (Term::List(a), Term::List(b)) => same_all(a.as_slice(), b.as_slice()),
+            _ => false,
+        }
+    }
+
+    /// Appends the term's text. Each term has one text.
+    #[cycle(print)]
+    pub fn print(&self, into: &mut Vec<u8>) -> Result<(), AllocError>
+        ensures { OnOk result (into.new.items ≡ into.old.items ++ term_text self.now) }
+    {
+        match self {
+            Term::Int(n) => print_int(*n, into),
+            Term::Atom(atom) => atom.print(into),
+            Term::Pid(pid) => pid.print(into),
+            Term::Ref(reference) => reference.print(into),
+            Term::Tuple(items) => {
+                into.extend_from_slice(b"{")?;
+                print_all(items.as_slice(), into)?;
+                into.extend_from_slice(b"}")
+            }
+            Term::List(items) => {
+                into.extend_from_slice(b"[")?;
+                print_all(items.as_slice(), into)?;
+                into.extend_from_slice(b"]")
+            }
+        }
+    }
+}
