@@ -1,0 +1,29 @@
+ghost use Rattle.std.specs.Prelude.{◌≡◌, ◌+◌, ◌<◌, ◌≤◌, length, IfSome};
+ghost use Rattle.sig_patterns.specs.Scanning.{first_clause};
+
+use crate::clause::Clause;
+use crate::pattern::matches;
+use sig_base::Steps;
+use sig_terms::Term;
+use std::sync::ledger::Ledger;
+
+/// The first of the clauses whose pattern matches the message, from 0. `None` exactly where none
+/// does. Counts one step for each pattern that it tries.
+pub fn first_match<L: Ledger>(
+    clauses: &[Clause],
+    message: &Term,
+    steps: &mut Steps<L>,
+) -> Option<usize>
+    ensures first { result ≡ first_clause clauses.now message.now }
+    ensures within { IfSome result (λ at. at < length clauses.now) }
+    ensures ticks { steps.new ≤ steps.old + length clauses.now }
+{
+    let mut at = 0;
+    while at < clauses.len() {
+        if matches(&clauses[at].pattern, message, steps) {
+            return Some(at);
+        }
+        at += 1;
+    }
+    None
+}

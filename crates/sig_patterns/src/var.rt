@@ -1,0 +1,18 @@
+ghost use Rattle.std.specs.Prelude.{◌≡◌, IfOk};
+
+use sig_terms::Name;
+use std::alloc::{AllocError, Global};
+
+/// A variable. (Erlang Reference Manual, Expressions, Variables.)
+#[derive(Debug, Drop)]
+pub struct Var(pub Name);
+
+impl Var {
+    /// An equal variable.
+    pub fn copy(&self, alloc: Global) -> Result<Var, AllocError>
+        ensures { IfOk result (λ v. v ≡ self.now) }
+    {
+        let name = self.0.copy(alloc)?;
+        Ok(Var(name))
+    }
+}
