@@ -1,0 +1,15 @@
+use Rattle.std.proofs.Common.{◌≡◌, ◌++◌, arith, take, subst, sym, List, ℕ}
+use Rattle.std.proofs.lemmas.Grind.{common_steps}
+use Rattle.std.proofs.lemmas.List.{take-append-le}
+use Rattle.sig_base.specs.Flow.{Took}
+use Rattle.sig_base.proofs.Pieces.{Took-more}
+use Rattle.sig_base.proofs.reading.read_all.Goals as goal
+
+pub loop-piece-preserved : goal.loop-piece-preserved
+loop-piece-preserved g c =
+    let e : c.extend_from_slice.new.self.items ≡ c.loop-piece.into.items ++ take c.in-Ok.n c.read.new.into = grind (arith, common_steps, take-append-le) in
+    record {
+      within = grind (arith, common_steps, c.in-Ok.ensures.within);
+      took = subst (λ (xs : List ℕ). Took (g.S.Source.left c.args.source.now) (g.S.Source.left c.read.new.self) xs) (sym e) (Took-more _ _ _ _ _ _ c.loop-piece.invariant.took c.in-Ok.ensures.takes);
+      count = omega (arith, c.in-Ok.ensures.count);
+    }

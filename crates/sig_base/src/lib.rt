@@ -1,0 +1,28 @@
+//! Where bytes come from and go to, the gate at which events are told, and a counter for contracts.
+#![tactic(auto)]
+
+mod failing_sink;
+mod failing_source;
+mod gate;
+mod memory_sink;
+mod memory_source;
+mod reading;
+mod sink;
+mod source;
+mod std_sink;
+mod std_source;
+mod steps;
+mod writing;
+
+pub use failing_sink::FailingSink;
+pub use failing_source::FailingSource;
+pub use gate::{Gate, OpenGate, Point};
+pub use memory_sink::MemorySink;
+pub use memory_source::MemorySource;
+pub use reading::{ReadAll, read_all};
+pub use sink::Sink;
+pub use source::{Failed, Source};
+pub use std_sink::StdSink;
+pub use std_source::StdSource;
+pub use steps::Steps;
+pub use writing::{Written, write_whole};

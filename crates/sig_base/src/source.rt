@@ -1,0 +1,24 @@
+ghost use Rattle.std.specs.Prelude.{ℕ, ◌+◌, ◌<◌, ◌≤◌, ◌≡◌, List, length, Option, IfOk, OnErr};
+ghost use Rattle.sig_base.specs.Flow.{Rose, Takes};
+
+/// A read or a write failed, and nothing was taken.
+#[derive(Clone, Copy, Debug, PartialEq, Eq)]
+pub struct Failed;
+
+/// Where bytes come from.
+pub trait Source {
+    // The bytes that reads will give from here on, where the source tells them.
+    ghost left: { Self → Option (List ℕ) };
+
+    // How many reads failed. It never falls.
+    ghost faults: { Self → ℕ };
+
+    /// Places bytes at the front of `into` and answers how many. 0 is the end of the input.
+    fn read(&mut self, into: &mut [u8]) -> Result<usize, Failed>
+        requires { 0 < length into.old }
+        ensures within { IfOk result (λ n. n ≤ length into.old) }
+        ensures takes { IfOk result (λ n. Takes (left self.old) (left self.new) into.new n) }
+        ensures failed { OnErr result (Rose (faults self.old) (faults self.new)) }
+        ensures kept { OnErr result (left self.new ≡ left self.old) }
+        ensures count { faults self.old ≤ faults self.new };
+}

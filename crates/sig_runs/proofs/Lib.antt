@@ -1,0 +1,13 @@
+pub mod Merge
+pub mod Crews
+pub mod Order
+pub mod Sorting
+pub mod Replay
+pub mod Inversion
+pub mod Whole
+pub mod Fresh
+pub mod Marks
+pub mod Events
+pub mod OnTheWay
+pub mod Delivery
+pub mod Pairs

@@ -1,0 +1,97 @@
+-- A sorted list of keys that has each event of a crew once gives the order of its events.
+use Rattle.std.proofs.Common.{◌≡◌, ℕ, zero, suc, ◌+◌, ◌<◌, ◌≤◌, Bool, true, false, cond, ◌&&◌, List, [], ◌∷◌, map, length, get_or, refl, sym, ap, ◌∙◌, subst, inl, inr, ◌⊎◌, ⊎_elim, arith}
+use Rattle.std.specs.Prelude.{◌==◌, is_some}
+use Rattle.std.specs.List.{count_by, AllAdjacentBelow, All}
+use Rattle.std.proofs.lemmas.Bool.{eq-eqb, cases_order}
+use Rattle.std.proofs.lemmas.List.Sums.{sum_by-cons}
+use Rattle.std.proofs.lemmas.List.Elements.{All-head, All-tail}
+use Rattle.sig_runs.specs.Rules.{Rules}
+use Rattle.sig_runs.specs.Crew.{Member}
+use Rattle.sig_runs.specs.Order.{Place, is_at, act_at, stamp_at, IsBefore, IsOrder}
+
+-- neighbours, by recursion
+abbrev pub Chain : {A : Type 0} → (A → A → Type 0) → List A → Type 0
+Chain R [] = Unit {0}
+Chain R (x ∷ []) = Unit {0}
+Chain R (x ∷ y ∷ rest) = R x y × Chain R (y ∷ rest)
+
+chain_from : {A : Type 0} (R : A → A → Type 0) (xs : List A) → AllAdjacentBelow R xs (length xs) → Chain R xs
+chain_from R [] h = tt
+chain_from R (x ∷ []) h = tt
+chain_from {A} R (x ∷ y ∷ rest) h = (
+  h 0 x (omega arith),
+  chain_from R (y ∷ rest) (λ k d l.
+      let e : suc k + 1 ≡ suc (k + 1) = omega arith in
+      subst (λ j. R (get_or (y ∷ rest) k d) (get_or (x ∷ y ∷ rest) j d)) e (h (suc k) d (omega arith))),
+)
+
+adjacent_from : {A : Type 0} (R : A → A → Type 0) (xs : List A) → Chain R xs → AllAdjacentBelow R xs (length xs)
+adjacent_from R [] h k d l = absurd (omega arith)
+adjacent_from R (x ∷ []) h k d l = absurd (omega arith)
+adjacent_from R (x ∷ y ∷ rest) h zero d l = h.0
+adjacent_from R (x ∷ y ∷ rest) h (suc k) d l =
+    let e : suc (k + 1) ≡ suc k + 1 = omega arith in
+    subst (λ j. R (get_or (y ∷ rest) k d) (get_or (x ∷ y ∷ rest) j d)) e (adjacent_from R (y ∷ rest) h.1 k d (omega arith))
+
+module _ {S X E K : Type 0} (rules : Rules S X E) (crew : List (Member S X E)) (stamp : K → ℕ) (place : K → Place) where
+  -- a stands before b, or is the same
+  abbrev pub NotAfterBy : K → K → Type 0
+  NotAfterBy a b = (stamp a < stamp b) ⊎ ((stamp a ≡ stamp b) × (((place a).pid < (place b).pid) ⊎ (((place a).pid ≡ (place b).pid) × ((place a).place ≤ (place b).place))))
+
+  abbrev counts : Place → K → Bool
+  counts a k = is_at a (place k)
+
+  count_by-map : (a : Place) (ks : List K) → count_by (is_at a) (map place ks) ≡ count_by (counts a) ks
+  count_by-map a [] = refl
+  count_by-map a (k ∷ ks) =
+      sum_by-cons (λ x. cond (is_at a x) 1 0) (place k) (map place ks) ∙ ap (λ z. cond (is_at a (place k)) 1 0 + z) (count_by-map a ks) ∙ sym (sum_by-cons (λ x. cond (counts a x) 1 0) k ks)
+
+  at_itself : (a : Place) → is_at a a ≡ true
+  at_itself a = ap (λ c. c && (a.place == a.place)) (eq-eqb a.pid a.pid refl) ∙ eq-eqb a.place a.place refl
+
+  -- the first of the list is counted
+  count-first : (k : K) (ks : List K) → count_by (counts (place k)) (k ∷ ks) ≡ 1 + count_by (counts (place k)) ks
+  count-first k ks = sum_by-cons (λ x. cond (counts (place k) x) 1 0) k ks ∙ ap (λ c. cond c 1 0 + count_by (counts (place k)) ks) (at_itself (place k))
+
+  count-more : (a : Place) (k : K) (ks : List K) → count_by (counts a) ks ≤ count_by (counts a) (k ∷ ks)
+  count-more a k ks = let e : count_by (counts a) (k ∷ ks) ≡ cond (counts a k) 1 0 + count_by (counts a) ks = sum_by-cons (λ x. cond (counts a x) 1 0) k ks in omega arith
+
+  -- neighbours differ, since each place is there once
+  strictly : (k l : K) (ks : List K) → ((a : Place) → count_by (counts a) (k ∷ l ∷ ks) ≤ 1) → stamp k ≡ stamp_at rules crew (place k) → stamp l ≡ stamp_at rules crew (place l) → NotAfterBy k l → IsBefore rules crew (place k) (place l)
+  strictly k l ks once ek el (inl h) = inl (omega arith)
+  strictly k l ks once ek el (inr (e, inl h)) = inr (sym ek ∙ e ∙ el, inl h)
+  strictly k l ks once ek el (inr (e, inr (p, q))) =
+      ⊎_elim
+      (λ same.
+      let at : place k ≡ place l = λ i. record { pid = p i; place = same i } in
+      let one : count_by (counts (place k)) (k ∷ l ∷ ks) ≡ 1 + count_by (counts (place k)) (l ∷ ks) = count-first k (l ∷ ks) in
+      let two : count_by (counts (place k)) (l ∷ ks) ≡ 1 + count_by (counts (place k)) ks = subst (λ z. count_by (counts z) (l ∷ ks) ≡ 1 + count_by (counts z) ks) (sym at) (count-first l ks) in
+      let most : count_by (counts (place k)) (k ∷ l ∷ ks) ≤ 1 = once (place k) in
+      absurd (omega arith))
+      (λ other. inr (sym ek ∙ e ∙ el, inr (p, ⊎_elim (λ w. w) (λ w. absurd (omega arith)) other)))
+      (cases_order (place k).place (place l).place)
+
+  chain_strictly : (ks : List K) → ((a : Place) → count_by (counts a) ks ≤ 1) → All (λ k. stamp k ≡ stamp_at rules crew (place k)) ks → Chain NotAfterBy ks → Chain (IsBefore rules crew) (map place ks)
+  chain_strictly [] once ties h = tt
+  chain_strictly (k ∷ []) once ties h = tt
+  chain_strictly (k ∷ l ∷ ks) once ties h = (
+    strictly k l ks once (All-head (λ k. stamp k ≡ stamp_at rules crew (place k)) k (l ∷ ks) ties)
+        (All-head (λ k. stamp k ≡ stamp_at rules crew (place k)) l ks (All-tail (λ k. stamp k ≡ stamp_at rules crew (place k)) k (l ∷ ks) ties)) h.0,
+    chain_strictly (l ∷ ks) (λ a. let m : count_by (counts a) (l ∷ ks) ≤ count_by (counts a) (k ∷ l ∷ ks) = count-more a k (l ∷ ks) in let o : count_by (counts a) (k ∷ l ∷ ks) ≤ 1 = once a in omega arith)
+        (All-tail (λ k. stamp k ≡ stamp_at rules crew (place k)) k (l ∷ ks) ties) h.1,
+  )
+
+  -- keys that are sorted, that have the stamps of their places, and that have each event of the crew once
+  pub sorted_is_order : (ks : List K) → ((a : Place) → count_by (counts a) ks ≡ cond (is_some (act_at crew a)) 1 0) → All (λ k. stamp k ≡ stamp_at rules crew (place k)) ks → AllAdjacentBelow NotAfterBy ks (length ks) →
+      IsOrder rules crew (map place ks)
+  sorted_is_order ks once ties order = record {
+    once = λ a. count_by-map a ks ∙ once a;
+    rising = adjacent_from (IsBefore rules crew) (map place ks) (chain_strictly ks at_most ties (chain_from NotAfterBy ks order));
+  }
+    where
+      one_or_none : (b : Bool) → cond b 1 0 ≤ 1
+      one_or_none true = omega arith
+      one_or_none false = omega arith
+
+      at_most : (a : Place) → count_by (counts a) ks ≤ 1
+      at_most a = subst (λ n. n ≤ 1) (sym (once a)) (one_or_none (is_some (act_at crew a)))
