@@ -1,3 +1,4 @@
 pub mod Words
 pub mod TermText
 pub mod TermTest
+pub mod References

@@ -1,0 +1,58 @@
+-- What one event does, before its stamp and the numbers of its signals are put in.
+use Rattle.std.specs.Prelude.{ℕ, ◌+◌, List, [], ◌∷◌, Option, Some, None, slice_get, codes}
+use Rattle.std.specs.Option.{option_map_or}
+use Rattle.std.specs.FinSet as set
+use Rattle.std.specs.FinMap as map
+use Rattle.sig_terms.specs.declared.term.Term.{Term}
+use Rattle.sig_terms.specs.declared.term.Term.TheVariants as term
+use Rattle.sig_kinds.specs.declared.signal.Kind.{Kind}
+use Rattle.sig_script.specs.declared.label.Label.{Label}
+use Rattle.sig_model.specs.declared.event.Outcome.{Outcome}
+use Rattle.sig_model.specs.declared.event.Outcome.TheVariants as outcome
+use Rattle.sig_model.specs.ProcessState.{ProcessState}
+
+-- a signal to be sent: its receiver, and what it says
+pub record Post : Type 0 where
+  pub to : ℕ
+  pub kind : Kind
+
+-- the new state but for stamp, counts and numbers; how the event went; and the signals that it sends, in order
+pub record Body : Type 0 where
+  pub state : ProcessState
+  pub outcome : Outcome
+  pub posts : List Post
+
+-- where a process goes on from a place: at the label's, or at the next one
+abbrev pub place_after : List Label → Option ℕ → ℕ → ℕ
+place_after labels None place = place + 1
+place_after labels (Some label) place = option_map_or (λ l. l.place) (slice_get labels label) (place + 1)
+
+-- the process goes on at this place, and sends nothing
+abbrev pub going_on : ProcessState → ℕ → Outcome → Body
+going_on s place how = record { state = record s { place = place }; outcome = how; posts = [] }
+
+-- The process ends with this reason (Processes, Process Termination). Its messages, links, monitors, aliases and markers
+-- are gone.
+abbrev pub ending : ProcessState → Term → Body
+ending s reason = record {
+  state = record s {
+    messages = [];
+    active = set.empty;
+    awaited = map.empty;
+    held = map.empty;
+    borne = [];
+    aliases = map.empty;
+    reserve = None;
+    marks = [];
+    end = Some reason;
+  };
+  outcome = outcome.Ended reason;
+  posts = [];
+}
+
+-- the atoms that the machine names
+abbrev pub normal : Term
+normal = term.Atom (codes "normal")
+
+abbrev pub badarg : Term
+badarg = term.Atom (codes "badarg")

@@ -1,0 +1,51 @@
+-- The machine of a script, as rules: what an execution and a handling of each of its processes are.
+use Rattle.std.specs.Prelude.{ℕ, List, map, length, Option, Some, None, is_some, slice_get}
+use Rattle.std.specs.Option.{option_map}
+use Rattle.sig_kinds.specs.declared.signal.Signal.{Signal}
+use Rattle.sig_script.specs.Scripts.{Declared}
+use Rattle.sig_script.specs.Scripts.{Program}
+use Rattle.sig_runs.specs.Rules.{Effect, Rules}
+use Rattle.sig_runs.specs.Rules.{Did as Acted}
+use Rattle.sig_runs.specs.Rules.Did.{Exec as Executed, From as Handled}
+use Rattle.sig_model.specs.declared.event.Event.{Event}
+use Rattle.sig_model.specs.declared.event.Did.{Did}
+use Rattle.sig_model.specs.declared.event.Did.TheVariants.{Exec, From}
+use Rattle.sig_model.specs.ProcessState.{ProcessState, opening_state, is_cut}
+use Rattle.sig_model.specs.Executing.{executing}
+use Rattle.sig_model.specs.Handling.{handling}
+use Rattle.sig_model.specs.Finishing.{finished_exec, finished_handle}
+
+-- what the process pid, of this declaration, does with its next instruction, where it can be executed
+abbrev pub execution : ℕ → Declared → ProcessState → Option (Effect ProcessState Signal Event)
+execution pid p s = option_map (finished_exec pid s) (executing p s)
+
+abbrev pub execution_of : ℕ → Option Declared → ProcessState → Option (Effect ProcessState Signal Event)
+execution_of pid None s = None
+execution_of pid (Some p) s = execution pid p s
+
+-- what the process pid does with this signal
+abbrev pub handling_of : ℕ → ProcessState → Signal → Effect ProcessState Signal Event
+handling_of pid s signal = finished_handle pid s signal (handling s signal)
+
+-- what an event tells that the process did
+abbrev pub acted_at : Did → Acted
+acted_at (Exec place) = Executed
+acted_at (From sender number) = Handled sender.0
+
+unfoldable pub rules_of : Program → Rules ProcessState Signal Event
+rules_of script = record {
+  from = λ x. x.from.0;
+  to = λ x. x.to.0;
+  stamp = λ x. x.stamp;
+  event_stamp = λ e. e.stamp;
+  did = λ e. acted_at e.did;
+  last = λ s. s.stamp;
+  is_ended = λ s. is_some s.end;
+  is_cut = λ s. is_cut script.turns s;
+  exec = λ pid s. execution_of pid (slice_get script.procs pid) s;
+  handle = λ pid s x. handling_of pid s x;
+}
+
+-- the opening of a script: each process in its opening state
+abbrev pub opening_of : Program → List ProcessState
+opening_of script = map (λ p. opening_state (length script.procs)) script.procs

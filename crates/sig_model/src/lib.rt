@@ -1,0 +1,11 @@
+//! The plain machine: the state of a process, executing one instruction, handling one signal, and
+//! the run of one worker. Its definitions stand in specs/; here are the types of events.
+#![tactic(auto)]
+
+mod event;
+mod message;
+mod state;
+
+pub use event::{Did, Event, Events, Outcome};
+pub use message::{Message, Messages};
+pub use state::{LAST_STAMP, State};

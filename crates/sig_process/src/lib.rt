@@ -1,0 +1,13 @@
+//! One process that runs: it executes its instructions and handles the signals that come to it.
+#![tactic(auto)]
+
+mod crew;
+mod executing;
+mod handling;
+mod parts;
+mod process;
+
+pub use crew::Crew;
+pub use executing::Exec;
+pub use parts::Parts;
+pub use process::Process;

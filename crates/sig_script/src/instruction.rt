@@ -1,0 +1,100 @@
+ghost use Rattle.std.specs.Prelude.{◌≡◌, IfOk};
+
+use sig_lists::{Pushed, Sequence};
+use sig_patterns::{Clauses, Expr};
+use std::alloc::{AllocError, Global};
+
+/// Where a receive goes on that finds no message.
+#[derive(Debug, Drop)]
+pub struct After {
+    /// The place of a label among those of the process, from 0. `None` is the next instruction.
+    pub target: Option<u32>,
+}
+
+/// An instruction of a process.
+#[derive(Debug, Drop)]
+pub enum Instr {
+    /// Sends a message. (Erlang Reference Manual, Expressions, Send.)
+    Send {
+        to: Expr,
+        message: Expr,
+    },
+    /// Takes the oldest message that a clause matches. (Erlang Reference Manual, Expressions,
+    /// Receive.)
+    Receive {
+        clauses: Clauses,
+        after: Option<After>,
+    },
+}
+
+/// The instructions of a process, in the order of their lines.
+pub type Instrs = Sequence<Instr>;
+
+impl After {
+    /// An equal value.
+    pub fn copy(&self) -> After
+        ensures { result ≡ self.now }
+    {
+        After {
+            target: self.target,
+        }
+    }
+}
+
+fn copy_after(after: &Option<After>) -> Option<After>
+    ensures { result ≡ after.now }
+{
+    match after {
+        Some(after) => Some(after.copy()),
+        None => None,
+    }
+}
+
+fn copy_clauses(alloc: Global, clauses: &Clauses) -> Result<Clauses, AllocError>
+    ensures { IfOk result (λ cs. cs ≡ clauses.now) }
+{
+    let mut copies = Sequence::new(alloc);
+    for clause in clauses.as_slice() {
+        let copy = clause.copy(alloc)?;
+        match copies.push(copy) {
+            Pushed::Added => {}
+            Pushed::Memory { item: _ } => return Err(AllocError),
+        }
+    }
+    Ok(copies)
+}
+
+impl Instr {
+    /// An equal instruction.
+    pub fn copy(&self, alloc: Global) -> Result<Instr, AllocError>
+        ensures { IfOk result (λ i. i ≡ self.now) }
+    {
+        match self {
+            Instr::Send { to, message } => {
+                let to = to.copy(alloc)?;
+                let message = message.copy(alloc)?;
+                Ok(Instr::Send { to, message })
+            }
+            Instr::Receive { clauses, after } => {
+                let clauses = copy_clauses(alloc, clauses)?;
+                let after = copy_after(after);
+                Ok(Instr::Receive { clauses, after })
+            }
+        }
+    }
+}
+
+/// Equal instructions.
+pub fn copy_instrs(alloc: Global, instrs: &Instrs) -> Result<Instrs, AllocError>
+    ensures { IfOk result (λ is. is ≡ instrs.now) }
+{
+    let mut copies = Sequence::new(alloc);
+    for instr in instrs.as_slice() {
+        let copy = instr.copy(alloc)?;
+        match copies.push(copy) {
+            Pushed::Added => {}
+            Pushed::Memory { item: _ } => return Err(AllocError),
+        }
+    }
+    Ok(copies)
+}

@@ -1,0 +1,50 @@
+ghost use Rattle.std.specs.Prelude.{◌≡◌, ◌≤◌, length, slice_get, option_copied};
+
+use crate::process::{Proc, Procs};
+use std::marker::Model;
+
+/// A script: at most 64 processes, each of which executes at most `turns` instructions, and these
+/// are at most 20,000.
+#[derive(Debug, Drop)]
+pub struct Script {
+    /// How many instructions each process may execute.
+    pub turns: u32,
+    /// The processes. The pid of each is its place among them, from 0.
+    pub procs: Procs,
+}
+
+impl Model for Script {
+    ghost use Rattle.std.specs.Prelude.{◌≤◌, length};
+    ghost use Rattle.sig_script.specs.Scripts.{Program};
+
+    ghost Value = { Program };
+
+    ghost view = { λ s. record { turns = s.turns; procs = s.procs } };
+
+    ghost invariant = { λ s. (length s.procs ≤ 64) × (s.turns ≤ 20000) };
+}
+
+impl Script {
+    /// How many processes there are.
+    pub fn count(&self) -> u32
+        ensures count { result ≡ length self.now.procs }
+        ensures few { length self.now.procs ≤ 64 }
+    {
+        self.procs.len() as u32
+    }
+
+    /// How many instructions each process may execute.
+    pub fn turns(&self) -> u32
+        ensures turns { result ≡ self.now.turns }
+        ensures few { self.now.turns ≤ 20000 }
+    {
+        self.turns
+    }
+
+    /// The process of this pid. `None` exactly where the pid isn't below the count.
+    pub fn proc(&self, pid: u32) -> Option<&Proc>
+        ensures { option_copied result ≡ slice_get self.now.procs pid }
+    {
+        self.procs.get(pid as usize)
+    }
+}
