@@ -7,7 +7,8 @@ use Rattle.sig_terms.specs.declared.term.Term.TheVariants as term
 use Rattle.sig_kinds.specs.declared.signal.Kind.TheVariants as kind
 use Rattle.sig_patterns.specs.declared.clause.Clause.{Clause}
 use Rattle.sig_patterns.specs.Building.{value_of}
-use Rattle.sig_patterns.specs.Scanning.{Found, scan, looked}
+use Rattle.sig_patterns.specs.declared.found.Found.{Found}
+use Rattle.sig_patterns.specs.Scanning.{scan, looked}
 use Rattle.sig_script.specs.declared.instruction.Instr.{Instr}
 use Rattle.sig_script.specs.declared.instruction.Instr.TheVariants as instr
 use Rattle.sig_script.specs.declared.instruction.After.{After}
@@ -34,17 +35,16 @@ abbrev pub target_of : List Clause → ℕ → Option ℕ
 target_of clauses n = option_and_then (λ c. c.target) (slice_get clauses n)
 
 -- the message that the scan found is taken out
-abbrev pub taking : Declared → ProcessState → List Clause → Found → Option Message → Option Body
-taking p s clauses found None = None
-taking p s clauses found (Some m) = Some (record {
+abbrev pub taking : Declared → ProcessState → List Clause → Found → Option Body
+taking p s clauses found = option_map (λ m. record {
   state = record s { place = place_after p.labels (target_of clauses found.clause) s.place; messages = remove s.messages found.at };
   outcome = outcome.Took (found.clause + 1) (looked (terms_of s.messages) (Some found)) m.term;
   posts = [];
-})
+}) (slice_get s.messages found.at)
 
 -- A receive takes what the scan finds; where it finds nothing it goes on with `after`, or can't be executed.
 abbrev pub receiving : Declared → ProcessState → List Clause → Option After → Option Found → Option Body
-receiving p s clauses after (Some found) = taking p s clauses found (slice_get s.messages found.at)
+receiving p s clauses after (Some found) = taking p s clauses found
 receiving p s clauses (Some after) None =
     Some (going_on s (place_after p.labels after.target s.place) (outcome.After (looked (terms_of s.messages) None)))
 receiving p s clauses None None = None

@@ -4,16 +4,12 @@ use Rattle.std.specs.Prelude.{ℕ, ◌+◌, List, [], ◌∷◌, length, Option,
 use Rattle.std.specs.Option.{option_map, option_map_or}
 use Rattle.sig_terms.specs.declared.term.Term.{Term}
 use Rattle.sig_patterns.specs.declared.clause.Clause.{Clause}
+use Rattle.sig_patterns.specs.declared.found.Found.{Found}
 use Rattle.sig_patterns.specs.Matching.{fits}
 
 -- the first clause that matches the message, from 0
 abbrev pub first_clause : List Clause → Term → Option ℕ
 first_clause clauses message = position (λ c. fits c.pattern message) clauses
-
--- where the message stands, from 0, and the clause that takes it, from 0
-pub record Found : Type 0 where
-  pub at : ℕ
-  pub clause : ℕ
 
 -- the oldest message, or none, after the message in front
 abbrev pub or_later : Option ℕ → Option Found → Option Found

@@ -1,3 +1,26 @@
+ghost use Rattle.std.specs.Prelude.{◌≡◌, ◌+◌, ◌-◌, ◌*◌, ◌<◌, ◌≤◌, ◌^◌, length, true, Some, None, OnOk, IfOk, IfSome, slice_get, is_none, codes};
+ghost use Rattle.sig_terms.specs.Words.{is_atom};
+ghost use Rattle.sig_patterns.specs.Scanning.{scan, looked};
+ghost use Rattle.sig_script.specs.Scripts.{IsLawful};
+ghost use Rattle.sig_model.specs.ProcessState.{is_cut};
+ghost use Rattle.sig_model.specs.Bodies.{place_after, going_on, ending, normal, badarg};
+ghost use Rattle.sig_model.specs.Executing.{terms_of, target_of, sending, taking, receiving, executing};
+ghost use Rattle.sig_model.specs.Finishing.{finished_exec};
+ghost use Rattle.sig_model.specs.Running.{advanced, can_exec, exec_next};
+ghost use Rattle.sig_process.specs.Steps.{step_body, IsPlaceOf, IsFit, noted, IsExec};
+
+use crate::process::{Process, draw};
+use sig_base::Steps;
+use sig_kinds::{Kind, Signal, Signals};
+use sig_lists::Pushed;
+use sig_model::{Did, Event, Message, Outcome};
+use sig_patterns::{Clause, Clauses, Found, build, first_match};
+use sig_script::{After, Instr};
+use sig_terms::{Atom, Pid, Term};
+use std::alloc::{AllocError, Global};
+use std::mem;
+use std::sync::ledger::Ledger;
+
 /// How the execution of an instruction went.
 #[derive(Clone, Copy, Debug, PartialEq, Eq)]
 pub enum Exec {
@@ -5,4 +28,148 @@ pub enum Exec {
     Stepped,
     /// It is a receive without `after`, and no message matches.
     Waiting,
+}
+
+/// What the next instruction does, with all that was built for it.
+#[derive(Drop)]
+pub(crate) enum Step {
+    /// There is no instruction: the process ends.
+    Stop,
+    /// It sends a message.
+    Send { to: Term, message: Term },
+    /// It takes the message at this place of the list, by this clause, both from 0, and goes on.
+    Take {
+        at: usize,
+        clause: u32,
+        place: u32,
+    },
+    /// No message matches, and it goes on with `after`.
+    PassBy { place: u32 },
+    /// No message matches, and there is no `after`.
+    Wait,
+}
+
+/// The atom of these bytes.
+fn plain_atom(alloc: Global, bytes: &[u8]) -> Result<Term, AllocError>
+    requires { is_atom bytes.now ≡ true }
+    ensures { IfOk result (λ term. term ≡ Term.Atom bytes.now) }
+{
+    match Atom::new(alloc, bytes)? {
+        Some(atom) => Ok(Term::Atom(atom)),
+        None => unreachable!(),
+    }
+}
+
+/// The oldest message that some clause matches, with the first such clause.
+fn find_message<L: Ledger>(
+    messages: &[Message],
+    clauses: &[Clause],
+    steps: &mut Steps<L>,
+) -> Option<Found>
+    ensures found { result ≡ scan clauses.now (terms_of messages.now) }
+    ensures within { IfSome result (λ f. (f.at < length messages.now) × (f.clause < length clauses.now)) }
+    ensures ticks { steps.new ≤ steps.old + length clauses.now * looked (terms_of messages.now) result }
+{
+    let mut at = 0;
+    while at < messages.len() {
+        if let Some(clause) = first_match(clauses, &messages[at].term, steps) {
+            return Some(Found { at, clause });
+        }
+        at += 1;
+    }
+    None
+}
+
+fn target_at(clauses: &Clauses, at: usize) -> Option<u32>
+    ensures { result ≡ target_of clauses.now at }
+{
+    let clause = clauses.get(at)?;
+    clause.target
+}
+
+impl Process {
+    /// Where the process goes on: at the label of the target, or at the next place.
+    fn place_after(&self, target: Option<u32>) -> u32
+        requires within { self.now.state.place ≤ length self.now.proc.instrs }
+        requires few { length self.now.proc.instrs + 1 < 2 ^ 32 }
+        ensures place { result ≡ place_after self.now.proc.labels target self.now.state.place }
+        ensures bounds { IsPlaceOf self.now.proc result }
+    {
+        match target {
+            None => self.place + 1,
+            Some(label) => match self.proc.place_of(label) {
+                None => self.place + 1,
+                Some(place) => place,
+            },
+        }
+    }
+
+    /// What a receive with these clauses does.
+    fn receive_step<L: Ledger>(
+        &self,
+        clauses: &Clauses,
+        after: &Option<After>,
+        steps: &mut Steps<L>,
+    ) -> Step
+        requires within { self.now.state.place ≤ length self.now.proc.instrs }
+        requires few { length self.now.proc.instrs + 1 < 2 ^ 32 }
+        requires clauses { length clauses.now < 2 ^ 32 }
+        ensures step { receiving self.now.proc self.now.state clauses.now after.now (scan clauses.now (terms_of self.now.state.messages)) ≡ step_body self.now.state result }
+        ensures fit { IsFit self.now result }
+    {
+        match find_message(self.messages.as_slice(), clauses.as_slice(), steps) {
+            Some(found) => Step::Take {
+                at: found.at,
+                clause: found.clause as u32,
+                place: self.place_after(target_at(clauses, found.clause)),
+            },
+            None => match after {
+                Some(after) => Step::PassBy {
+                    place: self.place_after(after.target),
+                },
+                None => Step::Wait,
+            },
+        }
+    }
+
+    /// What the next instruction does.
+    #[tactic(auto, unfolding(sig_model::specs::Executing::executing))]
+    fn next_step<L: Ledger>(&self, steps: &mut Steps<L>) -> Result<Step, AllocError>
+        ensures step { IfOk result (λ step. executing self.now.proc self.now.state ≡ step_body self.now.state step) }
+        ensures fit { IfOk result (IsFit self.now) }
+    {
+        match self.proc.instr(self.place) {
+            None => Ok(Step::Stop),
+            Some(Instr::Send { to, message }) => {
+                let to = build(self.alloc, to)?;
+                let message = build(self.alloc, message)?;
+                Ok(Step::Send { to, message })
+            }
+            Some(Instr::Receive { clauses, after }) => Ok(self.receive_step(clauses, after, steps)),
+        }
+    }
+
+    /// Adds the event of an execution, and goes on at a place.
+    fn note(&mut self, outcome: Outcome, place: u32) -> Result<(), AllocError>
+        requires stamp { self.old.state.stamp < 4611686018427387904 }
+        requires turns { self.old.state.executed < self.old.turns }
+        requires place { IsPlaceOf self.old.proc place }
+        ensures { OnOk result (self.new ≡ noted self.old place outcome) }
+    {
+        let stamp = self.stamp + 1;
+        let did = Did::Exec { place: self.place };
+        match self.events.push(Event {
+            stamp,
+            did,
+            outcome,
+        }) {
+            Pushed::Memory { item: _ } => Err(AllocError),
+            Pushed::Added => {
+                self.place = place;
+                self.executed += 1;
+                self.stamp = stamp;
+                Ok(())
+            }
+        }
+    }
 }

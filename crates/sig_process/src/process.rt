@@ -1,6 +1,6 @@
-ghost use Rattle.std.specs.Prelude.{◌≡◌, ◌+◌, ◌<◌, ◌≤◌, ◌++◌, [], ◌∷◌, length, OnOk, IfOk, IfSome, slice_get, slice_index, replicate, ◌==◌, Some};
-ghost use Rattle.std.specs.Option.{option_copied};
-ghost use Rattle.sig_model.specs.Running.{posted, opened, can_exec, can_handle, is_early, next_of};
+ghost use Rattle.std.specs.Prelude.{◌≡◌, ◌+◌, ◌<◌, ◌≤◌, ◌++◌, [], ◌∷◌, length, OnOk, IfOk, slice_index, replicate, ◌==◌, option_copied};
+ghost use Rattle.sig_model.specs.Finishing.{drawn};
+ghost use Rattle.sig_model.specs.Running.{posted, opened, can_exec, can_handle, is_early, next_of, handled_first, handled_one};
 ghost use Rattle.sig_model.specs.ProcessState.{is_cut};
 ghost use Rattle.sig_model.specs.OneWorker.{arrived};
 
@@ -11,6 +11,7 @@ use sig_script::{Proc, Script};
 use sig_terms::{Pid, Term};
 use std::alloc::{AllocError, Global};
 use std::marker::Model;
+use std::mem;
 
 /// A process: its state, its events, and the signals that wait for it or that it has sent.
 /// (Erlang Reference Manual, Processes.)
@@ -82,4 +83,137 @@ impl Model for Process {
     ghost use Rattle.sig_process.specs.Soundness.{IsSound};
 
     ghost invariant = { λ p. IsSound p.place p.next_arrival p.stamp p.next_numbers.items p.proc };
+}
+
+/// Draws the next number for this peer.
+pub(crate) fn draw(numbers: &mut Vec<u64>, peer: Pid) -> u64
+    requires { slice_index numbers.old.items peer.0 < 18446744073709551615 }
+    ensures number { result ≡ slice_index numbers.old.items peer.0 }
+    ensures drawn { numbers.new.items ≡ drawn numbers.old.items peer.0 }
+{
+    match numbers.get_mut(peer.0 as usize) {
+        None => 0,
+        Some(next) => {
+            let number = *next;
+            *next = number + 1;
+            number
+        }
+    }
+}
+
+/// Adds a signal at the end of a list.
+pub(crate) fn add(signals: &mut Signals, signal: Signal) -> Result<(), AllocError>
+    ensures ok { OnOk result (signals.new ≡ signals.old ++ signal ∷ []) }
+{
+    match signals.push(signal) {
+        Push::Added => Ok(()),
+        Push::Memory { signal: _ } => Err(AllocError),
+    }
+}
+
+/// The first numbers for all peers.
+fn first_numbers(alloc: Global, count: u32) -> Result<Vec<u64>, AllocError>
+    ensures { IfOk result (λ numbers. numbers.items ≡ replicate count 1) }
+{
+    vec![in alloc; 1; count as usize]
+}
+
+fn has_none(signals: &Signals) -> bool
+    ensures { result ≡ (length signals.now == 0) }
+{
+    signals.len() == 0
+}
+
+fn is_early_signal(signal: Option<&Signal>) -> bool
+    ensures { result ≡ is_early (option_copied signal.entry) }
+{
+    match signal {
+        None => false,
+        Some(signal) => signal.stamp < LAST_STAMP,
+    }
+}
+
+impl Process {
+    /// A process of the script, as the script opens it.
+    pub(crate) fn start(
+        alloc: Global,
+        pid: Pid,
+        count: u32,
+        turns: u32,
+        proc: &Proc,
+    ) -> Result<Process, AllocError>
+        ensures { IfOk result (λ p. p ≡ opened pid.0 count turns proc.now) }
+    {
+        let next_numbers = first_numbers(alloc, count)?;
+        let proc = proc.copy(alloc)?;
+        Ok(Process {
+            alloc,
+            pid,
+            count,
+            turns,
+            proc,
+            place: 1,
+            messages: Vec::new(alloc),
+            next_arrival: 1,
+            next_numbers,
+            end: None,
+            executed: 0,
+            stamp: 0,
+            events: Sequence::new(alloc),
+            handled: Signals::new(alloc),
+            own: Signals::new(alloc),
+            taken_in: Signals::new(alloc),
+            outbox: Signals::new(alloc),
+        })
+    }
+
+    /// The events, in their order.
+    pub fn events(&self) -> &Events
+        ensures { result.now ≡ self.now.events }
+    {
+        &self.events
+    }
+
+    /// Whether the process is cut: it isn't ended and has executed its turns, or its last stamp is
+    /// at least 2^62.
+    pub(crate) fn is_cut(&self) -> bool
+        ensures cut { result ≡ is_cut self.now.turns self.now.state }
+    {
+        (self.end.is_none() && self.turns <= self.executed) || LAST_STAMP <= self.stamp
+    }
+
+    /// Whether an instruction may be executed: the process is neither ended nor cut, and has no
+    /// own signal to handle.
+    #[tactic(auto, unfolding(sig_model::specs::Running::can_exec))]
+    pub fn can_exec(&self) -> bool
+        ensures { result ≡ can_exec self.now }
+    {
+        self.end.is_none() && !self.is_cut() && has_none(&self.own)
+    }
+
+    /// A signal that the process sends.
+    pub(crate) fn post(&mut self, signal: Signal) -> Result<(), AllocError>
+        ensures { OnOk result (self.new ≡ posted self.old signal) }
+    {
+        if signal.to.0 == self.pid.0 {
+            add(&mut self.own, signal)
+        } else {
+            add(&mut self.outbox, signal)
+        }
+    }
+
+    /// A signal of another process joins those that wait for this one.
+    pub fn arrive(&mut self, signal: Signal) -> Result<(), AllocError>
+        ensures { OnOk result (self.new ≡ arrived self.old signal) }
+    {
+        add(&mut self.taken_in, signal)
+    }
+
+    /// Takes the signals that it has sent to others, the oldest first.
+    pub fn take_outbox(&mut self) -> Signals
+        ensures signals { result ≡ self.old.outbox }
+        ensures rest { self.new ≡ record self.old { outbox = [] } }
+    {
+        mem::replace(&mut self.outbox, Signals::new(self.alloc))
+    }
 }
