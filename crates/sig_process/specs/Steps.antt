@@ -8,7 +8,8 @@ use Rattle.sig_model.specs.declared.event.Outcome.TheVariants as outcome
 use Rattle.sig_model.specs.ProcessState.{ProcessState}
 use Rattle.sig_model.specs.Bodies.{Body, going_on, ending, normal}
 use Rattle.sig_model.specs.Executing.{sending}
-use Rattle.sig_model.specs.Running.{Running, exec_next}
+use Rattle.sig_model.specs.Finishing.{finished_exec}
+use Rattle.sig_model.specs.Running.{Running, advanced, exec_next}
 use Rattle.sig_process.specs.declared.executing.Exec.{Exec}
 use Rattle.sig_process.specs.declared.executing.Exec.TheVariants.{Stepped, Waiting}
 use Rattle.sig_process.specs.declared.executing.Step.{Step}
@@ -48,6 +49,10 @@ noted r place how = record r {
   state = record r.state { place = place; executed = r.state.executed + 1; stamp = r.state.stamp + 1 };
   events = r.events ++ record { stamp = r.state.stamp + 1; did = did.Exec r.state.place; outcome = how } ∷ [];
 }
+
+-- after an execution that does this
+abbrev pub made : Running → Body → Running
+made r body = advanced r (finished_exec r.pid r.state body)
 
 -- the instruction was executed; or it can't be, and the process is as before
 abbrev pub IsExec : Running → Running → Exec → Type 0

@@ -1,13 +1,13 @@
-ghost use Rattle.std.specs.Prelude.{◌≡◌, ◌+◌, ◌-◌, ◌*◌, ◌<◌, ◌≤◌, ◌^◌, length, true, Some, None, OnOk, IfOk, IfSome, slice_get, is_none, codes};
+ghost use Rattle.std.specs.Prelude.{◌≡◌, ◌+◌, ◌-◌, ◌*◌, ◌<◌, ◌≤◌, ◌^◌, length, true, Some, None, OnOk, IfOk, IfSome, slice_get, slice_index, is_none, codes, option_map};
 ghost use Rattle.sig_terms.specs.Words.{is_atom};
 ghost use Rattle.sig_patterns.specs.Scanning.{scan, looked};
 ghost use Rattle.sig_script.specs.Scripts.{IsLawful};
 ghost use Rattle.sig_model.specs.ProcessState.{is_cut};
 ghost use Rattle.sig_model.specs.Bodies.{place_after, going_on, ending, normal, badarg};
 ghost use Rattle.sig_model.specs.Executing.{terms_of, target_of, sending, taking, receiving, executing};
-ghost use Rattle.sig_model.specs.Finishing.{finished_exec};
+ghost use Rattle.sig_model.specs.Finishing.{finished_exec, drawn};
 ghost use Rattle.sig_model.specs.Running.{advanced, can_exec, exec_next};
-ghost use Rattle.sig_process.specs.Steps.{step_body, IsPlaceOf, IsFit, noted, IsExec};
+ghost use Rattle.sig_process.specs.Steps.{step_body, taken_body, IsPlaceOf, IsFit, noted, made, IsExec};
 
 use crate::process::{Process, draw};
 use sig_base::Steps;
@@ -171,5 +171,170 @@ impl Process {
                 Ok(())
             }
         }
+    }
+
+    /// The process ends with this reason.
+    fn finish(&mut self, reason: Term) -> Result<(), AllocError>
+        requires stamp { self.old.state.stamp < 4611686018427387904 }
+        requires turns { self.old.state.executed < self.old.turns }
+        ensures { OnOk result (self.new ≡ made self.old (ending self.old.state reason)) }
+    {
+        let told = reason.copy(self.alloc)?;
+        let place = self.place;
+        self.note(Outcome::Ended { reason: told }, place)?;
+        self.messages = Vec::new(self.alloc);
+        self.end = Some(reason);
+        Ok(())
+    }
+
+    /// The place after the last instruction.
+    fn stop(&mut self) -> Result<(), AllocError>
+        requires stamp { self.old.state.stamp < 4611686018427387904 }
+        requires turns { self.old.state.executed < self.old.turns }
+        ensures { OnOk result (self.new ≡ made self.old (ending self.old.state normal)) }
+    {
+        let reason = plain_atom(self.alloc, b"normal")?;
+        self.finish(reason)
+    }
+
+    /// A value is of the wrong kind.
+    fn refuse(&mut self) -> Result<(), AllocError>
+        requires stamp { self.old.state.stamp < 4611686018427387904 }
+        requires turns { self.old.state.executed < self.old.turns }
+        ensures { OnOk result (self.new ≡ made self.old (ending self.old.state badarg)) }
+    {
+        let reason = plain_atom(self.alloc, b"badarg")?;
+        self.finish(reason)
+    }
+
+    /// A message to a process.
+    fn send_to(&mut self, to: Pid, message: Term) -> Result<(), AllocError>
+        requires stamp { self.old.state.stamp < 4611686018427387904 }
+        requires turns { self.old.state.executed < self.old.turns }
+        requires within { self.old.state.place ≤ length self.old.proc.instrs }
+        requires few { length self.old.proc.instrs + 1 < 2 ^ 32 }
+        ensures { OnOk result (self.new ≡ made self.old (sending self.old.state (Term.Pid to) message)) }
+    {
+        let told = message.copy(self.alloc)?;
+        let place = self.place + 1;
+        self.note(
+            Outcome::Sent {
+                to: Term::Pid(to),
+                message: told,
+            },
+            place,
+        )?;
+        let signal = self.next_signal(to, Kind::Message { term: message });
+        self.post(signal)
+    }
+
+    /// A signal to this process, with its stamp and the next number.
+    fn next_signal(&mut self, to: Pid, kind: Kind) -> Signal
+        requires { slice_index self.old.state.next_numbers to.0 ≤ self.old.state.stamp }
+        ensures signal { result ≡ record {
+          from = record { 0 = self.old.pid };
+          to = to;
+          number = slice_index self.old.state.next_numbers to.0;
+          stamp = self.old.state.stamp;
+          kind = kind;
+        } }
+        ensures drawn { self.new ≡ record self.old { state = record self.old.state { next_numbers = drawn self.old.state.next_numbers to.0 } } }
+    {
+        let number = draw(&mut self.next_numbers, to);
+        Signal {
+            from: self.pid,
+            to,
+            number,
+            stamp: self.stamp,
+            kind,
+        }
+    }
+
+    /// A message to the target.
+    fn send(&mut self, to: Term, message: Term) -> Result<(), AllocError>
+        requires stamp { self.old.state.stamp < 4611686018427387904 }
+        requires turns { self.old.state.executed < self.old.turns }
+        requires within { self.old.state.place ≤ length self.old.proc.instrs }
+        requires few { length self.old.proc.instrs + 1 < 2 ^ 32 }
+        ensures { OnOk result (self.new ≡ made self.old (sending self.old.state to message)) }
+    {
+        match to {
+            Term::Pid(to) => self.send_to(to, message),
+            Term::Int(_) => self.refuse(),
+            Term::Atom(_) => self.refuse(),
+            Term::Ref(_) => self.refuse(),
+            Term::Tuple(_) => self.refuse(),
+            Term::List(_) => self.refuse(),
+        }
+    }
+
+    /// Takes the message at this place of the list.
+    fn take(&mut self, at: usize, clause: u32, place: u32) -> Result<(), AllocError>
+        requires stamp { self.old.state.stamp < 4611686018427387904 }
+        requires turns { self.old.state.executed < self.old.turns }
+        requires at { at < length self.old.state.messages }
+        requires clause { clause + 1 < 2 ^ 32 }
+        requires place { IsPlaceOf self.old.proc place }
+        ensures { OnOk result (option_map (made self.old) (taken_body self.old.state at clause place) ≡ Some self.new) }
+    {
+        let message = self.messages.remove(at);
+        self.note(
+            Outcome::Took {
+                clause: clause + 1,
+                looked: at as u64 + 1,
+                message: message.term,
+            },
+            place,
+        )
+    }
+
+    /// Goes on with `after`.
+    fn pass_by(&mut self, place: u32) -> Result<(), AllocError>
+        requires stamp { self.old.state.stamp < 4611686018427387904 }
+        requires turns { self.old.state.executed < self.old.turns }
+        requires place { IsPlaceOf self.old.proc place }
+        ensures { OnOk result (self.new ≡ made self.old (going_on self.old.state place (Outcome.After (length self.old.state.messages)))) }
+    {
+        let looked = self.messages.len() as u64;
+        self.note(Outcome::After { looked }, place)
+    }
+
+    /// Makes the step that the next instruction asks for.
+    #[tactic(auto, using(crate::proofs::ExecLemmas::ready_stamp, crate::proofs::ExecLemmas::ready_turns, crate::proofs::ExecLemmas::stepping))]
+    fn make(&mut self, step: Step) -> Result<Exec, AllocError>
+        requires ready { can_exec self.old ≡ true }
+        requires step { executing self.old.proc self.old.state ≡ step_body self.old.state step }
+        requires fit { IsFit self.old step }
+        ensures { IfOk result (IsExec self.old self.new) }
+    {
+        match step {
+            Step::Stop => {
+                self.stop()?;
+                Ok(Exec::Stepped)
+            }
+            Step::Send { to, message } => {
+                self.send(to, message)?;
+                Ok(Exec::Stepped)
+            }
+            Step::Take { at, clause, place } => {
+                self.take(at, clause, place)?;
+                Ok(Exec::Stepped)
+            }
+            Step::PassBy { place } => {
+                self.pass_by(place)?;
+                Ok(Exec::Stepped)
+            }
+            Step::Wait => Ok(Exec::Waiting),
+        }
+    }
+
+    /// Executes the next instruction. `Waiting` exactly where it is a receive without `after` and
+    /// no message matches; then the process is as before. (Erlang Reference Manual, Expressions.)
+    pub fn exec<L: Ledger>(&mut self, steps: &mut Steps<L>) -> Result<Exec, AllocError>
+        requires { can_exec self.old ≡ true }
+        ensures { IfOk result (IsExec self.old self.new) }
+    {
+        let step = self.next_step(steps)?;
+        self.make(step)
     }
 }
