@@ -6,3 +6,4 @@ pub mod Finishing
 pub mod Machine
 pub mod Running
 pub mod OneWorker
+pub mod PrintedState

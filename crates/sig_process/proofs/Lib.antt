@@ -1,2 +1,3 @@
 pub mod ScanLemmas
 pub mod ExecLemmas
+pub mod HandleLemmas

@@ -1,2 +1,4 @@
 pub mod Soundness
 pub mod Steps
+pub mod Handled
+pub mod PartsOf

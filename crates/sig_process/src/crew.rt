@@ -1,6 +1,11 @@
-ghost use Rattle.std.specs.Prelude.{◌≡◌, IfOk, slice_get, option_copied, vec_len};
+ghost use Rattle.std.specs.Prelude.{◌≡◌, ◌<◌, ◌≤◌, IfOk, IfSome, slice_get, option_copied, length};
+ghost use Rattle.sig_model.specs.Running.{opened};
+ghost use Rattle.sig_model.specs.OneWorker.{opened_crew};
 
 use crate::process::Process;
+use sig_script::Script;
+use sig_terms::Pid;
+use std::alloc::{AllocError, Global};
 use std::marker::Model;
 
 /// The processes of a script, by pid.
@@ -22,4 +27,33 @@ impl Model for Crew {
     ghost coded = { Prim.hlevel (codes, term.the_row.coded, map.code) };
 
     ghost view = { λ c. c.procs.items };
+}
+
+impl Process {
+    /// The process of this pid, as the script opens it: at its first instruction, with all else
+    /// empty.
+    pub fn open(alloc: Global, script: &Script, pid: Pid) -> Result<Process, AllocError>
+        requires { pid.0 < length script.now.procs }
+        ensures { IfOk result (λ p. IfSome (slice_get script.now.procs pid.0) (λ d.
+            p ≡ opened pid.0 (length script.now.procs) script.now.turns d)) }
+    {
+        match script.proc(pid.0) {
+            Some(proc) => Process::start(alloc, pid, script.count(), script.turns(), proc),
+            None => unreachable!(),
+        }
+    }
+}
+
+impl Crew {
+    /// The processes of the script, each as the script opens it.
+    pub fn open(alloc: Global, script: &Script) -> Result<Crew, AllocError>
+        ensures { IfOk result (λ c. c ≡ opened_crew script.now) }
+    {
+        let mut procs = Vec::new(alloc);
+        for pid in 0..script.count() {
+            let process = Process::open(alloc, script, Pid(pid))?;
+            procs.push(process)?;
+        }
+        Ok(Crew { procs })
+    }
 }

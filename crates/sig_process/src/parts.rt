@@ -1,1 +1,88 @@
-pub struct Parts;
+ghost use Rattle.std.specs.Prelude.{◌≡◌, [], ◌||◌};
+ghost use Rattle.std.specs.List.{list_any};
+ghost use Rattle.sig_model.specs.PrintedState.{is_late_signal, is_late, state_of, printed_state};
+ghost use Rattle.sig_process.specs.PartsOf.{parts_of};
+
+use crate::process::Process;
+use sig_kinds::{Signal, Signals};
+use sig_lists::Sequence;
+use sig_model::{Events, LAST_STAMP, Messages, State};
+use sig_terms::{Name, Pid, Term};
+
+/// What a record tells of a process.
+#[derive(Debug, Drop)]
+pub struct Parts {
+    /// The process.
+    pub pid: Pid,
+    /// Its name in the script.
+    pub name: Name,
+    /// Its events, in their order.
+    pub events: Events,
+    /// The messages that no receive has taken, the oldest first.
+    pub left: Messages,
+    /// The signals to itself that it has not handled, the oldest first.
+    pub own: Signals,
+    /// The signals of others that it has not handled, the oldest first.
+    pub taken_in: Signals,
+    /// How it stands.
+    pub state: State,
+}
+
+fn is_late(signal: &Signal) -> bool
+    ensures { result ≡ is_late_signal signal.now }
+{
+    LAST_STAMP <= signal.stamp
+}
+
+fn any_late(signals: &Signals) -> bool
+    ensures { result ≡ list_any is_late_signal signals.now }
+{
+    let mut at = 0;
+    while let Some(signal) = signals.get(at) {
+        if is_late(signal) {
+            return true;
+        }
+        at += 1;
+    }
+    false
+}
+
+fn state_of(end: Option<Term>, cut: bool) -> State
+    ensures { result ≡ state_of end cut }
+{
+    match end {
+        Some(reason) => State::Ended { reason },
+        None => {
+            if cut {
+                State::Cut
+            } else {
+                State::Waiting
+            }
+        }
+    }
+}
+
+impl Process {
+    fn has_late(&self) -> bool
+        ensures { result ≡ is_late self.now }
+    {
+        any_late(&self.own) || any_late(&self.taken_in)
+    }
+
+    /// The process's part of a record.
+    pub fn into_parts(self) -> Parts
+        requires { self.outbox ≡ [] }
+        ensures { result ≡ parts_of self }
+    {
+        let cut = self.is_cut() || self.has_late();
+        Parts {
+            pid: self.pid,
+            name: self.proc.name,
+            events: self.events,
+            left: Sequence::from_vec(self.messages),
+            own: self.own,
+            taken_in: self.taken_in,
+            state: state_of(self.end, cut),
+        }
+    }
+}

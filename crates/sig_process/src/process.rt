@@ -1,6 +1,6 @@
-ghost use Rattle.std.specs.Prelude.{◌≡◌, ◌+◌, ◌<◌, ◌≤◌, ◌++◌, [], ◌∷◌, length, OnOk, IfOk, slice_index, replicate, ◌==◌, option_copied};
+ghost use Rattle.std.specs.Prelude.{◌≡◌, ◌+◌, ◌<◌, ◌≤◌, ◌++◌, [], ◌∷◌, length, OnOk, IfOk, slice_index, replicate, ◌==◌};
 ghost use Rattle.sig_model.specs.Finishing.{drawn};
-ghost use Rattle.sig_model.specs.Running.{posted, opened, can_exec, can_handle, is_early, next_of, handled_first, handled_one};
+ghost use Rattle.sig_model.specs.Running.{posted, opened, can_exec};
 ghost use Rattle.sig_model.specs.ProcessState.{is_cut};
 ghost use Rattle.sig_model.specs.OneWorker.{arrived};
 
@@ -122,15 +122,6 @@ fn has_none(signals: &Signals) -> bool
     ensures { result ≡ (length signals.now == 0) }
 {
     signals.len() == 0
-}
-
-fn is_early_signal(signal: Option<&Signal>) -> bool
-    ensures { result ≡ is_early (option_copied signal.entry) }
-{
-    match signal {
-        None => false,
-        Some(signal) => signal.stamp < LAST_STAMP,
-    }
 }
 
 impl Process {
