@@ -1,15 +1,16 @@
 -- How reading all of a source ended.
-use Rattle.std.specs.Prelude.{◌≡◌, ℕ, ◌+◌, ◌≤◌, List, length, Option, IfSome}
+use Rattle.std.specs.Prelude.{◌≡◌, ℕ, ◌+◌, ◌≤◌, List, ◌++◌, length, Option, IfSome}
 use Rattle.sig_base.specs.Flow.{Rose, Took}
 use Rattle.sig_base.specs.declared.reading.ReadAll.{ReadAll}
 use Rattle.sig_base.specs.declared.reading.ReadAll.TheVariants.{Whole, TooLong, ReadFault, Memory}
 
--- Into has what was taken. It is all that there was and fits, or one byte more than fits, or a read failed before that.
--- After want of memory nothing is said.
+-- What was taken from the source, how much of it stands in into, and what each answer says beside that.
 abbrev pub IsRead : Option (List ℕ) → Option (List ℕ) → ℕ → ℕ → ℕ → List ℕ → ReadAll → Type 0
 IsRead before after faults_before faults_after limit into Whole =
     Took before after into × (length into ≤ limit) × IfSome before (λ all. into ≡ all)
-IsRead before after faults_before faults_after limit into TooLong = Took before after into × (length into ≡ limit + 1)
+IsRead before after faults_before faults_after limit into TooLong =
+    Took before after into × (length into ≡ limit + 1)
 IsRead before after faults_before faults_after limit into ReadFault =
     Took before after into × (length into ≤ limit) × Rose faults_before faults_after
-IsRead before after faults_before faults_after limit into Memory = Unit {0}
+IsRead before after faults_before faults_after limit into Memory =
+    (lost : List ℕ) × Took before after (into ++ lost) × (length (into ++ lost) ≤ limit + 1)

@@ -4,7 +4,7 @@ use Rattle.sig_base.specs.Flow.{Rose, Adds}
 use Rattle.sig_base.specs.declared.writing.Written.{Written}
 use Rattle.sig_base.specs.declared.writing.Written.TheVariants.{Whole, WriteFault}
 
--- The whole of the bytes was added; or a write failed, and the first of them were.
+-- The whole of the bytes was added; or a write failed, and only the first of them were.
 abbrev pub IsWritten : Option (List ℕ) → Option (List ℕ) → ℕ → ℕ → List ℕ → Written → Type 0
 IsWritten before after faults_before faults_after bytes Whole = Adds before after bytes
 IsWritten before after faults_before faults_after bytes (WriteFault written) =

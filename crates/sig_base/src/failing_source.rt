@@ -1,64 +1,53 @@
-ghost use Rattle.std.specs.Prelude.{
-  ◌≡◌,
-  ℕ,
-  ◌+◌,
-  ◌-◌,
-  ◌<◌,
-  ◌≤◌,
-  ◌++◌,
-  ◌↔◌,
-  [],
-  List,
-  length,
-  drop,
-  take,
-  min,
-  Option,
-  Some,
-  IfOk,
-  OnErr,
-  IfSome,
-  IsErr,
-  is_ok,
-  if◌then◌else◌,
-  Contains,
-};
-ghost use Rattle.sig_base.specs.Flow.{Rose, Takes, Adds, one_more};
+ghost use Rattle.std.specs.Prelude.{◌≡◌, ◌<◌, ◌≤◌, ◌↔◌, length, min, Some, IfOk, OnErr, IsErr, Contains};
+ghost use Rattle.sig_base.specs.Flow.{Takes, faults_after, one_more};
 
+use crate::memory_source::MemorySource;
 use crate::source::{Failed, Source};
 use std::marker::Model;
 
-/// A source over bytes in memory that fails at the calls with these numbers, counted from 1.
+/// A source over bytes in memory that fails at chosen calls, and else gives what a
+/// [`MemorySource`] gives.
 #[derive(Drop)]
 pub struct FailingSource {
-    bytes: Vec<u8>,
-    at: usize,
-    piece: usize,
+    /// What is given at the other calls.
+    source: MemorySource,
+    /// The numbers of the calls that fail. The first call has number 1.
     fails: Vec<u64>,
+    /// How many reads there were.
     calls: u64,
+    /// How many of them failed.
     faults: u64,
 }
 
 impl Model for FailingSource {
-    ghost use Rattle.std.specs.Prelude.{ℕ, ◌<◌, ◌≤◌, drop, vec_len};
     ghost use Rattle.sig_base.specs.Served.{FailingServed};
 
     ghost Value = { FailingServed };
 
-    ghost view = { λ s. record { left = drop s.at s.bytes.items; piece = s.piece; fails = s.fails.items; calls = s.calls; faults = s.faults } };
-
-    ghost invariant = { λ s. (s.at ≤ vec_len s.bytes) × (0 < s.piece) };
+    ghost view = { λ s. record {
+      left = s.source.left;
+      piece = s.source.piece;
+      fails = s.fails.items;
+      calls = s.calls;
+      faults = s.faults;
+    } };
 }
 
 impl FailingSource {
+    /// A source of these bytes, at most `piece` of them a read, that fails at the calls whose
+    /// numbers, from 1, are in `fails`. `piece` must not be 0.
     pub fn new(bytes: Vec<u8>, piece: usize, fails: Vec<u64>) -> FailingSource
         requires { 0 < piece }
-        ensures { result ≡ record { left = bytes.items; piece = piece; fails = fails.items; calls = 0; faults = 0 } }
+        ensures { result ≡ record {
+          left = bytes.items;
+          piece = piece;
+          fails = fails.items;
+          calls = 0;
+          faults = 0;
+        } }
     {
         FailingSource {
-            bytes,
-            at: 0,
-            piece,
+            source: MemorySource::new(bytes, piece),
             fails,
             calls: 0,
             faults: 0,
@@ -73,15 +62,15 @@ impl Source for FailingSource {
 
     fn read(&mut self, into: &mut [u8]) -> Result<usize, Failed>
         requires { 0 < length into.old }
-        ensures within { IfOk result (λ n. n ≤ length into.old) }
-        ensures takes { IfOk result (λ n. Takes (Some self.old.left) (Some self.new.left) into.new n) }
-        ensures failed { OnErr result (Rose self.old.faults self.new.faults) }
-        ensures kept { OnErr result (Some self.new.left ≡ Some self.old.left) }
-        ensures count { self.old.faults ≤ self.new.faults }
         ensures calls { self.new.calls ≡ one_more self.old.calls }
         ensures fails { IsErr result ↔ Contains self.old.fails (one_more self.old.calls) }
-        ensures exact { IfOk result (λ n. n ≡ min self.old.piece (min (length into.old) (length self.old.left))) }
-        ensures faults { self.new.faults ≡ (if is_ok result then self.old.faults else one_more self.old.faults) }
+        ensures takes { IfOk result (λ n.
+            Takes (Some self.old.left) (Some self.new.left) into.new n) }
+        ensures exact { IfOk result (λ n.
+            n ≡ min self.old.piece (min (length into.old) (length self.old.left))) }
+        ensures kept { OnErr result (self.new.left ≡ self.old.left) }
+        ensures faults { self.new.faults ≡ faults_after result self.old.faults }
+        ensures count { self.old.faults ≤ self.new.faults }
         ensures same { (self.new.piece ≡ self.old.piece) × (self.new.fails ≡ self.old.fails) }
     {
         self.calls = self.calls.saturating_add(1);
@@ -89,10 +78,6 @@ impl Source for FailingSource {
             self.faults = self.faults.saturating_add(1);
             return Err(Failed);
         }
-        let n = self.piece.min(into.len()).min(self.bytes.len() - self.at);
-        let end = self.at + n;
-        into[..n].copy_from_slice(&self.bytes[self.at..end]);
-        self.at = end;
-        Ok(n)
+        self.source.read(into)
     }
 }

@@ -1,4 +1,10 @@
-//! Where bytes come from and go to, the gate at which events are told, and a counter for contracts.
+//! Where bytes come from and go to, the gate at which events are told, and a counter for
+//! contracts.
+//!
+//! A [`Source`] gives bytes and a [`Sink`] takes them, a piece a call, and either may fail at a
+//! call. [`read_all`] and [`write_whole`] make the calls until all is read or written. There are
+//! sources and sinks in memory, ones that fail at chosen calls, and adapters of std's readers and
+//! writers.
 #![tactic(auto)]
 
 mod failing_sink;
@@ -12,6 +18,8 @@ mod source;
 mod std_sink;
 mod std_source;
 mod steps;
+#[cfg(test)]
+mod tests;
 mod writing;
 
 pub use failing_sink::FailingSink;

@@ -1,39 +1,21 @@
-ghost use Rattle.std.specs.Prelude.{
-  ◌≡◌,
-  ℕ,
-  ◌+◌,
-  ◌-◌,
-  ◌<◌,
-  ◌≤◌,
-  ◌++◌,
-  [],
-  List,
-  length,
-  drop,
-  take,
-  min,
-  Option,
-  Some,
-  IfOk,
-  OnErr,
-  IfSome,
-  IsErr,
-  ◌↔◌,
-  is_ok,
-  if◌then◌else◌,
-};
-ghost use Rattle.sig_base.specs.Flow.{Rose, Takes, Adds, one_more};
+ghost use Rattle.std.specs.Prelude.{◌≡◌, ◌-◌, ◌<◌, ◌≤◌, ◌↔◌, [], length, take, min, Some, IfOk, OnErr, IsErr};
+ghost use Rattle.sig_base.specs.Flow.{Adds, faults_after};
 
 use crate::sink::Sink;
 use crate::source::Failed;
 use std::alloc::{AllocError, Global};
 use std::marker::Model;
 
-/// A sink in memory with room for so many bytes. A write fails where they are used up.
+/// A sink in memory with room for a number of bytes.
+///
+/// A write takes as many bytes as have room, and fails where there is none.
 #[derive(Drop)]
 pub struct MemorySink {
+    /// The bytes that it holds.
     bytes: Vec<u8>,
+    /// The most bytes that it holds.
     room: usize,
+    /// How many writes failed.
     faults: u64,
 }
 
@@ -49,10 +31,13 @@ impl Model for MemorySink {
 }
 
 impl MemorySink {
+    /// An empty sink with room for `room` bytes, all of which it allocates now.
+    ///
+    /// # Errors
+    ///
+    /// [`AllocError`] where memory is wanting.
     pub fn with_room(alloc: Global, room: usize) -> Result<MemorySink, AllocError>
-        ensures held { IfOk result (λ s. s.held ≡ []) }
-        ensures room { IfOk result (λ s. s.room ≡ room) }
-        ensures faults { IfOk result (λ s. s.faults ≡ 0) }
+        ensures { IfOk result (λ s. s ≡ record { held = []; room = room; faults = 0 }) }
     {
         Ok(MemorySink {
             bytes: Vec::with_capacity(alloc, room)?,
@@ -76,15 +61,14 @@ impl Sink for MemorySink {
 
     fn write(&mut self, piece: &[u8]) -> Result<usize, Failed>
         requires { 0 < length piece.now }
-        ensures some { IfOk result (λ n. 0 < n) }
-        ensures within { IfOk result (λ n. n ≤ length piece.now) }
-        ensures adds { IfOk result (λ n. Adds (Some self.old.held) (Some self.new.held) (take n piece.now)) }
-        ensures failed { OnErr result (Rose self.old.faults self.new.faults) }
-        ensures kept { OnErr result (Some self.new.held ≡ Some self.old.held) }
-        ensures count { self.old.faults ≤ self.new.faults }
         ensures full { IsErr result ↔ (self.old.room ≤ length self.old.held) }
-        ensures exact { IfOk result (λ n. n ≡ min (length piece.now) (self.old.room - length self.old.held)) }
-        ensures faults { self.new.faults ≡ (if is_ok result then self.old.faults else one_more self.old.faults) }
+        ensures exact { IfOk result (λ n.
+            n ≡ min (length piece.now) (self.old.room - length self.old.held)) }
+        ensures adds { IfOk result (λ n.
+            Adds (Some self.old.held) (Some self.new.held) (take n piece.now)) }
+        ensures kept { OnErr result (self.new.held ≡ self.old.held) }
+        ensures faults { self.new.faults ≡ faults_after result self.old.faults }
+        ensures count { self.old.faults ≤ self.new.faults }
         ensures room { self.new.room ≡ self.old.room }
     {
         let n = piece.len().min(self.room - self.bytes.len());

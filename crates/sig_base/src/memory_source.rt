@@ -1,37 +1,19 @@
-ghost use Rattle.std.specs.Prelude.{
-  ◌≡◌,
-  ℕ,
-  ◌+◌,
-  ◌-◌,
-  ◌<◌,
-  ◌≤◌,
-  ◌++◌,
-  [],
-  List,
-  length,
-  drop,
-  take,
-  min,
-  Option,
-  Some,
-  IfOk,
-  OnErr,
-  IfSome,
-  IsErr,
-  ◌↔◌,
-  is_ok,
-  if◌then◌else◌,
-};
-ghost use Rattle.sig_base.specs.Flow.{Rose, Takes, Adds, one_more};
+ghost use Rattle.std.specs.Prelude.{◌≡◌, ◌<◌, ◌≤◌, length, min, Some, Ok, IfOk};
+ghost use Rattle.sig_base.specs.Flow.{Takes};
 
 use crate::source::{Failed, Source};
 use std::marker::Model;
 
-/// A source over bytes in memory, which gives them in pieces and never fails.
+/// A source over bytes in memory, which never fails.
+///
+/// A read gives as many bytes as the least of `piece`, the room for them and what is left.
 #[derive(Drop)]
 pub struct MemorySource {
+    /// All that the source gives, and has given.
     bytes: Vec<u8>,
+    /// How many of the bytes were given.
     at: usize,
+    /// The most bytes that a read gives.
     piece: usize,
 }
 
@@ -47,10 +29,10 @@ impl Model for MemorySource {
 }
 
 impl MemorySource {
+    /// A source of these bytes, at most `piece` of them a read. `piece` must not be 0.
     pub fn new(bytes: Vec<u8>, piece: usize) -> MemorySource
         requires { 0 < piece }
-        ensures left { result.left ≡ bytes.items }
-        ensures piece { result.piece ≡ piece }
+        ensures { result ≡ record { left = bytes.items; piece = piece } }
     {
         MemorySource {
             bytes,
@@ -67,12 +49,10 @@ impl Source for MemorySource {
 
     fn read(&mut self, into: &mut [u8]) -> Result<usize, Failed>
         requires { 0 < length into.old }
-        ensures within { IfOk result (λ n. n ≤ length into.old) }
-        ensures takes { IfOk result (λ n. Takes (Some self.old.left) (Some self.new.left) into.new n) }
-        ensures failed { OnErr result (Rose 0 0) }
-        ensures kept { OnErr result (Some self.new.left ≡ Some self.old.left) }
-        ensures count { 0 ≤ 0 }
-        ensures exact { result ≡ Ok (min self.old.piece (min (length into.old) (length self.old.left))) }
+        ensures takes { IfOk result (λ n.
+            Takes (Some self.old.left) (Some self.new.left) into.new n) }
+        ensures exact { result
+            ≡ Ok (min self.old.piece (min (length into.old) (length self.old.left))) }
         ensures piece { self.new.piece ≡ self.old.piece }
     {
         let n = self.piece.min(into.len()).min(self.bytes.len() - self.at);

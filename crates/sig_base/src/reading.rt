@@ -1,4 +1,4 @@
-ghost use Rattle.std.specs.Prelude.{◌<◌, ◌≤◌, ◌≡◌, [], vec_len};
+ghost use Rattle.std.specs.Prelude.{◌<◌, ◌≤◌, ◌≡◌, []};
 ghost use Rattle.sig_base.specs.Reading.{IsRead};
 
 use crate::source::{Failed, Source};
@@ -6,19 +6,32 @@ use crate::source::{Failed, Source};
 /// How reading all of a source ended.
 #[derive(Clone, Copy, Debug, PartialEq, Eq)]
 pub enum ReadAll {
+    /// The source came to its end, and all that it had was read.
     Whole,
+    /// The source had more bytes than the limit.
     TooLong,
+    /// A read failed.
     ReadFault,
+    /// Memory was wanting. The bytes of the last read may be lost.
     Memory,
 }
 
+/// The most bytes that one read asks for.
 const PIECE: usize = 4096;
 
-/// Reads the source to its end, at most `limit` bytes and one more.
+/// Reads the source to its end into `into`, which must be empty. `limit` must be below the greatest
+/// usize. Whatever the answer, at most `limit` bytes and one more are taken from the source.
+///
+/// - [`ReadAll::Whole`]: `into` holds all bytes that the source had, at most `limit`.
+/// - [`ReadAll::TooLong`]: `into` holds the first `limit + 1` bytes.
+/// - [`ReadAll::ReadFault`]: a read failed, so the source's count of faults rose. `into` holds what
+///   was taken before.
+/// - [`ReadAll::Memory`]: `into` could not grow. It holds the front of what was taken.
 pub fn read_all<S: Source>(source: &mut S, limit: usize, into: &mut Vec<u8>) -> ReadAll
     requires below { limit < usize.MAX }
     requires empty { into.old.items ≡ [] }
-    ensures read { IsRead (S.left source.old) (S.left source.new) (S.faults source.old) (S.faults source.new) limit into.new.items result }
+    ensures read { IsRead (S.left source.old) (S.left source.new) (S.faults source.old)
+        (S.faults source.new) limit into.new.items result }
     ensures count { S.faults source.old ≤ S.faults source.new }
 {
     let mut piece = [0; PIECE];

@@ -11,7 +11,12 @@ pub trait Sink {
     // How many writes failed. It never falls.
     ghost faults: { Self → ℕ };
 
-    /// Takes bytes from the front of `piece`, at least one, and answers how many.
+    /// Takes bytes from the front of `piece`, which must not be empty, and answers how many. It is
+    /// at least one.
+    ///
+    /// # Errors
+    ///
+    /// [`Failed`] only where the sink's count of faults rose in this call. Nothing was taken then.
     fn write(&mut self, piece: &[u8]) -> Result<usize, Failed>
         requires { 0 < length piece.now }
         ensures some { IfOk result (λ n. 0 < n) }

@@ -1,7 +1,7 @@
-ghost use Rattle.std.specs.Prelude.{ℕ, ◌+◌, ◌<◌, ◌≤◌, ◌≡◌, List, length, Option, IfOk, OnErr};
+ghost use Rattle.std.specs.Prelude.{ℕ, ◌<◌, ◌≤◌, ◌≡◌, List, length, Option, IfOk, OnErr};
 ghost use Rattle.sig_base.specs.Flow.{Rose, Takes};
 
-/// A read or a write failed, and nothing was taken.
+/// A read or a write failed, and took nothing.
 #[derive(Clone, Copy, Debug, PartialEq, Eq)]
 pub struct Failed;
 
@@ -13,7 +13,12 @@ pub trait Source {
     // How many reads failed. It never falls.
     ghost faults: { Self → ℕ };
 
-    /// Places bytes at the front of `into` and answers how many. 0 is the end of the input.
+    /// Places bytes at the front of `into`, which must not be empty, and answers how many.
+    /// 0 is the end of the input.
+    ///
+    /// # Errors
+    ///
+    /// [`Failed`] only where the source's count of faults rose in this call. Nothing was taken then.
     fn read(&mut self, into: &mut [u8]) -> Result<usize, Failed>
         requires { 0 < length into.old }
         ensures within { IfOk result (λ n. n ≤ length into.old) }

@@ -1,29 +1,33 @@
-ghost use Rattle.std.specs.Prelude.{
-  ◌≡◌,
-  ℕ,
-  ◌+◌,
-  ◌<◌,
-  ◌≤◌,
-  length,
-  take,
-  None,
-  IfOk,
-  OnErr,
-};
-ghost use Rattle.sig_base.specs.Flow.{Rose};
+ghost use Rattle.std.specs.Prelude.{◌≡◌, ◌<◌, ◌≤◌, length, None, IfOk};
+ghost use Rattle.std.specs.Io.KnownBytes.{ReadConsumes};
+ghost use Rattle.sig_base.specs.Flow.{faults_after};
 
 use crate::source::{Failed, Source};
 use std::io::Read;
+use std::marker::Model;
 
-/// A reader of std as a source. It tells no bytes, and counts every error.
+/// A reader of std as a source. It tells no bytes.
 #[derive(Drop)]
-pub struct StdSource<R> {
+pub struct StdSource<R: Read> {
+    /// Where the bytes come from.
     reader: R,
+    /// How many reads failed, those that were interrupted too.
     faults: u64,
 }
 
+impl<R: Read> Model for StdSource<R> {
+    ghost use Rattle.sig_base.specs.Served.{ReaderServed};
+
+    ghost Value = { ReaderServed };
+
+    ghost view = { λ s. record { remaining = R.remaining s.reader; faults = s.faults } };
+}
+
 impl<R: Read> StdSource<R> {
-    pub fn new(reader: R) -> StdSource<R> {
+    /// A source of what the reader gives.
+    pub fn new(reader: R) -> StdSource<R>
+        ensures { result ≡ record { remaining = R.remaining reader; faults = 0 } }
+    {
         StdSource { reader, faults: 0 }
     }
 }
@@ -33,7 +37,14 @@ impl<R: Read> Source for StdSource<R> {
 
     ghost faults = { λ s. s.faults };
 
-    fn read(&mut self, into: &mut [u8]) -> Result<usize, Failed> {
+    // One read of the reader. Each of its errors is a fault, an interrupted read too.
+    fn read(&mut self, into: &mut [u8]) -> Result<usize, Failed>
+        requires { 0 < length into.old }
+        ensures within { IfOk result (λ n. n ≤ length into.old) }
+        ensures bytes { ReadConsumes self.old.remaining self.new.remaining result into.new }
+        ensures faults { self.new.faults ≡ faults_after result self.old.faults }
+        ensures count { self.old.faults ≤ self.new.faults }
+    {
         match self.reader.read(into) {
             Ok(n) => Ok(n),
             Err(_) => {

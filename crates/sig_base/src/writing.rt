@@ -1,4 +1,4 @@
-ghost use Rattle.std.specs.Prelude.{◌≤◌, ◌<◌, length};
+ghost use Rattle.std.specs.Prelude.{◌≡◌, ◌≤◌, []};
 ghost use Rattle.sig_base.specs.Writing.{IsWritten};
 
 use crate::sink::Sink;
@@ -7,14 +7,25 @@ use crate::source::Failed;
 /// How writing all of some bytes ended.
 #[derive(Clone, Copy, Debug, PartialEq, Eq)]
 pub enum Written {
+    /// The sink took all the bytes.
     Whole,
-    WriteFault { written: usize },
+    /// A write failed.
+    WriteFault {
+        /// How many bytes the sink had taken before: fewer than there are.
+        written: usize,
+    },
 }
 
-/// Writes all the bytes, in as many pieces as it takes.
+/// Writes all the bytes, in as many calls as it takes. With no bytes it makes no call.
+///
+/// - [`Written::Whole`]: the sink holds what it held, followed by `bytes`.
+/// - [`Written::WriteFault`]: a write failed, so the sink's count of faults rose. The sink holds what
+///   it held, followed by the first `written` bytes.
 pub fn write_whole<O: Sink>(sink: &mut O, bytes: &[u8]) -> Written
-    ensures written { IsWritten (O.held sink.old) (O.held sink.new) (O.faults sink.old) (O.faults sink.new) bytes.now result }
+    ensures written { IsWritten (O.held sink.old) (O.held sink.new) (O.faults sink.old)
+        (O.faults sink.new) bytes.now result }
     ensures count { O.faults sink.old ≤ O.faults sink.new }
+    ensures empty { bytes.now ≡ [] → sink.new ≡ sink.old }
 {
     let mut at = 0;
     while at < bytes.len() {

@@ -9,23 +9,24 @@ use Rattle.std.proofs.lemmas.List.{append-nil}
 use Rattle.std.proofs.lemmas.List.Elements.{filter-append}
 use Rattle.sig_runs.specs.Rules.{Rules, KeepStamps, addressed, coming_from}
 use Rattle.sig_runs.specs.Machine.{apply, choice, posted}
-use Rattle.sig_runs.specs.LocalRun.{Local, Act, CanDo, after, IsLocalRun, takes, sends}
-use Rattle.sig_runs.specs.Crew.{Member, IsLawful, IsLawfulWith, HasLocalRun, HasOwn, acts_of, queued_at, machine_with}
-use Rattle.sig_runs.specs.OnTheWay.{taken_left, own_part, taken_part, on_way, boxes_after}
-use Rattle.sig_runs.proofs.Merge.{slice_get-set_same, slice_get-set_other, pulled}
-use Rattle.sig_runs.proofs.Events.{event_keeps, event_applies}
-use Rattle.sig_runs.proofs.OnTheWay.{IsTakenNext, next_is_oldest, way_step}
+use Rattle.sig_runs.specs.LocalRun.{Local, Act, CanDo, after, IsLocalRun, handles, sends}
+use Rattle.sig_runs.specs.Crew.{Member, IsLawful, IsLawfulWith, HasLocalRun, HasOwn, acts_of, queued_at, machine_with, crew_machine}
+use Rattle.sig_runs.specs.OnTheWay.{IsHandledNext, taken_in_left, own_part, taken_in_part, on_way, boxes_after}
+use Rattle.sig_runs.proofs.Lists.{slice_get-set_same, slice_get-set_other}
+use Rattle.sig_runs.proofs.Steps.{pulled}
+use Rattle.sig_runs.proofs.Events.{event_keeps, event_applies, with_queued}
+use Rattle.sig_runs.proofs.OnTheWay.{next_is_oldest, way_step}
 
 module _ {S X E : Type 0} (rules : Rules S X E) (opening : List S) (crew : List (Member S X E)) (outbox : ℕ → List X) (lawful : IsLawfulWith rules opening crew (on_way rules crew outbox)) where
   -- p does one more act
 
-  module _ (stamped : KeepStamps rules) (p : ℕ) (m : Member S X E) (there : slice_get crew p ≡ Some m) (a : Act S X E) (can : CanDo rules p m.local a.input a.effect) (next : IsTakenNext rules p m a.input)
-      (n : Member S X E) (local_is : n.local ≡ after rules p m.local a) (taken_is : n.taken_in ≡ taken_left rules p a.input m.taken_in) (acts_are : n.acts ≡ m.acts ++ a ∷ []) where
+  module _ (stamped : KeepStamps rules) (p : ℕ) (m : Member S X E) (there : slice_get crew p ≡ Some m) (a : Act S X E) (can : CanDo rules p m.local a.input a.effect) (next : IsHandledNext rules p m a.input)
+      (n : Member S X E) (local_is : n.local ≡ after rules p m.local a) (taken_in_is : n.taken_in ≡ taken_in_left rules p a.input m.taken_in) (acts_are : n.acts ≡ m.acts ++ a ∷ []) where
     abbrev boxes : ℕ → List X
     boxes = boxes_after rules p a.effect.sends outbox
 
     way_is : posted rules p a.effect.sends (pulled rules p a.input (on_way rules crew outbox)) ≡ on_way rules (slice_set crew p n) boxes
-    way_is = fun_ext (λ s. fun_ext (λ t. sym (way_step rules crew outbox p m there a next n (ap (λ (l : Local S X). l.own) local_is) taken_is s t)))
+    way_is = fun_ext (λ s. fun_ext (λ t. sym (way_step rules crew outbox p m there a next n (ap (λ (l : Local S X). l.own) local_is) taken_in_is s t)))
 
     pub act_keeps : IsLawfulWith rules opening (slice_set crew p n) (on_way rules (slice_set crew p n) boxes)
     act_keeps =
@@ -40,7 +41,7 @@ module _ {S X E : Type 0} (rules : Rules S X E) (opening : List S) (crew : List 
   -- the oldest signal of an outbox is taken in by its receiver
 
   module _ (s t : ℕ) (apart : s ≢ t) (x : X) (rest : List X) (oldest : outbox s ≡ x ∷ rest) (from_s : rules.from x ≡ s) (to_t : rules.to x ≡ t) (m : Member S X E) (there : slice_get crew t ≡ Some m)
-      (n : Member S X E) (local_is : n.local ≡ m.local) (taken_is : n.taken_in ≡ m.taken_in ++ x ∷ []) (acts_are : n.acts ≡ m.acts) where
+      (n : Member S X E) (local_is : n.local ≡ m.local) (taken_in_is : n.taken_in ≡ m.taken_in ++ x ∷ []) (acts_are : n.acts ≡ m.acts) where
     abbrev left : ℕ → List X
     left q = if s == q then rest else outbox q
 
@@ -57,14 +58,14 @@ module _ {S X E : Type 0} (rules : Rules S X E) (opening : List S) (crew : List 
         go (inl e) = subst (λ z. own_part (slice_get given z) ≡ own_part (slice_get crew z)) e.1 (ap (λ o. own_part o) at_t ∙ ap (λ (l : Local S X). l.own) local_is ∙ sym (ap (λ o. own_part o) there))
         go (inr e) = ap (λ o. own_part o) (slice_get-set_other crew t g n e.1)
 
-    others_same : (f g : ℕ) → taken_part rules f (slice_get given g) ++ addressed rules g (left f) ≡ taken_part rules f (slice_get crew g) ++ addressed rules g (outbox f)
+    others_same : (f g : ℕ) → taken_in_part rules f (slice_get given g) ++ addressed rules g (left f) ≡ taken_in_part rules f (slice_get crew g) ++ addressed rules g (outbox f)
     others_same f g = go (eqb_tells s f) (eqb_tells t g)
       where
         Goal : ℕ → ℕ → Type 0
-        Goal f g = taken_part rules f (slice_get given g) ++ addressed rules g (left f) ≡ taken_part rules f (slice_get crew g) ++ addressed rules g (outbox f)
+        Goal f g = taken_in_part rules f (slice_get given g) ++ addressed rules g (left f) ≡ taken_in_part rules f (slice_get crew g) ++ addressed rules g (outbox f)
 
-        taken_at : (f : ℕ) → taken_part rules f (slice_get given t) ≡ coming_from rules f m.taken_in ++ cond (rules.from x == f) (x ∷ []) []
-        taken_at f = ap (λ o. taken_part rules f o) at_t ∙ ap (λ z. coming_from rules f z) taken_is ∙ filter-append (λ y. rules.from y == f) m.taken_in (x ∷ [])
+        taken_at : (f : ℕ) → taken_in_part rules f (slice_get given t) ≡ coming_from rules f m.taken_in ++ cond (rules.from x == f) (x ∷ []) []
+        taken_at f = ap (λ o. taken_in_part rules f o) at_t ∙ ap (λ z. coming_from rules f z) taken_in_is ∙ filter-append (λ y. rules.from y == f) m.taken_in (x ∷ [])
 
         box_of_s : (g : ℕ) → addressed rules g (outbox s) ≡ cond (rules.to x == g) (x ∷ addressed rules g rest) (addressed rules g rest)
         box_of_s g = ap (λ z. addressed rules g z) oldest
@@ -75,23 +76,23 @@ module _ {S X E : Type 0} (rules : Rules S X E) (opening : List S) (crew : List 
             ∙ ap (λ c. (coming_from rules s m.taken_in ++ x ∷ []) ++ addressed rules t (cond c rest (outbox s))) (eq-eqb s s refl)
             ∙ append_assoc (coming_from rules s m.taken_in) (x ∷ []) (addressed rules t rest)
             ∙ ap (λ z. coming_from rules s m.taken_in ++ z) (sym (box_of_s t ∙ ap (λ c. cond c (x ∷ addressed rules t rest) (addressed rules t rest)) (eq-eqb (rules.to x) t to_t)))
-            ∙ ap (λ o. taken_part rules s o ++ addressed rules t (outbox s)) (sym there)
+            ∙ ap (λ o. taken_in_part rules s o ++ addressed rules t (outbox s)) (sym there)
 
         from_other : (f : ℕ) → s ≢ f → Goal f t
         from_other f h =
             ap (λ z. z ++ addressed rules t (left f)) (taken_at f ∙ ap (λ c. coming_from rules f m.taken_in ++ cond c (x ∷ []) []) (ne_eqb (rules.from x) f (λ e. h (sym from_s ∙ e))) ∙ append-nil (coming_from rules f m.taken_in))
             ∙ ap (λ c. coming_from rules f m.taken_in ++ addressed rules t (cond c rest (outbox f))) (ne_eqb s f h)
-            ∙ ap (λ o. taken_part rules f o ++ addressed rules t (outbox f)) (sym there)
+            ∙ ap (λ o. taken_in_part rules f o ++ addressed rules t (outbox f)) (sym there)
 
         to_other : (g : ℕ) → t ≢ g → Goal s g
         to_other g h =
-            ap (λ o. taken_part rules s o ++ addressed rules g (left s)) (slice_get-set_other crew t g n h)
-            ∙ ap (λ c. taken_part rules s (slice_get crew g) ++ addressed rules g (cond c rest (outbox s))) (eq-eqb s s refl)
-            ∙ ap (λ z. taken_part rules s (slice_get crew g) ++ z) (sym (box_of_s g ∙ ap (λ c. cond c (x ∷ addressed rules g rest) (addressed rules g rest)) (ne_eqb (rules.to x) g (λ e. h (sym to_t ∙ e)))))
+            ap (λ o. taken_in_part rules s o ++ addressed rules g (left s)) (slice_get-set_other crew t g n h)
+            ∙ ap (λ c. taken_in_part rules s (slice_get crew g) ++ addressed rules g (cond c rest (outbox s))) (eq-eqb s s refl)
+            ∙ ap (λ z. taken_in_part rules s (slice_get crew g) ++ z) (sym (box_of_s g ∙ ap (λ c. cond c (x ∷ addressed rules g rest) (addressed rules g rest)) (ne_eqb (rules.to x) g (λ e. h (sym to_t ∙ e)))))
 
         none : (f g : ℕ) → s ≢ f → t ≢ g → Goal f g
         none f g h k =
-            ap (λ o. taken_part rules f o ++ addressed rules g (left f)) (slice_get-set_other crew t g n k) ∙ ap (λ c. taken_part rules f (slice_get crew g) ++ addressed rules g (cond c rest (outbox f))) (ne_eqb s f h)
+            ap (λ o. taken_in_part rules f o ++ addressed rules g (left f)) (slice_get-set_other crew t g n k) ∙ ap (λ c. taken_in_part rules f (slice_get crew g) ++ addressed rules g (cond c rest (outbox f))) (ne_eqb s f h)
 
         go : (((s == f) ≡ true) × (s ≡ f)) ⊎ (((s == f) ≡ false) × (s ≢ f)) → (((t == g) ≡ true) × (t ≡ g)) ⊎ (((t == g) ≡ false) × (t ≢ g)) → Goal f g
         go (inl c) (inl d) = subst (λ z. Goal z g) c.1 (subst (λ z. Goal s z) d.1 both)
@@ -103,7 +104,7 @@ module _ {S X E : Type 0} (rules : Rules S X E) (opening : List S) (crew : List 
     pub delivery_keeps_way : on_way rules given left ≡ on_way rules crew outbox
     delivery_keeps_way =
         fun_ext (λ f. fun_ext (λ g.
-        ap (λ z. cond (f == g) z (taken_part rules f (slice_get given g) ++ addressed rules g (left f))) (own_same g) ∙ ap (λ z. cond (f == g) (own_part (slice_get crew g)) z) (others_same f g)))
+        ap (λ z. cond (f == g) z (taken_in_part rules f (slice_get given g) ++ addressed rules g (left f))) (own_same g) ∙ ap (λ z. cond (f == g) (own_part (slice_get crew g)) z) (others_same f g)))
 
     acts_same : (g : ℕ) → acts_of (slice_get given g) ≡ acts_of (slice_get crew g)
     acts_same g = go (eqb_tells t g)
@@ -125,8 +126,8 @@ module _ {S X E : Type 0} (rules : Rules S X E) (opening : List S) (crew : List 
           runs = λ g. run_at g (eqb_tells t g);
           own = λ g. own_at g (eqb_tells t g);
           pairs = λ f g.
-              subst (λ z. coming_from rules f (takes z) ++ on_way rules crew outbox f g ≡ addressed rules g (sends (acts_of (slice_get given f)))) (sym (acts_same g))
-              (subst (λ z. coming_from rules f (takes (acts_of (slice_get crew g))) ++ on_way rules crew outbox f g ≡ addressed rules g (sends z)) (sym (acts_same f)) (lawful.pairs f g));
+              subst (λ z. coming_from rules f (handles z) ++ on_way rules crew outbox f g ≡ addressed rules g (sends (acts_of (slice_get given f)))) (sym (acts_same g))
+              (subst (λ z. coming_from rules f (handles (acts_of (slice_get crew g))) ++ on_way rules crew outbox f g ≡ addressed rules g (sends z)) (sym (acts_same f)) (lawful.pairs f g));
         })
       where
         run_at : (g : ℕ) → (((t == g) ≡ true) × (t ≡ g)) ⊎ (((t == g) ≡ false) × (t ≢ g)) → HasLocalRun rules g (slice_get opening g) (slice_get given g)
@@ -143,14 +144,23 @@ module _ {S X E : Type 0} (rules : Rules S X E) (opening : List S) (crew : List 
         own_at g (inr e) = subst (λ o. HasOwn (on_way rules crew outbox g g) o) (sym (slice_get-set_other crew t g n e.1)) (lawful.own g)
 
 -- with empty outboxes what is on its way is what is queued at the receivers
-at_rest : {S X E : Type 0} (rules : Rules S X E) (s t : ℕ) (box : List X) → box ≡ [] → (o : Option (Member S X E)) → (if s == t then own_part o else taken_part rules s o ++ addressed rules t box) ≡ queued_at rules s t o
+at_rest : {S X E : Type 0} (rules : Rules S X E) (s t : ℕ) (box : List X) → box ≡ [] → (o : Option (Member S X E)) → (if s == t then own_part o else taken_in_part rules s o ++ addressed rules t box) ≡ queued_at rules s t o
 at_rest {S} {X} {E} rules s t box e None = rw e (elim (s == t) as (λ c. cond {A = List X} c [] [] ≡ []) [ true ↦ refl | false ↦ refl ])
 at_rest rules s t box e (Some m) =
     rw e (elim (s == t) as (λ c. cond c m.local.own (coming_from rules s m.taken_in ++ []) ≡ cond c m.local.own (coming_from rules s m.taken_in)) [ true ↦ refl | false ↦ append-nil (coming_from rules s m.taken_in) ])
 
+module _ {S X E : Type 0} (rules : Rules S X E) (crew : List (Member S X E)) (outbox : ℕ → List X) (empty : (q : ℕ) → outbox q ≡ []) where
+  on_way_at_rest : on_way rules crew outbox ≡ (λ s t. queued_at rules s t (slice_get crew t))
+  on_way_at_rest = fun_ext (λ s. fun_ext (λ t. at_rest rules s t (outbox s) (empty s) (slice_get crew t)))
+
+  pub machine_at_rest : machine_with crew (on_way rules crew outbox) ≡ crew_machine rules crew
+  machine_at_rest = ap (λ z. machine_with crew z) on_way_at_rest
+
+-- and such a crew is lawful exactly where the crew alone is
 pub lawful_at_rest : {S X E : Type 0} (rules : Rules S X E) (opening : List S) (crew : List (Member S X E)) (outbox : ℕ → List X) → ((q : ℕ) → outbox q ≡ []) → IsLawfulWith rules opening crew (on_way rules crew outbox) → IsLawful rules opening crew
-lawful_at_rest rules opening crew outbox empty h = record {
-  runs = h.runs;
-  pairs = λ s t.
-      subst (λ z. coming_from rules s (takes (acts_of (slice_get crew t))) ++ z ≡ addressed rules t (sends (acts_of (slice_get crew s)))) (at_rest rules s t (outbox s) (empty s) (slice_get crew t)) (h.pairs s t);
-}
+lawful_at_rest rules opening crew outbox empty h =
+    let q : IsLawfulWith rules opening crew (λ s t. queued_at rules s t (slice_get crew t)) = subst (λ z. IsLawfulWith rules opening crew z) (on_way_at_rest rules crew outbox empty) h in
+    record { runs = q.runs; pairs = q.pairs }
+
+pub lawful_from_rest : {S X E : Type 0} (rules : Rules S X E) (opening : List S) (crew : List (Member S X E)) (outbox : ℕ → List X) → ((q : ℕ) → outbox q ≡ []) → IsLawful rules opening crew → IsLawfulWith rules opening crew (on_way rules crew outbox)
+lawful_from_rest rules opening crew outbox empty h = subst (λ z. IsLawfulWith rules opening crew z) (sym (on_way_at_rest rules crew outbox empty)) (with_queued rules opening crew h)

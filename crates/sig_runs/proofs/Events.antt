@@ -1,5 +1,5 @@
 -- One more event keeps a crew lawful, and is a step of the machine of the crew.
-use Rattle.std.proofs.Common.{◌≡◌, ◌≢◌, ℕ, true, false, cond, List, [], ◌∷◌, ◌++◌, map, Option, Some, None, refl, sym, ap, ◌∙◌, subst, inl, inr, ◌⊎◌, append_assoc}
+use Rattle.std.proofs.Common.{◌≡◌, ◌≢◌, ℕ, true, false, cond, List, [], ◌∷◌, ◌++◌, map, Option, Some, None, refl, sym, ap, ◌∙◌, subst, inl, inr, ◌⊎◌}
 use Rattle.std.specs.Prelude.{◌==◌, slice_get, slice_set}
 use Rattle.std.specs.Option.{option_map}
 use Rattle.std.proofs.lemmas.Bool.{eq-eqb}
@@ -9,14 +9,11 @@ use Rattle.std.proofs.lemmas.List.Elements.{filter-append}
 use Rattle.std.proofs.lemmas.Option.{slice_get-map}
 use Rattle.sig_runs.specs.Rules.{Rules, KeepStamps, addressed, coming_from}
 use Rattle.sig_runs.specs.Machine.{apply, choice, posted}
-use Rattle.sig_runs.specs.LocalRun.{Local, Act, CanDo, after, IsLocalRun, own_left, taken, takes, sends}
+use Rattle.sig_runs.specs.LocalRun.{Local, Act, CanDo, after, IsLocalRun, own_left, handled_in, handles, sends}
 use Rattle.sig_runs.specs.Crew.{Member, IsLawful, IsLawfulWith, HasLocalRun, HasOwn, acts_of, queued_at, machine_with}
-use Rattle.sig_runs.proofs.Merge.{slice_get-set_same, slice_get-set_other, first_take, first_sent, pulled, posted_is, posted_same, posted_other, pulled_is, pulled_own, pulled_other, IsOldest, applies}
-use Rattle.sig_runs.proofs.Replay.{takes-push, sends-push, run-push}
-
-pair_event : {X : Type 0} (H h W d M S : List X) → h ++ W ≡ M → H ++ M ≡ S → (H ++ h) ++ (W ++ d) ≡ S ++ d
-pair_event H h W d M S e old =
-    append_assoc H h (W ++ d) ∙ ap (λ z. H ++ z) (sym (append_assoc h W d) ∙ ap (λ z. z ++ d) e) ∙ sym (append_assoc H M d) ∙ ap (λ z. z ++ d) old
+use Rattle.sig_runs.proofs.Lists.{pair_event, slice_get-set_same, slice_get-set_other}
+use Rattle.sig_runs.proofs.Steps.{first_handled, first_sent, pulled, posted_is, posted_same, posted_other, pulled_is, pulled_own, pulled_other, IsOldest, applies}
+use Rattle.sig_runs.proofs.Replay.{handles-push, sends-push, run-push}
 
 module _ {S X E : Type 0} (rules : Rules S X E) (opening : List S) where
   -- a lawful crew, with what is queued at it
@@ -49,12 +46,12 @@ module _ {S X E : Type 0} (rules : Rules S X E) (opening : List S) where
         go (inl e) = rw e.0 (subst (λ z. acts_of (slice_get next_crew z) ≡ acts_of (slice_get crew z) ++ a ∷ []) e.1 (ap (λ o. acts_of o) at_p ∙ acts_are ∙ ap (λ o. acts_of o ++ a ∷ []) (sym there)))
         go (inr e) = rw e.0 (ap (λ o. acts_of o) (slice_get-set_other crew p q n e.1) ∙ sym (append-nil (acts_of (slice_get crew q))))
 
-    takes_now : (s t : ℕ) → coming_from rules s (takes (acts_of (slice_get next_crew t))) ≡ coming_from rules s (takes (acts_of (slice_get crew t))) ++ first_take rules p s t a.input
-    takes_now s t =
-        ap (λ z. coming_from rules s (takes z)) (acts_now t)
-        ∙ elim (p == t) as (λ c. coming_from rules s (takes (acts_of (slice_get crew t) ++ cond c (a ∷ []) [])) ≡ coming_from rules s (takes (acts_of (slice_get crew t))) ++ cond c (coming_from rules s (taken a.input)) []) [
-          | true ↦ ap (λ z. coming_from rules s z) (takes-push (acts_of (slice_get crew t)) a) ∙ filter-append (λ x. rules.from x == s) (takes (acts_of (slice_get crew t))) (taken a.input)
-          | false ↦ ap (λ z. coming_from rules s (takes z)) (append-nil (acts_of (slice_get crew t))) ∙ sym (append-nil (coming_from rules s (takes (acts_of (slice_get crew t)))))
+    handles_now : (s t : ℕ) → coming_from rules s (handles (acts_of (slice_get next_crew t))) ≡ coming_from rules s (handles (acts_of (slice_get crew t))) ++ first_handled rules p s t a.input
+    handles_now s t =
+        ap (λ z. coming_from rules s (handles z)) (acts_now t)
+        ∙ elim (p == t) as (λ c. coming_from rules s (handles (acts_of (slice_get crew t) ++ cond c (a ∷ []) [])) ≡ coming_from rules s (handles (acts_of (slice_get crew t))) ++ cond c (coming_from rules s (handled_in a.input)) []) [
+          | true ↦ ap (λ z. coming_from rules s z) (handles-push (acts_of (slice_get crew t)) a) ∙ filter-append (λ x. rules.from x == s) (handles (acts_of (slice_get crew t))) (handled_in a.input)
+          | false ↦ ap (λ z. coming_from rules s (handles z)) (append-nil (acts_of (slice_get crew t))) ∙ sym (append-nil (coming_from rules s (handles (acts_of (slice_get crew t)))))
         ]
 
     sends_now : (s t : ℕ) → addressed rules t (sends (acts_of (slice_get next_crew s))) ≡ addressed rules t (sends (acts_of (slice_get crew s))) ++ first_sent rules p s t a.effect.sends
@@ -77,11 +74,11 @@ module _ {S X E : Type 0} (rules : Rules S X E) (opening : List S) where
       runs = λ q. runs_at q (eqb_tells p q);
       own = λ q. own_at q (eqb_tells p q);
       pairs = λ s t.
-          subst (λ z. z ++ next_queued s t ≡ addressed rules t (sends (acts_of (slice_get next_crew s)))) (sym (takes_now s t))
-          (subst (λ z. (coming_from rules s (takes (acts_of (slice_get crew t))) ++ first_take rules p s t a.input) ++ next_queued s t ≡ z) (sym (sends_now s t))
-          (subst (λ z. (coming_from rules s (takes (acts_of (slice_get crew t))) ++ first_take rules p s t a.input) ++ z ≡ addressed rules t (sends (acts_of (slice_get crew s))) ++ first_sent rules p s t a.effect.sends)
+          subst (λ z. z ++ next_queued s t ≡ addressed rules t (sends (acts_of (slice_get next_crew s)))) (sym (handles_now s t))
+          (subst (λ z. (coming_from rules s (handles (acts_of (slice_get crew t))) ++ first_handled rules p s t a.input) ++ next_queued s t ≡ z) (sym (sends_now s t))
+          (subst (λ z. (coming_from rules s (handles (acts_of (slice_get crew t))) ++ first_handled rules p s t a.input) ++ z ≡ addressed rules t (sends (acts_of (slice_get crew s))) ++ first_sent rules p s t a.effect.sends)
           (sym (posted_is rules p s t a.effect.sends (pulled rules p a.input queued)))
-          (pair_event (coming_from rules s (takes (acts_of (slice_get crew t)))) (first_take rules p s t a.input) (pulled rules p a.input queued s t) (first_sent rules p s t a.effect.sends) (queued s t) (addressed rules t (sends (acts_of (slice_get crew s))))
+          (pair_event (coming_from rules s (handles (acts_of (slice_get crew t)))) (first_handled rules p s t a.input) (pulled rules p a.input queued s t) (first_sent rules p s t a.effect.sends) (queued s t) (addressed rules t (sends (acts_of (slice_get crew s))))
           (pulled_is rules p s t a.input queued old) (h.pairs s t))));
     }
       where
@@ -101,7 +98,7 @@ module _ {S X E : Type 0} (rules : Rules S X E) (opening : List S) where
             subst (λ o. HasOwn (next_queued q q) o) (sym (slice_get-set_other crew p q n e.1))
             (subst (λ z. HasOwn z (slice_get crew q)) (sym (posted_other rules p q q a.effect.sends (pulled rules p a.input queued) e.1 ∙ pulled_other rules p q a.input queued e.1)) (h.own q))
 
-    -- and its machine takes a step
+    -- and is one step of its machine
     pub event_applies : IsLawfulWith rules opening crew queued → CanDo rules p m.local a.input a.effect → IsOldest rules p a.input queued →
         apply rules (machine_with crew queued) (choice p (rules.did a.effect.event)) ≡ Some (record { machine = machine_with next_crew next_queued; event = a.effect.event })
     event_applies h can old =

@@ -8,20 +8,16 @@ use Rattle.std.proofs.lemmas.List.Elements.{filter-append}
 use Rattle.sig_runs.specs.Rules.{Rules, addressed, coming_from}
 use Rattle.sig_runs.specs.Machine.{posted}
 use Rattle.sig_runs.specs.LocalRun.{Input, Act, own_left}
-use Rattle.sig_runs.specs.LocalRun.Input.{Execute, Take}
+use Rattle.sig_runs.specs.LocalRun.Input.{Execute, Handle}
 use Rattle.sig_runs.specs.Crew.{Member}
-use Rattle.sig_runs.specs.OnTheWay.{outgoing, taken_left, own_part, taken_part, on_way, boxes_after}
-use Rattle.sig_runs.proofs.Merge.{slice_get-set_same, slice_get-set_other, pulled, pulled_own, posted_same, posted_other, IsOldest}
+use Rattle.sig_runs.specs.OnTheWay.{IsHandledNext, outgoing, taken_in_left, own_part, taken_in_part, on_way, boxes_after}
+use Rattle.sig_runs.proofs.Lists.{slice_get-set_same, slice_get-set_other}
+use Rattle.sig_runs.proofs.Steps.{pulled, pulled_own, posted_same, posted_other, IsOldest}
 
 module _ {S X E : Type 0} (rules : Rules S X E) where
-  -- x is p's oldest own signal, or it has none and x is the oldest that it took in
-  abbrev pub IsTakenNext : ℕ → Member S X E → Input X → Type 0
-  IsTakenNext p m Execute = Unit {0}
-  IsTakenNext p m (Take x) = MatchBool (rules.from x == p) ((rest : List X) × (m.local.own ≡ x ∷ rest)) ((rest : List X) × (m.taken_in ≡ x ∷ rest))
-
   pulled_to_other : (q : ℕ) (i : Input X) (queued : ℕ → ℕ → List X) (s t : ℕ) → (q ≡ t → ⊥) → pulled rules q i queued s t ≡ queued s t
   pulled_to_other q Execute queued s t h = refl
-  pulled_to_other q (Take x) queued s t h =
+  pulled_to_other q (Handle x) queued s t h =
       rw (ne_eqb q t h) (elim (rules.from x == s) as (λ c. cond (c && false) (drop 1 (queued s t)) (queued s t) ≡ queued s t) [ true ↦ refl | false ↦ refl ])
 
   -- signals to another are outgoing
@@ -36,39 +32,39 @@ module _ {S X E : Type 0} (rules : Rules S X E) where
 
   module _ (crew : List (Member S X E)) (outbox : ℕ → List X) (p : ℕ) (m : Member S X E) (there : slice_get crew p ≡ Some m) where
     way_own : on_way rules crew outbox p p ≡ m.local.own
-    way_own = ap (λ c. cond c (own_part (slice_get crew p)) (taken_part rules p (slice_get crew p) ++ addressed rules p (outbox p))) (eq-eqb p p refl) ∙ ap (λ o. own_part o) there
+    way_own = ap (λ c. cond c (own_part (slice_get crew p)) (taken_in_part rules p (slice_get crew p) ++ addressed rules p (outbox p))) (eq-eqb p p refl) ∙ ap (λ o. own_part o) there
 
     way_to : (s : ℕ) → (s ≡ p → ⊥) → on_way rules crew outbox s p ≡ coming_from rules s m.taken_in ++ addressed rules p (outbox s)
     way_to s h =
-        ap (λ c. cond c (own_part (slice_get crew p)) (taken_part rules s (slice_get crew p) ++ addressed rules p (outbox s))) (ne_eqb s p h) ∙ ap (λ o. taken_part rules s o ++ addressed rules p (outbox s)) there
+        ap (λ c. cond c (own_part (slice_get crew p)) (taken_in_part rules s (slice_get crew p) ++ addressed rules p (outbox s))) (ne_eqb s p h) ∙ ap (λ o. taken_in_part rules s o ++ addressed rules p (outbox s)) there
 
-    -- the signal that p takes is the oldest on its way
-    pub next_is_oldest : (i : Input X) → IsTakenNext p m i → IsOldest rules p i (on_way rules crew outbox)
+    -- the signal that p handles is the oldest on its way
+    pub next_is_oldest : (i : Input X) → IsHandledNext rules p m i → IsOldest rules p i (on_way rules crew outbox)
     next_is_oldest Execute h = tt
-    next_is_oldest (Take x) h = go (eqb_tells (rules.from x) p)
+    next_is_oldest (Handle x) h = go (eqb_tells (rules.from x) p)
       where
         go : (((rules.from x == p) ≡ true) × (rules.from x ≡ p)) ⊎ (((rules.from x == p) ≡ false) × (rules.from x ≢ p)) → (rest : List X) × (on_way rules crew outbox (rules.from x) p ≡ x ∷ rest)
         go (inl a) =
             let own : (rest : List X) × (m.local.own ≡ x ∷ rest) = subst (λ c. MatchBool c ((rest : List X) × (m.local.own ≡ x ∷ rest)) ((rest : List X) × (m.taken_in ≡ x ∷ rest))) a.0 h in
             (own.0, subst (λ z. on_way rules crew outbox z p ≡ x ∷ own.0) (sym a.1) (way_own ∙ own.1))
         go (inr a) =
-            let took : (rest : List X) × (m.taken_in ≡ x ∷ rest) = subst (λ c. MatchBool c ((rest : List X) × (m.local.own ≡ x ∷ rest)) ((rest : List X) × (m.taken_in ≡ x ∷ rest))) a.0 h in (
-              coming_from rules (rules.from x) took.0 ++ addressed rules p (outbox (rules.from x)),
-              way_to (rules.from x) a.1 ∙ ap (λ z. coming_from rules (rules.from x) z ++ addressed rules p (outbox (rules.from x))) took.1
-                  ∙ ap (λ c. cond c (x ∷ coming_from rules (rules.from x) took.0) (coming_from rules (rules.from x) took.0) ++ addressed rules p (outbox (rules.from x))) (eq-eqb (rules.from x) (rules.from x) refl),
+            let first : (rest : List X) × (m.taken_in ≡ x ∷ rest) = subst (λ c. MatchBool c ((rest : List X) × (m.local.own ≡ x ∷ rest)) ((rest : List X) × (m.taken_in ≡ x ∷ rest))) a.0 h in (
+              coming_from rules (rules.from x) first.0 ++ addressed rules p (outbox (rules.from x)),
+              way_to (rules.from x) a.1 ∙ ap (λ z. coming_from rules (rules.from x) z ++ addressed rules p (outbox (rules.from x))) first.1
+                  ∙ ap (λ c. cond c (x ∷ coming_from rules (rules.from x) first.0) (coming_from rules (rules.from x) first.0) ++ addressed rules p (outbox (rules.from x))) (eq-eqb (rules.from x) (rules.from x) refl),
             )
 
-    module _ (a : Act S X E) (next : IsTakenNext p m a.input) (n : Member S X E) (own_is : n.local.own ≡ own_left rules p a.input m.local.own ++ addressed rules p a.effect.sends)
-        (taken_is : n.taken_in ≡ taken_left rules p a.input m.taken_in) where
+    module _ (a : Act S X E) (next : IsHandledNext rules p m a.input) (n : Member S X E) (own_is : n.local.own ≡ own_left rules p a.input m.local.own ++ addressed rules p a.effect.sends)
+        (taken_in_is : n.taken_in ≡ taken_in_left rules p a.input m.taken_in) where
       abbrev outbox_after : ℕ → List X
       outbox_after = boxes_after rules p a.effect.sends outbox
 
-      taken_pulls : (s : ℕ) → (s ≡ p → ⊥) → coming_from rules s (taken_left rules p a.input m.taken_in) ++ addressed rules p (outbox s) ≡ pulled rules p a.input (on_way rules crew outbox) s p
-      taken_pulls s h = go a.input next
+      handled_pulls : (s : ℕ) → (s ≡ p → ⊥) → coming_from rules s (taken_in_left rules p a.input m.taken_in) ++ addressed rules p (outbox s) ≡ pulled rules p a.input (on_way rules crew outbox) s p
+      handled_pulls s h = go a.input next
         where
-          go : (i : Input X) → IsTakenNext p m i → coming_from rules s (taken_left rules p i m.taken_in) ++ addressed rules p (outbox s) ≡ pulled rules p i (on_way rules crew outbox) s p
+          go : (i : Input X) → IsHandledNext rules p m i → coming_from rules s (taken_in_left rules p i m.taken_in) ++ addressed rules p (outbox s) ≡ pulled rules p i (on_way rules crew outbox) s p
           go Execute w = sym (way_to s h)
-          go (Take x) w =
+          go (Handle x) w =
               rw (eq-eqb p p refl)
               (rw (way_to s h) (at (eqb_tells (rules.from x) p) (eqb_tells (rules.from x) s)))
             where
@@ -86,8 +82,8 @@ module _ {S X E : Type 0} (rules : Rules S X E) where
               at (inl c) (inl d) = absurd (h (sym d.1 ∙ c.1))
               at (inl c) (inr d) = rw (c.0, d.0) refl
               at (inr c) d =
-                  let took : (rest : List X) × (m.taken_in ≡ x ∷ rest) = subst (λ z. MatchBool z ((rest : List X) × (m.local.own ≡ x ∷ rest)) ((rest : List X) × (m.taken_in ≡ x ∷ rest))) c.0 w in
-                  rw (c.0, took.1) (rest_of (rules.from x == s) took.0)
+                  let first : (rest : List X) × (m.taken_in ≡ x ∷ rest) = subst (λ z. MatchBool z ((rest : List X) × (m.local.own ≡ x ∷ rest)) ((rest : List X) × (m.taken_in ≡ x ∷ rest))) c.0 w in
+                  rw (c.0, first.1) (rest_of (rules.from x == s) first.0)
 
       -- the lists on their way after the event are those of the machine's step
       pub way_step : (s t : ℕ) → on_way rules (slice_set crew p n) outbox_after s t ≡ posted rules p a.effect.sends (pulled rules p a.input (on_way rules crew outbox)) s t
@@ -104,38 +100,38 @@ module _ {S X E : Type 0} (rules : Rules S X E) where
 
           both : Goal p p
           both =
-              ap (λ c. cond c (own_part (slice_get new p)) (taken_part rules p (slice_get new p) ++ addressed rules p (outbox_after p))) (eq-eqb p p refl) ∙ ap (λ o. own_part o) at_p ∙ own_is
+              ap (λ c. cond c (own_part (slice_get new p)) (taken_in_part rules p (slice_get new p) ++ addressed rules p (outbox_after p))) (eq-eqb p p refl) ∙ ap (λ o. own_part o) at_p ∙ own_is
               ∙ ap (λ z. own_left rules p a.input z ++ addressed rules p a.effect.sends) (sym way_own)
               ∙ sym (posted_same rules p p a.effect.sends (pulled rules p a.input (on_way rules crew outbox)) ∙ ap (λ z. z ++ addressed rules p a.effect.sends) (pulled_own rules p a.input (on_way rules crew outbox)))
 
           sends_to : (g : ℕ) → p ≢ g → Goal p g
           sends_to g h =
-              ap (λ c. cond c (own_part (slice_get new g)) (taken_part rules p (slice_get new g) ++ addressed rules g (outbox_after p))) (ne_eqb p g h)
-              ∙ ap (λ o. taken_part rules p o ++ addressed rules g (outbox_after p)) (slice_get-set_other crew p g n h)
-              ∙ ap (λ c. taken_part rules p (slice_get crew g) ++ addressed rules g (cond c (outbox p ++ outgoing rules p a.effect.sends) (outbox p))) (eq-eqb p p refl)
-              ∙ ap (λ z. taken_part rules p (slice_get crew g) ++ z) (filter-append (λ x. rules.to x == g) (outbox p) (outgoing rules p a.effect.sends) ∙ ap (λ z. addressed rules g (outbox p) ++ z) (addressed-outgoing p g a.effect.sends h))
-              ∙ sym (append_assoc (taken_part rules p (slice_get crew g)) (addressed rules g (outbox p)) (addressed rules g a.effect.sends))
+              ap (λ c. cond c (own_part (slice_get new g)) (taken_in_part rules p (slice_get new g) ++ addressed rules g (outbox_after p))) (ne_eqb p g h)
+              ∙ ap (λ o. taken_in_part rules p o ++ addressed rules g (outbox_after p)) (slice_get-set_other crew p g n h)
+              ∙ ap (λ c. taken_in_part rules p (slice_get crew g) ++ addressed rules g (cond c (outbox p ++ outgoing rules p a.effect.sends) (outbox p))) (eq-eqb p p refl)
+              ∙ ap (λ z. taken_in_part rules p (slice_get crew g) ++ z) (filter-append (λ x. rules.to x == g) (outbox p) (outgoing rules p a.effect.sends) ∙ ap (λ z. addressed rules g (outbox p) ++ z) (addressed-outgoing p g a.effect.sends h))
+              ∙ sym (append_assoc (taken_in_part rules p (slice_get crew g)) (addressed rules g (outbox p)) (addressed rules g a.effect.sends))
               ∙ sym (posted_same rules p g a.effect.sends (pulled rules p a.input (on_way rules crew outbox))
               ∙ ap (λ z. z ++ addressed rules g a.effect.sends) (pulled_to_other p a.input (on_way rules crew outbox) p g h
-              ∙ ap (λ c. cond c (own_part (slice_get crew g)) (taken_part rules p (slice_get crew g) ++ addressed rules g (outbox p))) (ne_eqb p g h)))
+              ∙ ap (λ c. cond c (own_part (slice_get crew g)) (taken_in_part rules p (slice_get crew g) ++ addressed rules g (outbox p))) (ne_eqb p g h)))
 
-          takes_of : (f : ℕ) → p ≢ f → Goal f p
-          takes_of f h =
-              ap (λ c. cond c (own_part (slice_get new p)) (taken_part rules f (slice_get new p) ++ addressed rules p (outbox_after f))) (ne_eqb f p (λ e. h (sym e)))
-              ∙ ap (λ o. taken_part rules f o ++ addressed rules p (outbox_after f)) at_p
-              ∙ ap (λ z. coming_from rules f z ++ addressed rules p (outbox_after f)) taken_is
-              ∙ ap (λ c. coming_from rules f (taken_left rules p a.input m.taken_in) ++ addressed rules p (cond c (outbox f ++ outgoing rules p a.effect.sends) (outbox f))) (ne_eqb p f h)
-              ∙ taken_pulls f (λ e. h (sym e))
+          handled_from : (f : ℕ) → p ≢ f → Goal f p
+          handled_from f h =
+              ap (λ c. cond c (own_part (slice_get new p)) (taken_in_part rules f (slice_get new p) ++ addressed rules p (outbox_after f))) (ne_eqb f p (λ e. h (sym e)))
+              ∙ ap (λ o. taken_in_part rules f o ++ addressed rules p (outbox_after f)) at_p
+              ∙ ap (λ z. coming_from rules f z ++ addressed rules p (outbox_after f)) taken_in_is
+              ∙ ap (λ c. coming_from rules f (taken_in_left rules p a.input m.taken_in) ++ addressed rules p (cond c (outbox f ++ outgoing rules p a.effect.sends) (outbox f))) (ne_eqb p f h)
+              ∙ handled_pulls f (λ e. h (sym e))
               ∙ sym (posted_other rules p f p a.effect.sends (pulled rules p a.input (on_way rules crew outbox)) h)
 
           others : (f g : ℕ) → p ≢ f → p ≢ g → Goal f g
           others f g h k =
-              ap (λ o. cond (f == g) (own_part o) (taken_part rules f o ++ addressed rules g (outbox_after f))) (slice_get-set_other crew p g n k)
-              ∙ ap (λ c. cond (f == g) (own_part (slice_get crew g)) (taken_part rules f (slice_get crew g) ++ addressed rules g (cond c (outbox f ++ outgoing rules p a.effect.sends) (outbox f)))) (ne_eqb p f h)
+              ap (λ o. cond (f == g) (own_part o) (taken_in_part rules f o ++ addressed rules g (outbox_after f))) (slice_get-set_other crew p g n k)
+              ∙ ap (λ c. cond (f == g) (own_part (slice_get crew g)) (taken_in_part rules f (slice_get crew g) ++ addressed rules g (cond c (outbox f ++ outgoing rules p a.effect.sends) (outbox f)))) (ne_eqb p f h)
               ∙ sym (posted_other rules p f g a.effect.sends (pulled rules p a.input (on_way rules crew outbox)) h ∙ pulled_to_other p a.input (on_way rules crew outbox) f g k)
 
           go : (((p == s) ≡ true) × (p ≡ s)) ⊎ (((p == s) ≡ false) × (p ≢ s)) → (((p == t) ≡ true) × (p ≡ t)) ⊎ (((p == t) ≡ false) × (p ≢ t)) → Goal s t
           go (inl c) (inl d) = subst (λ z. Goal z t) c.1 (subst (λ z. Goal p z) d.1 both)
           go (inl c) (inr d) = subst (λ z. Goal z t) c.1 (sends_to t d.1)
-          go (inr c) (inl d) = subst (λ z. Goal s z) d.1 (takes_of s c.1)
+          go (inr c) (inl d) = subst (λ z. Goal s z) d.1 (handled_from s c.1)
           go (inr c) (inr d) = others s t c.1 d.1

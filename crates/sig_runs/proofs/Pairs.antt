@@ -1,22 +1,18 @@
 -- The lists of a pair: what a process's own run tells of its signals to itself, and what a round keeps.
-use Rattle.std.proofs.Common.{◌≡◌, ℕ, Bool, true, false, cond, List, [], ◌∷◌, ◌++◌, drop, refl, sym, ap, ◌∙◌, append_assoc}
+use Rattle.std.proofs.Common.{append_assoc, ◌≡◌, ℕ, Bool, true, false, cond, List, [], ◌∷◌, ◌++◌, drop, refl, sym, ap, ◌∙◌}
 use Rattle.std.specs.Prelude.{◌==◌, if◌then◌else◌}
 use Rattle.std.specs.Bool.{MatchBool}
 use Rattle.std.proofs.lemmas.List.{append-nil}
 use Rattle.std.proofs.lemmas.List.Elements.{filter-append}
 use Rattle.sig_runs.specs.Rules.{Effect, Rules, addressed, coming_from}
-use Rattle.sig_runs.specs.LocalRun.{Local, Input, Act, CanDo, after, IsLocalRun, takes, sends, taken, own_left}
-use Rattle.sig_runs.specs.LocalRun.Input.{Execute, Take}
-
--- what a step does to the list of a process's signals to itself
-own_step : {X : Type 0} (h H f l o d D : List X) → h ++ o ≡ l → H ++ f ≡ (o ++ d) ++ D → (h ++ H) ++ f ≡ l ++ (d ++ D)
-own_step h H f l o d D e g =
-    append_assoc h H f ∙ ap (λ z. h ++ z) (g ∙ append_assoc o d D) ∙ sym (append_assoc h o (d ++ D)) ∙ ap (λ z. z ++ (d ++ D)) e
+use Rattle.sig_runs.specs.LocalRun.{Local, Input, Act, CanDo, after, IsLocalRun, handles, sends, handled_in, own_left}
+use Rattle.sig_runs.proofs.Lists.{own_step}
+use Rattle.sig_runs.specs.LocalRun.Input.{Execute, Handle}
 
 module _ {S X E : Type 0} (rules : Rules S X E) (p : ℕ) where
-  own_moves : (l : Local S X) (i : Input X) (ef : Effect S X E) → CanDo rules p l i ef → coming_from rules p (taken i) ++ own_left rules p i l.own ≡ l.own
+  own_moves : (l : Local S X) (i : Input X) (ef : Effect S X E) → CanDo rules p l i ef → coming_from rules p (handled_in i) ++ own_left rules p i l.own ≡ l.own
   own_moves l Execute ef can = refl
-  own_moves l (Take x) ef can = go (rules.from x == p) l.own can.2
+  own_moves l (Handle x) ef can = go (rules.from x == p) l.own can.2
     where
       go : (c : Bool) (own : List X) → MatchBool c ((rest : List X) × (own ≡ x ∷ rest)) (own ≡ []) → cond c (x ∷ []) [] ++ (if c then drop 1 own else own) ≡ own
       go true own h = rw h.1 refl
@@ -24,11 +20,11 @@ module _ {S X E : Type 0} (rules : Rules S X E) (p : ℕ) where
 
   -- The signals to itself that a process handled, and then those that it has not, are those that it sent to itself. So
   -- the law of the pair (p, p) follows from the local run.
-  pub own_law : (acts : List (Act S X E)) (l end : Local S X) → IsLocalRun rules p l acts end → coming_from rules p (takes acts) ++ end.own ≡ l.own ++ addressed rules p (sends acts)
+  pub own_law : (acts : List (Act S X E)) (l end : Local S X) → IsLocalRun rules p l acts end → coming_from rules p (handles acts) ++ end.own ≡ l.own ++ addressed rules p (sends acts)
   own_law [] l end h = ap (λ (z : Local S X). z.own) (sym h) ∙ sym (append-nil l.own)
   own_law (a ∷ later) l end h =
-      ap (λ z. z ++ end.own) (filter-append (λ x. rules.from x == p) (taken a.input) (takes later))
-      ∙ own_step (coming_from rules p (taken a.input)) (coming_from rules p (takes later)) end.own l.own (own_left rules p a.input l.own) (addressed rules p a.effect.sends) (addressed rules p (sends later))
+      ap (λ z. z ++ end.own) (filter-append (λ x. rules.from x == p) (handled_in a.input) (handles later))
+      ∙ own_step (coming_from rules p (handled_in a.input)) (coming_from rules p (handles later)) end.own l.own (own_left rules p a.input l.own) (addressed rules p a.effect.sends) (addressed rules p (sends later))
       (own_moves l a.input a.effect h.0) (own_law later (after rules p l a) end h.1)
       ∙ ap (λ z. l.own ++ z) (sym (filter-append (λ x. rules.to x == p) a.effect.sends (sends later)))
 

@@ -5,3 +5,8 @@ pub mod Replay
 pub mod Crew
 pub mod Order
 pub mod OnTheWay
+pub mod Everywhere
+pub mod Fresh
+pub mod Marks
+pub mod Settled
+pub mod Quiet

@@ -3,11 +3,15 @@ use Rattle.std.specs.Prelude.{ℕ, Bool, true, false, not, ◌==◌, ◌≡◌, 
 use Rattle.sig_runs.specs.Rules.{Did, Effect, Rules, addressed}
 use Rattle.sig_runs.specs.Rules.Did.{Exec, From}
 
+-- The order of signals is kept between one sender and one receiver, and between no others: so there is one list for each
+-- ordered pair (Erlang Reference Manual, Processes, Delivery of Signals).
 pub record Machine (S X : Type 0) : Type 0 where
   pub procs : List S
-  -- the signals from s to t that t has not handled
+  -- the signals from s to t that t has not handled, the oldest first
   pub queued : ℕ → ℕ → List X
 
+-- One process goes on: it executes its instruction, or it handles a signal. A process handles its signals at any moment,
+-- and not only at a receive (Erlang Reference Manual, Processes, Receiving Signals).
 pub data Choice : Type 0 where
   -- p executes
   Executes : (p : ℕ) → Choice
@@ -19,15 +23,18 @@ pub record At (E : Type 0) : Type 0 where
   pub pid : ℕ
   pub event : E
 
+-- what a choice leads to: the new machine and the event
 pub record Applied (S X E : Type 0) : Type 0 where
   pub machine : Machine S X
   pub event : E
 
+-- the list has nothing in it
 abbrev pub is_empty : {A : Type 0} → List A → Bool
 is_empty [] = true
 is_empty (x ∷ xs) = false
 
--- the lists after p sent these signals
+-- The lists after p sent these signals: a signal comes behind all that p sent to the same receiver before (Erlang
+-- Reference Manual, Processes, Delivery of Signals).
 abbrev pub posted : {S X E : Type 0} → Rules S X E → ℕ → List X → (ℕ → ℕ → List X) → ℕ → ℕ → List X
 posted rules p sends queued s t = if p == s then queued s t ++ addressed rules t sends else queued s t
 
@@ -42,6 +49,7 @@ moved rules m p queued effect = record {
   event = effect.event;
 }
 
+-- p has executed its instruction, where that is defined
 abbrev pub executed : {S X E : Type 0} → Rules S X E → Machine S X → ℕ → Option (Effect S X E) → Option (Applied S X E)
 executed rules m p None = None
 executed rules m p (Some effect) = Some (moved rules m p m.queued effect)

@@ -1,4 +1,4 @@
-use Rattle.std.proofs.Common.{◌≡◌, ◌++◌, arith, take, subst, sym, List, ℕ}
+use Rattle.std.proofs.Common.{◌≡◌, ◌+◌, ◌≤◌, ◌++◌, arith, take, length, subst, sym, List, ℕ}
 use Rattle.std.proofs.lemmas.Grind.{common_steps}
 use Rattle.std.proofs.lemmas.List.{take-append-le}
 use Rattle.sig_base.specs.Flow.{Took}
@@ -13,3 +13,14 @@ loop-piece-preserved g c =
       took = subst (λ (xs : List ℕ). Took (g.S.Source.left c.args.source.now) (g.S.Source.left c.read.new.self) xs) (sym e) (Took-more _ _ _ _ _ _ c.loop-piece.invariant.took c.in-Ok.ensures.takes);
       count = omega (arith, c.in-Ok.ensures.count);
     }
+
+-- the last piece is lost
+pub returns-then-is_err-clause-read : goal.returns-then-is_err-clause-read
+returns-then-is_err-clause-read g c =
+    let kept : c.extend_from_slice.new.self.items ≡ c.loop-piece.into.items = grind (arith, common_steps) in
+    let took = Took-more _ _ _ _ _ _ c.loop-piece.invariant.took c.in-Ok.ensures.takes in
+    let short : length (c.loop-piece.into.items ++ take c.in-Ok.n c.read.new.into) ≤ c.args.limit + 1 = grind (arith, common_steps, c.in-Ok.ensures.within) in (
+      take c.in-Ok.n c.read.new.into,
+      subst (λ (xs : List ℕ). Took (g.S.Source.left c.args.source.now) (g.S.Source.left c.read.new.self) (xs ++ take c.in-Ok.n c.read.new.into)) (sym kept) took,
+      subst (λ (xs : List ℕ). length (xs ++ take c.in-Ok.n c.read.new.into) ≤ c.args.limit + 1) (sym kept) short,
+    )

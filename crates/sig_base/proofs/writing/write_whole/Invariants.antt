@@ -1,8 +1,8 @@
-use Rattle.std.proofs.Common.{length, ◌-◌, ◌≤◌, take}
+use Rattle.std.proofs.Common.{length, ◌-◌, ◌≤◌, take, ◌≡◌, []}
 use Rattle.sig_base.specs.Flow.{Adds}
 use Rattle.sig_base.proofs.writing.write_whole.Given as goal
 
--- what was written so far is the front of the bytes
+-- what was written so far is the front of the bytes, and with no bytes nothing was
 abbrev pub invariant-loop-at : goal.invariant-loop-at
 invariant-loop-at g l =
     let held = g.O.Sink.held in
@@ -11,6 +11,7 @@ invariant-loop-at g l =
       within : l.at ≤ length l.bytes;
       added : Adds (held l.fn.sink) (held l.sink) (take l.at l.bytes);
       count : faults l.fn.sink ≤ faults l.sink;
+      empty : l.bytes ≡ [] → l.sink ≡ l.fn.sink;
     }
 
 abbrev pub decreases-loop-at : goal.decreases-loop-at
