@@ -19,9 +19,10 @@ handle_all (suc n) r = or_stay (handle_next r) r (λ t. handle_all n t)
 abbrev pub exec_or_stay : Running → Running
 exec_or_stay r = unwrap_or (exec_next r) r
 
--- A visit of a process: it handles the signals that wait, and then executes one instruction.
+-- A visit of a process: it handles the signals that wait, its own ones and then those of others, and executes one
+-- instruction.
 unfoldable pub visited : Running → Running
-visited r = exec_or_stay (handle_all (length r.own + length r.taken_in) r)
+visited r = exec_or_stay (handle_all (length r.taken_in) (handle_all (length r.own) r))
 
 -- a signal joins the arrival list of its receiver
 abbrev pub arrived : Running → Signal → Running

@@ -1,3 +1,4 @@
 pub mod ScanLemmas
 pub mod ExecLemmas
 pub mod HandleLemmas
+pub mod Lists

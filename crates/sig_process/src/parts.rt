@@ -1,4 +1,4 @@
-ghost use Rattle.std.specs.Prelude.{◌≡◌, [], ◌||◌};
+ghost use Rattle.std.specs.Prelude.{◌≡◌, ◌+◌, ◌<◌, [], ◌||◌, length, drop};
 ghost use Rattle.std.specs.List.{list_any};
 ghost use Rattle.sig_model.specs.PrintedState.{is_late_signal, is_late, state_of, printed_state};
 ghost use Rattle.sig_process.specs.PartsOf.{parts_of};
@@ -34,15 +34,23 @@ fn is_late(signal: &Signal) -> bool
     LAST_STAMP <= signal.stamp
 }
 
+fn is_late_at(signals: &Signals, at: usize) -> bool
+    requires { at < length signals.now }
+    ensures { (result || list_any is_late_signal (drop (at + 1) signals.now)) ≡ list_any is_late_signal (drop at signals.now) }
+{
+    match signals.get(at) {
+        Some(signal) => is_late(signal),
+        None => unreachable!(),
+    }
+}
+
 fn any_late(signals: &Signals) -> bool
     ensures { result ≡ list_any is_late_signal signals.now }
 {
-    let mut at = 0;
-    while let Some(signal) = signals.get(at) {
-        if is_late(signal) {
+    for at in 0..signals.len() {
+        if is_late_at(signals, at) {
             return true;
         }
-        at += 1;
     }
     false
 }
@@ -75,9 +83,10 @@ impl Process {
         ensures { result ≡ parts_of self }
     {
         let cut = self.is_cut() || self.has_late();
+        let proc = self.proc;
         Parts {
             pid: self.pid,
-            name: self.proc.name,
+            name: proc.name,
             events: self.events,
             left: Sequence::from_vec(self.messages),
             own: self.own,

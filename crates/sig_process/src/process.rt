@@ -165,6 +165,20 @@ impl Process {
         &self.events
     }
 
+    /// How many signals to itself it has not handled.
+    pub fn own_count(&self) -> usize
+        ensures { result ≡ length self.now.own }
+    {
+        self.own.len()
+    }
+
+    /// How many signals of others it has not handled.
+    pub fn taken_in_count(&self) -> usize
+        ensures { result ≡ length self.now.taken_in }
+    {
+        self.taken_in.len()
+    }
+
     /// Whether the process is cut: it isn't ended and has executed its turns, or its last stamp is
     /// at least 2^62.
     pub(crate) fn is_cut(&self) -> bool

@@ -1,0 +1,5 @@
+pub mod NumberLemmas
+pub mod CutLemmas
+pub mod LineLemmas
+pub mod DraftLemmas
+pub mod ReaderLemmas

@@ -1,0 +1,33 @@
+-- Lists from a place on.
+use Rattle.std.proofs.Common.{◌≡◌, ℕ, ◌+◌, ◌<◌, List, [], ◌∷◌, ◌++◌, length, drop, Option, Some, refl, sym, ◌∙◌, ap, append_assoc, Bool, ◌||◌}
+use Rattle.std.specs.Prelude.{slice_get, IfSome}
+use Rattle.std.specs.List.{list_any}
+use Rattle.std.proofs.lemmas.List.{drop_more}
+use Rattle.std.proofs.lemmas.Option.{slice_get_within, get_or_from_slice_get, slice_get-get_or}
+use Rattle.sig_script.specs.Scripts.{Declared}
+use Rattle.sig_model.specs.Running.{Running, opened}
+use Rattle.sig_model.specs.OneWorker.{opened_from}
+
+-- what stands at a place, and what follows it
+pub drop_at : {A : Type 0} (xs : List A) (i : ℕ) (x : A) → slice_get xs i ≡ Some x → drop i xs ≡ x ∷ drop (i + 1) xs
+drop_at xs i x e = drop_more xs i x (slice_get_within xs i x e) ∙ ap (λ y. y ∷ drop (i + 1) xs) (get_or_from_slice_get xs i x x e)
+
+pub any_at : {A : Type 0} (p : A → Bool) (xs : List A) (i : ℕ) (x : A) → slice_get xs i ≡ Some x →
+    list_any p (drop i xs) ≡ (p x || list_any p (drop (i + 1) xs))
+any_at p xs i x e = ap (list_any p) (drop_at xs i x e)
+
+opened_at : (procs : List Declared) (pid count turns : ℕ) (o : Option Declared) (d : Declared) (p : Running) (before : List Running) →
+    o ≡ Some d → slice_get procs pid ≡ o → IfSome o (λ d. p ≡ opened pid count turns d) →
+    (before ++ p ∷ []) ++ opened_from (pid + 1) count turns (drop (pid + 1) procs) ≡ before ++ opened_from pid count turns (drop pid procs)
+opened_at procs pid count turns (Some x) d p before e g is =
+    append_assoc before (p ∷ []) (opened_from (pid + 1) count turns (drop (pid + 1) procs))
+    ∙ ap (λ (q : Running). before ++ q ∷ opened_from (pid + 1) count turns (drop (pid + 1) procs)) is
+    ∙ ap (λ (ds : List Declared). before ++ opened_from pid count turns ds) (sym (drop_at procs pid x g))
+opened_at procs pid count turns _ d p before e g is = cc
+
+-- one more process is opened
+pub opened_more : (procs : List Declared) (pid count turns : ℕ) (d : Declared) (p : Running) (before : List Running) →
+    pid < length procs → IfSome (slice_get procs pid) (λ d. p ≡ opened pid count turns d) →
+    (before ++ p ∷ []) ++ opened_from (pid + 1) count turns (drop (pid + 1) procs) ≡ before ++ opened_from pid count turns (drop pid procs)
+opened_more procs pid count turns d p before lt is =
+    opened_at procs pid count turns (slice_get procs pid) _ p before (slice_get-get_or procs pid d lt) refl is

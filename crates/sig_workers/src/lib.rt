@@ -1,0 +1,4 @@
+//! Workers, which run the processes of a crew.
+#![tactic(auto)]
+
+mod visiting;
