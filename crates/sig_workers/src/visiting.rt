@@ -55,6 +55,7 @@ fn deliver_one(procs: &mut Vec<Process>, signal: Signal) -> Result<(), AllocErro
 }
 
 /// Each of the signals joins those that wait for its receiver.
+#[tactic(auto, unfolding(sig_model::specs::OneWorker::deliver_all))]
 fn deliver_each(procs: &mut Vec<Process>, mut signals: Signals) -> Result<(), AllocError>
     ensures procs { OnOk result (procs.new.items ≡ deliver_all signals procs.old.items) }
     ensures len { vec_len procs.new ≡ vec_len procs.old }
@@ -65,25 +66,69 @@ fn deliver_each(procs: &mut Vec<Process>, mut signals: Signals) -> Result<(), Al
     Ok(())
 }
 
-/// Visits the process at this place.
+/// Visits the process, and takes what it has sent to others.
+fn visit_and_take<L: Ledger>(
+    process: &mut Process,
+    steps: &mut Steps<L>,
+) -> Result<Signals, AllocError>
+    ensures process { OnOk result (process.new ≡ record (visited process.old) { outbox = [] }) }
+    ensures signals { IfOk result (λ signals. signals ≡ (visited process.old).outbox) }
+{
+    visit_process(process, steps)?;
+    Ok(process.take_outbox())
+}
+
+/// Visits the process at this place, and takes what it has sent to others.
 fn visit_at<L: Ledger>(
+    procs: &mut Vec<Process>,
+    at: usize,
+    steps: &mut Steps<L>,
+) -> Result<Signals, AllocError>
+    requires { at < vec_len procs.old }
+    ensures visit { IfOk result (λ signals. IfSome (slice_get procs.old.items at) (λ r.
+        (procs.new.items ≡ slice_set procs.old.items at (record (visited r) { outbox = [] })) × (signals ≡ (visited r).outbox))) }
+    ensures len { vec_len procs.new ≡ vec_len procs.old }
+{
+    visit_and_take(&mut procs[at], steps)
+}
+
+/// Visits the process at this place, and delivers what it sends.
+#[tactic(auto, unfolding(sig_model::specs::OneWorker::visit))]
+fn visit_one<L: Ledger>(
     procs: &mut Vec<Process>,
     at: usize,
     steps: &mut Steps<L>,
 ) -> Result<(), AllocError>
     requires { at < vec_len procs.old }
-    ensures procs { OnOk result (IfSome (slice_get procs.old.items at) (λ r. procs.new.items ≡ slice_set procs.old.items at (visited r))) }
+    ensures visit { OnOk result (procs.new.items ≡ visit at procs.old.items) }
     ensures len { vec_len procs.new ≡ vec_len procs.old }
 {
-    visit_process(&mut procs[at], steps)
+    let signals = visit_at(procs, at, steps)?;
+    deliver_each(procs, signals)
 }
 
-/// Takes what the process at this place has sent to others.
-fn take_outbox_at(procs: &mut Vec<Process>, at: usize) -> Signals
+fn count_events(procs: &[Process], at: usize) -> usize
+    ensures { result ≡ events_at at procs.now }
+{
+    match procs.get(at) {
+        None => 0,
+        Some(process) => process.events().len(),
+    }
+}
+
+/// Visits the process at this place, and tells whether that had an event.
+pub(crate) fn visit_counted<L: Ledger>(
+    procs: &mut Vec<Process>,
+    at: usize,
+    steps: &mut Steps<L>,
+) -> Result<bool, AllocError>
     requires { at < vec_len procs.old }
-    ensures signals { IfSome (slice_get procs.old.items at) (λ r. result ≡ r.outbox) }
-    ensures procs { IfSome (slice_get procs.old.items at) (λ r. procs.new.items ≡ slice_set procs.old.items at (record r { outbox = [] })) }
+    ensures visit { OnOk result (procs.new.items ≡ visit at procs.old.items) }
+    ensures moved { IfOk result (λ moved. moved ≡ has_moved at procs.old.items procs.new.items) }
     ensures len { vec_len procs.new ≡ vec_len procs.old }
 {
-    procs[at].take_outbox()
+    let before = count_events(procs.as_slice(), at);
+    visit_one(procs, at, steps)?;
+    let after = count_events(procs.as_slice(), at);
+    Ok(before != after)
 }

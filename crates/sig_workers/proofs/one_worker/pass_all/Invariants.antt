@@ -1,0 +1,13 @@
+use Rattle.std.proofs.Common.{◌≡◌, ◌-◌, ◌<◌, ◌≤◌, length, vec_len, true}
+use Rattle.sig_model.specs.OneWorker.{pass, pass_from}
+use Rattle.sig_workers.specs.Room.{room}
+use Rattle.sig_workers.proofs.one_worker.pass_all.Given as goal
+
+-- the visits that are left lead to what all lead to, and the room falls with an event
+abbrev pub invariant-loop-at : goal.invariant-loop-at
+invariant-loop-at g l = record {
+  len : vec_len l.procs ≡ vec_len l.fn.procs;
+  rest : pass_from (length l.fn.procs.items - l.at) l.at l.moved l.procs.items ≡ pass l.fn.procs.items;
+  most : room l.procs.items ≤ room l.fn.procs.items;
+  falls : l.moved ≡ true → room l.procs.items < room l.fn.procs.items;
+}

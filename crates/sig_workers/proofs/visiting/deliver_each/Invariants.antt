@@ -1,0 +1,13 @@
+use Rattle.std.proofs.Common.{◌≡◌, length, vec_len}
+use Rattle.sig_model.specs.OneWorker.{deliver_all}
+use Rattle.sig_workers.proofs.visiting.deliver_each.Given as goal
+
+-- what is left to deliver leads to what all leads to
+abbrev pub invariant-loop-signal : goal.invariant-loop-signal
+invariant-loop-signal l = record {
+  rest : deliver_all l.signals l.procs.items ≡ deliver_all l.fn.signals l.fn.procs.items;
+  len : vec_len l.procs ≡ vec_len l.fn.procs;
+}
+
+abbrev pub decreases-loop-signal : goal.decreases-loop-signal
+decreases-loop-signal l = length l.signals

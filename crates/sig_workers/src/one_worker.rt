@@ -1,0 +1,48 @@
+ghost use Rattle.std.specs.Prelude.{◌≡◌, ◌<◌, IfOk, true, vec_len};
+ghost use Rattle.sig_model.specs.OneWorker.{pass, RunsTo};
+ghost use Rattle.sig_workers.specs.Room.{room};
+
+use crate::visiting::visit_counted;
+use sig_base::Steps;
+use sig_process::{Crew, Process};
+use std::alloc::AllocError;
+use std::marker::Brand;
+use std::sync::ledger::{Blank, Ledger};
+
+/// A pass over all processes, by ascending pid. Tells whether it had an event.
+fn pass_all<L: Ledger>(procs: &mut Vec<Process>, steps: &mut Steps<L>) -> Result<bool, AllocError>
+    ensures pass { IfOk result (λ moved. (procs.new.items, moved) ≡ pass procs.old.items) }
+    ensures falls { IfOk result (λ moved. moved ≡ true → room procs.new.items < room procs.old.items) }
+    ensures len { vec_len procs.new ≡ vec_len procs.old }
+{
+    let mut moved = false;
+    for at in 0..procs.len() {
+        let here = visit_counted(procs, at, steps)?;
+        moved |= here;
+    }
+    Ok(moved)
+}
+
+/// Passes until one has no event.
+fn run_passes<L: Ledger>(blank: Blank, crew: Crew) -> Result<Crew, AllocError>
+    requires name { blank.name ≡ L.name }
+    requires parts { blank.parts ≡ L.parts }
+    requires some { 0 < blank.parts }
+    ensures { IfOk result (RunsTo crew) }
+{
+    let mut steps: Steps<L> = Steps::open(blank);
+    let mut procs = crew.procs;
+    loop {
+        if !pass_all(&mut procs, &mut steps)? {
+            return Ok(Crew { procs });
+        }
+    }
+}
+
+/// The run of one worker: passes over the processes until one has no event. It ends, since each
+/// pass but the last raises the sum of the processes' stamps, and no stamp is above 2^62.
+pub fn run_one(crew: Crew) -> Result<Crew, AllocError>
+    ensures { IfOk result (RunsTo crew) }
+{
+    run_passes::<Brand>(Blank::new(1), crew)
+}
