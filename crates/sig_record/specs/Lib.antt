@@ -1,0 +1,2 @@
+pub mod RecordOf
+pub mod RecordText

@@ -1,0 +1,34 @@
+-- The record of a run (this project's own): for each process its events, what is left of its messages, the signals that it
+-- has not handled, and how it stands.
+use Rattle.std.specs.Prelude.{ℕ, zero, suc, List, [], ◌++◌, map, filter, length, Bool, ◌==◌}
+use Rattle.sig_kinds.specs.declared.signal.Signal.{Signal}
+use Rattle.sig_model.specs.declared.message.Message.{Message}
+use Rattle.sig_model.specs.Running.{Running}
+use Rattle.sig_model.specs.PrintedState.{printed_state}
+use Rattle.sig_record.specs.declared.report.Left.{Left}
+use Rattle.sig_record.specs.declared.report.Report.{Report}
+
+abbrev pub left_of : Message → Left
+left_of m = record { arrival = m.arrival; message = m.term }
+
+abbrev pub is_from : ℕ → Signal → Bool
+is_from sender signal = signal.from.0 == sender
+
+-- the signals of the senders below n, by ascending sender, and each sender's the oldest first
+unfoldable pub queued_below : ℕ → List Signal → List Signal → List Signal
+queued_below zero own others = []
+queued_below (suc n) own others = queued_below n own others ++ filter (is_from n) own ++ filter (is_from n) others
+
+-- the report of a process, in a crew of so many
+abbrev pub report_of : ℕ → Running → Report
+report_of count r = record {
+  pid = record { 0 = r.pid };
+  name = r.proc.name;
+  events = r.events;
+  left = map left_of r.state.messages;
+  queued = queued_below count r.own r.taken_in;
+  state = printed_state r;
+}
+
+abbrev pub record_of : List Running → List Report
+record_of crew = map (report_of (length crew)) crew

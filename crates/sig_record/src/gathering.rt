@@ -1,0 +1,127 @@
+ghost use Rattle.std.specs.Prelude.{◌≡◌, ◌+◌, ◌<◌, ◌++◌, [], ◌∷◌, IfOk, OnOk, map, filter, length, drop, All};
+ghost use Rattle.sig_model.specs.Running.{Running};
+ghost use Rattle.sig_process.specs.PartsOf.{parts_of};
+ghost use Rattle.sig_record.specs.RecordOf.{left_of, is_from, queued_below, report_of};
+
+use crate::report::{Left, Lefts, Report};
+use sig_kinds::{Push, Signal, Signals};
+use sig_lists::Sequence;
+use sig_model::{Message, Messages};
+use sig_process::Process;
+use std::alloc::{AllocError, Global};
+
+/// What is left of the messages.
+fn lefts_of(alloc: Global, messages: Messages) -> Result<Lefts, AllocError>
+    ensures { IfOk result (λ lefts. lefts ≡ map left_of messages) }
+{
+    let mut lefts = Vec::new(alloc);
+    for message in messages.into_vec() {
+        lefts.push(Left {
+            arrival: message.arrival,
+            message: message.term,
+        })?;
+    }
+    Ok(Sequence::from_vec(lefts))
+}
+
+/// Adds a copy of the signal, where it is of this sender.
+fn add_if_from(
+    alloc: Global,
+    queued: &mut Signals,
+    signal: &Signal,
+    sender: usize,
+) -> Result<(), AllocError>
+    ensures { OnOk result (queued.new ≡ queued.old ++ filter (is_from sender) (signal.now ∷ [])) }
+{
+    if signal.from.0 as usize != sender {
+        return Ok(());
+    }
+    match queued.push(signal.copy(alloc)?) {
+        Push::Added => Ok(()),
+        Push::Memory { signal: _ } => Err(AllocError),
+    }
+}
+
+/// Adds a copy of the signal at this place, where it is of this sender.
+fn add_at(
+    alloc: Global,
+    queued: &mut Signals,
+    waiting: &Signals,
+    at: usize,
+    sender: usize,
+) -> Result<(), AllocError>
+    requires { at < length waiting.now }
+    ensures { OnOk result (queued.new ++ filter (is_from sender) (drop (at + 1) waiting.now) ≡ queued.old ++ filter (is_from sender) (drop at waiting.now)) }
+{
+    match waiting.get(at) {
+        Some(signal) => {
+            add_if_from(alloc, queued, signal, sender)?;
+            Ok(())
+        }
+        None => unreachable!(),
+    }
+}
+
+/// Adds copies of the signals of this sender, in their order.
+fn add_from(
+    alloc: Global,
+    queued: &mut Signals,
+    waiting: &Signals,
+    sender: usize,
+) -> Result<(), AllocError>
+    ensures { OnOk result (queued.new ≡ queued.old ++ filter (is_from sender) waiting.now) }
+{
+    for at in 0..waiting.len() {
+        add_at(alloc, queued, waiting, at, sender)?;
+    }
+    Ok(())
+}
+
+/// The signals by ascending sender, each sender's in their order.
+#[tactic(auto, unfolding(crate::specs::RecordOf::queued_below))]
+fn queued_of(
+    alloc: Global,
+    count: usize,
+    own: &Signals,
+    others: &Signals,
+) -> Result<Signals, AllocError>
+    ensures { IfOk result (λ queued. queued ≡ queued_below count own.now others.now) }
+{
+    let mut queued = Signals::new(alloc);
+    for sender in 0..count {
+        add_from(alloc, &mut queued, own, sender)?;
+        add_from(alloc, &mut queued, others, sender)?;
+    }
+    Ok(queued)
+}
+
+/// The report of a process, in a crew of so many.
+fn report(alloc: Global, count: usize, process: Process) -> Result<Report, AllocError>
+    requires { process.outbox ≡ [] }
+    ensures { IfOk result (λ report. report ≡ report_of count process) }
+{
+    let parts = process.into_parts();
+    let left = lefts_of(alloc, parts.left)?;
+    let queued = queued_of(alloc, count, &parts.own, &parts.taken_in)?;
+    Ok(Report {
+        pid: parts.pid,
+        name: parts.name,
+        events: parts.events,
+        left,
+        queued,
+        state: parts.state,
+    })
+}
+
+/// The reports of the processes.
+pub(crate) fn gather_all(alloc: Global, procs: Vec<Process>) -> Result<Vec<Report>, AllocError>
+    requires { All (λ (r : Running). r.outbox ≡ []) procs.items }
+    ensures { IfOk result (λ reports. reports.items ≡ map (report_of (length procs.items)) procs.items) }
+{
+    let count = procs.len();
+    let mut reports = Vec::new(alloc);
+    for process in procs {
+        reports.push(report(alloc, count, process)?)?;
+    }
+    Ok(reports)
+}

@@ -1,0 +1,232 @@
+ghost use Rattle.std.specs.Prelude.{◌≡◌, ◌+◌, ◌++◌, ◌<◌, length, OnOk, IfOk, decimal, codes, drop};
+ghost use Rattle.std.specs.List.{flat_map};
+ghost use Rattle.sig_record.specs.RecordText.{
+  did_text,
+  outcome_text,
+  event_text,
+  left_text,
+  kind_text,
+  queued_text,
+  state_text,
+  head_text,
+  report_text,
+  record_text,
+};
+
+use crate::record::Record;
+use crate::report::{Left, Report};
+use itoa::Buffer;
+use sig_kinds::{Kind, Signal, Signals};
+use sig_model::{Did, Event, Outcome, State};
+use sig_terms::Name;
+use std::alloc::AllocError;
+
+fn put(into: &mut Vec<u8>, text: &[u8]) -> Result<(), AllocError>
+    ensures { OnOk result (into.new.items ≡ into.old.items ++ text.now) }
+{
+    into.extend_from_slice(text)
+}
+
+fn put_number(into: &mut Vec<u8>, n: u64) -> Result<(), AllocError>
+    ensures { OnOk result (into.new.items ≡ into.old.items ++ decimal n) }
+{
+    let mut buffer = Buffer::new();
+    into.extend_from_slice(buffer.format(n).as_bytes())
+}
+
+fn put_did(into: &mut Vec<u8>, did: &Did) -> Result<(), AllocError>
+    ensures { OnOk result (into.new.items ≡ into.old.items ++ did_text did.now) }
+{
+    match did {
+        Did::Exec { place } => {
+            put(into, b" exec ")?;
+            put_number(into, u64::from(*place))?;
+            put(into, b" ")
+        }
+        Did::From { from, number } => {
+            put(into, b" from ")?;
+            put_number(into, u64::from(from.0))?;
+            put(into, b" ")?;
+            put_number(into, *number)?;
+            put(into, b" ")
+        }
+    }
+}
+
+fn put_outcome(into: &mut Vec<u8>, outcome: &Outcome) -> Result<(), AllocError>
+    ensures { OnOk result (into.new.items ≡ into.old.items ++ outcome_text outcome.now) }
+{
+    match outcome {
+        Outcome::Sent { to, message } => {
+            put(into, b"sent ")?;
+            to.print(into)?;
+            put(into, b" ")?;
+            message.print(into)
+        }
+        Outcome::Took {
+            clause,
+            looked,
+            message,
+        } => {
+            put(into, b"took ")?;
+            put_number(into, u64::from(*clause))?;
+            put(into, b" ")?;
+            put_number(into, *looked)?;
+            put(into, b" ")?;
+            message.print(into)
+        }
+        Outcome::After { looked } => {
+            put(into, b"after ")?;
+            put_number(into, *looked)
+        }
+        Outcome::Ended { reason } => {
+            put(into, b"ended ")?;
+            reason.print(into)
+        }
+        Outcome::Kept { message } => {
+            put(into, b"kept ")?;
+            message.print(into)
+        }
+        Outcome::Dropped => put(into, b"dropped"),
+    }
+}
+
+#[tactic(auto, unfolding(crate::specs::RecordText::event_text))]
+fn put_event(into: &mut Vec<u8>, event: &Event) -> Result<(), AllocError>
+    ensures { OnOk result (into.new.items ≡ into.old.items ++ event_text event.now) }
+{
+    put_number(into, event.stamp)?;
+    put_did(into, &event.did)?;
+    put_outcome(into, &event.outcome)?;
+    put(into, b"\n")
+}
+
+fn put_events(into: &mut Vec<u8>, events: &[Event]) -> Result<(), AllocError>
+    ensures { OnOk result (into.new.items ≡ into.old.items ++ flat_map event_text events.now) }
+{
+    for event in events {
+        put_event(into, event)?;
+    }
+    Ok(())
+}
+
+#[tactic(auto, unfolding(crate::specs::RecordText::left_text))]
+fn put_left(into: &mut Vec<u8>, left: &Left) -> Result<(), AllocError>
+    ensures { OnOk result (into.new.items ≡ into.old.items ++ left_text left.now) }
+{
+    put(into, b"left ")?;
+    put_number(into, left.arrival)?;
+    put(into, b" ")?;
+    left.message.print(into)?;
+    put(into, b"\n")
+}
+
+fn put_lefts(into: &mut Vec<u8>, lefts: &[Left]) -> Result<(), AllocError>
+    ensures { OnOk result (into.new.items ≡ into.old.items ++ flat_map left_text lefts.now) }
+{
+    for left in lefts {
+        put_left(into, left)?;
+    }
+    Ok(())
+}
+
+fn put_kind(into: &mut Vec<u8>, kind: &Kind) -> Result<(), AllocError>
+    ensures { OnOk result (into.new.items ≡ into.old.items ++ kind_text kind.now) }
+{
+    match kind {
+        Kind::Message { term } => {
+            put(into, b"message ")?;
+            term.print(into)
+        }
+    }
+}
+
+#[tactic(auto, unfolding(crate::specs::RecordText::queued_text))]
+fn put_queued(into: &mut Vec<u8>, signal: &Signal) -> Result<(), AllocError>
+    ensures { OnOk result (into.new.items ≡ into.old.items ++ queued_text signal.now) }
+{
+    put(into, b"queued ")?;
+    put_number(into, u64::from(signal.from.0))?;
+    put(into, b" ")?;
+    put_number(into, signal.number)?;
+    put(into, b" ")?;
+    put_number(into, signal.stamp)?;
+    put(into, b" ")?;
+    put_kind(into, &signal.kind)?;
+    put(into, b"\n")
+}
+
+fn put_queued_at(into: &mut Vec<u8>, signals: &Signals, at: usize) -> Result<(), AllocError>
+    requires { at < length signals.now }
+    ensures { OnOk result (into.new.items ++ flat_map queued_text (drop (at + 1) signals.now) ≡ into.old.items ++ flat_map queued_text (drop at signals.now)) }
+{
+    match signals.get(at) {
+        Some(signal) => {
+            put_queued(into, signal)?;
+            Ok(())
+        }
+        None => unreachable!(),
+    }
+}
+
+fn put_all_queued(into: &mut Vec<u8>, signals: &Signals) -> Result<(), AllocError>
+    ensures { OnOk result (into.new.items ≡ into.old.items ++ flat_map queued_text signals.now) }
+{
+    for at in 0..signals.len() {
+        put_queued_at(into, signals, at)?;
+    }
+    Ok(())
+}
+
+fn put_state(into: &mut Vec<u8>, state: &State) -> Result<(), AllocError>
+    ensures { OnOk result (into.new.items ≡ into.old.items ++ state_text state.now) }
+{
+    match state {
+        State::Ended { reason } => {
+            put(into, b"state ended ")?;
+            reason.print(into)?;
+            put(into, b"\n")
+        }
+        State::Waiting => put(into, b"state waiting\n"),
+        State::Cut => put(into, b"state cut\n"),
+    }
+}
+
+fn put_head(into: &mut Vec<u8>, pid: u32, name: &Name) -> Result<(), AllocError>
+    ensures { OnOk result (into.new.items ≡ into.old.items ++ head_text pid name.now) }
+{
+    put(into, b"process ")?;
+    put_number(into, u64::from(pid))?;
+    put(into, b" ")?;
+    put(into, name.bytes())?;
+    put(into, b"\n")
+}
+
+#[tactic(auto, unfolding(crate::specs::RecordText::report_text))]
+fn put_report(into: &mut Vec<u8>, report: &Report) -> Result<(), AllocError>
+    ensures { OnOk result (into.new.items ≡ into.old.items ++ report_text report.now) }
+{
+    put_head(into, report.pid.0, &report.name)?;
+    put_events(into, report.events.as_slice())?;
+    put_lefts(into, report.left.as_slice())?;
+    put_all_queued(into, &report.queued)?;
+    put_state(into, &report.state)
+}
+
+fn put_reports(into: &mut Vec<u8>, reports: &[Report]) -> Result<(), AllocError>
+    ensures { OnOk result (into.new.items ≡ into.old.items ++ flat_map report_text reports.now) }
+{
+    for report in reports {
+        put_report(into, report)?;
+    }
+    Ok(())
+}
+
+/// Appends the record's text. Each record has one text.
+pub fn print_record(given: &Record, into: &mut Vec<u8>) -> Result<(), AllocError>
+    ensures { OnOk result (into.new.items ≡ into.old.items ++ record_text given.now) }
+{
+    put(into, b"sigrecord 1\n")?;
+    put_reports(into, given.reports())?;
+    Ok(())
+}
