@@ -1,5 +1,5 @@
 -- The run of one worker (this project's own): passes over the processes by ascending pid, until one has no event.
-use Rattle.std.specs.Prelude.{◌≡◌, ℕ, zero, suc, ◌+◌, List, [], ◌∷◌, ◌++◌, length, slice_get, slice_set, Bool, true, false, ◌||◌, not, ◌==◌, Option, Some, None, unwrap_or}
+use Rattle.std.specs.Prelude.{◌≡◌, ℕ, zero, suc, ◌+◌, List, [], ◌∷◌, ◌++◌, length, All, slice_get, slice_set, Bool, true, false, ◌||◌, not, ◌==◌, Option, Some, None, unwrap_or}
 use Rattle.std.specs.Option.{option_map_or}
 use Rattle.sig_kinds.specs.declared.signal.Signal.{Signal}
 use Rattle.sig_script.specs.Scripts.{Declared}
@@ -67,6 +67,10 @@ pass crew = pass_from (length crew) 0 false crew
 pub data RunsTo : List Running → List Running → Type 0 where
   rests : (crew : List Running) → (pass crew).1 ≡ false → RunsTo crew (pass crew).0
   goes : (crew last : List Running) → (pass crew).1 ≡ true → RunsTo (pass crew).0 last → RunsTo crew last
+
+-- no signal lies in an outbox
+abbrev pub IsClear : List Running → Type 0
+IsClear crew = All (λ r. r.outbox ≡ []) crew
 
 -- the processes of a script as it opens them, by pid
 abbrev pub opened_from : ℕ → ℕ → ℕ → List Declared → List Running

@@ -3,10 +3,11 @@ use Rattle.std.proofs.Common.{◌≡◌, ℕ, ◌+◌, ◌<◌, List, [], ◌∷
 use Rattle.std.specs.Prelude.{slice_get, IfSome}
 use Rattle.std.specs.List.{list_any}
 use Rattle.std.proofs.lemmas.List.{drop_more}
+use Rattle.std.proofs.lemmas.List.Elements.{All-nil, All-cons}
 use Rattle.std.proofs.lemmas.Option.{slice_get_within, get_or_from_slice_get, slice_get-get_or}
 use Rattle.sig_script.specs.Scripts.{Declared}
 use Rattle.sig_model.specs.Running.{Running, opened}
-use Rattle.sig_model.specs.OneWorker.{opened_from}
+use Rattle.sig_model.specs.OneWorker.{opened_from, IsClear}
 
 -- what stands at a place, and what follows it
 pub drop_at : {A : Type 0} (xs : List A) (i : ℕ) (x : A) → slice_get xs i ≡ Some x → drop i xs ≡ x ∷ drop (i + 1) xs
@@ -31,3 +32,9 @@ pub opened_more : (procs : List Declared) (pid count turns : ℕ) (d : Declared)
     (before ++ p ∷ []) ++ opened_from (pid + 1) count turns (drop (pid + 1) procs) ≡ before ++ opened_from pid count turns (drop pid procs)
 opened_more procs pid count turns d p before lt is =
     opened_at procs pid count turns (slice_get procs pid) _ p before (slice_get-get_or procs pid d lt) refl is
+
+-- no process of a script that is opened has sent a signal
+pub opened_clear : (pid count turns : ℕ) (procs : List Declared) → IsClear (opened_from pid count turns procs)
+opened_clear pid count turns [] = All-nil (λ r. r.outbox ≡ [])
+opened_clear pid count turns (p ∷ ps) =
+    All-cons (λ r. r.outbox ≡ []) (opened pid count turns p) (opened_from (pid + 1) count turns ps) refl (opened_clear (pid + 1) count turns ps)

@@ -1,6 +1,6 @@
 ghost use Rattle.std.specs.Prelude.{◌≡◌, ◌<◌, ◌≤◌, IfOk, IfSome, slice_get, option_copied, length};
 ghost use Rattle.sig_model.specs.Running.{opened};
-ghost use Rattle.sig_model.specs.OneWorker.{opened_crew};
+ghost use Rattle.sig_model.specs.OneWorker.{opened_crew, IsClear};
 
 use crate::process::Process;
 use sig_script::Script;
@@ -47,7 +47,8 @@ impl Process {
 impl Crew {
     /// The processes of the script, each as the script opens it.
     pub fn open(alloc: Global, script: &Script) -> Result<Crew, AllocError>
-        ensures { IfOk result (λ c. c ≡ opened_crew script.now) }
+        ensures opened { IfOk result (λ c. c ≡ opened_crew script.now) }
+        ensures clear { IfOk result IsClear }
     {
         let mut procs = Vec::new(alloc);
         for pid in 0..script.count() {

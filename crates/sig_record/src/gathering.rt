@@ -1,5 +1,5 @@
-ghost use Rattle.std.specs.Prelude.{◌≡◌, ◌+◌, ◌<◌, ◌++◌, [], ◌∷◌, IfOk, OnOk, map, filter, length, drop, All};
-ghost use Rattle.sig_model.specs.Running.{Running};
+ghost use Rattle.std.specs.Prelude.{◌≡◌, ◌+◌, ◌<◌, ◌++◌, [], ◌∷◌, IfOk, OnOk, map, filter, length, drop};
+ghost use Rattle.sig_model.specs.OneWorker.{IsClear};
 ghost use Rattle.sig_process.specs.PartsOf.{parts_of};
 ghost use Rattle.sig_record.specs.RecordOf.{left_of, is_from, queued_below, report_of};
 
@@ -115,7 +115,7 @@ fn report(alloc: Global, count: usize, process: Process) -> Result<Report, Alloc
 
 /// The reports of the processes.
 pub(crate) fn gather_all(alloc: Global, procs: Vec<Process>) -> Result<Vec<Report>, AllocError>
-    requires { All (λ (r : Running). r.outbox ≡ []) procs.items }
+    requires { IsClear procs.items }
     ensures { IfOk result (λ reports. reports.items ≡ map (report_of (length procs.items)) procs.items) }
 {
     let count = procs.len();

@@ -1,5 +1,5 @@
-ghost use Rattle.std.specs.Prelude.{◌≡◌, [], IfOk, length, All};
-ghost use Rattle.sig_model.specs.Running.{Running};
+ghost use Rattle.std.specs.Prelude.{◌≡◌, IfOk};
+ghost use Rattle.sig_model.specs.OneWorker.{IsClear};
 ghost use Rattle.sig_record.specs.RecordOf.{record_of};
 
 use crate::gathering::gather_all;
@@ -37,7 +37,7 @@ impl Record {
 
     /// The record of the run that this crew has made.
     pub fn gather(alloc: Global, crew: Crew) -> Result<Record, AllocError>
-        requires { All (λ (r : Running). r.outbox ≡ []) crew }
+        requires { IsClear crew }
         ensures { IfOk result (λ r. r ≡ record_of crew) }
     {
         let reports = gather_all(alloc, crew.procs)?;

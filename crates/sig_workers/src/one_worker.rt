@@ -1,5 +1,5 @@
-ghost use Rattle.std.specs.Prelude.{◌≡◌, ◌<◌, IfOk, true, vec_len};
-ghost use Rattle.sig_model.specs.OneWorker.{pass, RunsTo};
+ghost use Rattle.std.specs.Prelude.{◌≡◌, ◌<◌, IfOk, OnOk, true, vec_len};
+ghost use Rattle.sig_model.specs.OneWorker.{pass, RunsTo, IsClear};
 ghost use Rattle.sig_workers.specs.Room.{room};
 
 use crate::visiting::visit_counted;
@@ -12,6 +12,7 @@ use std::sync::ledger::{Blank, Ledger};
 /// A pass over all processes, by ascending pid. Tells whether it had an event.
 fn pass_all<L: Ledger>(procs: &mut Vec<Process>, steps: &mut Steps<L>) -> Result<bool, AllocError>
     ensures pass { IfOk result (λ moved. (procs.new.items, moved) ≡ pass procs.old.items) }
+    ensures clear { IsClear procs.old.items → OnOk result (IsClear procs.new.items) }
     ensures falls { IfOk result (λ moved. moved ≡ true → room procs.new.items < room procs.old.items) }
     ensures len { vec_len procs.new ≡ vec_len procs.old }
 {
@@ -28,7 +29,9 @@ fn run_passes<L: Ledger>(blank: Blank, crew: Crew) -> Result<Crew, AllocError>
     requires name { blank.name ≡ L.name }
     requires parts { blank.parts ≡ L.parts }
     requires some { 0 < blank.parts }
-    ensures { IfOk result (RunsTo crew) }
+    requires clear { IsClear crew }
+    ensures run { IfOk result (RunsTo crew) }
+    ensures clear { IfOk result IsClear }
 {
     let mut steps: Steps<L> = Steps::open(blank);
     let mut procs = crew.procs;
@@ -42,7 +45,9 @@ fn run_passes<L: Ledger>(blank: Blank, crew: Crew) -> Result<Crew, AllocError>
 /// The run of one worker: passes over the processes until one has no event. It ends, since each
 /// pass but the last raises the sum of the processes' stamps, and no stamp is above 2^62.
 pub fn run_one(crew: Crew) -> Result<Crew, AllocError>
-    ensures { IfOk result (RunsTo crew) }
+    requires { IsClear crew }
+    ensures run { IfOk result (RunsTo crew) }
+    ensures clear { IfOk result IsClear }
 {
     run_passes::<Brand>(Blank::new(1), crew)
 }

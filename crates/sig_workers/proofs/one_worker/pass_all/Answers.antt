@@ -3,6 +3,7 @@ use Rattle.std.proofs.lemmas.Grind.{common_steps}
 use Rattle.sig_workers.specs.Room.{room}
 use Rattle.sig_workers.proofs.RunLemmas.{pass_goes, pass_ends}
 use Rattle.sig_workers.proofs.RoomLemmas.{pass_falls}
+use Rattle.sig_workers.proofs.ClearLemmas.{one_visit_clear}
 use Rattle.sig_workers.proofs.one_worker.pass_all.Goals as goal
 
 pub loop-at-preserved : goal.loop-at-preserved
@@ -14,6 +15,7 @@ loop-at-preserved g c =
       len = c.in_ok-here.ensures.len ∙ c.loop-at.invariant.len;
       rest = pass_goes (length c.args.procs.now.items) c.loop-at.at c.loop-at.moved c.in_ok-here.here c.loop-at.procs.items c.visit_counted.new.procs.items lt
           c.in_ok-here.ensures.visit c.in_ok-here.ensures.moved ∙ c.loop-at.invariant.rest;
+      clear = λ h. one_visit_clear c.loop-at.at c.loop-at.procs.items c.visit_counted.new.procs.items c.in_ok-here.ensures.visit (c.loop-at.invariant.clear h);
       most = f.0;
       falls = f.1;
     }
