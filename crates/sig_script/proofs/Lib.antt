@@ -1,4 +1,5 @@
 pub mod NumberLemmas
+pub mod SpellingLemmas
 pub mod CutLemmas
 pub mod LineLemmas
 pub mod DraftLemmas

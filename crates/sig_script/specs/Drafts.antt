@@ -1,5 +1,5 @@
 -- What was read so far, and what follows.
-use Rattle.std.specs.Prelude.{ℕ, ◌+◌, ◌≤◌, List, [], ◌∷◌, ◌++◌, map, length, All, Option, Some, None, Result}
+use Rattle.std.specs.Prelude.{◌≡◌, ℕ, ◌+◌, ◌≤◌, List, [], ◌∷◌, ◌++◌, map, length, All, Option, Some, None, Result}
 use Rattle.sig_patterns.specs.declared.clause.Clause.{Clause}
 use Rattle.sig_script.specs.declared.instruction.Instr.{Instr}
 use Rattle.sig_script.specs.declared.fault.FaultKind.{FaultKind}
@@ -35,6 +35,12 @@ glued d b = on_ok (λ (rest : Body). closed d.procs d.name (d.instrs ++ rest.ins
 abbrev pub unless : {A : Type 0} → ℕ → Option FaultKind → Result A Fault → Result A Fault
 unless n None after = after
 unless n (Some kind) after = at_line n kind
+
+-- A line was taken: the draft before it, with this line and the lines behind it, and the draft after it, with the lines
+-- behind it, come to the same, whatever those lines say.
+abbrev pub IsTaken : ℕ → ((Place → List (List ℕ) → Result Body Fault) → Result Body Fault) → Draft → Draft → Option FaultKind → Type 0
+IsTaken n line before after fault =
+    (rest : Place → List (List ℕ) → Result Body Fault) → glued before (line rest) ≡ unless n fault (glued after (rest after.place (all_names after)))
 
 -- the clauses so far
 abbrev pub clauses_in : Place → List Clause

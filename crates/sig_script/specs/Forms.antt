@@ -6,7 +6,6 @@ use Rattle.sig_patterns.specs.declared.expression.Expr.{Expr}
 use Rattle.sig_patterns.specs.declared.expression.Expr.TheVariants as expr
 use Rattle.sig_patterns.specs.declared.pattern.Pattern.{Pattern}
 use Rattle.sig_patterns.specs.declared.pattern.Pattern.TheVariants as pattern
-use Rattle.sig_terms.specs.Words.{is_token, is_atom}
 use Rattle.sig_script.specs.declared.fault.FaultKind.{FaultKind}
 use Rattle.sig_script.specs.declared.fault.FaultKind.TheVariants.{Syntax, IntRange, UnknownProcess}
 use Rattle.sig_script.specs.declared.token.TokenKind.{TokenKind}
@@ -67,7 +66,7 @@ pid_of (Among script) name = ok_or (position (λ (p : Declared). bytes_eq p.name
 
 -- a name
 abbrev pub name_of : TokenKind → List ℕ → Result (List ℕ) FaultKind
-name_of Name text = if is_token text then Ok text else Err Syntax
+name_of Name text = Ok text
 name_of _ text = Err Syntax
 
 -- `@N`
@@ -77,15 +76,15 @@ process_of known _ text = Err Syntax
 
 -- a name, which is an atom, or a process
 abbrev pub expr_of : Known → TokenKind → List ℕ → Result Expr FaultKind
-expr_of known Name text = if is_atom text then Ok (expr.Atom text) else Err Syntax
+expr_of known Name text = Ok (expr.Atom text)
 expr_of known Process text = on_ok (λ n. expr.Pid (record { 0 = n })) (pid_of known (drop 1 text))
 expr_of known _ text = Err Syntax
 
 -- the same, a variable, or `_`
 abbrev pub pattern_of : Known → TokenKind → List ℕ → Result Pattern FaultKind
-pattern_of known Name text = if is_atom text then Ok (pattern.Atom text) else Err Syntax
+pattern_of known Name text = Ok (pattern.Atom text)
 pattern_of known Process text = on_ok (λ n. pattern.Pid (record { 0 = n })) (pid_of known (drop 1 text))
-pattern_of known Variable text = if is_token text then Ok (pattern.Bind (record { 0 = text })) else Err Syntax
+pattern_of known Variable text = Ok (pattern.Bind (record { 0 = text }))
 pattern_of known Sign text = if bytes_eq text (codes "_") then Ok pattern.Any else Err Syntax
 pattern_of known _ text = Err Syntax
 

@@ -9,6 +9,8 @@ use Rattle.sig_script.specs.declared.instruction.Instr.TheVariants as instr
 use Rattle.sig_script.specs.declared.fault.FaultKind.{FaultKind}
 use Rattle.sig_script.specs.declared.fault.FaultKind.TheVariants.{Header, Syntax, DuplicateName, TooManyProcesses, TooLong}
 use Rattle.sig_script.specs.declared.fault.Fault.{Fault}
+use Rattle.sig_script.specs.declared.token.TokenKind.{TokenKind}
+use Rattle.sig_script.specs.declared.token.TokenKind.TheVariants.{Integer}
 use Rattle.sig_script.specs.declared.token.Token.{Token}
 use Rattle.sig_script.specs.declared.known.Known.{Known}
 use Rattle.sig_script.specs.declared.known.Known.TheVariants.{Any, Among}
@@ -89,9 +91,13 @@ program_of b = record { turns = 1000; procs = b.procs }
 abbrev pub walk : Known → List (List ℕ) → Result Program Fault
 walk known lines = on_ok program_of (body known 2 Before [] lines)
 
+abbrev pub is_integer_one : TokenKind → List ℕ → Bool
+is_integer_one Integer text = is_one text
+is_integer_one _ text = false
+
 -- The first line is the name `sigscript` and an integer of value 1.
 abbrev pub are_header : List ℕ → List Token → Bool
-are_header line (word ∷ number ∷ []) = bytes_eq (text line word) (codes "sigscript") && is_one (text line number)
+are_header line (word ∷ number ∷ []) = bytes_eq (text line word) (codes "sigscript") && is_integer_one number.kind (text line number)
 are_header line _ = false
 
 abbrev pub is_header : Result (List Token) FaultKind → List ℕ → Bool

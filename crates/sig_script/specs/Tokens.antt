@@ -1,6 +1,6 @@
 -- The tokens of a line, cut from left to right, each as long as possible.
-use Rattle.std.specs.Prelude.{ℕ, zero, suc, ◌+◌, ◌-◌, List, [], ◌∷◌, length, take_while, Bool, ◌&&◌, ◌||◌, nat_le, ◌==◌, if◌then◌else◌, Option, Some, None, drop, slice_range}
-use Rattle.sig_terms.specs.Words.{is_lower, is_upper, is_digit, is_name_byte, is_variable_byte, is_atom_byte}
+use Rattle.std.specs.Prelude.{◌≡◌, ◌≤◌, ℕ, zero, suc, ◌+◌, ◌-◌, List, [], ◌∷◌, length, take_while, Bool, true, ◌&&◌, ◌||◌, nat_le, ◌==◌, if◌then◌else◌, Option, Some, None, drop, slice_range}
+use Rattle.sig_terms.specs.Words.{is_lower, is_upper, is_digit, is_name_byte, is_variable_byte, is_atom_byte, is_token, is_atom}
 use Rattle.sig_script.specs.declared.token.TokenKind.{TokenKind}
 use Rattle.sig_script.specs.declared.token.TokenKind.TheVariants.{Name, Variable, Integer, Quoted, Process, Sign}
 use Rattle.sig_script.specs.declared.token.Token.{Token}
@@ -79,3 +79,18 @@ cut_of at zero (b ∷ bs) =
 -- the bytes of a token
 abbrev pub text : List ℕ → Token → List ℕ
 text line t = slice_range line t.start t.end
+
+-- what is known of these bytes: those of a name token or a variable token are a name or a variable, and those of a name
+-- token may stand in an atom
+abbrev pub IsSpelled : TokenKind → List ℕ → Type 0
+IsSpelled Name word = (is_token word ≡ true) × (is_atom word ≡ true)
+IsSpelled Variable word = is_token word ≡ true
+IsSpelled _ word = Unit {0}
+
+-- a token lies in its line, and is spelled as its kind says
+abbrev pub IsToken : List ℕ → Token → Type 0
+IsToken line t = (t.start ≤ t.end) × (t.end ≤ length line) × IsSpelled t.kind (text line t)
+
+abbrev pub AreTokens : List ℕ → List Token → Type 0
+AreTokens line [] = Unit {0}
+AreTokens line (t ∷ ts) = IsToken line t × AreTokens line ts

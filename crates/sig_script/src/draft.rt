@@ -11,10 +11,6 @@ ghost use Rattle.std.specs.Prelude.{
   IfOk,
   OnOk,
   IfNone,
-  None,
-  List,
-  Result,
-  ℕ,
   nat_le,
   All,
 };
@@ -22,7 +18,6 @@ ghost use Rattle.std.specs.List.{list_any};
 ghost use Rattle.std.specs.Str.{bytes_eq};
 ghost use Rattle.sig_script.specs.Forms.{said};
 ghost use Rattle.sig_script.specs.Grammar.{
-  Body,
   at_end,
   begun,
   with_pattern,
@@ -30,13 +25,13 @@ ghost use Rattle.sig_script.specs.Grammar.{
   with_form,
   with_line,
 };
-ghost use Rattle.sig_script.specs.Drafts.{glued, all_procs, all_names, unless, IsFit};
+ghost use Rattle.sig_script.specs.Drafts.{glued, all_procs, all_names, IsTaken, IsFit};
 ghost use Rattle.sig_script.specs.Scripts.{Declared, IsLawful, IsTarget};
 
 use crate::fault::{Fault, FaultKind};
 use crate::form::{Form, read_line};
-use crate::known::Known;
 use crate::instruction::{Instr, Instrs};
+use crate::known::Known;
 use crate::place::Place;
 use crate::process::{Proc, Procs};
 use sig_lists::{Pushed, Sequence};
@@ -151,9 +146,7 @@ fn begin(
 ) -> Result<Option<FaultKind>, AllocError>
     requires few { n < 2 ^ 31 }
     requires fit { IsFit n draft.old }
-    ensures taken { IfOk result (λ fault. (after : Place → List (List ℕ) → Result Body Fault) →
-        glued draft.old (begun n name (all_names draft.old) (after Place.Outside (all_names draft.old ++ name ∷ [])))
-        ≡ unless n fault (glued draft.new (after draft.new.place (all_names draft.new)))) }
+    ensures taken { IfOk result (λ fault. IsTaken n (λ after. begun n name (all_names draft.old) (after Place.Outside (all_names draft.old ++ name ∷ []))) draft.old draft.new fault) }
     ensures fit { IfOk result (λ fault. IfNone fault (IsFit (n + 1) draft.new)) }
 {
     if is_declared(draft, name.bytes()) {
@@ -177,9 +170,7 @@ fn take_before(
 ) -> Result<Option<FaultKind>, AllocError>
     requires few { n < 2 ^ 31 }
     requires fit { IsFit n draft.old }
-    ensures taken { IfOk result (λ fault. (after : Place → List (List ℕ) → Result Body Fault) →
-        glued draft.old (with_form n Place.Before (all_names draft.old) form after)
-        ≡ unless n fault (glued draft.new (after draft.new.place (all_names draft.new)))) }
+    ensures taken { IfOk result (λ fault. IsTaken n (with_form n Place.Before (all_names draft.old) form) draft.old draft.new fault) }
     ensures fit { IfOk result (λ fault. IfNone fault (IsFit (n + 1) draft.new)) }
 {
     match form {
@@ -202,9 +193,7 @@ fn take_outside(
     requires few { n < 2 ^ 31 }
     requires fit { IsFit n draft.old }
     requires place { draft.old.place ≡ Place.Outside }
-    ensures taken { IfOk result (λ fault. (after : Place → List (List ℕ) → Result Body Fault) →
-        glued draft.old (with_form n Place.Outside (all_names draft.old) form after)
-        ≡ unless n fault (glued draft.new (after draft.new.place (all_names draft.new)))) }
+    ensures taken { IfOk result (λ fault. IsTaken n (with_form n Place.Outside (all_names draft.old) form) draft.old draft.new fault) }
     ensures fit { IfOk result (λ fault. IfNone fault (IsFit (n + 1) draft.new)) }
 {
     match form {
@@ -230,9 +219,7 @@ fn take_pattern(
     pattern: Pattern,
 ) -> Result<Option<FaultKind>, AllocError>
     requires fit { IsFit n draft.old }
-    ensures taken { IfOk result (λ fault. (after : Place → List (List ℕ) → Result Body Fault) →
-        glued draft.old (with_pattern n clauses pattern (λ place. after place (all_names draft.old)))
-        ≡ unless n fault (glued draft.new (after draft.new.place (all_names draft.new)))) }
+    ensures taken { IfOk result (λ fault. IsTaken n (λ after. with_pattern n clauses pattern (λ place. after place (all_names draft.old))) draft.old draft.new fault) }
     ensures fit { IfOk result (λ fault. IfNone fault (IsFit (n + 1) draft.new)) }
 {
     if !clauses.is_empty() {
@@ -253,19 +240,13 @@ fn take_pattern(
 
 /// The end of a receive with these clauses.
 #[tactic(auto, using(crate::proofs::DraftLemmas::one_more))]
-fn take_end(
-    draft: &mut Draft,
-    n: u64,
-    clauses: Clauses,
-) -> Result<Option<FaultKind>, AllocError>
+fn take_end(draft: &mut Draft, n: u64, clauses: Clauses) -> Result<Option<FaultKind>, AllocError>
     requires few { n < 2 ^ 31 }
     requires fit { IsFit n draft.old }
     requires place { draft.old.place ≡ Place.Outside }
     requires count { length clauses ≤ n }
     requires targets { All (λ (c : Clause). IsTarget 0 c.target) clauses }
-    ensures taken { IfOk result (λ fault. (after : Place → List (List ℕ) → Result Body Fault) →
-        glued draft.old (with_receive n clauses (after Place.Outside (all_names draft.old)))
-        ≡ unless n fault (glued draft.new (after draft.new.place (all_names draft.new)))) }
+    ensures taken { IfOk result (λ fault. IsTaken n (λ after. with_receive n clauses (after Place.Outside (all_names draft.old))) draft.old draft.new fault) }
     ensures fit { IfOk result (λ fault. IfNone fault (IsFit (n + 1) draft.new)) }
 {
     if clauses.is_empty() {
@@ -294,9 +275,7 @@ fn take_inside(
     requires place { draft.old.place ≡ Place.Outside }
     requires count { length clauses ≤ n }
     requires targets { All (λ (c : Clause). IsTarget 0 c.target) clauses }
-    ensures taken { IfOk result (λ fault. (after : Place → List (List ℕ) → Result Body Fault) →
-        glued draft.old (with_form n (Place.Inside clauses) (all_names draft.old) form after)
-        ≡ unless n fault (glued draft.new (after draft.new.place (all_names draft.new)))) }
+    ensures taken { IfOk result (λ fault. IsTaken n (with_form n (Place.Inside clauses) (all_names draft.old) form) draft.old draft.new fault) }
     ensures fit { IfOk result (λ fault. IfNone fault (IsFit (n + 1) draft.new)) }
 {
     match form {
@@ -317,9 +296,7 @@ fn take_form(
 ) -> Result<Option<FaultKind>, AllocError>
     requires few { n < 2 ^ 31 }
     requires fit { IsFit n draft.old }
-    ensures taken { IfOk result (λ fault. (after : Place → List (List ℕ) → Result Body Fault) →
-        glued draft.old (with_form n draft.old.place (all_names draft.old) form after)
-        ≡ unless n fault (glued draft.new (after draft.new.place (all_names draft.new)))) }
+    ensures taken { IfOk result (λ fault. IsTaken n (with_form n draft.old.place (all_names draft.old) form) draft.old draft.new fault) }
     ensures fit { IfOk result (λ fault. IfNone fault (IsFit (n + 1) draft.new)) }
 {
     match mem::replace(&mut draft.place, Place::Outside) {
@@ -340,9 +317,7 @@ pub fn take_line(
 ) -> Result<Option<FaultKind>, AllocError>
     requires few { n < 2 ^ 31 }
     requires fit { IsFit n draft.old }
-    ensures taken { IfOk result (λ fault. (after : Place → List (List ℕ) → Result Body Fault) →
-        glued draft.old (with_line n draft.old.place (all_names draft.old) (said known.now draft.old.place line.now) after)
-        ≡ unless n fault (glued draft.new (after draft.new.place (all_names draft.new)))) }
+    ensures taken { IfOk result (λ fault. IsTaken n (with_line n draft.old.place (all_names draft.old) (said known.now draft.old.place line.now)) draft.old draft.new fault) }
     ensures fit { IfOk result (λ fault. IfNone fault (IsFit (n + 1) draft.new)) }
 {
     match read_line(alloc, known, &draft.place, line)? {
@@ -353,11 +328,7 @@ pub fn take_line(
 }
 
 /// The processes, where the text may end before line `n`.
-pub fn finish(
-    alloc: Global,
-    mut draft: Draft,
-    n: u64,
-) -> Result<Result<Procs, Fault>, AllocError>
+pub fn finish(alloc: Global, mut draft: Draft, n: u64) -> Result<Result<Procs, Fault>, AllocError>
     requires few { n < 2 ^ 31 }
     requires fit { IsFit n draft }
     ensures procs { IfOk result (λ procs. procs ≡ glued draft (at_end n draft.place)) }

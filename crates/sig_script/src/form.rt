@@ -1,5 +1,5 @@
 ghost use Rattle.std.specs.Prelude.{◌≡◌, IfOk, drop};
-ghost use Rattle.sig_script.specs.Tokens.{text};
+ghost use Rattle.sig_script.specs.Tokens.{AreTokens, IsSpelled, text};
 ghost use Rattle.sig_script.specs.Forms.{
   name_of,
   process_of,
@@ -49,12 +49,13 @@ fn read_name(
     kind: TokenKind,
     text: &[u8],
 ) -> Result<Result<Name, FaultKind>, AllocError>
+    requires { IsSpelled kind text.now }
     ensures { IfOk result (λ name. name ≡ name_of kind text.now) }
 {
     match kind {
         TokenKind::Name => match Name::new(alloc, text)? {
             Some(name) => Ok(Ok(name)),
-            None => Ok(Err(FaultKind::Syntax)),
+            None => unreachable!(),
         },
         _ => Ok(Err(FaultKind::Syntax)),
     }
@@ -78,12 +79,13 @@ fn read_expr(
     kind: TokenKind,
     text: &[u8],
 ) -> Result<Result<Expr, FaultKind>, AllocError>
+    requires { IsSpelled kind text.now }
     ensures { IfOk result (λ e. e ≡ expr_of known.now kind text.now) }
 {
     match kind {
         TokenKind::Name => match Atom::new(alloc, text)? {
             Some(atom) => Ok(Ok(Expr::Atom(atom))),
-            None => Ok(Err(FaultKind::Syntax)),
+            None => unreachable!(),
         },
         TokenKind::Process => match find_pid(known, behind_sign(text)) {
             Ok(pid) => Ok(Ok(Expr::Pid(Pid(pid)))),
@@ -99,12 +101,13 @@ fn read_pattern(
     kind: TokenKind,
     text: &[u8],
 ) -> Result<Result<Pattern, FaultKind>, AllocError>
+    requires { IsSpelled kind text.now }
     ensures { IfOk result (λ p. p ≡ pattern_of known.now kind text.now) }
 {
     match kind {
         TokenKind::Name => match Atom::new(alloc, text)? {
             Some(atom) => Ok(Ok(Pattern::Atom(atom))),
-            None => Ok(Err(FaultKind::Syntax)),
+            None => unreachable!(),
         },
         TokenKind::Process => match find_pid(known, behind_sign(text)) {
             Ok(pid) => Ok(Ok(Pattern::Pid(Pid(pid)))),
@@ -112,7 +115,7 @@ fn read_pattern(
         },
         TokenKind::Variable => match Name::new(alloc, text)? {
             Some(name) => Ok(Ok(Pattern::Bind(Var(name)))),
-            None => Ok(Err(FaultKind::Syntax)),
+            None => unreachable!(),
         },
         TokenKind::Sign => {
             if equal_bytes(text, b"_") {
@@ -132,6 +135,7 @@ fn read_process_line(
     line: &[u8],
     tokens: &[Token],
 ) -> Result<Result<Form, FaultKind>, AllocError>
+    requires { AreTokens line.now tokens.now }
     ensures { IfOk result (λ form. form ≡ form_of known.now Keyword.Process line.now tokens.now) }
 {
     match tokens {
@@ -150,6 +154,7 @@ fn read_send_line(
     line: &[u8],
     tokens: &[Token],
 ) -> Result<Result<Form, FaultKind>, AllocError>
+    requires { AreTokens line.now tokens.now }
     ensures { IfOk result (λ form. form ≡ form_of known.now Keyword.Send line.now tokens.now) }
 {
     match tokens {
@@ -181,6 +186,7 @@ fn read_on_line(
     line: &[u8],
     tokens: &[Token],
 ) -> Result<Result<Form, FaultKind>, AllocError>
+    requires { AreTokens line.now tokens.now }
     ensures { IfOk result (λ form. form ≡ form_of known.now Keyword.On line.now tokens.now) }
 {
     match tokens {
@@ -210,6 +216,7 @@ fn read_form(
     line: &[u8],
     tokens: &[Token],
 ) -> Result<Result<Form, FaultKind>, AllocError>
+    requires { AreTokens line.now tokens.now }
     ensures { IfOk result (λ form. form ≡ form_of known.now word line.now tokens.now) }
 {
     match word {
@@ -229,6 +236,7 @@ fn read_behind(
     line: &[u8],
     tokens: &[Token],
 ) -> Result<Result<Form, FaultKind>, AllocError>
+    requires { AreTokens line.now tokens.now }
     ensures { IfOk result (λ form. form ≡ form_behind known.now place.now word line.now tokens.now) }
 {
     match word {
@@ -251,6 +259,7 @@ fn read_said(
     line: &[u8],
     tokens: &[Token],
 ) -> Result<Result<Option<Form>, FaultKind>, AllocError>
+    requires { AreTokens line.now tokens.now }
     ensures { IfOk result (λ form. form ≡ said_by known.now place.now line.now tokens.now) }
 {
     match tokens {

@@ -16,7 +16,7 @@ mod reader;
 mod script;
 mod token;
 
-pub use fault::{Fault, FaultKind};
+pub use fault::FaultKind;
 pub use instruction::{After, Instr, Instrs};
 pub use label::{Label, Labels};
 pub use process::{Proc, Procs};

@@ -8,7 +8,7 @@ ghost use Rattle.std.specs.Prelude.{
   IfOk,
 };
 ghost use Rattle.std.specs.List.{list_all};
-ghost use Rattle.sig_script.specs.Tokens.{cut_of, text};
+ghost use Rattle.sig_script.specs.Tokens.{AreTokens, IsToken, cut_of, text};
 ghost use Rattle.sig_script.specs.Forms.{is_token_in_range, tokens_of};
 
 use crate::fault::FaultKind;
@@ -35,7 +35,8 @@ pub fn first_line(bytes: &[u8]) -> &[u8]
 
 /// The tokens of a line up to the first place at which none stands.
 fn cut_line(alloc: Global, line: &[u8]) -> Result<Cut, AllocError>
-    ensures { IfOk result (λ cut. cut ≡ cut_of 0 0 line.now) }
+    ensures cut { IfOk result (λ cut. cut ≡ cut_of 0 0 line.now) }
+    ensures known { IfOk result (λ cut. AreTokens line.now cut.tokens) }
 {
     let mut tokens = Sequence::new(alloc);
     let mut at = 0;
@@ -73,14 +74,14 @@ fn cut_line(alloc: Global, line: &[u8]) -> Result<Cut, AllocError>
 
 /// The bytes of a token.
 pub fn text_of(line: &[u8], token: Token) -> &[u8]
+    requires { IsToken line.now token }
     ensures { result.now ≡ text line.now token }
 {
-    let end = token.end.min(line.len());
-    let start = token.start.min(end);
-    &line[start..end]
+    &line[token.start..token.end]
 }
 
 fn fits(line: &[u8], token: Token) -> bool
+    requires { IsToken line.now token }
     ensures { result ≡ is_token_in_range (text line.now token) token.kind }
 {
     match token.kind {
@@ -90,14 +91,23 @@ fn fits(line: &[u8], token: Token) -> bool
 }
 
 fn all_fit(line: &[u8], tokens: &[Token]) -> bool
+    requires { AreTokens line.now tokens.now }
     ensures { result ≡ list_all (λ t. is_token_in_range (text line.now t) t.kind) tokens.now }
 {
-    tokens.iter().all(|token| fits(line, *token))
+    let mut rest = tokens;
+    while let Some((token, others)) = rest.split_first() {
+        if !fits(line, *token) {
+            return false;
+        }
+        rest = others;
+    }
+    true
 }
 
 /// The tokens of a line, or what is wrong with them.
 pub fn read_tokens(alloc: Global, line: &[u8]) -> Result<Result<Tokens, FaultKind>, AllocError>
-    ensures { IfOk result (λ tokens. tokens ≡ tokens_of line.now) }
+    ensures tokens { IfOk result (λ tokens. tokens ≡ tokens_of line.now) }
+    ensures known { IfOk result (λ tokens. IfOk tokens (λ ts. AreTokens line.now ts)) }
 {
     let cut = cut_line(alloc, line)?;
     if !all_fit(line, cut.tokens.as_slice()) {

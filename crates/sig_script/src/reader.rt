@@ -1,7 +1,9 @@
-ghost use Rattle.std.specs.Prelude.{◌≡◌, ◌+◌, ◌<◌, ◌≤◌, ◌^◌, length, IfOk, drop};
+ghost use Rattle.std.specs.Prelude.{◌≡◌, ◌+◌, ◌<◌, ◌^◌, length, IfOk, drop};
 ghost use Rattle.sig_script.specs.Lines.{lines_of};
+ghost use Rattle.sig_script.specs.Tokens.{AreTokens};
 ghost use Rattle.sig_script.specs.Forms.{tokens_of};
 ghost use Rattle.sig_script.specs.Grammar.{
+  is_integer_one,
   are_header,
   is_header,
   walk,
@@ -17,7 +19,7 @@ use crate::known::Known;
 use crate::line::{first_line, read_tokens, text_of};
 use crate::number::spells_one;
 use crate::script::Script;
-use crate::token::Token;
+use crate::token::{Token, TokenKind};
 use sig_terms::bytes::equal_bytes;
 use std::alloc::{AllocError, Global};
 
@@ -56,12 +58,23 @@ fn read_lines(
     }
 }
 
+fn is_one_token(kind: TokenKind, text: &[u8]) -> bool
+    ensures { result ≡ is_integer_one kind text.now }
+{
+    match kind {
+        TokenKind::Integer => spells_one(text),
+        _ => false,
+    }
+}
+
 fn are_header_tokens(line: &[u8], tokens: &[Token]) -> bool
+    requires { AreTokens line.now tokens.now }
     ensures { result ≡ are_header line.now tokens.now }
 {
     match tokens {
         [word, number] => {
-            equal_bytes(text_of(line, *word), b"sigscript") && spells_one(text_of(line, *number))
+            equal_bytes(text_of(line, *word), b"sigscript")
+                && is_one_token(number.kind, text_of(line, *number))
         }
         _ => false,
     }

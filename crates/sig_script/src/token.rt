@@ -15,10 +15,8 @@ ghost use Rattle.sig_script.specs.Tokens.{
   process_at,
   minus_at,
   underscore_at,
-  quote_at,
   quoted_at,
   front_token,
-  text,
 };
 
 use sig_lists::Sequence;

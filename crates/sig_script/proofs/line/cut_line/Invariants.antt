@@ -1,5 +1,5 @@
 use Rattle.std.proofs.Common.{◌≡◌, ◌+◌, ◌-◌, ◌≤◌, drop, length}
-use Rattle.sig_script.specs.Tokens.{cut_of}
+use Rattle.sig_script.specs.Tokens.{AreTokens, cut_of}
 use Rattle.sig_script.proofs.CutLemmas.{joined}
 use Rattle.sig_script.proofs.line.cut_line.Given as goal
 
@@ -8,6 +8,7 @@ abbrev pub invariant-loop-at : goal.invariant-loop-at
 invariant-loop-at l = record {
   within : l.at ≤ length l.line;
   tokens : joined l.tokens (cut_of l.at 0 (drop l.at l.line)) ≡ cut_of 0 0 l.line;
+  known : AreTokens l.line l.tokens;
 }
 
 abbrev pub decreases-loop-at : goal.decreases-loop-at

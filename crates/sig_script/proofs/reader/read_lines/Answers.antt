@@ -6,14 +6,14 @@ use Rattle.sig_script.proofs.reader.read_lines.Goals as goal
 pub returns-in-Some : goal.returns-in-Some
 returns-in-Some c =
     let step = line_taken c.args.known.now c.loop-at.n c.loop-at.at c.args.bytes.now c.first_line-line.result.now c.loop-at.draft c.take_line.new.draft c.in_ok-kind.field-0 _
-        c.loop-at-test.true c.first_line-line.ensures.line c.in_ok-kind.ensures.taken c.loop-at.invariant.whole in
+    c.loop-at-test.true c.first_line-line.ensures.line c.in_ok-kind.ensures.taken c.loop-at.invariant.whole in
     let refused = rw c.in-Some.is at step in
     sym (script_err _ _ (sym refused))
 
 pub loop-at-preserved : goal.loop-at-preserved
 loop-at-preserved c =
     let step = line_taken c.args.known.now c.loop-at.n c.loop-at.at c.args.bytes.now c.first_line-line.result.now c.loop-at.draft c.take_line.new.draft c.in_ok-kind.field-0 _
-        c.loop-at-test.true c.first_line-line.ensures.line c.in_ok-kind.ensures.taken c.loop-at.invariant.whole in
+    c.loop-at-test.true c.first_line-line.ensures.line c.in_ok-kind.ensures.taken c.loop-at.invariant.whole in
     record {
       within = line-within c.loop-at.at c.first_line-line.result.now c.args.bytes.now c.loop-at-test.true c.first_line-line.ensures.bound;
       number = omega (arith, c.loop-at.invariant.number);
