@@ -1,0 +1,61 @@
+-- What each answer of a run says of the bytes that were read and written.
+use Rattle.std.specs.Prelude.{◌≡◌, ℕ, ◌<◌, List, take, Option, Some, None, IfSome, Result, Ok, Err, IsErr}
+use Rattle.sig_base.specs.Flow.{Rose, Adds}
+use Rattle.sig_script.specs.declared.fault.FaultKind.TheVariants.{Syntax}
+use Rattle.sig_script.specs.Scripts.{Program}
+use Rattle.sig_script.specs.Grammar.{script_of}
+use Rattle.sig_model.specs.Running.{Running}
+use Rattle.sig_model.specs.OneWorker.{RunsTo, opened_crew}
+use Rattle.sig_record.specs.RecordOf.{record_of}
+use Rattle.sig_record.specs.RecordText.{record_text}
+use Rattle.sig_host.specs.declared.status.Status.{Status}
+use Rattle.sig_host.specs.declared.status.Status.TheVariants.{Done, BadScript, Usage, ReadFault, WriteFault, Memory}
+
+-- the bytes are no script
+abbrev pub IsRefused : List ℕ → Type 0
+IsRefused bytes = IsErr (script_of bytes)
+
+-- the text is that of the record of the one-worker run of the script
+abbrev pub IsRecordOf : Program → List ℕ → Type 0
+IsRecordOf script text = (last : List Running) × RunsTo (opened_crew script) last × (text ≡ record_text (record_of last))
+
+-- reading the script: what the source had left, its faults before and after, and the script or why there is none
+abbrev pub IsSourceRead : Option (List ℕ) → ℕ → ℕ → Result Program Status → Type 0
+IsSourceRead left before after (Ok script) = IfSome left (λ bytes. script_of bytes ≡ Ok script)
+IsSourceRead left before after (Err (BadScript line kind)) = (line ≡ 0) × (kind ≡ Syntax) × IfSome left IsRefused
+IsSourceRead left before after (Err ReadFault) = Rose before after
+IsSourceRead left before after (Err Memory) = Unit {0}
+IsSourceRead left before after (Err _) = ⊥
+
+-- running the script: what `out` held and holds, its faults before and after, and how it ended
+abbrev pub IsScriptRun : Program → Option (List ℕ) → Option (List ℕ) → ℕ → ℕ → Status → Type 0
+IsScriptRun script held new before after Done = (text : List ℕ) × IsRecordOf script text × Adds held new text
+IsScriptRun script held new before after WriteFault =
+    Rose before after × ((text : List ℕ) × (n : ℕ) × IsRecordOf script text × Adds held new (take n text))
+IsScriptRun script held new before after Memory = new ≡ held
+IsScriptRun script held new before after _ = ⊥
+
+-- what went in and what came out: how many words, what the source had left and its faults before and after, and what `out`
+-- held and holds and its faults before and after
+pub record Sides : Type 0 where
+  pub words : ℕ
+  pub left : Option (List ℕ)
+  pub source_before : ℕ
+  pub source_after : ℕ
+  pub held : Option (List ℕ)
+  pub new : Option (List ℕ)
+  pub out_before : ℕ
+  pub out_after : ℕ
+
+-- the script that the source spells was run, and `out` has taken these bytes of the record's text
+abbrev pub HasRun : Sides → (List ℕ → Type 0) → Type 0
+HasRun s Has = IfSome s.left (λ bytes. (script : Program) × (script_of bytes ≡ Ok script) × ((text : List ℕ) × IsRecordOf script text × Has text))
+
+abbrev pub IsAnswer : Sides → Status → Type 0
+IsAnswer s Done = (s.words ≡ 0) × HasRun s (λ text. Adds s.held s.new text)
+IsAnswer s (BadScript line kind) = (s.words ≡ 0) × (line ≡ 0) × (kind ≡ Syntax) × IfSome s.left IsRefused × (s.new ≡ s.held)
+IsAnswer s Usage = (0 < s.words) × (s.new ≡ s.held)
+IsAnswer s ReadFault = (s.words ≡ 0) × Rose s.source_before s.source_after × (s.new ≡ s.held)
+IsAnswer s WriteFault =
+    (s.words ≡ 0) × Rose s.out_before s.out_after × HasRun s (λ text. (n : ℕ) × Adds s.held s.new (take n text))
+IsAnswer s Memory = (s.words ≡ 0) × (s.new ≡ s.held)

@@ -1,0 +1,147 @@
+ghost use Rattle.std.specs.Prelude.{◌≡◌, ◌≢◌, ℕ, ◌≤◌, length, IfOk, Some, codes};
+ghost use Rattle.sig_base.specs.Flow.{Rose, Adds};
+ghost use Rattle.sig_host.specs.Answers.{IsRecordOf, IsSourceRead, IsScriptRun, IsAnswer};
+ghost use Rattle.sig_host.specs.Told.{told_text};
+
+use crate::status::Status;
+use sig_base::{Gate, ReadAll, Sink, Source, Written, read_all, write_whole};
+use sig_process::Crew;
+use sig_record::{Record, print_record};
+use sig_script::{FaultKind, Script, ScriptError, read_script};
+use sig_workers::run_one;
+use std::alloc::{AllocError, Global};
+
+/// The most bytes that a script has.
+const LIMIT: usize = 1048576;
+
+/// Reads the script that these bytes spell.
+fn read_bytes(alloc: Global, bytes: &[u8]) -> Result<Script, Status>
+    ensures read { IsSourceRead (Some bytes.now) 0 0 result }
+    ensures no_fault { result ≢ Err Status.ReadFault }
+{
+    match read_script(alloc, bytes) {
+        Ok(script) => Ok(script),
+        Err(ScriptError::Fault { line, kind }) => Err(Status::BadScript { line, kind }),
+        Err(ScriptError::Memory) => Err(Status::Memory),
+    }
+}
+
+/// Reads the source to its end, and the script that it spells.
+fn read_source<S: Source>(alloc: Global, source: &mut S) -> Result<Script, Status>
+    ensures read { IsSourceRead (S.left source.old) (S.faults source.old) (S.faults source.new) result }
+    ensures count { S.faults source.old ≤ S.faults source.new }
+{
+    let mut bytes = Vec::new(alloc);
+    match read_all(source, LIMIT, &mut bytes) {
+        ReadAll::Whole => read_bytes(alloc, bytes.as_slice()),
+        ReadAll::TooLong => Err(Status::BadScript {
+            line: 0,
+            kind: FaultKind::Syntax,
+        }),
+        ReadAll::ReadFault => Err(Status::ReadFault),
+        ReadAll::Memory => Err(Status::Memory),
+    }
+}
+
+/// The text of the record of the script's one-worker run.
+fn run_text(alloc: Global, script: &Script) -> Result<Vec<u8>, AllocError>
+    ensures { IfOk result (λ text. IsRecordOf script.now text.items) }
+{
+    let crew = Crew::open(alloc, script)?;
+    let crew = run_one(crew)?;
+    let given = Record::gather(alloc, crew)?;
+    let mut text = Vec::new(alloc);
+    print_record(&given, &mut text)?;
+    Ok(text)
+}
+
+/// Runs the script, and writes the record. The whole text is made before the first write.
+fn run_script<O: Sink>(alloc: Global, script: &Script, out: &mut O) -> Status
+    ensures run { IsScriptRun script.now (O.held out.old) (O.held out.new) (O.faults out.old) (O.faults out.new) result }
+    ensures count { O.faults out.old ≤ O.faults out.new }
+{
+    match run_text(alloc, script) {
+        Err(_) => Status::Memory,
+        Ok(text) => match write_whole(out, text.as_slice()) {
+            Written::Whole => Status::Done,
+            Written::WriteFault { written: _ } => Status::WriteFault,
+        },
+    }
+}
+
+/// What is written to `err`.
+fn told(status: Status) -> &'static [u8]
+    ensures { result.now ≡ told_text status }
+{
+    match status {
+        Status::Done => b"",
+        Status::BadScript { line: _, kind: _ } => b"sigrun: line 0: syntax\n",
+        Status::Usage => b"usage: sigrun\n",
+        Status::ReadFault => b"sigrun: read fault\n",
+        Status::WriteFault => b"sigrun: write fault\n",
+        Status::Memory => b"sigrun: out of memory\n",
+    }
+}
+
+/// Writes what there is to tell. A fault there changes no status.
+fn tell<E: Sink>(err: &mut E, status: Status)
+    ensures { (Rose (E.faults err.old) (E.faults err.new) → ⊥) → Adds (E.held err.old) (E.held err.new) (told_text status) }
+{
+    let _ = write_whole(err, told(status));
+}
+
+/// Reads the script, runs it, and writes the record.
+fn run_source<S: Source, O: Sink>(alloc: Global, script: &mut S, out: &mut O) -> Status
+    ensures answer { IsAnswer (record {
+      words = 0;
+      left = S.left script.old;
+      source_before = S.faults script.old;
+      source_after = S.faults script.new;
+      held = O.held out.old;
+      new = O.held out.new;
+      out_before = O.faults out.old;
+      out_after = O.faults out.new;
+    }) result }
+{
+    match read_source(alloc, script) {
+        Ok(script) => run_script(alloc, &script, out),
+        Err(status) => status,
+    }
+}
+
+/// Reads the words, which are none, and the script to its end; runs the script with one worker;
+/// and writes the text of the record to `out`.
+///
+/// `Usage` comes where there are words. `ReadFault` comes only where a read failed, and
+/// `WriteFault` only where a write to `out` failed, which then holds the beginning of the text.
+/// `BadScript` comes where the bytes are more than 1,048,576 or spell no script. Where there is
+/// memory, all else is `Done`. Before the first write nothing was written to `out`. What a status
+/// tells is written to `err`, and a fault of `err` changes no status.
+pub fn run<S: Source, O: Sink, E: Sink, G: Gate>(
+    alloc: Global,
+    words: &[String],
+    script: &mut S,
+    out: &mut O,
+    err: &mut E,
+    _gate: &G,
+) -> Status
+    ensures answer { IsAnswer (record {
+      words = length words.now;
+      left = S.left script.old;
+      source_before = S.faults script.old;
+      source_after = S.faults script.new;
+      held = O.held out.old;
+      new = O.held out.new;
+      out_before = O.faults out.old;
+      out_after = O.faults out.new;
+    }) result }
+    ensures told { (Rose (E.faults err.old) (E.faults err.new) → ⊥) → Adds (E.held err.old) (E.held err.new) (told_text result) }
+{
+    if !words.is_empty() {
+        tell(err, Status::Usage);
+        return Status::Usage;
+    }
+    let status = run_source(alloc, script, out);
+    tell(err, status);
+    status
+}

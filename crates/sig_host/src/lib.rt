@@ -1,0 +1,9 @@
+//! The top call: from the words and the bytes of a script to the bytes of the record of its run.
+#![tactic(auto)]
+
+mod host;
+mod status;
+
+pub use host::run;
+pub use status::Status;
+
