@@ -4,8 +4,10 @@
 
 mod event;
 mod message;
+mod stamps;
 mod state;
 
 pub use event::{Did, Event, Events, Outcome};
 pub use message::{Message, Messages};
+pub use stamps::stamps_are_kept;
 pub use state::{LAST_STAMP, State};
