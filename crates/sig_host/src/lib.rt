@@ -7,3 +7,6 @@ mod status;
 pub use host::run;
 pub use status::Status;
 
+
+#[cfg(test)]
+mod tests;

@@ -1,5 +1,5 @@
 -- A draft, form by form.
-use Rattle.std.proofs.Common.{◌≡◌, ℕ, ◌+◌, ◌<◌, ◌≤◌, List, [], ◌∷◌, ◌++◌, map, length, All, Bool, true, false, ◌||◌, nat_le, Option, Some, None, Result, Ok, Err, refl, sym, ◌∙◌, ap, arith, append_assoc, append-nil, length-append}
+use Rattle.std.proofs.Common.{◌≡◌, ℕ, ◌+◌, ◌≤◌, List, [], ◌∷◌, ◌++◌, map, length, Bool, true, false, ◌||◌, nat_le, Option, Some, None, Result, Ok, Err, refl, sym, ◌∙◌, ap, arith, append_assoc, append-nil, length-append}
 use Rattle.std.specs.List.{list_any}
 use Rattle.std.proofs.lemmas.Bool.Decides.{nat_tests}
 use Rattle.std.specs.Str.{bytes_eq}
@@ -8,15 +8,14 @@ use Rattle.std.proofs.lemmas.List.Folds.{list_any-append}
 use Rattle.std.proofs.lemmas.List.Elements.{All-push, All-nil}
 use Rattle.sig_patterns.specs.declared.clause.Clause.{Clause}
 use Rattle.sig_script.specs.declared.instruction.Instr.{Instr}
-use Rattle.sig_script.specs.declared.fault.FaultKind.{FaultKind}
 use Rattle.sig_script.specs.declared.fault.Fault.{Fault}
 use Rattle.sig_script.specs.declared.place.Place.{Place}
-use Rattle.sig_script.specs.declared.place.Place.TheVariants.{Before, Outside, Inside}
+use Rattle.sig_script.specs.declared.place.Place.TheVariants.{Outside}
 use Rattle.sig_script.specs.declared.draft.Draft.{Draft}
 use Rattle.sig_script.specs.Scripts.{Declared, IsLawful, IsTarget}
 use Rattle.sig_script.specs.Faults.{on_ok}
-use Rattle.sig_script.specs.Drafts.{closed, all_procs, names_of, all_names, glued, clauses_in, IsFit}
-use Rattle.sig_script.specs.Grammar.{Body, with_instr, with_process, begun, at_line}
+use Rattle.sig_script.specs.Drafts.{closed, all_procs, names_of, all_names, glued, IsFit}
+use Rattle.sig_script.specs.Grammar.{Body, with_instr, with_process, begun}
 
 -- one more instruction
 closed-more : (procs : List Declared) (name : Option (List ℕ)) (instrs : List Instr) (i : Instr) (rest : List Instr) (others : List Declared) →

@@ -1,5 +1,5 @@
 -- A text, line by line.
-use Rattle.std.proofs.Common.{◌≡◌, ℕ, ◌+◌, ◌-◌, ◌<◌, ◌≤◌, List, [], ◌∷◌, length, drop, take, ◌==◌, true, false, Option, Some, None, Result, Ok, Err, refl, sym, ◌∙◌, ap, subst, arith}
+use Rattle.std.proofs.Common.{◌≡◌, ℕ, ◌+◌, ◌<◌, ◌≤◌, List, [], ◌∷◌, length, drop, ◌==◌, true, false, Option, Result, Ok, Err, refl, sym, ◌∙◌, ap, subst}
 use Rattle.std.proofs.lemmas.List.{drop_all}
 use Rattle.sig_script.specs.declared.fault.FaultKind.{FaultKind}
 use Rattle.sig_script.specs.declared.fault.FaultKind.TheVariants.{Header}
@@ -7,7 +7,7 @@ use Rattle.sig_script.specs.declared.fault.Fault.{Fault}
 use Rattle.sig_script.specs.declared.known.Known.{Known}
 use Rattle.sig_script.specs.declared.place.Place.{Place}
 use Rattle.sig_script.specs.declared.draft.Draft.{Draft}
-use Rattle.sig_script.specs.Scripts.{Declared, Program}
+use Rattle.sig_script.specs.Scripts.{Declared}
 use Rattle.sig_script.specs.Faults.{on_ok}
 use Rattle.sig_script.specs.Lines.{lines_of}
 use Rattle.sig_script.specs.Forms.{said, tokens_of}

@@ -1,5 +1,5 @@
 -- How tokens are spelled.
-use Rattle.std.proofs.Common.{◌≡◌, ℕ, suc, ◌+◌, ◌-◌, ◌<◌, ◌≤◌, List, [], ◌∷◌, ◌++◌, length, take, take_while, drop, cond, Bool, true, false, ◌&&◌, ◌||◌, nat_le, ◌==◌, if◌then◌else◌, Option, Some, None, refl, sym, ◌∙◌, ap, subst, arith, add-one}
+use Rattle.std.proofs.Common.{◌≡◌, ℕ, suc, ◌+◌, ◌-◌, ◌≤◌, List, [], ◌∷◌, ◌++◌, length, take, take_while, drop, cond, Bool, true, false, ◌&&◌, ◌||◌, nat_le, ◌==◌, if◌then◌else◌, Option, Some, None, refl, sym, ◌∙◌, ap, subst, arith}
 use Rattle.std.specs.List.{list_all}
 use Rattle.std.proofs.lemmas.Bool.Decides.{nat_tests}
 use Rattle.std.proofs.lemmas.List.Folds.{length-prefix_len}
@@ -8,7 +8,7 @@ use Rattle.sig_terms.specs.Words.{is_lower, is_upper, is_digit, is_name_byte, is
 use Rattle.sig_script.specs.declared.token.TokenKind.{TokenKind}
 use Rattle.sig_script.specs.declared.token.TokenKind.TheVariants.{Name, Variable, Integer, Quoted, Process, Sign}
 use Rattle.sig_script.specs.declared.token.Token.{Token}
-use Rattle.sig_script.specs.Tokens.{front_run, short_word, process_at, minus_at, underscore_at, quote_at, quoted_at, is_sign, front_token, text, IsSpelled, IsToken, AreTokens}
+use Rattle.sig_script.specs.Tokens.{front_run, process_at, minus_at, underscore_at, quote_at, is_sign, front_token, IsSpelled, IsToken, AreTokens}
 
 -- the bytes at the front that pass a test pass it
 passes-front : (p : ℕ → Bool) (b : ℕ) (bs : List ℕ) (v : Bool) → p b ≡ v → list_all p (take_while p bs) ≡ true → list_all p (cond v (b ∷ take_while p bs) []) ≡ true

@@ -1,5 +1,5 @@
 -- What was read so far, and what follows.
-use Rattle.std.specs.Prelude.{◌≡◌, ℕ, ◌+◌, ◌≤◌, List, [], ◌∷◌, ◌++◌, map, length, All, Option, Some, None, Result}
+use Rattle.std.specs.Prelude.{◌≡◌, ℕ, ◌≤◌, List, [], ◌∷◌, ◌++◌, map, length, All, Option, Some, None, Result}
 use Rattle.sig_patterns.specs.declared.clause.Clause.{Clause}
 use Rattle.sig_script.specs.declared.instruction.Instr.{Instr}
 use Rattle.sig_script.specs.declared.fault.FaultKind.{FaultKind}
@@ -16,14 +16,16 @@ abbrev pub closed : List Declared → Option (List ℕ) → List Instr → List 
 closed procs None instrs others = procs ++ others
 closed procs (Some name) instrs others = procs ++ record { name = name; labels = []; instrs = instrs } ∷ others
 
+-- the processes so far
 abbrev pub all_procs : Draft → List Declared
 all_procs d = closed d.procs d.name d.instrs []
 
+-- their names, the one that is being read at the end
 abbrev pub names_of : List Declared → Option (List ℕ) → List (List ℕ)
 names_of procs None = map (λ (p : Declared). p.name) procs
 names_of procs (Some name) = map (λ (p : Declared). p.name) procs ++ name ∷ []
 
--- the names of the processes so far
+-- the names of the processes of a draft
 abbrev pub all_names : Draft → List (List ℕ)
 all_names d = names_of d.procs d.name
 
@@ -48,7 +50,7 @@ clauses_in Before = []
 clauses_in Outside = []
 clauses_in (Inside clauses) = clauses
 
--- the bounds of a draft of which fewer than n lines were read
+-- the bounds of a draft before line n
 pub record IsFit (n : ℕ) (d : Draft) : Type 0 where
   pub instrs : length d.instrs ≤ n
   pub lawful : All (IsLawful 0) d.instrs

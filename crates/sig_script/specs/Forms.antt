@@ -1,5 +1,5 @@
 -- What a line says.
-use Rattle.std.specs.Prelude.{ℕ, List, [], ◌∷◌, Bool, true, false, not, is_some, drop, position, codes, ok_or, if◌then◌else◌, Option, Some, None, Result, Ok, Err}
+use Rattle.std.specs.Prelude.{ℕ, List, [], ◌∷◌, Bool, true, false, is_some, drop, position, codes, ok_or, if◌then◌else◌, Option, Some, None, Result, Ok, Err}
 use Rattle.std.specs.List.{list_all}
 use Rattle.std.specs.Str.{bytes_eq}
 use Rattle.sig_patterns.specs.declared.expression.Expr.{Expr}
@@ -9,7 +9,7 @@ use Rattle.sig_patterns.specs.declared.pattern.Pattern.TheVariants as pattern
 use Rattle.sig_script.specs.declared.fault.FaultKind.{FaultKind}
 use Rattle.sig_script.specs.declared.fault.FaultKind.TheVariants.{Syntax, IntRange, UnknownProcess}
 use Rattle.sig_script.specs.declared.token.TokenKind.{TokenKind}
-use Rattle.sig_script.specs.declared.token.TokenKind.TheVariants.{Name, Variable, Integer, Quoted, Process, Sign}
+use Rattle.sig_script.specs.declared.token.TokenKind.TheVariants.{Name, Variable, Integer, Process, Sign}
 use Rattle.sig_script.specs.declared.token.Token.{Token}
 use Rattle.sig_script.specs.declared.token.Cut.{Cut}
 use Rattle.sig_script.specs.declared.known.Known.{Known}
@@ -30,11 +30,12 @@ abbrev pub is_token_in_range : List ℕ → TokenKind → Bool
 is_token_in_range text Integer = is_in_range text
 is_token_in_range text _ = true
 
--- The tokens of a line. Those that were cut stand to the left of a place at which none stands.
+-- A line is cut whole, and each integer is in range. The tokens that were cut stand to the left of a place at which none stands.
 abbrev pub checked : List ℕ → Cut → Result (List Token) FaultKind
 checked line cut =
     if list_all (λ t. is_token_in_range (text line t) t.kind) cut.tokens then (if is_some cut.stop then Err Syntax else Ok cut.tokens) else Err IntRange
 
+-- the tokens of a line, or what is wrong with one of them
 abbrev pub tokens_of : List ℕ → Result (List Token) FaultKind
 tokens_of line = checked line (cut_of 0 0 line)
 

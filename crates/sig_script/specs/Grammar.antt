@@ -1,4 +1,4 @@
--- The script that a text spells, or the first line that is refused and why.
+-- The script that a text spells, or the first line that is refused and why. The language of scripts is this project's own.
 use Rattle.std.specs.Prelude.{ℕ, ◌+◌, List, [], ◌∷◌, ◌++◌, length, Bool, false, ◌&&◌, nat_le, codes, if◌then◌else◌, Option, Some, None, Result, Ok, Err}
 use Rattle.std.specs.List.{list_any}
 use Rattle.std.specs.Str.{bytes_eq}
@@ -34,9 +34,11 @@ pub record Body : Type 0 where
   pub instrs : List Instr
   pub procs : List Declared
 
+-- an instruction in front of what follows
 abbrev pub with_instr : Instr → Body → Body
 with_instr i b = record { instrs = i ∷ b.instrs; procs = b.procs }
 
+-- a process whose instructions end at the next process line
 abbrev pub with_process : List ℕ → Body → Body
 with_process name b = record { instrs = []; procs = record { name = name; labels = []; instrs = b.instrs } ∷ b.procs }
 
@@ -57,6 +59,7 @@ abbrev pub with_pattern : ℕ → List Clause → Pattern → (Place → Result 
 with_pattern n [] p after = after (Inside (record { pattern = p; target = None } ∷ []))
 with_pattern n (c ∷ cs) p after = at_line n Syntax
 
+-- the end of a receive, which then is one instruction
 abbrev pub with_receive : ℕ → List Clause → Result Body Fault → Result Body Fault
 with_receive n [] after = at_line n Syntax
 with_receive n (c ∷ cs) after = on_ok (with_instr (instr.Receive (c ∷ cs) None)) after
@@ -91,6 +94,7 @@ program_of b = record { turns = 1000; procs = b.procs }
 abbrev pub walk : Known → List (List ℕ) → Result Program Fault
 walk known lines = on_ok program_of (body known 2 Before [] lines)
 
+-- an integer token of value 1
 abbrev pub is_integer_one : TokenKind → List ℕ → Bool
 is_integer_one Integer text = is_one text
 is_integer_one _ text = false
@@ -100,6 +104,7 @@ abbrev pub are_header : List ℕ → List Token → Bool
 are_header line (word ∷ number ∷ []) = bytes_eq (text line word) (codes "sigscript") && is_integer_one number.kind (text line number)
 are_header line _ = false
 
+-- on the first line each fault is the same: it isn't the header
 abbrev pub is_header : Result (List Token) FaultKind → List ℕ → Bool
 is_header (Ok tokens) line = are_header line tokens
 is_header (Err kind) line = false
@@ -108,6 +113,7 @@ is_header (Err kind) line = false
 abbrev pub walk_twice : List (List ℕ) → Result Program Fault
 walk_twice lines = walk Any lines >>= λ script. walk (Among script) lines
 
+-- a text without lines has no header
 unfoldable pub script_of_lines : List (List ℕ) → Result Program Fault
 script_of_lines [] = at_line 1 Header
 script_of_lines (first ∷ lines) = if is_header (tokens_of first) first then walk_twice lines else at_line 1 Header

@@ -1,5 +1,5 @@
 -- The tokens of a line, cut from left to right, each as long as possible.
-use Rattle.std.specs.Prelude.{◌≡◌, ◌≤◌, ℕ, zero, suc, ◌+◌, ◌-◌, List, [], ◌∷◌, length, take_while, Bool, true, ◌&&◌, ◌||◌, nat_le, ◌==◌, if◌then◌else◌, Option, Some, None, drop, slice_range}
+use Rattle.std.specs.Prelude.{◌≡◌, ◌≤◌, ℕ, zero, suc, ◌+◌, ◌-◌, List, [], ◌∷◌, length, take_while, Bool, true, ◌||◌, nat_le, ◌==◌, if◌then◌else◌, Option, Some, None, drop, slice_range}
 use Rattle.sig_terms.specs.Words.{is_lower, is_upper, is_digit, is_name_byte, is_variable_byte, is_atom_byte, is_token, is_atom}
 use Rattle.sig_script.specs.declared.token.TokenKind.{TokenKind}
 use Rattle.sig_script.specs.declared.token.TokenKind.TheVariants.{Name, Variable, Integer, Quoted, Process, Sign}
@@ -91,6 +91,7 @@ IsSpelled _ word = Unit {0}
 abbrev pub IsToken : List ℕ → Token → Type 0
 IsToken line t = (t.start ≤ t.end) × (t.end ≤ length line) × IsSpelled t.kind (text line t)
 
+-- each is a token of the line
 abbrev pub AreTokens : List ℕ → List Token → Type 0
 AreTokens line [] = Unit {0}
 AreTokens line (t ∷ ts) = IsToken line t × AreTokens line ts

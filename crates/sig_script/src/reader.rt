@@ -58,6 +58,7 @@ fn read_lines(
     }
 }
 
+/// Whether a token is an integer of value 1.
 fn is_one_token(kind: TokenKind, text: &[u8]) -> bool
     ensures { result ≡ is_integer_one kind text.now }
 {
@@ -67,6 +68,7 @@ fn is_one_token(kind: TokenKind, text: &[u8]) -> bool
     }
 }
 
+/// Whether the tokens are those of the header.
 fn are_header_tokens(line: &[u8], tokens: &[Token]) -> bool
     requires { AreTokens line.now tokens.now }
     ensures { result ≡ are_header line.now tokens.now }
@@ -80,6 +82,7 @@ fn are_header_tokens(line: &[u8], tokens: &[Token]) -> bool
     }
 }
 
+/// Whether the line is the header.
 fn is_header_line(alloc: Global, line: &[u8]) -> Result<bool, AllocError>
     ensures { IfOk result (λ yes. yes ≡ is_header (tokens_of line.now) line.now) }
 {
@@ -130,6 +133,7 @@ fn read_text(alloc: Global, bytes: &[u8]) -> Result<Result<Script, Fault>, Alloc
     read_twice(alloc, behind_line(bytes, first))
 }
 
+/// The script of a text of any length, or the line that is refused and why.
 #[tactic(auto, unfolding(crate::specs::Grammar::script_of))]
 fn read_bounded(alloc: Global, bytes: &[u8]) -> Result<Result<Script, Fault>, AllocError>
     ensures { IfOk result (λ script. script ≡ script_of bytes.now) }
@@ -144,7 +148,8 @@ fn read_bounded(alloc: Global, bytes: &[u8]) -> Result<Result<Script, Fault>, Al
     }
 }
 
-/// Reads the text of a script. Every refusal is told as line 0, `Syntax`.
+/// Reads the text of a script: the script that it spells, and `Fault` only where it spells none.
+/// Every refusal is told as line 0, `Syntax`.
 pub fn read_script(alloc: Global, bytes: &[u8]) -> Result<Script, ScriptError>
     ensures { IsReading (script_of bytes.now) result }
 {

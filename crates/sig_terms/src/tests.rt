@@ -44,6 +44,9 @@ fn terms_print_their_texts(rt: HostRuntime) -> Result<(), Fail> {
     assert!(rt; !copy.same(&Term::Int(0)));
     let mut text = Vec::new(alloc);
     copy.print(&mut text)?;
-    assert!(rt; text.as_slice() == b"{ok,'Big','',-9223372036854775808,<4294967295>,#Ref<0.7>,[]}".as_slice());
+    assert!(rt;
+        text.as_slice()
+            == b"{ok,'Big','',-9223372036854775808,<4294967295>,#Ref<0.7>,[]}".as_slice()
+    );
     Ok(())
 }

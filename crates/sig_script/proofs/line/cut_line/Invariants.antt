@@ -1,4 +1,4 @@
-use Rattle.std.proofs.Common.{◌≡◌, ◌+◌, ◌-◌, ◌≤◌, drop, length}
+use Rattle.std.proofs.Common.{◌≡◌, ◌-◌, ◌≤◌, drop, length}
 use Rattle.sig_script.specs.Tokens.{AreTokens, cut_of}
 use Rattle.sig_script.proofs.CutLemmas.{joined}
 use Rattle.sig_script.proofs.line.cut_line.Given as goal
