@@ -7,6 +7,5 @@ mod status;
 pub use host::run;
 pub use status::Status;
 
-
 #[cfg(test)]
 mod tests;

@@ -6,8 +6,7 @@ use sig_script::FaultKind;
 use std::alloc::{AllocError, Global};
 use std::test::Fail;
 
-const ONE_MESSAGE: &[u8] =
-    b"sigscript 1\nprocess a\nsend @b hi\nprocess b\nreceive\non X\nend\n";
+const ONE_MESSAGE: &[u8] = b"sigscript 1\nprocess a\nsend @b hi\nprocess b\nreceive\non X\nend\n";
 
 const ONE_MESSAGE_RECORD: &[u8] =
     b"sigrecord 1\nprocess 0 a\n1 exec 1 sent <1> hi\n2 exec 2 ended normal\nstate ended normal\nprocess 1 b\n2 from 0 1 kept hi\n3 exec 1 took 1 1 hi\n4 exec 2 ended normal\nstate ended normal\n";

@@ -38,11 +38,7 @@ pub(crate) enum Step {
     /// It sends a message.
     Send { to: Term, message: Term },
     /// It takes the message at this place of the list, by this clause, both from 0, and goes on.
-    Take {
-        at: usize,
-        clause: u32,
-        place: u32,
-    },
+    Take { at: usize, clause: u32, place: u32 },
     /// No message matches, and it goes on with `after`.
     PassBy { place: u32 },
     /// No message matches, and there is no `after`.

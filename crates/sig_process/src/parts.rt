@@ -60,13 +60,7 @@ fn state_of(end: Option<Term>, cut: bool) -> State
 {
     match end {
         Some(reason) => State::Ended { reason },
-        None => {
-            if cut {
-                State::Cut
-            } else {
-                State::Waiting
-            }
-        }
+        None => { if cut { State::Cut } else { State::Waiting } }
     }
 }
 
