@@ -56,3 +56,6 @@ normal = term.Atom (codes "normal")
 
 abbrev pub badarg : Term
 badarg = term.Atom (codes "badarg")
+
+abbrev pub system_limit : Term
+system_limit = term.Atom (codes "system_limit")

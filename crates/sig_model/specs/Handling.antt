@@ -12,7 +12,7 @@ use Rattle.sig_model.specs.Bodies.{Body}
 -- the message comes to the end of the list
 abbrev pub appending : ProcessState → Term → Body
 appending s message = record {
-  state = record s { messages = s.messages ++ record { arrival = s.next_arrival; term = message } ∷ []; next_arrival = s.next_arrival + 1 };
+  state = record s { messages = s.messages ++ (s.next_arrival, message) ∷ []; next_arrival = s.next_arrival + 1 };
   outcome = outcome.Kept message;
   posts = [];
 }

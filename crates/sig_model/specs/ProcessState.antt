@@ -1,14 +1,13 @@
 -- The state of one process (Erlang Reference Manual, Processes). Stamps, turns, and being cut are this project's own.
 use Rattle.std.specs.Prelude.{ℕ, List, [], Bool, true, false, ◌&&◌, ◌||◌, nat_le, Option, Some, None, is_none, is_some, replicate}
 use Rattle.std.specs.Ordering.{nat_cmp}
-use Rattle.std.specs.Cmp.Lexicographic.{slice_cmp}
 use Rattle.std.specs.FinSet as set
 use Rattle.std.specs.FinMap as map
 use Rattle.sig_terms.specs.declared.term.Term.{Term}
 use Rattle.sig_terms.specs.declared.reference.Ref.{Ref}
 use Rattle.sig_terms.specs.References.{ref_cmp}
 use Rattle.sig_kinds.specs.declared.alias_mode.AliasMode.{AliasMode}
-use Rattle.sig_model.specs.declared.message.Message.{Message}
+use Rattle.sig_patterns.specs.Environment.{Environment}
 
 -- a place in the message list, told by the arrival number of the first message behind it, and the next serial there
 pub record Reserve : Type 0 where
@@ -24,9 +23,9 @@ pub record ProcessState : Type 0 where
   -- the place of the next instruction, from 1
   pub place : ℕ
   -- the values of the variables
-  pub env : map.FinMap (slice_cmp nat_cmp) Term
-  -- the messages that no receive has taken, the oldest first
-  pub messages : List Message
+  pub env : Environment
+  -- the messages that no receive has taken, each with its arrival number, the oldest first
+  pub messages : List (ℕ × Term)
   -- the peers of active links, and the ids of the unlinks that they have not acknowledged
   pub active : set.FinSet nat_cmp
   pub awaited : map.FinMap nat_cmp ℕ

@@ -19,6 +19,10 @@ pub enum Outcome {
         to: Term,
         message: Term,
     },
+    /// A variable got the value.
+    Set { value: Term },
+    /// The instruction has no result.
+    Done,
     /// A receive took the message.
     Took {
         /// The number of the clause that took it, from 1.

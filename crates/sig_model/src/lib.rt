@@ -3,11 +3,9 @@
 #![tactic(auto)]
 
 mod event;
-mod message;
 mod stamps;
 mod state;
 
 pub use event::{Did, Event, Events, Outcome};
-pub use message::{Message, Messages};
 pub use stamps::stamps_are_kept;
 pub use state::{LAST_STAMP, State};

@@ -1,0 +1,7 @@
+pub mod EnvironmentLemmas
+pub mod PastTheEnd
+pub mod SameSelf
+pub mod Bindings
+pub mod Walks
+pub mod Settings
+pub mod Extents

@@ -1,42 +1,71 @@
 ghost use Rattle.std.specs.Prelude.{◌≡◌, IfOk};
-ghost use Rattle.sig_patterns.specs.Building.{value_of};
 
-use sig_terms::{Atom, Pid, Term};
+use crate::var::Var;
+use sig_lists::{Pushed, Sequence};
+use sig_terms::{Atom, Pid};
 use std::alloc::{AllocError, Global};
 
-/// What builds a term. (Erlang Reference Manual, Expressions, Terms.)
+/// A list of expressions.
+pub type Exprs = Sequence<Expr>;
+
+/// What builds a term. (Erlang Reference Manual, Expressions, Terms and Variables.)
 #[derive(Debug, Drop)]
 pub enum Expr {
+    /// The integer.
+    Int(i64),
     /// The atom.
     Atom(Atom),
     /// The process.
     Pid(Pid),
+    /// The value of the variable.
+    Var(Var),
+    /// A tuple of the values of these expressions.
+    Tuple(Exprs),
+    /// A proper list of the values of these expressions.
+    List(Exprs),
+}
+
+/// Copies of the expressions, in their order.
+#[cycle(copy)]
+fn copy_all(alloc: Global, items: &[Expr]) -> Result<Exprs, AllocError>
+    ensures { IfOk result (λ es. es ≡ items.now) }
+{
+    let mut copies = Sequence::new(alloc);
+    for item in items {
+        let copy = item.copy(alloc)?;
+        match copies.push(copy) {
+            Pushed::Added => {}
+            Pushed::Memory { item: _ } => return Err(AllocError),
+        }
+    }
+    Ok(copies)
 }
 
 impl Expr {
     /// An equal expression.
+    #[cycle(copy)]
     pub fn copy(&self, alloc: Global) -> Result<Expr, AllocError>
         ensures { IfOk result (λ e. e ≡ self.now) }
     {
         match self {
+            Expr::Int(n) => Ok(Expr::Int(*n)),
             Expr::Atom(atom) => {
                 let atom = atom.copy(alloc)?;
                 Ok(Expr::Atom(atom))
             }
             Expr::Pid(pid) => Ok(Expr::Pid(*pid)),
+            Expr::Var(var) => {
+                let var = var.copy(alloc)?;
+                Ok(Expr::Var(var))
+            }
+            Expr::Tuple(items) => {
+                let copies = copy_all(alloc, items.as_slice())?;
+                Ok(Expr::Tuple(copies))
+            }
+            Expr::List(items) => {
+                let copies = copy_all(alloc, items.as_slice())?;
+                Ok(Expr::List(copies))
+            }
         }
-    }
-}
-
-/// The value of the expression.
-pub fn build(alloc: Global, expression: &Expr) -> Result<Term, AllocError>
-    ensures { IfOk result (λ term. term ≡ value_of expression.now) }
-{
-    match expression {
-        Expr::Atom(atom) => {
-            let atom = atom.copy(alloc)?;
-            Ok(Term::Atom(atom))
-        }
-        Expr::Pid(pid) => Ok(Term::Pid(*pid)),
     }
 }

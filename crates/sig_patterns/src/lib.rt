@@ -1,17 +1,28 @@
 //! Expressions, patterns and clauses, what they build and match, and the scan of a receive.
 #![tactic(auto)]
 
+mod binding;
+mod building;
 mod clause;
+mod env;
 mod expression;
 mod found;
+mod matching;
+mod measure;
 mod pattern;
+mod places;
 mod scanning;
+mod seen;
 mod var;
 
+pub use binding::bind_match;
+pub use building::{BuildFault, MOST_DEPTH, MOST_NODES, build};
+pub use env::Env;
 pub use clause::{Clause, Clauses};
-pub use expression::{Expr, build};
+pub use expression::{Expr, Exprs};
+pub use matching::matches;
 pub use found::Found;
-pub use pattern::{Pattern, matches};
+pub use pattern::{Pattern, Patterns};
 pub use scanning::first_match;
 pub use var::Var;
 

@@ -1,28 +1,64 @@
-ghost use Rattle.std.specs.Prelude.{◌≡◌, ◌+◌, IfOk};
-ghost use Rattle.sig_patterns.specs.Matching.{fits, is_atom_of, is_pid_of};
+ghost use Rattle.std.specs.Prelude.{◌≡◌, IfOk};
 
 use crate::var::Var;
-use sig_base::Steps;
-use sig_terms::bytes::equal_bytes;
-use sig_terms::{Atom, Pid, Term};
+use sig_lists::{Pushed, Sequence};
+use sig_terms::{Atom, Pid};
+use sqlite_items::Boxed;
 use std::alloc::{AllocError, Global};
-use std::sync::ledger::Ledger;
+
+/// A list of patterns.
+pub type Patterns = Sequence<Pattern>;
 
 /// What a clause of a receive asks of a message. (Erlang Reference Manual, Pattern Matching.)
 #[derive(Debug, Drop)]
 pub enum Pattern {
     /// `_`, which every term matches.
     Any,
-    /// A variable, which every term matches and which is bound to it.
+    /// A variable. It is bound to the first term that it meets in the pattern, and where it stands
+    /// again it asks for an equal one.
     Bind(Var),
+    /// `^X`, the value that the variable had before the match.
+    Pin(Var),
+    /// The integer.
+    Int(i64),
     /// The atom.
     Atom(Atom),
     /// The process.
     Pid(Pid),
+    /// A tuple of as many elements, each of which matches the pattern at its place.
+    Tuple(Patterns),
+    /// A list of as many elements, each of which matches the pattern at its place.
+    List(Patterns),
+    /// `[P1, P2 | Q]`, which is `[P1 | [P2 | Q]]`: a list whose first elements match the heads, and
+    /// the list of the rest matches the tail. There is at least one head; with none, no term
+    /// matches.
+    Cons {
+        /// The patterns of the first elements.
+        heads: Patterns,
+        /// The pattern of the list of the rest.
+        tail: Boxed<Pattern>,
+    },
+}
+
+/// Copies of the patterns, in their order.
+#[cycle(copy)]
+fn copy_all(alloc: Global, items: &[Pattern]) -> Result<Patterns, AllocError>
+    ensures { IfOk result (λ ps. ps ≡ items.now) }
+{
+    let mut copies = Sequence::new(alloc);
+    for item in items {
+        let copy = item.copy(alloc)?;
+        match copies.push(copy) {
+            Pushed::Added => {}
+            Pushed::Memory { item: _ } => return Err(AllocError),
+        }
+    }
+    Ok(copies)
 }
 
 impl Pattern {
     /// An equal pattern.
+    #[cycle(copy)]
     pub fn copy(&self, alloc: Global) -> Result<Pattern, AllocError>
         ensures { IfOk result (λ p. p ≡ self.now) }
     {
@@ -32,43 +68,30 @@ impl Pattern {
                 let var = var.copy(alloc)?;
                 Ok(Pattern::Bind(var))
             }
+            Pattern::Pin(var) => {
+                let var = var.copy(alloc)?;
+                Ok(Pattern::Pin(var))
+            }
+            Pattern::Int(n) => Ok(Pattern::Int(*n)),
             Pattern::Atom(atom) => {
                 let atom = atom.copy(alloc)?;
                 Ok(Pattern::Atom(atom))
             }
             Pattern::Pid(pid) => Ok(Pattern::Pid(*pid)),
+            Pattern::Tuple(items) => {
+                let copies = copy_all(alloc, items.as_slice())?;
+                Ok(Pattern::Tuple(copies))
+            }
+            Pattern::List(items) => {
+                let copies = copy_all(alloc, items.as_slice())?;
+                Ok(Pattern::List(copies))
+            }
+            Pattern::Cons { heads, tail } => {
+                let heads = copy_all(alloc, heads.as_slice())?;
+                let tail = tail.get().copy(alloc)?;
+                let tail = Boxed::new(alloc, tail)?;
+                Ok(Pattern::Cons { heads, tail })
+            }
         }
-    }
-}
-
-fn is_this_atom(atom: &Atom, term: &Term) -> bool
-    ensures { result ≡ is_atom_of atom.now term.now }
-{
-    match term {
-        Term::Atom(other) => equal_bytes(atom.bytes(), other.bytes()),
-        _ => false,
-    }
-}
-
-fn is_this_pid(pid: Pid, term: &Term) -> bool
-    ensures { result ≡ is_pid_of pid.0 term.now }
-{
-    match term {
-        Term::Pid(other) => pid.0 == other.0,
-        _ => false,
-    }
-}
-
-/// Whether the pattern matches the term. Counts one step, and takes no memory.
-pub fn matches<L: Ledger>(pattern: &Pattern, term: &Term, steps: &mut Steps<L>) -> bool
-    ensures fits { result ≡ fits pattern.now term.now }
-    ensures ticks { steps.new ≡ steps.old + 1 }
-{
-    steps.tick();
-    match pattern {
-        Pattern::Any => true,
-        Pattern::Bind(_) => true,
-        Pattern::Atom(atom) => is_this_atom(atom, term),
-        Pattern::Pid(pid) => is_this_pid(*pid, term),
     }
 }

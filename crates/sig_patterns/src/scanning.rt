@@ -2,7 +2,8 @@ ghost use Rattle.std.specs.Prelude.{◌≡◌, ◌+◌, ◌<◌, ◌≤◌, leng
 ghost use Rattle.sig_patterns.specs.Scanning.{first_clause};
 
 use crate::clause::Clause;
-use crate::pattern::matches;
+use crate::env::Env;
+use crate::matching::matches;
 use sig_base::Steps;
 use sig_terms::Term;
 use std::sync::ledger::Ledger;
@@ -11,16 +12,17 @@ use std::sync::ledger::Ledger;
 /// does. Counts one step for each pattern that it tries.
 pub fn first_match<L: Ledger>(
     clauses: &[Clause],
+    env: &Env,
     message: &Term,
     steps: &mut Steps<L>,
 ) -> Option<usize>
-    ensures first { result ≡ first_clause clauses.now message.now }
+    ensures first { result ≡ first_clause clauses.now env.now message.now }
     ensures within { IfSome result (λ at. at < length clauses.now) }
     ensures ticks { steps.new ≤ steps.old + length clauses.now }
 {
     let mut at = 0;
     while at < clauses.len() {
-        if matches(&clauses[at].pattern, message, steps) {
+        if matches(&clauses[at].pattern, env, message, steps) {
             return Some(at);
         }
         at += 1;

@@ -9,7 +9,7 @@ use std::alloc::{AllocError, Global};
 use std::marker::Model;
 
 /// The processes of a script, by pid.
-#[derive(Debug, Drop)]
+#[derive(Drop)]
 pub struct Crew {
     /// The process at place p, from 0, has the pid p.
     pub procs: Vec<Process>,
@@ -20,11 +20,13 @@ impl Model for Crew {
     ghost use Rattle.std.specs.FinMap as map;
     ghost use Rattle.std.specs.Prelude.{List};
     ghost use Rattle.sig_terms.specs.contracts.term.Term as term;
+    ghost use Rattle.sig_patterns.specs.contracts.expression.Expr as expr;
+    ghost use Rattle.sig_patterns.specs.contracts.pattern.Pattern as pattern;
     ghost use Rattle.sig_model.specs.Running.{Running};
 
     ghost Value = { List Running };
 
-    ghost coded = { Prim.hlevel (codes, term.the_row.coded, map.code) };
+    ghost coded = { Prim.hlevel (codes, term.the_row.coded, expr.the_row.coded, pattern.the_row.coded, map.code) };
 
     ghost view = { λ c. c.procs.items };
 }

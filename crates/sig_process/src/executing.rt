@@ -1,24 +1,21 @@
-ghost use Rattle.std.specs.Prelude.{◌≡◌, ◌+◌, ◌-◌, ◌*◌, ◌<◌, ◌≤◌, ◌^◌, length, true, Some, None, OnOk, IfOk, IfSome, slice_get, slice_index, is_none, codes, option_map};
+ghost use Rattle.std.specs.Prelude.{◌≡◌, ◌+◌, ◌<◌, ◌≤◌, ◌^◌, length, true, Some, OnOk, IfOk, IfSome, IsSome, slice_get, slice_index, option_map};
 ghost use Rattle.sig_terms.specs.Words.{is_atom};
-ghost use Rattle.sig_patterns.specs.Scanning.{scan, looked};
-ghost use Rattle.sig_script.specs.Scripts.{IsLawful};
-ghost use Rattle.sig_model.specs.ProcessState.{is_cut};
-ghost use Rattle.sig_model.specs.Bodies.{place_after, going_on, ending, normal, badarg};
-ghost use Rattle.sig_model.specs.Executing.{terms_of, target_of, sending, taking, receiving, executing};
-ghost use Rattle.sig_model.specs.Finishing.{finished_exec, drawn};
-ghost use Rattle.sig_model.specs.Running.{advanced, can_exec, exec_next};
+ghost use Rattle.sig_patterns.specs.Matching.{match_of};
+ghost use Rattle.sig_model.specs.Bodies.{going_on, ending, normal, badarg, system_limit};
+ghost use Rattle.sig_model.specs.Executing.{sending, setting, executing};
+ghost use Rattle.sig_model.specs.Finishing.{drawn};
+ghost use Rattle.sig_model.specs.Running.{can_exec};
 ghost use Rattle.sig_process.specs.Steps.{step_body, taken_body, IsPlaceOf, IsFit, noted, made, IsExec};
 
 use crate::process::{Process, draw};
+use crate::stepping::Step;
 use sig_base::Steps;
-use sig_kinds::{Kind, Signal, Signals};
+use sig_kinds::{Kind, Signal};
 use sig_lists::Pushed;
-use sig_model::{Did, Event, Message, Outcome};
-use sig_patterns::{Clause, Clauses, Found, build, first_match};
-use sig_script::{After, Instr};
+use sig_model::{Did, Event, Outcome};
+use sig_patterns::{Pattern, Var, bind_match};
 use sig_terms::{Atom, Pid, Term};
 use std::alloc::{AllocError, Global};
-use std::mem;
 use std::sync::ledger::Ledger;
 
 /// How the execution of an instruction went.
@@ -28,21 +25,6 @@ pub enum Exec {
     Stepped,
     /// It is a receive without `after`, and no message matches.
     Waiting,
-}
-
-/// What the next instruction does, with all that was built for it.
-#[derive(Drop)]
-pub(crate) enum Step {
-    /// There is no instruction: the process ends.
-    Stop,
-    /// It sends a message.
-    Send { to: Term, message: Term },
-    /// It takes the message at this place of the list, by this clause, both from 0, and goes on.
-    Take { at: usize, clause: u32, place: u32 },
-    /// No message matches, and it goes on with `after`.
-    PassBy { place: u32 },
-    /// No message matches, and there is no `after`.
-    Wait,
 }
 
 /// The atom of these bytes.
@@ -56,95 +38,7 @@ fn plain_atom(alloc: Global, bytes: &[u8]) -> Result<Term, AllocError>
     }
 }
 
-/// The oldest message that some clause matches, with the first such clause.
-fn find_message<L: Ledger>(
-    messages: &[Message],
-    clauses: &[Clause],
-    steps: &mut Steps<L>,
-) -> Option<Found>
-    ensures found { result ≡ scan clauses.now (terms_of messages.now) }
-    ensures within { IfSome result (λ f. (f.at < length messages.now) × (f.clause < length clauses.now)) }
-    ensures ticks { steps.new ≤ steps.old + length clauses.now * looked (terms_of messages.now) result }
-{
-    let mut at = 0;
-    while at < messages.len() {
-        if let Some(clause) = first_match(clauses, &messages[at].term, steps) {
-            return Some(Found { at, clause });
-        }
-        at += 1;
-    }
-    None
-}
-
-fn target_at(clauses: &Clauses, at: usize) -> Option<u32>
-    ensures { result ≡ target_of clauses.now at }
-{
-    let clause = clauses.get(at)?;
-    clause.target
-}
-
 impl Process {
-    /// Where the process goes on: at the label of the target, or at the next place.
-    fn place_after(&self, target: Option<u32>) -> u32
-        requires within { self.now.state.place ≤ length self.now.proc.instrs }
-        requires few { length self.now.proc.instrs + 1 < 2 ^ 32 }
-        ensures place { result ≡ place_after self.now.proc.labels target self.now.state.place }
-        ensures bounds { IsPlaceOf self.now.proc result }
-    {
-        match target {
-            None => self.place + 1,
-            Some(label) => match self.proc.place_of(label) {
-                None => self.place + 1,
-                Some(place) => place,
-            },
-        }
-    }
-
-    /// What a receive with these clauses does.
-    fn receive_step<L: Ledger>(
-        &self,
-        clauses: &Clauses,
-        after: &Option<After>,
-        steps: &mut Steps<L>,
-    ) -> Step
-        requires within { self.now.state.place ≤ length self.now.proc.instrs }
-        requires few { length self.now.proc.instrs + 1 < 2 ^ 32 }
-        requires clauses { length clauses.now < 2 ^ 32 }
-        ensures step { receiving self.now.proc self.now.state clauses.now after.now (scan clauses.now (terms_of self.now.state.messages)) ≡ step_body self.now.state result }
-        ensures fit { IsFit self.now result }
-    {
-        match find_message(self.messages.as_slice(), clauses.as_slice(), steps) {
-            Some(found) => Step::Take {
-                at: found.at,
-                clause: found.clause as u32,
-                place: self.place_after(target_at(clauses, found.clause)),
-            },
-            None => match after {
-                Some(after) => Step::PassBy {
-                    place: self.place_after(after.target),
-                },
-                None => Step::Wait,
-            },
-        }
-    }
-
-    /// What the next instruction does.
-    #[tactic(auto, unfolding(sig_model::specs::Executing::executing))]
-    fn next_step<L: Ledger>(&self, steps: &mut Steps<L>) -> Result<Step, AllocError>
-        ensures step { IfOk result (λ step. executing self.now.proc self.now.state ≡ step_body self.now.state step) }
-        ensures fit { IfOk result (IsFit self.now) }
-    {
-        match self.proc.instr(self.place) {
-            None => Ok(Step::Stop),
-            Some(Instr::Send { to, message }) => {
-                let to = build(self.alloc, to)?;
-                let message = build(self.alloc, message)?;
-                Ok(Step::Send { to, message })
-            }
-            Some(Instr::Receive { clauses, after }) => Ok(self.receive_step(clauses, after, steps)),
-        }
-    }
-
     /// Adds the event of an execution, and goes on at a place.
     fn note(&mut self, outcome: Outcome, place: u32) -> Result<(), AllocError>
         requires stamp { self.old.state.stamp < 4611686018427387904 }
@@ -264,24 +158,67 @@ impl Process {
         }
     }
 
-    /// Takes the message at this place of the list.
-    fn take(&mut self, at: usize, clause: u32, place: u32) -> Result<(), AllocError>
+    /// The variable gets the value.
+    fn set(&mut self, var: &Var, value: Term) -> Result<(), AllocError>
+        requires stamp { self.old.state.stamp < 4611686018427387904 }
+        requires turns { self.old.state.executed < self.old.turns }
+        requires within { self.old.state.place ≤ length self.old.proc.instrs }
+        requires few { length self.old.proc.instrs + 1 < 2 ^ 32 }
+        ensures { OnOk result (self.new ≡ made self.old (setting self.old.state var.now.0 value)) }
+    {
+        let told = value.copy(self.alloc)?;
+        let place = self.place + 1;
+        self.env.set(var, value)?;
+        self.note(Outcome::Set { value: told }, place)
+    }
+
+    /// A value is too large.
+    fn limit(&mut self) -> Result<(), AllocError>
+        requires stamp { self.old.state.stamp < 4611686018427387904 }
+        requires turns { self.old.state.executed < self.old.turns }
+        ensures { OnOk result (self.new ≡ made self.old (ending self.old.state system_limit)) }
+    {
+        let reason = plain_atom(self.alloc, b"system_limit")?;
+        self.finish(reason)
+    }
+
+    /// Goes on at a place.
+    fn go_to(&mut self, place: u32) -> Result<(), AllocError>
+        requires stamp { self.old.state.stamp < 4611686018427387904 }
+        requires turns { self.old.state.executed < self.old.turns }
+        requires place { IsPlaceOf self.old.proc place }
+        ensures { OnOk result (self.new ≡ made self.old (going_on self.old.state place Outcome.Done)) }
+    {
+        self.note(Outcome::Done, place)
+    }
+
+    /// Takes the message at this place of the list, and binds the pattern's variables.
+    fn take(
+        &mut self,
+        at: usize,
+        clause: u32,
+        pattern: &Pattern,
+        place: u32,
+    ) -> Result<(), AllocError>
         requires stamp { self.old.state.stamp < 4611686018427387904 }
         requires turns { self.old.state.executed < self.old.turns }
         requires at { at < length self.old.state.messages }
         requires clause { clause + 1 < 2 ^ 32 }
         requires place { IsPlaceOf self.old.proc place }
-        ensures { OnOk result (option_map (made self.old) (taken_body self.old.state at clause place) ≡ Some self.new) }
+        requires matched { IfSome (slice_get self.old.state.messages at) (λ m. IsSome (match_of pattern.now self.old.state.env m.1)) }
+        ensures { OnOk result (option_map (made self.old) (taken_body self.old.state at clause pattern.now place) ≡ Some self.new) }
     {
-        let message = self.messages.remove(at);
+        let (_, message) = self.messages.remove(at);
+        bind_match(self.alloc, pattern, &mut self.env, &message)?;
         self.note(
             Outcome::Took {
                 clause: clause + 1,
                 looked: at as u64 + 1,
-                message: message.term,
+                message,
             },
             place,
-        )
+        )?;
+        Ok(())
     }
 
     /// Goes on with `after`.
@@ -312,8 +249,25 @@ impl Process {
                 self.send(to, message)?;
                 Ok(Exec::Stepped)
             }
-            Step::Take { at, clause, place } => {
-                self.take(at, clause, place)?;
+            Step::TooLarge => {
+                self.limit()?;
+                Ok(Exec::Stepped)
+            }
+            Step::Set { var, value } => {
+                self.set(&var, value)?;
+                Ok(Exec::Stepped)
+            }
+            Step::Goto { place } => {
+                self.go_to(place)?;
+                Ok(Exec::Stepped)
+            }
+            Step::Take {
+                at,
+                clause,
+                pattern,
+                place,
+            } => {
+                self.take(at, clause, &pattern, place)?;
                 Ok(Exec::Stepped)
             }
             Step::PassBy { place } => {

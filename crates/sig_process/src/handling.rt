@@ -6,7 +6,7 @@ ghost use Rattle.sig_process.specs.Handled.{handled_as, noted_handled};
 use crate::process::{Process, add};
 use sig_kinds::{Kind, Signal, Signals};
 use sig_lists::Pushed;
-use sig_model::{Did, Event, LAST_STAMP, Message, Outcome};
+use sig_model::{Did, Event, LAST_STAMP, Outcome};
 use sig_terms::Term;
 use std::alloc::AllocError;
 
@@ -91,7 +91,7 @@ impl Process {
     {
         let message = term.copy(self.alloc)?;
         let arrival = self.next_arrival;
-        self.messages.push(Message { arrival, term })?;
+        self.messages.push((arrival, term))?;
         self.note_handled(signal, Outcome::Kept { message })?;
         self.next_arrival = arrival + 1;
         Ok(())

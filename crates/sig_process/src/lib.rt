@@ -6,6 +6,8 @@ mod executing;
 mod handling;
 mod parts;
 mod process;
+mod scanning;
+mod stepping;
 
 pub use crew::Crew;
 pub use executing::Exec;

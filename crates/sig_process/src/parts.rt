@@ -6,7 +6,7 @@ ghost use Rattle.sig_process.specs.PartsOf.{parts_of};
 use crate::process::Process;
 use sig_kinds::{Signal, Signals};
 use sig_lists::Sequence;
-use sig_model::{Events, LAST_STAMP, Messages, State};
+use sig_model::{Events, LAST_STAMP, State};
 use sig_terms::{Name, Pid, Term};
 
 /// What a record tells of a process.
@@ -18,8 +18,8 @@ pub struct Parts {
     pub name: Name,
     /// Its events, in their order.
     pub events: Events,
-    /// The messages that no receive has taken, the oldest first.
-    pub left: Messages,
+    /// The messages that no receive has taken, each with its arrival number, the oldest first.
+    pub left: Sequence<(u64, Term)>,
     /// The signals to itself that it has not handled, the oldest first.
     pub own: Signals,
     /// The signals of others that it has not handled, the oldest first.

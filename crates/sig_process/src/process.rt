@@ -6,7 +6,8 @@ ghost use Rattle.sig_model.specs.OneWorker.{arrived};
 
 use sig_kinds::{Push, Signal, Signals};
 use sig_lists::Sequence;
-use sig_model::{Events, LAST_STAMP, Message};
+use sig_model::{Events, LAST_STAMP};
+use sig_patterns::Env;
 use sig_script::{Proc, Script};
 use sig_terms::{Pid, Term};
 use std::alloc::{AllocError, Global};
@@ -15,7 +16,7 @@ use std::mem;
 
 /// A process: its state, its events, and the signals that wait for it or that it has sent.
 /// (Erlang Reference Manual, Processes.)
-#[derive(Debug, Drop)]
+#[derive(Drop)]
 pub struct Process {
     pub(crate) alloc: Global,
     pub(crate) pid: Pid,
@@ -23,7 +24,8 @@ pub struct Process {
     pub(crate) turns: u32,
     pub(crate) proc: Proc,
     pub(crate) place: u32,
-    pub(crate) messages: Vec<Message>,
+    pub(crate) env: Env,
+    pub(crate) messages: Vec<(u64, Term)>,
     pub(crate) next_arrival: u64,
     pub(crate) next_numbers: Vec<u64>,
     pub(crate) end: Option<Term>,
@@ -42,11 +44,13 @@ impl Model for Process {
     ghost use Rattle.std.specs.FinSet as set;
     ghost use Rattle.std.specs.Prelude.{[], None, false};
     ghost use Rattle.sig_terms.specs.contracts.term.Term as term;
+    ghost use Rattle.sig_patterns.specs.contracts.expression.Expr as expr;
+    ghost use Rattle.sig_patterns.specs.contracts.pattern.Pattern as pattern;
     ghost use Rattle.sig_model.specs.Running.{Running};
 
     ghost Value = { Running };
 
-    ghost coded = { Prim.hlevel (codes, term.the_row.coded, map.code) };
+    ghost coded = { Prim.hlevel (codes, term.the_row.coded, expr.the_row.coded, pattern.the_row.coded, map.code) };
 
     ghost view = { λ p. record {
       pid = p.pid.0;
@@ -55,7 +59,7 @@ impl Model for Process {
       proc = p.proc;
       state = record {
         place = p.place;
-        env = map.empty;
+        env = p.env;
         messages = p.messages.items;
         active = set.empty;
         awaited = map.empty;
@@ -144,6 +148,7 @@ impl Process {
             turns,
             proc,
             place: 1,
+            env: Env::new(alloc),
             messages: Vec::new(alloc),
             next_arrival: 1,
             next_numbers,

@@ -1,6 +1,0 @@
-pub mod NumberLemmas
-pub mod SpellingLemmas
-pub mod CutLemmas
-pub mod LineLemmas
-pub mod DraftLemmas
-pub mod ReaderLemmas

@@ -1,9 +1,1 @@
 pub mod Scripts
-pub mod Faults
-pub mod Lines
-pub mod Tokens
-pub mod Numbers
-pub mod Forms
-pub mod Grammar
-pub mod Drafts
-pub mod Reading

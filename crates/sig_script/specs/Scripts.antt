@@ -4,7 +4,7 @@ use Rattle.sig_patterns.specs.declared.clause.Clause.{Clause}
 use Rattle.sig_script.specs.declared.label.Label.{Label}
 use Rattle.sig_script.specs.declared.instruction.After.{After}
 use Rattle.sig_script.specs.declared.instruction.Instr.{Instr}
-use Rattle.sig_script.specs.declared.instruction.Instr.TheVariants.{Send, Receive}
+use Rattle.sig_script.specs.declared.instruction.Instr.TheVariants.{Send, Set, Goto, Stop, Receive}
 
 -- a process: its name, its labels and what it does
 pub record Declared : Type 0 where
@@ -24,6 +24,9 @@ IsTarget labels target = IfSome target (λ t. t < labels)
 -- a receive has fewer than 2^32 clauses, and its targets are labels
 abbrev pub IsLawful : ℕ → Instr → Type 0
 IsLawful labels (Send to message) = Unit {0}
+IsLawful labels (Set var value) = Unit {0}
+IsLawful labels (Goto label) = label < labels
+IsLawful labels Stop = Unit {0}
 IsLawful labels (Receive clauses after) =
     (length clauses < 2 ^ 32) × All (λ (c : Clause). IsTarget labels c.target) clauses × IfSome after (λ (a : After). IsTarget labels a.target)
 

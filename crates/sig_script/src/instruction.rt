@@ -1,7 +1,7 @@
 ghost use Rattle.std.specs.Prelude.{◌≡◌, IfOk};
 
 use sig_lists::{Pushed, Sequence};
-use sig_patterns::{Clauses, Expr};
+use sig_patterns::{Clauses, Expr, Var};
 use std::alloc::{AllocError, Global};
 
 /// Where a receive goes on that finds no message.
@@ -19,6 +19,17 @@ pub enum Instr {
         to: Expr,
         message: Expr,
     },
+    /// Gives a variable a value.
+    Set {
+        var: Var,
+        value: Expr,
+    },
+    /// Goes on at a label.
+    Goto {
+        label: u32,
+    },
+    /// Ends the process.
+    Stop,
     /// Takes the oldest message that a clause matches. (Erlang Reference Manual, Expressions,
     /// Receive.)
     Receive {
@@ -75,6 +86,13 @@ impl Instr {
                 let message = message.copy(alloc)?;
                 Ok(Instr::Send { to, message })
             }
+            Instr::Set { var, value } => {
+                let var = var.copy(alloc)?;
+                let value = value.copy(alloc)?;
+                Ok(Instr::Set { var, value })
+            }
+            Instr::Goto { label } => Ok(Instr::Goto { label: *label }),
+            Instr::Stop => Ok(Instr::Stop),
             Instr::Receive { clauses, after } => {
                 let clauses = copy_clauses(alloc, clauses)?;
                 let after = copy_after(after);

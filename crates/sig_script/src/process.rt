@@ -37,7 +37,13 @@ pub struct Proc {
 impl Model for Proc {
     ghost use Rattle.sig_script.specs.Scripts.{Declared, IsWithin};
 
+    ghost use Rattle.std.specs.Coded.{codes};
+    ghost use Rattle.sig_patterns.specs.contracts.expression.Expr as expr;
+    ghost use Rattle.sig_patterns.specs.contracts.pattern.Pattern as pattern;
+
     ghost Value = { Declared };
+
+    ghost coded = { Prim.hlevel (codes, expr.the_row.coded, pattern.the_row.coded) };
 
     ghost view = { λ p. record { name = p.name; labels = p.labels; instrs = p.instrs } };
 
@@ -48,13 +54,6 @@ impl Model for Proc {
 pub type Procs = Sequence<Proc>;
 
 impl Proc {
-    /// The process's name.
-    pub fn name(&self) -> &Name
-        ensures { result.now ≡ self.now.name }
-    {
-        &self.name
-    }
-
     /// How many instructions there are.
     pub fn count(&self) -> u32
         ensures count { result ≡ length self.now.instrs }

@@ -1,4 +1,5 @@
 pub mod Words
 pub mod TermText
 pub mod TermTest
+pub mod Nodes
 pub mod References

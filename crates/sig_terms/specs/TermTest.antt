@@ -1,5 +1,5 @@
 -- Whether two terms are equal, as a test (Erlang Reference Manual, Expressions, Term Comparisons: `=:=`).
-use Rattle.std.specs.Prelude.{ℕ, List, [], ◌∷◌, Bool, true, false, ◌&&◌, ◌==◌, length}
+use Rattle.std.specs.Prelude.{List, ◌∷◌, Bool, true, false, ◌&&◌, ◌==◌, length}
 use Rattle.std.specs.Ordering.{int_eq}
 use Rattle.std.specs.Str.{bytes_eq}
 use Rattle.sig_terms.specs.declared.term.Term.{Term, out-Term}

@@ -4,6 +4,7 @@
 mod atom;
 pub mod bytes;
 mod name;
+mod nodes;
 mod pid;
 mod reference;
 mod term;

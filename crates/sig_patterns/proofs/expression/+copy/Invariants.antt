@@ -1,0 +1,5 @@
+use Rattle.std.proofs.Common.{◌≡◌, take}
+use Rattle.sig_patterns.proofs.expression.+copy.Given as goal
+
+abbrev pub invariant-copy_all-loop-item : goal.invariant-copy_all-loop-item
+invariant-copy_all-loop-item l = l.copies ≡ take l.item-index l.items

@@ -1,0 +1,18 @@
+-- The values of the variables of a process, by the variables' bytes (Erlang Reference Manual, Expressions, Variables).
+use Rattle.std.specs.Prelude.{ℕ, List, codes}
+use Rattle.std.specs.Option.{unwrap_or}
+use Rattle.std.specs.Ordering.{nat_cmp}
+use Rattle.std.specs.Cmp.Lexicographic.{slice_cmp}
+use Rattle.std.specs.FinMap.{FinMap, get}
+use Rattle.sig_terms.specs.declared.term.Term.{Term}
+use Rattle.sig_terms.specs.declared.term.Term.TheVariants as term
+
+abbrev pub Environment : Type 0
+Environment = FinMap (slice_cmp nat_cmp) Term
+
+-- the value of a variable without an entry: the atom `undefined` (this project's own)
+abbrev pub undefined : Term
+undefined = term.Atom (codes "undefined")
+
+abbrev pub value_of_var : Environment → List ℕ → Term
+value_of_var env var = unwrap_or (get env var) undefined

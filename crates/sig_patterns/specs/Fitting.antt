@@ -1,0 +1,94 @@
+-- The match once more, for a walk that carries no bindings: at each variable it compares with the term at the variable's
+-- first place in the whole pattern.
+use Rattle.std.specs.Prelude.{ℕ, ◌+◌, List, [], ◌∷◌, Bool, true, false, ◌&&◌, not, ◌==◌, nat_le, length, drop, if◌then◌else◌, Option, Some, None, option_and_then}
+use Rattle.std.specs.Option.{option_or, option_map_or}
+use Rattle.std.specs.Str.{bytes_eq}
+use Rattle.std.specs.FinMap.{insert}
+use Rattle.sig_terms.specs.TermTest.{same_term}
+use Rattle.sig_terms.specs.declared.term.Term.{Term}
+use Rattle.sig_terms.specs.declared.term.Term.TheVariants as term
+use Rattle.sig_patterns.specs.declared.pattern.Pattern.{Pattern}
+use Rattle.sig_patterns.specs.declared.pattern.Pattern.TheOpen.{Pattern-F}
+use Rattle.sig_patterns.specs.declared.pattern.Pattern.TheOpen as pattern
+use Rattle.sig_patterns.specs.declared.pattern.Pattern.TheFolds.{fold-Pattern}
+use Rattle.sig_patterns.specs.declared.seen.Seen.{Seen}
+use Rattle.sig_patterns.specs.declared.seen.Seen.TheVariants.{Whole, Rest}
+use Rattle.sig_patterns.specs.Environment.{Environment, value_of_var}
+use Rattle.sig_patterns.specs.Matching.{tuple_items, list_items}
+
+-- the rest of a list is a list
+abbrev pub term_seen : Seen → Term
+term_seen (Whole t) = t.now
+term_seen (Rest ts) = term.List ts.now
+
+-- the first place of each variable in a pattern
+abbrev pub Places : Type 0
+Places = List ℕ → Option Term
+
+abbrev pub first_each : List (Term → Places) → List Term → Places
+first_each (f ∷ fs) (t ∷ ts) x = option_or (f t x) (first_each fs ts x)
+first_each _ _ x = None
+
+abbrev pub first_tail : ℕ → (Term → Places) → List Term → Places
+first_tail n tail ts x = if nat_le n (length ts) then tail (term.List (drop n ts)) x else None
+
+abbrev pub first_cons : List (Term → Places) → (Term → Places) → List Term → Places
+first_cons heads tail ts x = option_or (first_each heads ts x) (first_tail (length heads) tail ts x)
+
+abbrev pub first_step : Pattern-F (Term → Places) → Term → Places
+first_step (pattern.Bind var) t x = if bytes_eq x var.0 then Some t else None
+first_step (pattern.Tuple fs) t x = option_and_then (λ ts. first_each fs ts x) (tuple_items t)
+first_step (pattern.List fs) t x = option_and_then (λ ts. first_each fs ts x) (list_items t)
+first_step (pattern.Cons heads tail) t x = option_and_then (λ ts. first_cons heads tail ts x) (list_items t)
+first_step _ t x = None
+
+abbrev pub first_in : Pattern → Term → Places
+first_in = fold-Pattern (Term → Places) first_step
+
+abbrev pub fits_each : List (Term → Bool) → List Term → Bool
+fits_each (k ∷ ks) (t ∷ ts) = k t && fits_each ks ts
+fits_each _ _ = true
+
+abbrev pub fits_all : List (Term → Bool) → List Term → Bool
+fits_all ks ts = (length ks == length ts) && fits_each ks ts
+
+abbrev pub fits_cons : List (Term → Bool) → (Term → Bool) → List Term → Bool
+fits_cons heads tail ts = nat_le 1 (length heads) && nat_le (length heads) (length ts) && fits_each heads ts && tail (term.List (drop (length heads) ts))
+
+abbrev pub fits_step : Environment → Places → Pattern-F (Term → Bool) → Term → Bool
+fits_step env first pattern.Any t = true
+fits_step env first (pattern.Bind var) t = option_map_or (λ u. same_term u t) (first var.0) false
+fits_step env first (pattern.Pin var) t = same_term (value_of_var env var.0) t
+fits_step env first (pattern.Int n) t = same_term (term.Int n) t
+fits_step env first (pattern.Atom a) t = same_term (term.Atom a) t
+fits_step env first (pattern.Pid p) t = same_term (term.Pid p) t
+fits_step env first (pattern.Tuple ks) t = option_map_or (fits_all ks) (tuple_items t) false
+fits_step env first (pattern.List ks) t = option_map_or (fits_all ks) (list_items t) false
+fits_step env first (pattern.Cons heads tail) t = option_map_or (fits_cons heads tail) (list_items t) false
+
+abbrev pub fits : Environment → Places → Pattern → Term → Bool
+fits env first = fold-Pattern (Term → Bool) (fits_step env first)
+
+-- each variable is set to the term at each of its places, from the last to the first
+abbrev pub Setter : Type 0
+Setter = Term → Environment → Environment
+
+abbrev pub set_each : List Setter → List Term → Environment → Environment
+set_each (f ∷ fs) (t ∷ ts) env = f t (set_each fs ts env)
+set_each _ _ env = env
+
+abbrev pub set_tail : ℕ → Setter → List Term → Environment → Environment
+set_tail n tail ts env = if nat_le n (length ts) then tail (term.List (drop n ts)) env else env
+
+abbrev pub set_cons : List Setter → Setter → List Term → Environment → Environment
+set_cons heads tail ts env = set_each heads ts (set_tail (length heads) tail ts env)
+
+abbrev pub set_step : Pattern-F Setter → Setter
+set_step (pattern.Bind var) t env = insert env var.0 t
+set_step (pattern.Tuple fs) t env = option_map_or (λ ts. set_each fs ts env) (tuple_items t) env
+set_step (pattern.List fs) t env = option_map_or (λ ts. set_each fs ts env) (list_items t) env
+set_step (pattern.Cons heads tail) t env = option_map_or (λ ts. set_cons heads tail ts env) (list_items t) env
+set_step _ t env = env
+
+abbrev pub setting : Pattern → Setter
+setting = fold-Pattern Setter set_step

@@ -1,0 +1,111 @@
+ghost use Rattle.std.specs.Prelude.{◌≡◌, ◌+◌, map, is_some, false};
+ghost use Rattle.std.specs.Option.{option_map_or};
+ghost use Rattle.sig_terms.specs.TermTest.{same_term};
+ghost use Rattle.sig_patterns.specs.Environment.{value_of_var};
+ghost use Rattle.sig_patterns.specs.Matching.{match_of};
+ghost use Rattle.sig_patterns.specs.Fitting.{term_seen, first_in, fits, fits_each, fits_all};
+
+use crate::env::Env;
+use crate::pattern::Pattern;
+use crate::places::first_in;
+use crate::seen::Seen;
+use crate::var::Var;
+use sig_base::Steps;
+use sig_terms::Term;
+use std::sync::ledger::Ledger;
+
+/// A whole pattern, what it meets, and the environment before the match.
+#[derive(Clone, Copy)]
+struct Against<'a> {
+    pattern: &'a Pattern,
+    seen: Seen<'a>,
+    env: &'a Env,
+}
+
+/// Whether it is the value of the variable.
+fn is_value(env: &Env, var: &Var, seen: Seen<'_>) -> bool
+    ensures { result ≡ same_term (value_of_var env.now var.now.0) (term_seen seen.entry) }
+{
+    match env.get(var) {
+        Some(value) => Seen::Whole(value).same(seen),
+        None => seen.is_atom(b"undefined"),
+    }
+}
+
+/// Whether it is what the variable meets at its first place in the whole pattern.
+fn is_first(whole: Against<'_>, var: &Var, seen: Seen<'_>) -> bool
+    ensures { result ≡ option_map_or (λ u. same_term u (term_seen seen.entry)) (first_in whole.entry.pattern.now (term_seen whole.entry.seen) var.now.0) false }
+{
+    match first_in(whole.pattern, whole.seen, var) {
+        Some(first) => first.same(seen),
+        None => false,
+    }
+}
+
+/// Whether each of the patterns fits the term at its place, as far as there are both.
+#[cycle(fits)]
+fn each_fits(patterns: &[Pattern], terms: &[Term], whole: Against<'_>) -> bool
+    ensures { result ≡ fits_each (map (fits whole.entry.env.now (first_in whole.entry.pattern.now (term_seen whole.entry.seen))) patterns.now) terms.now }
+{
+    let mut i = 0;
+    while i < patterns.len() {
+        if i >= terms.len() {
+            return true;
+        }
+        if !fits(&patterns[i], Seen::Whole(&terms[i]), whole) {
+            return false;
+        }
+        i += 1;
+    }
+    true
+}
+
+/// Whether the part of the whole pattern fits what it meets, where each of its variables asks for
+/// what the variable meets at its first place in the whole.
+#[cycle(fits)]
+fn fits(pattern: &Pattern, seen: Seen<'_>, whole: Against<'_>) -> bool
+    ensures { result ≡ fits whole.entry.env.now (first_in whole.entry.pattern.now (term_seen whole.entry.seen)) pattern.now (term_seen seen.entry) }
+{
+    match pattern {
+        Pattern::Any => true,
+        Pattern::Bind(var) => is_first(whole, var, seen),
+        Pattern::Pin(var) => is_value(whole.env, var, seen),
+        Pattern::Int(n) => seen.is_int(*n),
+        Pattern::Atom(atom) => seen.is_atom(atom.bytes()),
+        Pattern::Pid(pid) => seen.is_pid(*pid),
+        Pattern::Tuple(patterns) => match seen.tuple_items() {
+            Some(terms) => patterns.len() == terms.len() && each_fits(patterns.as_slice(), terms, whole),
+            None => false,
+        },
+        Pattern::List(patterns) => match seen.list_items() {
+            Some(terms) => patterns.len() == terms.len() && each_fits(patterns.as_slice(), terms, whole),
+            None => false,
+        },
+        Pattern::Cons { heads, tail } => match seen.list_items() {
+            Some(terms) => {
+                1 <= heads.len()
+                    && heads.len() <= terms.len()
+                    && each_fits(heads.as_slice(), terms, whole)
+                    && fits(tail.get(), Seen::Rest(&terms[heads.len()..]), whole)
+            }
+            None => false,
+        },
+    }
+}
+
+/// Whether the pattern matches the term in the environment. Counts one step, and takes no memory:
+/// in place of bindings it looks up each variable's first place in the pattern, so it takes at most
+/// the time of the pattern's nodes times its variables, and of the term's nodes.
+pub fn matches<L: Ledger>(
+    pattern: &Pattern,
+    env: &Env,
+    term: &Term,
+    steps: &mut Steps<L>,
+) -> bool
+    ensures matched { result ≡ is_some (match_of pattern.now env.now term.now) }
+    ensures ticks { steps.new ≡ steps.old + 1 }
+{
+    steps.tick();
+    let seen = Seen::Whole(term);
+    fits(pattern, seen, Against { pattern, seen, env })
+}

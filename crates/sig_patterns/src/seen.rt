@@ -1,0 +1,127 @@
+ghost use Rattle.std.specs.Prelude.{◌≡◌, IfOk, map};
+ghost use Rattle.std.specs.Option.{option_map};
+ghost use Rattle.sig_terms.specs.TermTest.{same_term, same_list};
+ghost use Rattle.sig_terms.specs.declared.term.Term.TheVariants as term;
+ghost use Rattle.sig_patterns.specs.Matching.{tuple_items, list_items};
+ghost use Rattle.sig_patterns.specs.Fitting.{term_seen};
+
+use sig_lists::{Pushed, Sequence};
+use sig_terms::bytes::equal_bytes;
+use sig_terms::{Pid, Term};
+use std::alloc::{AllocError, Global};
+
+/// What a part of a pattern meets: a term, or the rest of a list as a list, which is no term of its
+/// own in memory.
+#[derive(Clone, Copy)]
+pub(crate) enum Seen<'a> {
+    Whole(&'a Term),
+    Rest(&'a [Term]),
+}
+
+/// Whether the two have equal terms in the same order.
+fn same_slices(a: &[Term], b: &[Term]) -> bool
+    ensures { result ≡ same_list (map same_term a.now) b.now }
+{
+    if a.len() != b.len() {
+        return false;
+    }
+    let mut i = 0;
+    while i < a.len() {
+        if !a[i].same(&b[i]) {
+            return false;
+        }
+        i += 1;
+    }
+    true
+}
+
+/// Copies of the terms, as a list.
+fn copy_slice(alloc: Global, items: &[Term]) -> Result<Term, AllocError>
+    ensures { IfOk result (λ t. t ≡ term.List items.now) }
+{
+    let mut copies = Sequence::new(alloc);
+    for item in items {
+        let copy = item.copy(alloc)?;
+        match copies.push(copy) {
+            Pushed::Added => {}
+            Pushed::Memory { item: _ } => return Err(AllocError),
+        }
+    }
+    Ok(Term::List(copies))
+}
+
+impl<'a> Seen<'a> {
+    /// The elements, where it is a tuple.
+    pub(crate) fn tuple_items(self) -> Option<&'a [Term]>
+        ensures { option_map (λ ts. ts.now) result ≡ tuple_items (term_seen self.entry) }
+    {
+        match self {
+            Seen::Whole(Term::Tuple(items)) => Some(items.as_slice()),
+            _ => None,
+        }
+    }
+
+    /// The elements, where it is a list.
+    pub(crate) fn list_items(self) -> Option<&'a [Term]>
+        ensures { option_map (λ ts. ts.now) result ≡ list_items (term_seen self.entry) }
+    {
+        match self {
+            Seen::Whole(Term::List(items)) => Some(items.as_slice()),
+            Seen::Rest(items) => Some(items),
+            _ => None,
+        }
+    }
+
+    /// Whether the two are equal.
+    pub(crate) fn same(self, other: Seen<'_>) -> bool
+        ensures { result ≡ same_term (term_seen self.entry) (term_seen other.entry) }
+    {
+        match (self, other) {
+            (Seen::Whole(a), Seen::Whole(b)) => a.same(b),
+            (Seen::Whole(Term::List(a)), Seen::Rest(b)) => same_slices(a.as_slice(), b),
+            (Seen::Rest(a), Seen::Whole(Term::List(b))) => same_slices(a, b.as_slice()),
+            (Seen::Rest(a), Seen::Rest(b)) => same_slices(a, b),
+            _ => false,
+        }
+    }
+
+    /// Whether it is the integer.
+    pub(crate) fn is_int(self, n: i64) -> bool
+        ensures { result ≡ same_term (term.Int n) (term_seen self.entry) }
+    {
+        match self {
+            Seen::Whole(Term::Int(other)) => n == *other,
+            _ => false,
+        }
+    }
+
+    /// Whether it is the atom of these bytes.
+    pub(crate) fn is_atom(self, bytes: &[u8]) -> bool
+        ensures { result ≡ same_term (term.Atom bytes.now) (term_seen self.entry) }
+    {
+        match self {
+            Seen::Whole(Term::Atom(other)) => equal_bytes(bytes, other.bytes()),
+            _ => false,
+        }
+    }
+
+    /// Whether it is the process.
+    pub(crate) fn is_pid(self, pid: Pid) -> bool
+        ensures { result ≡ same_term (term.Pid pid) (term_seen self.entry) }
+    {
+        match self {
+            Seen::Whole(Term::Pid(other)) => pid.0 == other.0,
+            _ => false,
+        }
+    }
+
+    /// An equal term.
+    pub(crate) fn copy(self, alloc: Global) -> Result<Term, AllocError>
+        ensures { IfOk result (λ t. t ≡ term_seen self.entry) }
+    {
+        match self {
+            Seen::Whole(term) => term.copy(alloc),
+            Seen::Rest(items) => copy_slice(alloc, items),
+        }
+    }
+}
