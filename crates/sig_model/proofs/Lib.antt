@@ -1,1 +1,6 @@
 pub mod StampLemmas
+pub mod PostingLemmas
+pub mod EventLemmas
+pub mod CrewLemmas
+pub mod ClearLemmas
+pub mod ReachLemmas

@@ -28,7 +28,7 @@ visit_case i (Some r) xs clear =
     let v : Running = visited r in
     all_clear v.outbox (set xs i (record v { outbox = [] })) (All-set HasNone xs i (record v { outbox = [] }) refl clear)
 
-visit_clear : (i : ℕ) (xs : List Running) → IsClear xs → IsClear (visit i xs)
+pub visit_clear : (i : ℕ) (xs : List Running) → IsClear xs → IsClear (visit i xs)
 unfolding visit
 visit_clear i xs clear = visit_case i (slice_get xs i) xs clear
 
