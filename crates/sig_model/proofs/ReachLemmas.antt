@@ -3,11 +3,11 @@ use Rattle.std.proofs.Common.{◌≡◌, ◌≢◌, ℕ, zero, suc, ◌+◌, Lis
 use Rattle.std.specs.Prelude.{All, ◌==◌, slice_get, slice_set, if◌then◌else◌, length, unwrap_or}
 use Rattle.std.proofs.Math.Path.{fun_ext}
 use Rattle.std.proofs.Math.Seq.{map-set_same}
-use Rattle.std.proofs.lemmas.Bool.{eq-eqb}
+use Rattle.std.proofs.lemmas.Bool.{eq-eqb, ne_eqb}
 use Rattle.std.proofs.lemmas.Bool.Decides.{eqb_tells}
 use Rattle.std.proofs.lemmas.List.{append-nil}
 use Rattle.std.proofs.lemmas.List.Elements.{All-nil, All-cons, All-append, All-head, All-tail}
-use Rattle.std.proofs.lemmas.Option.{same_Some, get_or_from_slice_get}
+use Rattle.std.proofs.lemmas.Option.{same_Some, slice_get_within, get_or_from_slice_get}
 use Rattle.sig_kinds.specs.declared.signal.Signal.{Signal}
 use Rattle.sig_runs.specs.Machine.{Machine, At, IsRun}
 use Rattle.sig_runs.specs.Crew.{opening_machine}
@@ -53,6 +53,41 @@ events_by-push q (b ∷ es) a =
       | false ↦ events_by-push q es a
     ]
 
+-- one step after another
+pub data Goes : Running → Running → Type 0 where
+  stays : (r : Running) → Goes r r
+  on : (r u t : Running) → IsStep r u → Goes u t → Goes r t
+
+handle_or_stay : (o : Option Running) (r : Running) → handle_next r ≡ o → (go : Running → Running) → ((t : Running) → Goes t (go t)) → Goes r (or_stay o r go)
+handle_or_stay None r e go later = stays r
+handle_or_stay (Some t) r e go later = on r t (go t) (inl e) (later t)
+
+exec_or_stays : (o : Option Running) (r : Running) → exec_next r ≡ o → Goes r (unwrap_or o r)
+exec_or_stays None r e = stays r
+exec_or_stays (Some t) r e = on r t t (inr e) (stays t)
+
+goes_trans : (r u t : Running) → Goes r u → Goes u t → Goes r t
+goes_trans r _ t (stays _) later = later
+goes_trans r _ t (on _ v u step more) later = on r v t step (goes_trans v u t more later)
+
+pub goes_handle : (n : ℕ) (r : Running) → Goes r (handle_all n r)
+unfolding handle_all
+goes_handle zero r = stays r
+goes_handle (suc n) r = handle_or_stay (handle_next r) r refl (λ t. handle_all n t) (λ t. goes_handle n t)
+
+pub goes_exec : (r : Running) → Goes r (exec_or_stay r)
+goes_exec r = exec_or_stays (exec_next r) r refl
+
+pub goes_visited : (r : Running) → Goes r (visited r)
+unfolding visited
+goes_visited r =
+    let one : Running = handle_all (length r.own) r in
+    let two : Running = handle_all (length r.taken_in) one in
+    goes_trans r one (exec_or_stay two) (goes_handle (length r.own) r) (goes_trans one two (exec_or_stay two) (goes_handle (length r.taken_in) one) (goes_exec two))
+
+clear_at : (crew : List Running) (i : ℕ) (r : Running) → slice_get crew i ≡ Some r → IsClear crew → r.outbox ≡ []
+clear_at crew i r e clear = subst (λ (z : Running). z.outbox ≡ []) (get_or_from_slice_get crew i r r e) (clear i r (slice_get_within crew i r e))
+
 module _ (script : Program) where
   -- what holds of the new process and held of all holds of all
   kept_set : (crew : List Running) (p : ℕ) (r t : Running) → slice_get crew p ≡ Some r → IsKept script p t → ((q : ℕ) (u : Running) → slice_get crew q ≡ Some u → IsKept script q u) →
@@ -85,8 +120,109 @@ module _ (script : Program) where
           run = run-push (rules_of script) g.events a (opening_machine (opening_of script)) g.machine (after_event script p r t e crew there g.machine g.at_work) g.run (event_applies script p r t e crew there g.machine g.at_work);
           at_work = event_at_work script p r t e crew there g.machine g.at_work;
           told = told_set crew p r t there (λ q. events_by q g.events) (λ q. events_by q (g.events ++ a ∷ []))
-              (λ q h. events_by-push q g.events a ∙ ?)
+              (λ q h. events_by-push q g.events a ∙ ap (λ c. events_by q g.events ++ cond c (a.event ∷ []) []) (ne_eqb p q h) ∙ append-nil (events_by q g.events))
               (events_by-push p g.events a ∙ ap (λ c. events_by p g.events ++ cond c (a.event ∷ []) []) (eq-eqb p p refl) ∙ ap (λ z. z ++ a.event ∷ []) (g.told p ∙ ap (λ o. events_of o) there) ∙ sym e.events)
               g.told;
           kept = kept_set crew p r t there (event_kept script p r t e (g.kept p r there)) g.kept;
         }
+
+    -- steps of the process that is visited
+    goes_reached : (r t : Running) → Goes r t → (crew : List Running) → slice_get crew p ≡ Some r → IsOutgoing p r.outbox → IsReached script (only p r.outbox) crew →
+        IsReached script (only p t.outbox) (slice_set crew p t) × IsOutgoing p t.outbox
+    goes_reached r _ (stays _) crew there o g = (subst (λ xs. IsReached script (only p r.outbox) xs) (sym (set_here crew p r there)) g, o)
+    goes_reached r _ (on _ u t step later) crew there o g =
+        let e : IsEvent script p r u = step_event script p r u (g.kept p r there) step in
+        let rest : IsReached script (only p t.outbox) (slice_set (slice_set crew p u) p t) × IsOutgoing p t.outbox =
+        goes_reached u t later (slice_set crew p u) (slice_get-set_same crew p u r there) (event_outgoing script p r u e o) (step_reached r u crew there step g) in
+        (subst (λ xs. IsReached script (only p t.outbox) xs) (set_twice crew p u t) rest.0, rest.1)
+
+    -- what it has sent is taken from its outbox
+    emptied : (boxes : ℕ → List Signal) (v : Running) (crew : List Running) → slice_get crew p ≡ Some v → IsReached script boxes crew → IsReached script boxes (slice_set crew p (record v { outbox = [] }))
+    emptied boxes v crew there g =
+        let w : Running = record v { outbox = [] } in
+        let k : IsKept script p v = g.kept p v there in
+        record {
+          events = g.events;
+          machine = g.machine;
+          run = g.run;
+          at_work = subst (λ mates. IsAtWork script boxes mates g.machine) (sym (map-set_same member_of crew p w v (ap (λ z. member_of z) (sym (get_or_from_slice_get crew p v v there))))) g.at_work;
+          told = told_set crew p v w there (λ q. events_by q g.events) (λ q. events_by q g.events) (λ q h. refl) (g.told p ∙ ap (λ o. events_of o) there) g.told;
+          kept = kept_set crew p v w there (record {
+            process = record { pid = k.process.pid; turns = k.process.turns; proc = k.process.proc };
+            own_from = k.own_from;
+            own_low = k.own_low;
+            others = k.others;
+          }) g.kept;
+        }
+
+    module _ (x : Signal) (xs : List Signal) (from : x.from.0 ≡ p) (to : x.to.0 ≢ p) (crew : List Running) (g : IsReached script (only p (x ∷ xs)) crew) where
+      told_after : (o : Option Running) → slice_get crew x.to.0 ≡ o → (q : ℕ) → events_by q g.events ≡ events_of (slice_get (deliver_to o x crew) q)
+      told_after None e = g.told
+      told_after (Some u) e = told_set crew x.to.0 u (arrived u x) e (λ q. events_by q g.events) (λ q. events_by q g.events) (λ q h. refl) (g.told x.to.0 ∙ ap (λ o. events_of o) e) g.told
+
+      kept_arrived : (u : Running) → IsKept script x.to.0 u → IsKept script x.to.0 (arrived u x)
+      kept_arrived u k = record {
+        process = record { pid = k.process.pid; turns = k.process.turns; proc = k.process.proc };
+        own_from = k.own_from;
+        own_low = k.own_low;
+        others = All-append (λ (y : Signal). y.from.0 ≢ x.to.0) u.taken_in (x ∷ []) k.others (All-cons (λ (y : Signal). y.from.0 ≢ x.to.0) x [] (λ e. to (sym e ∙ from)) (All-nil (λ (y : Signal). y.from.0 ≢ x.to.0)));
+      }
+
+      kept_after : (o : Option Running) → slice_get crew x.to.0 ≡ o → (q : ℕ) (u : Running) → slice_get (deliver_to o x crew) q ≡ Some u → IsKept script q u
+      kept_after None e = g.kept
+      kept_after (Some u) e = kept_set crew x.to.0 u (arrived u x) e (kept_arrived u (g.kept x.to.0 u e)) g.kept
+
+      -- one signal is delivered
+      delivered : IsReached script (only p xs) (deliver_to (slice_get crew x.to.0) x crew)
+      delivered = record {
+        events = g.events;
+        machine = g.machine;
+        run = g.run;
+        at_work = delivery_at_work script p x xs crew from to g.machine g.at_work;
+        told = told_after (slice_get crew x.to.0) refl;
+        kept = kept_after (slice_get crew x.to.0) refl;
+      }
+
+    -- all signals of the outbox are delivered
+    all_delivered : (xs : List Signal) (crew : List Running) → IsOutgoing p xs → IsReached script (only p xs) crew → IsReached script (only p []) (deliver_all xs crew)
+    unfolding deliver_all
+    all_delivered [] crew o g = g
+    all_delivered (x ∷ xs) crew o g =
+        all_delivered xs (deliver_to (slice_get crew x.to.0) x crew)
+        (record { from = All-tail (λ (y : Signal). y.from.0 ≡ p) x xs o.from; to = All-tail (λ (y : Signal). y.to.0 ≢ p) x xs o.to })
+        (delivered x xs (All-head (λ (y : Signal). y.from.0 ≡ p) x xs o.from) (All-head (λ (y : Signal). y.to.0 ≢ p) x xs o.to) crew g)
+
+    none_only : only p [] ≡ (λ q. [])
+    none_only = fun_ext (λ q. elim (p == q) as (λ c. cond {A = List Signal} c [] [] ≡ []) [ true ↦ refl | false ↦ refl ])
+
+    visited_reached : (r : Running) (crew : List Running) → slice_get crew p ≡ Some r → r.outbox ≡ [] → IsReached script (λ q. []) crew → IsReached script (λ q. []) (settled_visit p (visited r) crew)
+    visited_reached r crew there empty g =
+        let v : Running = visited r in
+        let before : IsReached script (only p r.outbox) crew = subst (λ b. IsReached script b crew) (sym (ap (λ b. only p b) empty ∙ none_only)) g in
+        let out : IsOutgoing p r.outbox =
+        subst (λ b. IsOutgoing p b) (sym empty) (record { from = All-nil (λ (x : Signal). x.from.0 ≡ p); to = All-nil (λ (x : Signal). x.to.0 ≢ p) }) in
+        let went : IsReached script (only p v.outbox) (slice_set crew p v) × IsOutgoing p v.outbox = goes_reached r v (goes_visited r) crew there out before in
+        let taken : IsReached script (only p v.outbox) (slice_set crew p (record v { outbox = [] })) =
+        subst (λ xs. IsReached script (only p v.outbox) xs) (set_twice crew p v (record v { outbox = [] })) (emptied (only p v.outbox) v (slice_set crew p v) (slice_get-set_same crew p v r there) went.0) in
+        subst (λ b. IsReached script b (settled_visit p v crew)) none_only (all_delivered v.outbox (slice_set crew p (record v { outbox = [] })) went.1 taken)
+
+    visit_case_reached : (o : Option Running) (crew : List Running) → slice_get crew p ≡ o → IsClear crew → IsReached script (λ q. []) crew → IsReached script (λ q. []) (visit_at p o crew)
+    visit_case_reached None crew there clear g = g
+    visit_case_reached (Some r) crew there clear g = visited_reached r crew there (clear_at crew p r there clear) g
+
+    visit_reached : (crew : List Running) → IsClear crew → IsReached script (λ q. []) crew → IsReached script (λ q. []) (visit p crew)
+    unfolding visit
+    visit_reached crew clear g = visit_case_reached (slice_get crew p) crew refl clear g
+
+  -- a crew with empty outboxes is reached
+  pub record IsResting (crew : List Running) : Type 0 where
+    pub reached : IsReached script (λ q. []) crew
+    pub clear : IsClear crew
+
+  rest_visit : (at : ℕ) (crew : List Running) → IsResting crew → IsResting (visit at crew)
+  rest_visit at crew g = record { reached = visit_reached at crew g.clear g.reached; clear = visit_clear at crew g.clear }
+
+  pub rest_pass : (n at : ℕ) (moved : Bool) (crew : List Running) → IsResting crew → IsResting (pass_from n at moved crew).0
+  unfolding pass_from
+  rest_pass zero at moved crew g = g
+  rest_pass (suc n) at moved crew g = rest_pass n (at + 1) (moved || has_moved at crew (visit at crew)) (visit at crew) (rest_visit at crew g)
