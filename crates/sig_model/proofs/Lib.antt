@@ -4,3 +4,5 @@ pub mod EventLemmas
 pub mod CrewLemmas
 pub mod ClearLemmas
 pub mod ReachLemmas
+pub mod CountLemmas
+pub mod StillLemmas

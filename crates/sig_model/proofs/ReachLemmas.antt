@@ -35,7 +35,7 @@ pub record IsReached (script : Program) (boxes : ℕ → List Signal) (crew : Li
   pub kept : (q : ℕ) (r : Running) → slice_get crew q ≡ Some r → IsKept script q r
 
 -- a list that is changed at one place
-set_here : (xs : List Running) (i : ℕ) (x : Running) → slice_get xs i ≡ Some x → slice_set xs i x ≡ xs
+pub set_here : (xs : List Running) (i : ℕ) (x : Running) → slice_get xs i ≡ Some x → slice_set xs i x ≡ xs
 set_here [] i x h = refl
 set_here (y ∷ ys) zero x h = let e : x ≡ y = sym (same_Some y x h) in ap (λ z. z ∷ ys) e
 set_here (y ∷ ys) (suc i) x h = ap (λ zs. y ∷ zs) (set_here ys i x h)
@@ -66,7 +66,7 @@ exec_or_stays : (o : Option Running) (r : Running) → exec_next r ≡ o → Goe
 exec_or_stays None r e = stays r
 exec_or_stays (Some t) r e = on r t t (inr e) (stays t)
 
-goes_trans : (r u t : Running) → Goes r u → Goes u t → Goes r t
+pub goes_trans : (r u t : Running) → Goes r u → Goes u t → Goes r t
 goes_trans r _ t (stays _) later = later
 goes_trans r _ t (on _ v u step more) later = on r v t step (goes_trans v u t more later)
 
@@ -85,7 +85,7 @@ goes_visited r =
     let two : Running = handle_all (length r.taken_in) one in
     goes_trans r one (exec_or_stay two) (goes_handle (length r.own) r) (goes_trans one two (exec_or_stay two) (goes_handle (length r.taken_in) one) (goes_exec two))
 
-clear_at : (crew : List Running) (i : ℕ) (r : Running) → slice_get crew i ≡ Some r → IsClear crew → r.outbox ≡ []
+pub clear_at : (crew : List Running) (i : ℕ) (r : Running) → slice_get crew i ≡ Some r → IsClear crew → r.outbox ≡ []
 clear_at crew i r e clear = subst (λ (z : Running). z.outbox ≡ []) (get_or_from_slice_get crew i r r e) (clear i r (slice_get_within crew i r e))
 
 module _ (script : Program) where
