@@ -1,10 +1,10 @@
 -- A run leaves no signal in an outbox.
-use Rattle.std.proofs.Common.{◌≡◌, ℕ, zero, suc, ◌+◌, List, [], ◌∷◌, Bool, Option, Some, None, refl, subst, ap, sym, slice_get, set, ◌||◌}
+use Rattle.std.proofs.Common.{◌≡◌, ℕ, List, [], ◌∷◌, Option, Some, None, refl, subst, sym, slice_get, set}
 use Rattle.std.proofs.lemmas.List.Elements.{All-set}
 use Rattle.std.proofs.lemmas.Option.{slice_get_within, get_or_from_slice_get}
 use Rattle.sig_kinds.specs.declared.signal.Signal.{Signal}
 use Rattle.sig_model.specs.Running.{Running}
-use Rattle.sig_model.specs.OneWorker.{IsClear, arrived, deliver_to, deliver_all, visited, visit_at, visit, has_moved, pass_from, pass}
+use Rattle.sig_model.specs.OneWorker.{IsClear, arrived, deliver_to, deliver_all, visited, visit_at, visit}
 
 abbrev HasNone : Running → Type 0
 HasNone r = r.outbox ≡ []

@@ -1,16 +1,16 @@
 -- The machine of a crew at work: an event of a process is a step of it, and a delivery is none.
-use Rattle.std.proofs.Common.{◌≡◌, ◌≢◌, ℕ, zero, suc, ◌<◌, List, [], ◌∷◌, ◌++◌, drop, map, length, Bool, true, false, cond, ◌&&◌, Option, Some, None, refl, sym, ap, ◌∙◌, subst, arith}
+use Rattle.std.proofs.Common.{◌≡◌, ◌≢◌, ℕ, zero, suc, ◌<◌, List, [], ◌∷◌, ◌++◌, drop, map, length, true, false, cond, ◌&&◌, Option, Some, None, refl, sym, ap, ◌∙◌, subst, arith}
 use Rattle.std.specs.Prelude.{◌==◌, slice_get, slice_set, if◌then◌else◌}
 use Rattle.std.specs.Option.{option_map}
 use Rattle.std.proofs.Math.Path.{fun_ext}
 use Rattle.std.proofs.Math.Seq.{map-set_same}
 use Rattle.std.proofs.lemmas.Bool.{eq-eqb, ne_eqb}
-use Rattle.std.proofs.lemmas.List.{map-set, length-set, length-map}
+use Rattle.std.proofs.lemmas.List.{map-set, length-set}
 use Rattle.std.proofs.lemmas.Option.{slice_get-map, slice_get_within, get_or_from_slice_get}
 use Rattle.sig_kinds.specs.declared.signal.Signal.{Signal}
-use Rattle.sig_runs.specs.Rules.{Effect, addressed}
+use Rattle.sig_runs.specs.Rules.{addressed}
 use Rattle.sig_runs.specs.Machine.{Machine, apply, choice, posted}
-use Rattle.sig_runs.specs.LocalRun.{Input, Act, CanDo}
+use Rattle.sig_runs.specs.LocalRun.{Input, CanDo}
 use Rattle.sig_runs.specs.LocalRun.Input.{Execute, Handle}
 use Rattle.sig_runs.specs.Crew.{Member}
 use Rattle.sig_runs.specs.OnTheWay.{IsHandledNext, outgoing, own_part, taken_in_part, on_way, boxes_after, boxes_with}

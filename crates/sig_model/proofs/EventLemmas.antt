@@ -1,14 +1,14 @@
 -- One event of a process that runs is one event of the machine's process.
-use Rattle.std.proofs.Common.{◌≡◌, ◌≢◌, ℕ, ◌+◌, ◌<◌, ◌≤◌, ◌^◌, max, List, [], ◌∷◌, ◌++◌, drop, length, Bool, true, false, cond, not, ◌&&◌, ◌||◌, Option, Some, None, refl, sym, ap, ◌∙◌, subst, inl, inr, ◌⊎◌, arith, nat_lt, nat_le, is_none, is_some}
-use Rattle.std.specs.Prelude.{All, ◌==◌, slice_get}
+use Rattle.std.proofs.Common.{◌≡◌, ◌≢◌, ℕ, ◌+◌, ◌<◌, ◌≤◌, List, [], ◌∷◌, ◌++◌, drop, length, Bool, true, false, cond, not, ◌&&◌, Option, Some, None, refl, sym, ap, ◌∙◌, subst, inl, inr, ◌⊎◌, arith, is_none, is_some}
+use Rattle.std.specs.Prelude.{All, ◌==◌}
 use Rattle.std.specs.List.{filter}
 use Rattle.std.specs.Option.{option_map}
 use Rattle.std.specs.Bool.{MatchBool}
 use Rattle.std.proofs.lemmas.Bool.{eq-eqb, ne_eqb, ltb-true}
 use Rattle.std.proofs.lemmas.Option.{same_Some}
-use Rattle.std.proofs.lemmas.List.Elements.{All-nil, All-cons, All-append, All-filter, All-weaker, All-head, All-drop, filter_passes}
+use Rattle.std.proofs.lemmas.List.Elements.{All-append, All-filter, All-weaker, All-head, All-drop, filter_passes}
 use Rattle.sig_kinds.specs.declared.signal.Signal.{Signal}
-use Rattle.sig_runs.specs.Rules.{Effect, Rules, addressed}
+use Rattle.sig_runs.specs.Rules.{Effect, addressed}
 use Rattle.sig_runs.specs.LocalRun.{Local, Input, CanDo, own_left}
 use Rattle.sig_runs.specs.LocalRun.Input.{Execute, Handle}
 use Rattle.sig_runs.specs.Crew.{Member}

@@ -6,3 +6,5 @@ pub mod ClearLemmas
 pub mod ReachLemmas
 pub mod CountLemmas
 pub mod StillLemmas
+pub mod OpeningLemmas
+pub mod SettledLemmas

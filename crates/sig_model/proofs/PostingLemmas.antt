@@ -1,6 +1,6 @@
 -- What a process has after it has posted signals, and where the signals of an event come from.
 use Rattle.std.proofs.Common.{◌≡◌, ℕ, List, [], ◌∷◌, ◌++◌, Bool, true, false, cond, not, Option, Some, None, refl, sym, ap, ◌∙◌, subst, append_assoc}
-use Rattle.std.specs.Prelude.{All, ◌==◌, slice_get}
+use Rattle.std.specs.Prelude.{All, ◌==◌}
 use Rattle.std.specs.List.{filter}
 use Rattle.std.specs.Option.{option_map}
 use Rattle.std.proofs.lemmas.List.{append-nil}
@@ -14,7 +14,7 @@ use Rattle.sig_model.specs.Bodies.{Post, Body}
 use Rattle.sig_model.specs.Executing.{executing}
 use Rattle.sig_model.specs.Finishing.{drawn, numbered, finished_exec}
 use Rattle.sig_model.specs.Machine.{execution, handling_of}
-use Rattle.sig_model.specs.Running.{Running, posted, all_posted}
+use Rattle.sig_model.specs.Running.{Running, all_posted}
 
 -- r has become t by posting these signals
 pub record HasPosted (r : Running) (signals : List Signal) (t : Running) : Type 0 where

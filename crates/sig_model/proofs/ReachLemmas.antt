@@ -1,6 +1,6 @@
 -- The crew of the one-worker run is reached by a run of the machine.
-use Rattle.std.proofs.Common.{◌≡◌, ◌≢◌, ℕ, zero, suc, ◌+◌, List, [], ◌∷◌, ◌++◌, map, Bool, true, false, cond, ◌||◌, Option, Some, None, refl, sym, ap, ◌∙◌, subst, inl, inr, ◌⊎◌}
-use Rattle.std.specs.Prelude.{All, ◌==◌, slice_get, slice_set, if◌then◌else◌, length, unwrap_or}
+use Rattle.std.proofs.Common.{◌≡◌, ◌≢◌, ℕ, zero, suc, ◌+◌, List, [], ◌∷◌, ◌++◌, Bool, true, false, cond, ◌||◌, Option, Some, None, refl, sym, ap, ◌∙◌, subst, inl, inr, ◌⊎◌}
+use Rattle.std.specs.Prelude.{◌==◌, slice_get, slice_set, length, unwrap_or}
 use Rattle.std.proofs.Math.Path.{fun_ext}
 use Rattle.std.proofs.Math.Seq.{map-set_same}
 use Rattle.std.proofs.lemmas.Bool.{eq-eqb, ne_eqb}
@@ -19,7 +19,7 @@ use Rattle.sig_model.specs.declared.event.Event.{Event}
 use Rattle.sig_model.specs.ProcessState.{ProcessState}
 use Rattle.sig_model.specs.Machine.{rules_of, opening_of}
 use Rattle.sig_model.specs.Running.{Running, exec_next, handle_next}
-use Rattle.sig_model.specs.OneWorker.{or_stay, handle_all, exec_or_stay, visited, arrived, deliver_to, deliver_all, settled_visit, visit_at, visit, has_moved, pass_from, pass, IsClear}
+use Rattle.sig_model.specs.OneWorker.{or_stay, handle_all, exec_or_stay, visited, arrived, deliver_to, deliver_all, settled_visit, visit_at, visit, has_moved, pass_from, IsClear}
 use Rattle.sig_model.specs.SettledRun.{events_of}
 use Rattle.sig_model.proofs.ClearLemmas.{visit_clear}
 use Rattle.sig_model.proofs.EventLemmas.{member_of, IsKept, IsOutgoing, IsEvent, IsStep, step_event, event_kept, event_outgoing}

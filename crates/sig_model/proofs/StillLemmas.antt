@@ -1,5 +1,5 @@
 -- A pass without an event finds no process that could go on.
-use Rattle.std.proofs.Common.{◌≡◌, ◌≢◌, ℕ, zero, suc, ◌+◌, ◌<◌, ◌≤◌, List, [], ◌∷◌, ◌++◌, length, length-append, Bool, true, false, cond, not, ◌&&◌, ◌||◌, ◌==◌, Option, Some, None, refl, sym, ap, ◌∙◌, subst, inl, inr, ◌⊎◌, arith}
+use Rattle.std.proofs.Common.{◌≡◌, ◌≢◌, ℕ, zero, suc, ◌+◌, ◌<◌, ◌≤◌, List, [], ◌∷◌, length, length-append, Bool, true, false, cond, not, ◌&&◌, ◌||◌, ◌==◌, Option, Some, None, refl, sym, ap, ◌∙◌, subst, inl, inr, ◌⊎◌, arith}
 use Rattle.std.specs.Prelude.{slice_get, slice_set, unwrap_or}
 use Rattle.std.proofs.lemmas.Bool.Decides.{nat_tests, eqb_tells}
 use Rattle.std.proofs.lemmas.Option.{same_Some, slice_get_within}
@@ -9,7 +9,7 @@ use Rattle.sig_script.specs.Scripts.{Program}
 use Rattle.sig_model.specs.declared.event.Event.{Event}
 use Rattle.sig_model.specs.ProcessState.{is_cut}
 use Rattle.sig_model.specs.Running.{Running, can_handle, next_of, is_early, handled_one, handled_first, handle_next, exec_next}
-use Rattle.sig_model.specs.OneWorker.{or_stay, handle_all, exec_or_stay, visited, deliver_all, settled_visit, visit_at, visit, events_at, has_moved, pass_from, IsClear}
+use Rattle.sig_model.specs.OneWorker.{or_stay, handle_all, exec_or_stay, visited, deliver_all, settled_visit, visit_at, visit, events_at, has_moved, pass_from}
 use Rattle.sig_model.proofs.CountLemmas.{events_get, delivered_events}
 use Rattle.sig_model.proofs.EventLemmas.{IsKept, IsEvent, IsStep, step_event, event_kept}
 use Rattle.sig_model.proofs.ReachLemmas.{Goes, stays, on, goes_trans, goes_handle, goes_exec, set_here, clear_at, IsResting}

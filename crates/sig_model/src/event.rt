@@ -15,7 +15,10 @@ pub enum Did {
 #[derive(Debug, Drop)]
 pub enum Outcome {
     /// The message was sent to this target.
-    Sent { to: Term, message: Term },
+    Sent {
+        to: Term,
+        message: Term,
+    },
     /// A receive took the message.
     Took {
         /// The number of the clause that took it, from 1.
@@ -31,9 +34,13 @@ pub enum Outcome {
         looked: u64,
     },
     /// The process ended.
-    Ended { reason: Term },
+    Ended {
+        reason: Term,
+    },
     /// The message was appended to the process's messages.
-    Kept { message: Term },
+    Kept {
+        message: Term,
+    },
     /// The signal had no effect.
     Dropped,
 }

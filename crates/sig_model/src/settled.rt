@@ -10,5 +10,4 @@ ghost use Rattle.sig_model.specs.SettledRun.{IsSettledRun};
 /// machine; and no process can go on but to handle a signal that is late.
 pub fn one_worker_run_is_settled()
     ensures { (script : Program) (last : List Running) → RunsTo (opened_crew script) last → IsSettledRun script last }
-{
-}
+{}

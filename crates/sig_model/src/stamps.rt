@@ -7,5 +7,4 @@ ghost use Rattle.sig_model.specs.Machine.{rules_of};
 /// signal's, and each signal has the stamp of the event that sends it.
 pub fn stamps_are_kept()
     ensures { (script : Program) → KeepStamps (rules_of script) }
-{
-}
+{}
