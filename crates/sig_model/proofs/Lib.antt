@@ -1,6 +1,7 @@
 pub mod StampLemmas
 pub mod PostingLemmas
 pub mod EventLemmas
+pub mod GoingLemmas
 pub mod CrewLemmas
 pub mod ClearLemmas
 pub mod ReachLemmas

@@ -71,10 +71,9 @@ module _ (script : Program) where
       none_on_way s t (s == t) (slice_get script.procs t)
       ∙ sym (ap (λ o. cond (s == t) (own_part o) (taken_in_part (rules_of script) s o ++ addressed (rules_of script) t [])) (slice_get-map member_of (opened_crew script) t ∙ ap (λ o. option_map member_of o) (at_place t)))
 
-  pub opening_resting : IsResting script (opened_crew script)
+  pub opening_resting : IsResting script (opened_crew script) []
   opening_resting = record {
     reached = record {
-      events = [];
       machine = opening_machine (opening_of script);
       run = refl;
       at_work = record { states = states_from 0 count script.turns script.procs; queued = λ s t lt. opening_way s t };

@@ -1,13 +1,14 @@
 -- The run of one worker is a settled run of the machine.
-use Rattle.std.proofs.Common.{◌≡◌, ℕ, suc, ◌≤◌, ◌^◌, ◌⊎◌, inl, inr, List, [], ◌∷◌, map, length, Bool, true, false, cond, not, ◌&&◌, ◌||◌, Option, Some, None, refl, sym, ap, ◌∙◌, subst, arith, nat_le, is_none, is_some}
+use Rattle.std.proofs.Common.{◌≡◌, ℕ, suc, ◌≤◌, ◌^◌, ◌⊎◌, inl, inr, List, [], ◌∷◌, ◌++◌, map, length, Bool, true, false, cond, not, ◌&&◌, ◌||◌, Option, Some, None, refl, sym, ap, ◌∙◌, subst, append_assoc, arith, nat_le, is_none, is_some}
 use Rattle.std.specs.Prelude.{All, ◌==◌, slice_get}
 use Rattle.std.specs.Option.{option_map}
 use Rattle.std.proofs.lemmas.Bool.{ne_eqb}
 use Rattle.std.proofs.lemmas.Bool.Decides.{nat_tests}
+use Rattle.std.proofs.lemmas.List.{append-nil}
 use Rattle.std.proofs.lemmas.Option.{slice_get-map, slice_get_within, same_Some}
 use Rattle.sig_kinds.specs.declared.signal.Signal.{Signal}
 use Rattle.sig_runs.specs.Rules.{Effect}
-use Rattle.sig_runs.specs.Machine.{is_empty}
+use Rattle.sig_runs.specs.Machine.{At, is_empty}
 use Rattle.sig_runs.specs.Settled.{IsAtRest, IsSettled}
 use Rattle.sig_runs.specs.Quiet.{IsQuiet, CutsHigh, next_signal, is_low}
 use Rattle.sig_runs.specs.Quiet.{can_handle as may_handle, can_exec as may_exec}
@@ -20,7 +21,8 @@ use Rattle.sig_model.specs.ProcessState.{ProcessState, is_cut}
 use Rattle.sig_model.specs.Machine.{rules_of, execution, execution_of}
 use Rattle.sig_model.specs.Running.{Running, advanced, next_of, is_early, can_handle, can_exec, exec_next}
 use Rattle.sig_model.specs.OneWorker.{RunsTo, rests, goes, pass, opened_crew}
-use Rattle.sig_model.specs.SettledRun.{IsMachineOf, IsSettledRun}
+use Rattle.sig_model.specs.SettledRun.{IsMachineOf, IsSettledRun, made_in_pass, Makes}
+use Rattle.sig_model.specs.SettledRun.{none, passes}
 use Rattle.sig_model.proofs.StampLemmas.{stamps_kept}
 use Rattle.sig_model.proofs.EventLemmas.{member_of, IsKept}
 use Rattle.sig_model.proofs.CrewLemmas.{Mate, members, at_member}
@@ -108,7 +110,7 @@ module _ (script : Program) where
   same_states [] = refl
   same_states (r ∷ rs) = ap (λ z. r.state ∷ z) (same_states rs)
 
-  module _ (crew : List Running) (g : IsReached script (λ q. []) crew) where
+  module _ (crew : List Running) (es : List (At Event)) (g : IsReached script (λ q. []) crew es) where
     -- the machine's lists at a process are what waits for it
     waiting : (s p : ℕ) (r : Running) → slice_get crew p ≡ Some r → g.machine.queued s p ≡ queued_at (rules_of script) s p (Some (member_of r))
     waiting s p r there =
@@ -130,23 +132,43 @@ module _ (script : Program) where
     settled : ((q : ℕ) (r : Running) → slice_get crew q ≡ Some r → IsStill r) → IsSettled (rules_of script) g.machine
     settled still p s at = state_of p (slice_get crew p) s refl (sym (slice_get-map (λ (r : Running). r.state) crew p) ∙ ap (λ xs. slice_get xs p) (sym shown.states) ∙ at) still
 
-    settled_run : ((q : ℕ) (r : Running) → slice_get crew q ≡ Some r → IsStill r) → IsSettledRun script crew
-    settled_run still = record {
-      events = g.events;
-      machine = g.machine;
-      run = g.run;
-      shown = shown;
-      processes = λ p r there. (g.kept p r there).process;
-      told = g.told;
-      settled = settled still;
-    }
+  -- these events have led to a crew in which no process can go on
+  record HasEnded (crew last : List Running) (es : List (At Event)) : Type 0 where
+    later : List (At Event)
+    made : Makes crew later
+    reached : IsReached script (λ q. []) last (es ++ later)
+    still : (q : ℕ) (r : Running) → slice_get last q ≡ Some r → IsStill r
 
-  runs_settled : (crew last : List Running) → RunsTo crew last → IsResting script crew → IsSettledRun script last
-  runs_settled _ _ (rests crew h) g =
-      let s : ((pass crew).0 ≡ crew) × ((q : ℕ) (r : Running) → 0 ≤ q → slice_get crew q ≡ Some r → IsStill r) = still_pass script (length crew) 0 false crew g (omega arith) h in
-      subst (λ xs. IsSettledRun script xs) (sym s.0) (settled_run crew g.reached (λ q r e. s.1 q r (omega arith) e))
-  runs_settled _ last (goes crew _ h later) g = runs_settled (pass crew).0 last later (rest_pass script (length crew) 0 false crew g)
+  run_ends : (crew last : List Running) (es : List (At Event)) → RunsTo crew last → IsResting script crew es → HasEnded crew last es
+  run_ends _ _ es (rests crew h) g =
+      let s : ((pass crew).0 ≡ crew) × ((q : ℕ) (r : Running) → 0 ≤ q → slice_get crew q ≡ Some r → IsStill r) = still_pass script (length crew) 0 false crew es g (omega arith) h in
+      record {
+        later = [];
+        made = none crew h;
+        reached = subst (λ xs. IsReached script (λ q. []) xs (es ++ [])) (sym s.0) (subst (λ xs. IsReached script (λ q. []) crew xs) (sym (append-nil es)) g.reached);
+        still = λ q r e. s.1 q r (omega arith) (subst (λ xs. slice_get xs q ≡ Some r) s.0 e);
+      }
+  run_ends _ last es (goes crew _ h more) g =
+      let made : List (At Event) = made_in_pass (length crew) 0 crew in
+      let rest : HasEnded (pass crew).0 last (es ++ made) = run_ends (pass crew).0 last (es ++ made) more (rest_pass script (length crew) 0 false crew es g) in
+      record {
+        later = made ++ rest.later;
+        made = passes crew rest.later h rest.made;
+        reached = subst (λ xs. IsReached script (λ q. []) last xs) (append_assoc es made rest.later) rest.reached;
+        still = rest.still;
+      }
 
   -- the run of one worker is a settled run of the script's machine
   pub one_worker_settled : (last : List Running) → RunsTo (opened_crew script) last → IsSettledRun script last
-  one_worker_settled last h = runs_settled (opened_crew script) last h (opening_resting script)
+  one_worker_settled last h =
+      let e : HasEnded (opened_crew script) last [] = run_ends (opened_crew script) last [] h (opening_resting script) in
+      record {
+        events = e.later;
+        made = e.made;
+        machine = e.reached.machine;
+        run = e.reached.run;
+        shown = shown last e.later e.reached;
+        processes = λ p r there. (e.reached.kept p r there).process;
+        told = e.reached.told;
+        settled = settled last e.later e.reached e.still;
+      }

@@ -4,6 +4,7 @@ use Rattle.std.specs.Prelude.{slice_get, slice_set, unwrap_or}
 use Rattle.std.proofs.lemmas.Bool.Decides.{nat_tests, eqb_tells}
 use Rattle.std.proofs.lemmas.Option.{same_Some, slice_get_within}
 use Rattle.sig_kinds.specs.declared.signal.Signal.{Signal}
+use Rattle.sig_runs.specs.Machine.{At}
 use Rattle.sig_runs.proofs.Lists.{slice_get-set_same}
 use Rattle.sig_script.specs.Scripts.{Program}
 use Rattle.sig_model.specs.declared.event.Event.{Event}
@@ -12,7 +13,8 @@ use Rattle.sig_model.specs.Running.{Running, can_handle, next_of, is_early, hand
 use Rattle.sig_model.specs.OneWorker.{or_stay, handle_all, exec_or_stay, visited, deliver_all, settled_visit, visit_at, visit, events_at, has_moved, pass_from}
 use Rattle.sig_model.proofs.CountLemmas.{events_get, delivered_events}
 use Rattle.sig_model.proofs.EventLemmas.{IsKept, IsEvent, IsStep, step_event, event_kept}
-use Rattle.sig_model.proofs.ReachLemmas.{Goes, stays, on, goes_trans, goes_handle, goes_exec, set_here, clear_at, IsResting}
+use Rattle.sig_model.proofs.GoingLemmas.{Goes, stays, on, goes_trans, goes_handle, goes_exec}
+use Rattle.sig_model.proofs.ReachLemmas.{set_here, clear_at, IsResting}
 
 -- the process can do nothing: no signal may be handled, and no instruction executed
 pub record IsStill (r : Running) : Type 0 where
@@ -133,9 +135,9 @@ module _ (script : Program) where
   abbrev pub LeftStill : ℕ → List Running → List Running → Type 0
   LeftStill at crew after = (after ≡ crew) × ((r : Running) → slice_get crew at ≡ Some r → IsStill r)
 
-  still_case : (at : ℕ) (o : Option Running) (crew : List Running) → IsResting script crew → slice_get crew at ≡ o → has_moved at crew (visit_at at o crew) ≡ false → LeftStill at crew (visit_at at o crew)
-  still_case at None crew g there h = (refl, λ r e. let f : None ≡ Some r = sym there ∙ e in absurd cc)
-  still_case at (Some r) crew g there h = go (still_or_moved script at r (g.reached.kept at r there))
+  still_case : (at : ℕ) (o : Option Running) (crew : List Running) (es : List (At Event)) → IsResting script crew es → slice_get crew at ≡ o → has_moved at crew (visit_at at o crew) ≡ false → LeftStill at crew (visit_at at o crew)
+  still_case at None crew es g there h = (refl, λ r e. let f : None ≡ Some r = sym there ∙ e in absurd cc)
+  still_case at (Some r) crew es g there h = go (still_or_moved script at r (g.reached.kept at r there))
     where
       v : Running
       v = visited r
@@ -154,9 +156,9 @@ module _ (script : Program) where
           let was : events_at at crew ≡ length r.events = events_get crew at r there in
           absurd (still_not (events_at at crew) (events_at at (settled_visit at v crew)) h (omega (arith, now, was, lt)))
 
-  still_visit : (at : ℕ) (crew : List Running) → IsResting script crew → has_moved at crew (visit at crew) ≡ false → LeftStill at crew (visit at crew)
+  still_visit : (at : ℕ) (crew : List Running) (es : List (At Event)) → IsResting script crew es → has_moved at crew (visit at crew) ≡ false → LeftStill at crew (visit at crew)
   unfolding visit
-  still_visit at crew g h = still_case at (slice_get crew at) crew g refl h
+  still_visit at crew es g h = still_case at (slice_get crew at) crew es g refl h
 
   neither : (a b : Bool) → (a || b) ≡ false → (a ≡ false) × (b ≡ false)
   neither true b h = cc
@@ -168,15 +170,15 @@ module _ (script : Program) where
   unmoved (suc n) at moved crew h = (neither moved (has_moved at crew (visit at crew)) (unmoved n (at + 1) (moved || has_moved at crew (visit at crew)) (visit at crew) h)).0
 
   -- a pass without an event leaves the crew, and each process is still
-  pub still_pass : (n at : ℕ) (moved : Bool) (crew : List Running) → IsResting script crew → length crew ≤ at + n → (pass_from n at moved crew).1 ≡ false →
+  pub still_pass : (n at : ℕ) (moved : Bool) (crew : List Running) (es : List (At Event)) → IsResting script crew es → length crew ≤ at + n → (pass_from n at moved crew).1 ≡ false →
       ((pass_from n at moved crew).0 ≡ crew) × ((q : ℕ) (r : Running) → at ≤ q → slice_get crew q ≡ Some r → IsStill r)
   unfolding pass_from
-  still_pass zero at moved crew g le h = (refl, λ q r from e. let lt : q < length crew = slice_get_within crew q r e in (let f : ⊥ = omega (arith, lt, from, le) in absurd f))
-  still_pass (suc n) at moved crew g le h =
+  still_pass zero at moved crew es g le h = (refl, λ q r from e. let lt : q < length crew = slice_get_within crew q r e in (let f : ⊥ = omega (arith, lt, from, le) in absurd f))
+  still_pass (suc n) at moved crew es g le h =
       let b : Bool = moved || has_moved at crew (visit at crew) in
-      let s : LeftStill at crew (visit at crew) = still_visit at crew g (neither moved (has_moved at crew (visit at crew)) (unmoved n (at + 1) b (visit at crew) h)).1 in
+      let s : LeftStill at crew (visit at crew) = still_visit at crew es g (neither moved (has_moved at crew (visit at crew)) (unmoved n (at + 1) b (visit at crew) h)).1 in
       let rest : ((pass_from n (at + 1) b crew).0 ≡ crew) × ((q : ℕ) (r : Running) → at + 1 ≤ q → slice_get crew q ≡ Some r → IsStill r) =
-      still_pass n (at + 1) b crew g (omega (arith, le)) (subst (λ xs. (pass_from n (at + 1) b xs).1 ≡ false) s.0 h) in (
+      still_pass n (at + 1) b crew es g (omega (arith, le)) (subst (λ xs. (pass_from n (at + 1) b xs).1 ≡ false) s.0 h) in (
         ap (λ xs. (pass_from n (at + 1) b xs).0) s.0 ∙ rest.0,
         λ q r from e. elim (eqb_tells at q) [
           | inl w ↦ s.1 r (subst (λ z. slice_get crew z ≡ Some r) (sym w.1) e)
