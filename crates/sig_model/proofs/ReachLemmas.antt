@@ -20,7 +20,8 @@ use Rattle.sig_model.specs.ProcessState.{ProcessState}
 use Rattle.sig_model.specs.Machine.{rules_of, opening_of}
 use Rattle.sig_model.specs.Running.{Running}
 use Rattle.sig_model.specs.OneWorker.{visited, arrived, deliver_to, deliver_all, settled_visit, visit_at, visit, has_moved, pass_from, IsClear}
-use Rattle.sig_model.specs.SettledRun.{events_of, made_by, made_in_visit, made_in_pass}
+use Rattle.sig_model.specs.SettledRun.{events_of}
+use Rattle.sig_model.specs.MadeEvents.{made_by, made_in_visit, made_in_pass}
 use Rattle.sig_model.proofs.GoingLemmas.{Goes, stays, on, goes_visited}
 use Rattle.sig_model.proofs.ClearLemmas.{visit_clear}
 use Rattle.sig_model.proofs.EventLemmas.{member_of, IsKept, IsOutgoing, IsEvent, step_event, event_kept, event_outgoing}

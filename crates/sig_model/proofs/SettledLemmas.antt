@@ -21,8 +21,9 @@ use Rattle.sig_model.specs.ProcessState.{ProcessState, is_cut}
 use Rattle.sig_model.specs.Machine.{rules_of, execution, execution_of}
 use Rattle.sig_model.specs.Running.{Running, advanced, next_of, is_early, can_handle, can_exec, exec_next}
 use Rattle.sig_model.specs.OneWorker.{RunsTo, rests, goes, pass, opened_crew}
-use Rattle.sig_model.specs.SettledRun.{IsMachineOf, IsSettledRun, made_in_pass, Makes}
-use Rattle.sig_model.specs.SettledRun.{none, passes}
+use Rattle.sig_model.specs.SettledRun.{IsMachineOf, IsSettledRun}
+use Rattle.sig_model.specs.MadeEvents.{made_in_pass, Makes}
+use Rattle.sig_model.specs.MadeEvents.{none, passes}
 use Rattle.sig_model.proofs.StampLemmas.{stamps_kept}
 use Rattle.sig_model.proofs.EventLemmas.{member_of, IsKept}
 use Rattle.sig_model.proofs.CrewLemmas.{Mate, members, at_member}
@@ -158,17 +159,23 @@ module _ (script : Program) where
         still = rest.still;
       }
 
-  -- the run of one worker is a settled run of the script's machine
-  pub one_worker_settled : (last : List Running) → RunsTo (opened_crew script) last → IsSettledRun script last
-  one_worker_settled last h =
+  module _ (last : List Running) (e : HasEnded (opened_crew script) last []) where
+    abbrev settled_run : IsSettledRun script last
+    settled_run = record {
+      events = e.later;
+      machine = e.reached.machine;
+      run = e.reached.run;
+      shown = shown last e.later e.reached;
+      processes = λ p r there. (e.reached.kept p r there).process;
+      told = e.reached.told;
+      settled = settled last e.later e.reached e.still;
+    }
+
+  -- the run of one worker is a settled run of the script's machine, with the events in the order of the passes
+  pub one_worker_made : (last : List Running) → RunsTo (opened_crew script) last → (run : IsSettledRun script last) × Makes (opened_crew script) run.events
+  one_worker_made last h =
       let e : HasEnded (opened_crew script) last [] = run_ends (opened_crew script) last [] h (opening_resting script) in
-      record {
-        events = e.later;
-        made = e.made;
-        machine = e.reached.machine;
-        run = e.reached.run;
-        shown = shown last e.later e.reached;
-        processes = λ p r there. (e.reached.kept p r there).process;
-        told = e.reached.told;
-        settled = settled last e.later e.reached e.still;
-      }
+      (settled_run last e, e.made)
+
+  pub one_worker_settled : (last : List Running) → RunsTo (opened_crew script) last → IsSettledRun script last
+  one_worker_settled last h = (one_worker_made last h).0

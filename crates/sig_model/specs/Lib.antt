@@ -8,3 +8,4 @@ pub mod Running
 pub mod OneWorker
 pub mod PrintedState
 pub mod SettledRun
+pub mod MadeEvents

@@ -1,5 +1,5 @@
 -- The run of one worker, as a run of the plain machine that has come to rest.
-use Rattle.std.specs.Prelude.{◌≡◌, ℕ, zero, suc, ◌+◌, ◌==◌, List, [], ◌++◌, map, length, drop, true, false, Option, Some, None, slice_get, if◌then◌else◌}
+use Rattle.std.specs.Prelude.{◌≡◌, ℕ, ◌==◌, List, [], map, Option, Some, None, slice_get, if◌then◌else◌}
 use Rattle.std.specs.List.{filter}
 use Rattle.sig_kinds.specs.declared.signal.Signal.{Signal}
 use Rattle.sig_script.specs.Scripts.{Program}
@@ -11,7 +11,6 @@ use Rattle.sig_model.specs.declared.event.Event.{Event}
 use Rattle.sig_model.specs.ProcessState.{ProcessState}
 use Rattle.sig_model.specs.Machine.{rules_of, opening_of}
 use Rattle.sig_model.specs.Running.{Running}
-use Rattle.sig_model.specs.OneWorker.{visited, visit, pass, opened_crew}
 
 -- The signals of s that wait at the process p, in the order of their arrival: p's own ones, or those of s among the ones
 -- that it has taken in. Signals of one sender arrive in the order in which they were sent (Erlang Reference Manual,
@@ -20,8 +19,8 @@ abbrev pub waiting_of : ℕ → ℕ → Running → List Signal
 waiting_of s p r = if s == p then r.own else filter (λ (x : Signal). x.from.0 == s) r.taken_in
 
 -- The crew as the machine: the processes' states are the machine's, and for each process p of the crew the machine's list
--- of each pair (s, p) is what waits of s at p. A signal to a process that isn't there reaches none (Erlang Reference
--- Manual, Processes, Sending Signals): it stands in the list of a pair that no process handles, and nothing is said of it.
+-- of each pair (s, p) is what waits of s at p. To send to a process that isn't there is no fault (Erlang Reference Manual,
+-- Expressions, Send): such a signal stands in the list of a pair that no process handles, and nothing is said of it.
 pub record IsMachineOf (crew : List Running) (m : Machine ProcessState Signal) : Type 0 where
   pub states : m.procs ≡ map (λ (r : Running). r.state) crew
   pub queued : (s p : ℕ) (r : Running) → slice_get crew p ≡ Some r → m.queued s p ≡ waiting_of s p r
@@ -37,33 +36,12 @@ abbrev pub events_of : Option Running → List Event
 events_of None = []
 events_of (Some r) = r.events
 
--- these events, as events of the process p
-abbrev pub made_by : ℕ → List Event → List (At Event)
-made_by p events = map (λ (e : Event). record { pid = p; event = e }) events
-
--- the events that a visit of this process makes
-abbrev pub made_in_visit : ℕ → Option Running → List (At Event)
-made_in_visit p None = []
-made_in_visit p (Some r) = made_by p (drop (length r.events) (visited r).events)
-
--- the events that visits of n processes from this one on make
-unfoldable pub made_in_pass : ℕ → ℕ → List Running → List (At Event)
-made_in_pass zero at crew = []
-made_in_pass (suc n) at crew = made_in_visit at (slice_get crew at) ++ made_in_pass n (at + 1) (visit at crew)
-
--- Passes until one has no event make these events, in this order.
-pub data Makes : List Running → List (At Event) → Type 0 where
-  none : (crew : List Running) → (pass crew).1 ≡ false → Makes crew []
-  passes : (crew : List Running) (later : List (At Event)) → (pass crew).1 ≡ true → Makes (pass crew).0 later → Makes crew (made_in_pass (length crew) 0 crew ++ later)
-
 -- The crew is what a settled run of the script's machine leads to: its events are possible one after another from the
 -- opening, each an execution or the handling of the oldest signal of one sender; each process has had its own ones in that
 -- order; and at the end no process can go on but to handle a signal that is late. A process that waits at a receive waits
 -- until a message matches (Erlang Reference Manual, Expressions, Receive).
 pub record IsSettledRun (script : Program) (crew : List Running) : Type 0 where
-  -- the events, in the order in which the passes make them
   pub events : List (At Event)
-  pub made : Makes (opened_crew script) events
   -- the machine after them
   pub machine : Machine ProcessState Signal
   pub run : IsRun (rules_of script) (opening_machine (opening_of script)) events machine
