@@ -6,6 +6,7 @@ use Rattle.sig_script.specs.Scripts.{Program}
 use Rattle.sig_script.specs.Grammar.{script_of}
 use Rattle.sig_model.specs.Running.{Running}
 use Rattle.sig_model.specs.OneWorker.{RunsTo, opened_crew}
+use Rattle.sig_model.specs.SettledRun.{IsSettledRun}
 use Rattle.sig_record.specs.RecordOf.{record_of}
 use Rattle.sig_record.specs.RecordText.{record_text}
 use Rattle.sig_host.specs.declared.status.Status.{Status}
@@ -15,9 +16,11 @@ use Rattle.sig_host.specs.declared.status.Status.TheVariants.{Done, BadScript, U
 abbrev pub IsRefused : List ℕ → Type 0
 IsRefused bytes = IsErr (script_of bytes)
 
--- the text is that of the record of the one-worker run of the script
+-- The text is that of the record of the one-worker run of the script, and what the record tells is a settled run of the
+-- script's machine.
 abbrev pub IsRecordOf : Program → List ℕ → Type 0
-IsRecordOf script text = (last : List Running) × RunsTo (opened_crew script) last × (text ≡ record_text (record_of last))
+IsRecordOf script text =
+    (last : List Running) × RunsTo (opened_crew script) last × IsSettledRun script last × (text ≡ record_text (record_of last))
 
 -- reading the script: what the source had left, its faults before and after, and the script or why there is none
 abbrev pub IsSourceRead : Option (List ℕ) → ℕ → ℕ → Result Program Status → Type 0

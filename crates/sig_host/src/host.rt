@@ -5,6 +5,7 @@ ghost use Rattle.sig_host.specs.Told.{told_text};
 
 use crate::status::Status;
 use sig_base::{Gate, ReadAll, Sink, Source, Written, read_all, write_whole};
+use sig_model::one_worker_run_is_settled;
 use sig_process::Crew;
 use sig_record::{Record, print_record};
 use sig_script::{FaultKind, Script, ScriptError, read_script};
@@ -49,6 +50,7 @@ fn run_text(alloc: Global, script: &Script) -> Result<Vec<u8>, AllocError>
 {
     let crew = Crew::open(alloc, script)?;
     let crew = run_one(crew)?;
+    one_worker_run_is_settled();
     let given = Record::gather(alloc, crew)?;
     let mut text = Vec::new(alloc);
     print_record(&given, &mut text)?;

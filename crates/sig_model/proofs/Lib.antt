@@ -1,1 +1,11 @@
 pub mod StampLemmas
+pub mod PostingLemmas
+pub mod EventLemmas
+pub mod GoingLemmas
+pub mod CrewLemmas
+pub mod ClearLemmas
+pub mod ReachLemmas
+pub mod CountLemmas
+pub mod StillLemmas
+pub mod OpeningLemmas
+pub mod SettledLemmas

@@ -1,5 +1,5 @@
 -- The stamps of a script's machine.
-use Rattle.std.proofs.Common.{◌≡◌, ℕ, ◌+◌, max, List, [], ◌∷◌, Option, Some, None, refl, sym, ap, subst}
+use Rattle.std.proofs.Common.{◌≡◌, ℕ, ◌+◌, max, List, [], ◌∷◌, Option, Some, None, refl, subst}
 use Rattle.std.specs.Prelude.{All, slice_get}
 use Rattle.std.specs.Option.{option_map}
 use Rattle.std.proofs.lemmas.List.Elements.{All-nil, All-cons}
@@ -12,8 +12,8 @@ use Rattle.sig_model.specs.ProcessState.{ProcessState}
 use Rattle.sig_model.specs.Bodies.{Post, Body}
 use Rattle.sig_model.specs.Executing.{executing}
 use Rattle.sig_model.specs.Handling.{handling}
-use Rattle.sig_model.specs.Finishing.{drawn, numbered, finished, finished_exec, finished_handle}
-use Rattle.sig_model.specs.Machine.{execution, execution_of, handling_of, rules_of}
+use Rattle.sig_model.specs.Finishing.{drawn, numbered, finished_exec}
+use Rattle.sig_model.specs.Machine.{execution_of, rules_of}
 
 -- each signal of an event has its stamp
 numbered_stamps : (pid stamp : ℕ) (numbers : List ℕ) (posts : List Post) → All (λ (x : Signal). x.stamp ≡ stamp) (numbered pid stamp numbers posts)

@@ -1,6 +1,6 @@
 -- Handling one signal: one equation for each cell of the table of handling, a live and an ended receiver for each kind
 -- (Erlang Reference Manual, Processes, Signals and Delivery of Signals).
-use Rattle.std.specs.Prelude.{ℕ, ◌+◌, List, [], ◌∷◌, ◌++◌, is_some, if◌then◌else◌}
+use Rattle.std.specs.Prelude.{◌+◌, [], ◌∷◌, ◌++◌, is_some, if◌then◌else◌}
 use Rattle.sig_terms.specs.declared.term.Term.{Term}
 use Rattle.sig_kinds.specs.declared.signal.Kind.{Kind}
 use Rattle.sig_kinds.specs.declared.signal.Kind.TheVariants.{Message}

@@ -7,3 +7,5 @@ pub mod Machine
 pub mod Running
 pub mod OneWorker
 pub mod PrintedState
+pub mod SettledRun
+pub mod MadeEvents

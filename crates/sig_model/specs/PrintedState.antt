@@ -1,5 +1,5 @@
 -- How a process stands at the end of a run (this project's own).
-use Rattle.std.specs.Prelude.{ℕ, List, Bool, true, false, ◌||◌, nat_le, Option, Some, None}
+use Rattle.std.specs.Prelude.{Bool, true, false, ◌||◌, nat_le, Option, Some, None}
 use Rattle.std.specs.List.{list_any}
 use Rattle.sig_terms.specs.declared.term.Term.{Term}
 use Rattle.sig_kinds.specs.declared.signal.Signal.{Signal}

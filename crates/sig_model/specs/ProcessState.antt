@@ -1,5 +1,5 @@
 -- The state of one process (Erlang Reference Manual, Processes). Stamps, turns, and being cut are this project's own.
-use Rattle.std.specs.Prelude.{ℕ, List, [], Bool, true, false, ◌&&◌, ◌||◌, nat_le, Option, Some, None, is_none, is_some, replicate}
+use Rattle.std.specs.Prelude.{ℕ, List, [], Bool, false, ◌&&◌, ◌||◌, nat_le, Option, None, is_none, replicate}
 use Rattle.std.specs.Ordering.{nat_cmp}
 use Rattle.std.specs.Cmp.Lexicographic.{slice_cmp}
 use Rattle.std.specs.FinSet as set

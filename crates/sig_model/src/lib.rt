@@ -4,10 +4,12 @@
 
 mod event;
 mod message;
+mod settled;
 mod stamps;
 mod state;
 
 pub use event::{Did, Event, Events, Outcome};
 pub use message::{Message, Messages};
+pub use settled::one_worker_run_is_settled;
 pub use stamps::stamps_are_kept;
 pub use state::{LAST_STAMP, State};

@@ -10,7 +10,8 @@ use Rattle.sig_runs.specs.Machine.{apply, choice}
 use Rattle.sig_runs.specs.LocalRun.{Local, Act, handles, sends}
 use Rattle.sig_runs.specs.Crew.{Member, IsLawfulWith, HasLocalRun, HasOwn, acts_of, machine_with, opening_machine}
 use Rattle.sig_runs.specs.OnTheWay.{AtWork, IsLawfulAtWork, machine_at_work, opened, opened_crew, DoesAct, Delivers, on_way, boxes_after, boxes_with, own_part, taken_in_part}
-use Rattle.sig_runs.proofs.Delivery.{act_keeps, act_is_step, delivery_keeps, delivery_keeps_way}
+use Rattle.sig_runs.proofs.OnTheWay.{delivery_keeps_way}
+use Rattle.sig_runs.proofs.Delivery.{act_keeps, act_is_step, delivery_keeps}
 
 module _ {S X E : Type 0} (rules : Rules S X E) (opening : List S) (old new : AtWork S X E) (lawful : IsLawfulAtWork rules opening old) where
   pub act_keeps_lawful : KeepStamps rules → (p : ℕ) (a : Act S X E) → DoesAct rules old p a new → IsLawfulAtWork rules opening new
@@ -36,7 +37,7 @@ module _ {S X E : Type 0} (rules : Rules S X E) (opening : List S) (old new : At
       ap₂ (λ c b. machine_with c (on_way rules c b)) d.crew d.outbox
       ∙ ap₂ (λ a b. record { procs = a; queued = b })
       (map-set_same (λ (m : Member S X E). m.local.state) old.crew t d.given d.member (ap (λ (l : Local S X). l.state) d.local ∙ sym (ap (λ (m : Member S X E). m.local.state) (get_or_from_slice_get old.crew t d.member d.member d.there))))
-      (delivery_keeps_way rules opening old.crew old.outbox lawful s t d.apart d.signal d.left d.oldest d.sender d.receiver d.member d.there d.given d.local d.taken_in d.acts)
+      (delivery_keeps_way rules old.crew old.outbox s t d.apart d.signal d.left d.oldest d.sender d.receiver d.member d.there d.given d.local d.taken_in)
 
 module _ {S X E : Type 0} (rules : Rules S X E) where
   abbrev start : S → Member S X E

@@ -1,21 +1,19 @@
 -- A crew whose processes have outboxes: an event is a step of the machine of the crew, with the signals on their way as
 -- its lists, and a delivery from an outbox is no step. Both keep the crew lawful.
-use Rattle.std.proofs.Common.{◌≡◌, ◌≢◌, ℕ, true, false, cond, List, [], ◌∷◌, ◌++◌, Option, Some, None, refl, sym, ap, ◌∙◌, subst, inl, inr, ◌⊎◌, append_assoc}
+use Rattle.std.proofs.Common.{◌≡◌, ◌≢◌, ℕ, true, false, cond, List, [], ◌∷◌, ◌++◌, Option, Some, None, refl, sym, ap, ◌∙◌, subst, inl, inr, ◌⊎◌}
 use Rattle.std.specs.Prelude.{◌==◌, slice_get, slice_set, if◌then◌else◌}
 use Rattle.std.proofs.Math.Path.{fun_ext}
-use Rattle.std.proofs.lemmas.Bool.{eq-eqb, ne_eqb}
 use Rattle.std.proofs.lemmas.Bool.Decides.{eqb_tells}
 use Rattle.std.proofs.lemmas.List.{append-nil}
-use Rattle.std.proofs.lemmas.List.Elements.{filter-append}
 use Rattle.sig_runs.specs.Rules.{Rules, KeepStamps, addressed, coming_from}
 use Rattle.sig_runs.specs.Machine.{apply, choice, posted}
 use Rattle.sig_runs.specs.LocalRun.{Local, Act, CanDo, after, IsLocalRun, handles, sends}
 use Rattle.sig_runs.specs.Crew.{Member, IsLawful, IsLawfulWith, HasLocalRun, HasOwn, acts_of, queued_at, machine_with, crew_machine}
-use Rattle.sig_runs.specs.OnTheWay.{IsHandledNext, taken_in_left, own_part, taken_in_part, on_way, boxes_after}
+use Rattle.sig_runs.specs.OnTheWay.{IsHandledNext, taken_in_left, own_part, taken_in_part, on_way, boxes_after, boxes_with}
 use Rattle.sig_runs.proofs.Lists.{slice_get-set_same, slice_get-set_other}
 use Rattle.sig_runs.proofs.Steps.{pulled}
 use Rattle.sig_runs.proofs.Events.{event_keeps, event_applies, with_queued}
-use Rattle.sig_runs.proofs.OnTheWay.{next_is_oldest, way_step}
+use Rattle.sig_runs.proofs.OnTheWay.{next_is_oldest, way_step, delivery_keeps_way}
 
 module _ {S X E : Type 0} (rules : Rules S X E) (opening : List S) (crew : List (Member S X E)) (outbox : ℕ → List X) (lawful : IsLawfulWith rules opening crew (on_way rules crew outbox)) where
   -- p does one more act
@@ -43,7 +41,7 @@ module _ {S X E : Type 0} (rules : Rules S X E) (opening : List S) (crew : List 
   module _ (s t : ℕ) (apart : s ≢ t) (x : X) (rest : List X) (oldest : outbox s ≡ x ∷ rest) (from_s : rules.from x ≡ s) (to_t : rules.to x ≡ t) (m : Member S X E) (there : slice_get crew t ≡ Some m)
       (n : Member S X E) (local_is : n.local ≡ m.local) (taken_in_is : n.taken_in ≡ m.taken_in ++ x ∷ []) (acts_are : n.acts ≡ m.acts) where
     abbrev left : ℕ → List X
-    left q = if s == q then rest else outbox q
+    left = boxes_with s rest outbox
 
     abbrev given : List (Member S X E)
     given = slice_set crew t n
@@ -51,60 +49,9 @@ module _ {S X E : Type 0} (rules : Rules S X E) (opening : List S) (crew : List 
     at_t : slice_get given t ≡ Some n
     at_t = slice_get-set_same crew t n m there
 
-    own_same : (g : ℕ) → own_part (slice_get given g) ≡ own_part (slice_get crew g)
-    own_same g = go (eqb_tells t g)
-      where
-        go : (((t == g) ≡ true) × (t ≡ g)) ⊎ (((t == g) ≡ false) × (t ≢ g)) → own_part (slice_get given g) ≡ own_part (slice_get crew g)
-        go (inl e) = subst (λ z. own_part (slice_get given z) ≡ own_part (slice_get crew z)) e.1 (ap (λ o. own_part o) at_t ∙ ap (λ (l : Local S X). l.own) local_is ∙ sym (ap (λ o. own_part o) there))
-        go (inr e) = ap (λ o. own_part o) (slice_get-set_other crew t g n e.1)
-
-    others_same : (f g : ℕ) → taken_in_part rules f (slice_get given g) ++ addressed rules g (left f) ≡ taken_in_part rules f (slice_get crew g) ++ addressed rules g (outbox f)
-    others_same f g = go (eqb_tells s f) (eqb_tells t g)
-      where
-        Goal : ℕ → ℕ → Type 0
-        Goal f g = taken_in_part rules f (slice_get given g) ++ addressed rules g (left f) ≡ taken_in_part rules f (slice_get crew g) ++ addressed rules g (outbox f)
-
-        taken_at : (f : ℕ) → taken_in_part rules f (slice_get given t) ≡ coming_from rules f m.taken_in ++ cond (rules.from x == f) (x ∷ []) []
-        taken_at f = ap (λ o. taken_in_part rules f o) at_t ∙ ap (λ z. coming_from rules f z) taken_in_is ∙ filter-append (λ y. rules.from y == f) m.taken_in (x ∷ [])
-
-        box_of_s : (g : ℕ) → addressed rules g (outbox s) ≡ cond (rules.to x == g) (x ∷ addressed rules g rest) (addressed rules g rest)
-        box_of_s g = ap (λ z. addressed rules g z) oldest
-
-        both : Goal s t
-        both =
-            ap (λ z. z ++ addressed rules t (left s)) (taken_at s ∙ ap (λ c. coming_from rules s m.taken_in ++ cond c (x ∷ []) []) (eq-eqb (rules.from x) s from_s))
-            ∙ ap (λ c. (coming_from rules s m.taken_in ++ x ∷ []) ++ addressed rules t (cond c rest (outbox s))) (eq-eqb s s refl)
-            ∙ append_assoc (coming_from rules s m.taken_in) (x ∷ []) (addressed rules t rest)
-            ∙ ap (λ z. coming_from rules s m.taken_in ++ z) (sym (box_of_s t ∙ ap (λ c. cond c (x ∷ addressed rules t rest) (addressed rules t rest)) (eq-eqb (rules.to x) t to_t)))
-            ∙ ap (λ o. taken_in_part rules s o ++ addressed rules t (outbox s)) (sym there)
-
-        from_other : (f : ℕ) → s ≢ f → Goal f t
-        from_other f h =
-            ap (λ z. z ++ addressed rules t (left f)) (taken_at f ∙ ap (λ c. coming_from rules f m.taken_in ++ cond c (x ∷ []) []) (ne_eqb (rules.from x) f (λ e. h (sym from_s ∙ e))) ∙ append-nil (coming_from rules f m.taken_in))
-            ∙ ap (λ c. coming_from rules f m.taken_in ++ addressed rules t (cond c rest (outbox f))) (ne_eqb s f h)
-            ∙ ap (λ o. taken_in_part rules f o ++ addressed rules t (outbox f)) (sym there)
-
-        to_other : (g : ℕ) → t ≢ g → Goal s g
-        to_other g h =
-            ap (λ o. taken_in_part rules s o ++ addressed rules g (left s)) (slice_get-set_other crew t g n h)
-            ∙ ap (λ c. taken_in_part rules s (slice_get crew g) ++ addressed rules g (cond c rest (outbox s))) (eq-eqb s s refl)
-            ∙ ap (λ z. taken_in_part rules s (slice_get crew g) ++ z) (sym (box_of_s g ∙ ap (λ c. cond c (x ∷ addressed rules g rest) (addressed rules g rest)) (ne_eqb (rules.to x) g (λ e. h (sym to_t ∙ e)))))
-
-        none : (f g : ℕ) → s ≢ f → t ≢ g → Goal f g
-        none f g h k =
-            ap (λ o. taken_in_part rules f o ++ addressed rules g (left f)) (slice_get-set_other crew t g n k) ∙ ap (λ c. taken_in_part rules f (slice_get crew g) ++ addressed rules g (cond c rest (outbox f))) (ne_eqb s f h)
-
-        go : (((s == f) ≡ true) × (s ≡ f)) ⊎ (((s == f) ≡ false) × (s ≢ f)) → (((t == g) ≡ true) × (t ≡ g)) ⊎ (((t == g) ≡ false) × (t ≢ g)) → Goal f g
-        go (inl c) (inl d) = subst (λ z. Goal z g) c.1 (subst (λ z. Goal s z) d.1 both)
-        go (inl c) (inr d) = subst (λ z. Goal z g) c.1 (to_other g d.1)
-        go (inr c) (inl d) = subst (λ z. Goal f z) d.1 (from_other f c.1)
-        go (inr c) (inr d) = none f g c.1 d.1
-
     -- a delivery leaves the signals on their way as they were
-    pub delivery_keeps_way : on_way rules given left ≡ on_way rules crew outbox
-    delivery_keeps_way =
-        fun_ext (λ f. fun_ext (λ g.
-        ap (λ z. cond (f == g) z (taken_in_part rules f (slice_get given g) ++ addressed rules g (left f))) (own_same g) ∙ ap (λ z. cond (f == g) (own_part (slice_get crew g)) z) (others_same f g)))
+    way_kept : on_way rules given left ≡ on_way rules crew outbox
+    way_kept = delivery_keeps_way rules crew outbox s t apart x rest oldest from_s to_t m there n local_is taken_in_is
 
     acts_same : (g : ℕ) → acts_of (slice_get given g) ≡ acts_of (slice_get crew g)
     acts_same g = go (eqb_tells t g)
@@ -121,7 +68,7 @@ module _ {S X E : Type 0} (rules : Rules S X E) (opening : List S) (crew : List 
     -- and the crew stays lawful
     pub delivery_keeps : IsLawfulWith rules opening given (on_way rules given left)
     delivery_keeps =
-        subst (λ q. IsLawfulWith rules opening given q) (sym delivery_keeps_way)
+        subst (λ q. IsLawfulWith rules opening given q) (sym way_kept)
         (record {
           runs = λ g. run_at g (eqb_tells t g);
           own = λ g. own_at g (eqb_tells t g);
@@ -144,7 +91,7 @@ module _ {S X E : Type 0} (rules : Rules S X E) (opening : List S) (crew : List 
         own_at g (inr e) = subst (λ o. HasOwn (on_way rules crew outbox g g) o) (sym (slice_get-set_other crew t g n e.1)) (lawful.own g)
 
 -- with empty outboxes what is on its way is what is queued at the receivers
-at_rest : {S X E : Type 0} (rules : Rules S X E) (s t : ℕ) (box : List X) → box ≡ [] → (o : Option (Member S X E)) → (if s == t then own_part o else taken_in_part rules s o ++ addressed rules t box) ≡ queued_at rules s t o
+pub at_rest : {S X E : Type 0} (rules : Rules S X E) (s t : ℕ) (box : List X) → box ≡ [] → (o : Option (Member S X E)) → (if s == t then own_part o else taken_in_part rules s o ++ addressed rules t box) ≡ queued_at rules s t o
 at_rest {S} {X} {E} rules s t box e None = rw e (elim (s == t) as (λ c. cond {A = List X} c [] [] ≡ []) [ true ↦ refl | false ↦ refl ])
 at_rest rules s t box e (Some m) =
     rw e (elim (s == t) as (λ c. cond c m.local.own (coming_from rules s m.taken_in ++ []) ≡ cond c m.local.own (coming_from rules s m.taken_in)) [ true ↦ refl | false ↦ append-nil (coming_from rules s m.taken_in) ])

@@ -17,7 +17,7 @@ use Rattle.sig_runs.proofs.Steps.{act_sends, act_stamp}
 
 module _ {S X E : Type 0} (rules : Rules S X E) (stamped : KeepStamps rules) where
   -- no signal of the list is above the last stamp of the state
-  abbrev OwnLow : S → List X → Type 0
+  abbrev pub OwnLow : S → List X → Type 0
   OwnLow s own = All (λ x. rules.stamp x ≤ rules.last s) own
 
   own_left_low : (p : ℕ) (s : S) (i : Input X) (own : List X) → OwnLow s own → OwnLow s (own_left rules p i own)
@@ -84,7 +84,8 @@ module _ {S X E : Type 0} (rules : Rules S X E) (stamped : KeepStamps rules) whe
             absurd cc
 
   module _ (cuts : CutsHigh rules) where
-    quiet_at_rest : (m : Machine S X) (p : ℕ) (n : Member S X E) → ((s : ℕ) → m.queued s p ≡ queued_at rules s p (Some n)) → OwnLow n.local.state n.local.own → IsQuiet rules p n → IsAtRest rules m p n.local.state
+    -- a process that can do nothing is at rest
+    pub quiet_at_rest : (m : Machine S X) (p : ℕ) (n : Member S X E) → ((s : ℕ) → m.queued s p ≡ queued_at rules s p (Some n)) → OwnLow n.local.state n.local.own → IsQuiet rules p n → IsAtRest rules m p n.local.state
     quiet_at_rest m p n q low quiet = go (rules.is_cut n.local.state) refl
       where
         go : (b : Bool) → rules.is_cut n.local.state ≡ b → IsAtRest rules m p n.local.state

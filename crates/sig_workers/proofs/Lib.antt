@@ -1,3 +1,2 @@
 pub mod RunLemmas
 pub mod RoomLemmas
-pub mod ClearLemmas

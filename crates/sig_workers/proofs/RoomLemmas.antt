@@ -14,6 +14,7 @@ use Rattle.sig_model.specs.Finishing.{finished_exec}
 use Rattle.sig_model.specs.Machine.{execution, handling_of}
 use Rattle.sig_model.specs.Running.{Running, posted, all_posted, advanced, can_exec, can_handle, exec_next, next_of, is_early, handled_one, handled_first, handle_next}
 use Rattle.sig_model.specs.OneWorker.{or_stay, handle_all, exec_or_stay, visited, arrived, deliver_to, deliver_all, settled_visit, visit_at, visit, events_at, has_moved}
+use Rattle.sig_model.proofs.CountLemmas.{events_get, delivered_events}
 use Rattle.sig_workers.specs.Room.{room_of, room}
 
 -- t has no more room than r, and less where it has other events
@@ -160,22 +161,10 @@ visited_later r =
     (later_trans one two (exec_or_stay two) (all_later (length r.taken_in) one) (stay_later (exec_next two) two refl))
 
 -- lists of processes
-events_set : (xs : List Running) (i : ℕ) (r x : Running) (at : ℕ) → slice_get xs i ≡ Some r → length r.events ≡ length x.events → events_at at (set xs i x) ≡ events_at at xs
-events_set [] i r x at e h = cc
-events_set (y ∷ ys) zero r x zero e h = let same : r ≡ y = cc in sym h ∙ ap (λ (z : Running). length z.events) same
-events_set (y ∷ ys) zero r x (suc at) e h = refl
-events_set (y ∷ ys) (suc i) r x zero e h = refl
-events_set (y ∷ ys) (suc i) r x (suc at) e h = events_set ys i r x at e h
-
 get_set : (xs : List Running) (i : ℕ) (r x : Running) → slice_get xs i ≡ Some r → slice_get (set xs i x) i ≡ Some x
 get_set [] i r x e = cc
 get_set (y ∷ ys) zero r x e = refl
 get_set (y ∷ ys) (suc i) r x e = get_set ys i r x e
-
-events_get : (xs : List Running) (i : ℕ) (r : Running) → slice_get xs i ≡ Some r → events_at i xs ≡ length r.events
-events_get [] i r e = cc
-events_get (y ∷ ys) zero r e = let same : y ≡ r = cc in ap (λ (z : Running). length z.events) same
-events_get (y ∷ ys) (suc i) r e = events_get ys i r e
 
 room_set : (xs : List Running) (i : ℕ) (r x : Running) → slice_get xs i ≡ Some r → room (set xs i x) + room_of r ≡ room xs + room_of x
 room_set xs i r x e =
@@ -185,21 +174,11 @@ one_room : (o : Option Running) (x : Signal) (xs : List Running) → slice_get x
 one_room None x xs e = refl
 one_room (Some r) x xs e = omega (arith, room_set xs x.to.0 r (arrived r x) e)
 
-one_events : (o : Option Running) (x : Signal) (xs : List Running) (at : ℕ) → slice_get xs x.to.0 ≡ o → events_at at (deliver_to o x xs) ≡ events_at at xs
-one_events None x xs at e = refl
-one_events (Some r) x xs at e = events_set xs x.to.0 r (arrived r x) at e refl
-
 delivered_room : (signals : List Signal) (xs : List Running) → room (deliver_all signals xs) ≡ room xs
 unfolding deliver_all
 delivered_room [] xs = refl
 delivered_room (x ∷ signals) xs =
     delivered_room signals (deliver_to (slice_get xs x.to.0) x xs) ∙ one_room (slice_get xs x.to.0) x xs refl
-
-delivered_events : (signals : List Signal) (xs : List Running) (at : ℕ) → events_at at (deliver_all signals xs) ≡ events_at at xs
-unfolding deliver_all
-delivered_events [] xs at = refl
-delivered_events (x ∷ signals) xs at =
-    delivered_events signals (deliver_to (slice_get xs x.to.0) x xs) at ∙ one_events (slice_get xs x.to.0) x xs at refl
 
 -- no more room than before, and less where the process had an event
 pub record IsFalling (at : ℕ) (before after : List Running) : Type 0 where

@@ -3,7 +3,7 @@ use Rattle.std.proofs.lemmas.Grind.{common_steps}
 use Rattle.sig_workers.specs.Room.{room}
 use Rattle.sig_workers.proofs.RunLemmas.{pass_goes, pass_ends}
 use Rattle.sig_workers.proofs.RoomLemmas.{pass_falls}
-use Rattle.sig_workers.proofs.ClearLemmas.{one_visit_clear}
+use Rattle.sig_model.proofs.ClearLemmas.{one_visit_clear}
 use Rattle.sig_workers.proofs.one_worker.pass_all.Goals as goal
 
 pub loop-at-preserved : goal.loop-at-preserved

@@ -1,10 +1,10 @@
 -- A run leaves no signal in an outbox.
-use Rattle.std.proofs.Common.{◌≡◌, ℕ, zero, suc, ◌+◌, List, [], ◌∷◌, Bool, Option, Some, None, refl, subst, ap, sym, slice_get, set, ◌||◌}
+use Rattle.std.proofs.Common.{◌≡◌, ℕ, List, [], ◌∷◌, Option, Some, None, refl, subst, sym, slice_get, set}
 use Rattle.std.proofs.lemmas.List.Elements.{All-set}
 use Rattle.std.proofs.lemmas.Option.{slice_get_within, get_or_from_slice_get}
 use Rattle.sig_kinds.specs.declared.signal.Signal.{Signal}
 use Rattle.sig_model.specs.Running.{Running}
-use Rattle.sig_model.specs.OneWorker.{IsClear, arrived, deliver_to, deliver_all, visited, visit_at, visit, has_moved, pass_from, pass}
+use Rattle.sig_model.specs.OneWorker.{IsClear, arrived, deliver_to, deliver_all, visited, visit_at, visit}
 
 abbrev HasNone : Running → Type 0
 HasNone r = r.outbox ≡ []
@@ -28,7 +28,7 @@ visit_case i (Some r) xs clear =
     let v : Running = visited r in
     all_clear v.outbox (set xs i (record v { outbox = [] })) (All-set HasNone xs i (record v { outbox = [] }) refl clear)
 
-visit_clear : (i : ℕ) (xs : List Running) → IsClear xs → IsClear (visit i xs)
+pub visit_clear : (i : ℕ) (xs : List Running) → IsClear xs → IsClear (visit i xs)
 unfolding visit
 visit_clear i xs clear = visit_case i (slice_get xs i) xs clear
 

@@ -1,0 +1,181 @@
+-- The run of one worker is a settled run of the machine.
+use Rattle.std.proofs.Common.{◌≡◌, ℕ, suc, ◌≤◌, ◌^◌, ◌⊎◌, inl, inr, List, [], ◌∷◌, ◌++◌, map, length, Bool, true, false, cond, not, ◌&&◌, ◌||◌, Option, Some, None, refl, sym, ap, ◌∙◌, subst, append_assoc, arith, nat_le, is_none, is_some}
+use Rattle.std.specs.Prelude.{All, ◌==◌, slice_get}
+use Rattle.std.specs.Option.{option_map}
+use Rattle.std.proofs.lemmas.Bool.{ne_eqb}
+use Rattle.std.proofs.lemmas.Bool.Decides.{nat_tests}
+use Rattle.std.proofs.lemmas.List.{append-nil}
+use Rattle.std.proofs.lemmas.Option.{slice_get-map, slice_get_within, same_Some}
+use Rattle.sig_kinds.specs.declared.signal.Signal.{Signal}
+use Rattle.sig_runs.specs.Rules.{Effect}
+use Rattle.sig_runs.specs.Machine.{At, is_empty}
+use Rattle.sig_runs.specs.Settled.{IsAtRest, IsSettled}
+use Rattle.sig_runs.specs.Quiet.{IsQuiet, CutsHigh, next_signal, is_low}
+use Rattle.sig_runs.specs.Quiet.{can_handle as may_handle, can_exec as may_exec}
+use Rattle.sig_runs.specs.Crew.{queued_at}
+use Rattle.sig_runs.proofs.Delivery.{at_rest}
+use Rattle.sig_runs.proofs.Quiet.{quiet_at_rest}
+use Rattle.sig_script.specs.Scripts.{Program}
+use Rattle.sig_model.specs.declared.event.Event.{Event}
+use Rattle.sig_model.specs.ProcessState.{ProcessState, is_cut}
+use Rattle.sig_model.specs.Machine.{rules_of, execution, execution_of}
+use Rattle.sig_model.specs.Running.{Running, advanced, next_of, is_early, can_handle, can_exec, exec_next}
+use Rattle.sig_model.specs.OneWorker.{RunsTo, rests, goes, pass, opened_crew}
+use Rattle.sig_model.specs.SettledRun.{IsMachineOf, IsSettledRun}
+use Rattle.sig_model.specs.MadeEvents.{made_in_pass, Makes}
+use Rattle.sig_model.specs.MadeEvents.{none, passes}
+use Rattle.sig_model.proofs.StampLemmas.{stamps_kept}
+use Rattle.sig_model.proofs.EventLemmas.{member_of, IsKept}
+use Rattle.sig_model.proofs.CrewLemmas.{Mate, members, at_member}
+use Rattle.sig_model.proofs.ReachLemmas.{IsReached, IsResting, rest_pass}
+use Rattle.sig_model.proofs.StillLemmas.{IsStill, still_pass}
+use Rattle.sig_model.proofs.OpeningLemmas.{opening_resting}
+
+is_high : (turns : ℕ) (s : ProcessState) → 2 ^ 62 ≤ s.stamp → is_cut turns s ≡ true
+is_high turns s h = or_high (is_none s.end && nat_le turns s.executed) (nat_le 4611686018427387904 s.stamp) (reaches 4611686018427387904 s.stamp h)
+  where
+    or_high : (a b : Bool) → b ≡ true → (a || b) ≡ true
+    or_high true b h = refl
+    or_high false b h = h
+
+    reaches : (a b : ℕ) → a ≤ b → nat_le a b ≡ true
+    reaches a b h = grind (arith, nat_tests)
+
+module _ (script : Program) where
+  cuts_high : CutsHigh (rules_of script)
+  unfolding rules_of
+  cuts_high s h = is_high script.turns s h
+
+  same_next : (own taken : List Signal) → is_low (rules_of script) (next_signal own taken) ≡ is_early (next_of own taken)
+  unfolding rules_of
+  same_next (x ∷ own) taken = refl
+  same_next [] (x ∷ taken) = refl
+  same_next [] [] = refl
+
+  same_empty : (own : List Signal) → is_empty own ≡ (length own == 0)
+  same_empty [] = refl
+  same_empty (x ∷ own) = sym (ne_eqb (suc (length own)) 0 (λ e. let f : ⊥ = omega (arith, e) in f))
+
+  same_alive : {A : Type 0} (o : Option A) → not (is_some o) ≡ is_none o
+  same_alive None = refl
+  same_alive (Some x) = refl
+
+  and_assoc : (a b c : Bool) → (a && (b && c)) ≡ (a && b && c)
+  and_assoc true b c = refl
+  and_assoc false b c = refl
+
+  module _ (p : ℕ) (r : Running) (k : IsKept script p r) (s : IsStill r) where
+    same_cut : (rules_of script).is_cut r.state ≡ is_cut r.turns r.state
+    unfolding rules_of
+    same_cut = ap (λ n. is_cut n r.state) (sym k.process.turns)
+
+    no_handle : may_handle (rules_of script) (member_of r) ≡ false
+    unfolding can_handle
+    no_handle = ap (λ c. not c && is_low (rules_of script) (next_signal r.own r.taken_in)) same_cut ∙ ap (λ b. not (is_cut r.turns r.state) && b) (same_next r.own r.taken_in) ∙ s.handle
+
+    same_exec : may_exec (rules_of script) (member_of r) ≡ can_exec r
+    unfolding rules_of can_exec
+    same_exec =
+        ap (λ c. not (is_some r.state.end) && (not c && is_empty r.own)) same_cut
+        ∙ ap (λ b. not (is_some r.state.end) && (not (is_cut r.turns r.state) && b)) (same_empty r.own)
+        ∙ ap (λ a. a && (not (is_cut r.turns r.state) && length r.own == 0)) (same_alive r.state.end)
+        ∙ and_assoc (is_none r.state.end) (not (is_cut r.turns r.state)) (length r.own == 0)
+
+    no_effect : (o : Option (Effect ProcessState Signal Event)) → option_map (advanced r) o ≡ None → o ≡ None
+    no_effect None h = refl
+    no_effect (Some e) h = cc
+
+    executes : (rules_of script).exec p r.state ≡ execution r.pid r.proc r.state
+    unfolding rules_of
+    executes = ap (λ o. execution_of p o r.state) k.process.proc ∙ ap (λ q. execution q r.proc r.state) (sym k.process.pid)
+
+    exec_case : (b : Bool) → can_exec r ≡ b → cond b (option_map (advanced r) (execution r.pid r.proc r.state)) None ≡ None →
+        (may_exec (rules_of script) (member_of r) ≡ false) ⊎ ((rules_of script).exec p r.state ≡ None)
+    exec_case true h e = inr (executes ∙ no_effect (execution r.pid r.proc r.state) e)
+    exec_case false h e = inl (same_exec ∙ h)
+
+    no_exec : (may_exec (rules_of script) (member_of r) ≡ false) ⊎ ((rules_of script).exec p r.state ≡ None)
+    unfolding exec_next
+    no_exec = exec_case (can_exec r) refl s.exec
+
+    -- it can do nothing as the machine's process either
+    quiet : IsQuiet (rules_of script) p (member_of r)
+    unfolding rules_of
+    quiet = record { no_handle = no_handle; no_exec = no_exec; from_others = k.others }
+
+  low : (p : ℕ) (r : Running) → IsKept script p r → All (λ (x : Signal). (rules_of script).stamp x ≤ (rules_of script).last r.state) r.own
+  unfolding rules_of
+  low p r k = k.own_low
+
+  same_states : (crew : List Running) → map (λ (n : Mate). n.local.state) (members crew) ≡ map (λ (r : Running). r.state) crew
+  same_states [] = refl
+  same_states (r ∷ rs) = ap (λ z. r.state ∷ z) (same_states rs)
+
+  module _ (crew : List Running) (es : List (At Event)) (g : IsReached script (λ q. []) crew es) where
+    -- the machine's lists at a process are what waits for it
+    waiting : (s p : ℕ) (r : Running) → slice_get crew p ≡ Some r → g.machine.queued s p ≡ queued_at (rules_of script) s p (Some (member_of r))
+    waiting s p r there =
+        let here : slice_get (members crew) p ≡ Some (member_of r) = at_member crew p r there in
+        g.at_work.queued s p (slice_get_within (members crew) p (member_of r) here)
+        ∙ at_rest (rules_of script) s p [] refl (slice_get (members crew) p)
+        ∙ ap (λ o. queued_at (rules_of script) s p o) here
+
+    shown : IsMachineOf crew g.machine
+    unfolding rules_of
+    shown = record { states = g.at_work.states ∙ same_states crew; queued = waiting }
+
+    state_of : (p : ℕ) (o : Option Running) (s : ProcessState) → slice_get crew p ≡ o → option_map (λ (r : Running). r.state) o ≡ Some s → ((q : ℕ) (r : Running) → slice_get crew q ≡ Some r → IsStill r) → IsAtRest (rules_of script) g.machine p s
+    state_of p None s there e still = cc
+    state_of p (Some r) s there e still =
+        subst (λ z. IsAtRest (rules_of script) g.machine p z) (same_Some r.state s e)
+        (quiet_at_rest (rules_of script) (stamps_kept script) cuts_high g.machine p (member_of r) (λ f. waiting f p r there) (low p r (g.kept p r there)) (quiet p r (g.kept p r there) (still p r there)))
+
+    settled : ((q : ℕ) (r : Running) → slice_get crew q ≡ Some r → IsStill r) → IsSettled (rules_of script) g.machine
+    settled still p s at = state_of p (slice_get crew p) s refl (sym (slice_get-map (λ (r : Running). r.state) crew p) ∙ ap (λ xs. slice_get xs p) (sym shown.states) ∙ at) still
+
+  -- these events have led to a crew in which no process can go on
+  record HasEnded (crew last : List Running) (es : List (At Event)) : Type 0 where
+    later : List (At Event)
+    made : Makes crew later
+    reached : IsReached script (λ q. []) last (es ++ later)
+    still : (q : ℕ) (r : Running) → slice_get last q ≡ Some r → IsStill r
+
+  run_ends : (crew last : List Running) (es : List (At Event)) → RunsTo crew last → IsResting script crew es → HasEnded crew last es
+  run_ends _ _ es (rests crew h) g =
+      let s : ((pass crew).0 ≡ crew) × ((q : ℕ) (r : Running) → 0 ≤ q → slice_get crew q ≡ Some r → IsStill r) = still_pass script (length crew) 0 false crew es g (omega arith) h in
+      record {
+        later = [];
+        made = none crew h;
+        reached = subst (λ xs. IsReached script (λ q. []) xs (es ++ [])) (sym s.0) (subst (λ xs. IsReached script (λ q. []) crew xs) (sym (append-nil es)) g.reached);
+        still = λ q r e. s.1 q r (omega arith) (subst (λ xs. slice_get xs q ≡ Some r) s.0 e);
+      }
+  run_ends _ last es (goes crew _ h more) g =
+      let made : List (At Event) = made_in_pass (length crew) 0 crew in
+      let rest : HasEnded (pass crew).0 last (es ++ made) = run_ends (pass crew).0 last (es ++ made) more (rest_pass script (length crew) 0 false crew es g) in
+      record {
+        later = made ++ rest.later;
+        made = passes crew rest.later h rest.made;
+        reached = subst (λ xs. IsReached script (λ q. []) last xs) (append_assoc es made rest.later) rest.reached;
+        still = rest.still;
+      }
+
+  module _ (last : List Running) (e : HasEnded (opened_crew script) last []) where
+    abbrev settled_run : IsSettledRun script last
+    settled_run = record {
+      events = e.later;
+      machine = e.reached.machine;
+      run = e.reached.run;
+      shown = shown last e.later e.reached;
+      processes = λ p r there. (e.reached.kept p r there).process;
+      told = e.reached.told;
+      settled = settled last e.later e.reached e.still;
+    }
+
+  -- the run of one worker is a settled run of the script's machine, with the events in the order of the passes
+  pub one_worker_made : (last : List Running) → RunsTo (opened_crew script) last → (run : IsSettledRun script last) × Makes (opened_crew script) run.events
+  one_worker_made last h =
+      let e : HasEnded (opened_crew script) last [] = run_ends (opened_crew script) last [] h (opening_resting script) in
+      (settled_run last e, e.made)
+
+  pub one_worker_settled : (last : List Running) → RunsTo (opened_crew script) last → IsSettledRun script last
+  one_worker_settled last h = (one_worker_made last h).0
