@@ -1,4 +1,4 @@
-use Rattle.std.proofs.Common.{◌≡◌, ◌+◌, ◌*◌, ◌≤◌, sym, ◌∙◌, arith, length}
+use Rattle.std.proofs.Common.{sym, ◌∙◌, arith}
 use Rattle.sig_process.proofs.ScanLemmas.{scan_goes, scan_finds, scan_ends}
 use Rattle.sig_process.proofs.executing.find_message.Goals as goal
 
