@@ -1,10 +1,9 @@
 -- A source that has more bytes than a script may have spells none.
-use Rattle.std.proofs.Common.{◌≡◌, ℕ, ◌+◌, ◌<◌, List, ◌++◌, length, length-append, Bool, true, false, Option, Some, None, refl, ap, arith}
-use Rattle.std.specs.Prelude.{nat_le, IfSome, IsErr}
+use Rattle.std.proofs.Common.{◌≡◌, ℕ, ◌+◌, ◌<◌, List, length, length-append, false, Option, Some, None, refl, ap, arith}
+use Rattle.std.specs.Prelude.{nat_le, IfSome}
 use Rattle.std.proofs.lemmas.Bool.Decides.{nat_tests}
 use Rattle.sig_base.specs.Flow.{Took}
-use Rattle.sig_script.specs.Grammar.{script_of, script_of_lines}
-use Rattle.sig_script.specs.Lines.{lines_of}
+use Rattle.sig_script.specs.Grammar.{script_of}
 use Rattle.sig_host.specs.Answers.{IsRefused}
 
 above : (n : ℕ) → 1048576 < n → nat_le n 1048576 ≡ false

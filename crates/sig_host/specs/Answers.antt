@@ -1,5 +1,5 @@
 -- What each answer of a run says of the bytes that were read and written.
-use Rattle.std.specs.Prelude.{◌≡◌, ℕ, ◌<◌, List, take, Option, Some, None, IfSome, Result, Ok, Err, IsErr}
+use Rattle.std.specs.Prelude.{◌≡◌, ℕ, ◌<◌, List, take, Option, IfSome, Result, Ok, Err, IsErr}
 use Rattle.sig_base.specs.Flow.{Rose, Adds}
 use Rattle.sig_script.specs.declared.fault.FaultKind.TheVariants.{Syntax}
 use Rattle.sig_script.specs.Scripts.{Program}

@@ -1,11 +1,9 @@
 -- What it means that an instruction may be executed, and what its execution leads to.
-use Rattle.std.proofs.Common.{◌≡◌, ℕ, ◌<◌, List, [], Bool, true, false, not, ◌&&◌, ◌||◌, Option, Some, None, is_none, refl, ◌∙◌, ap, arith}
+use Rattle.std.proofs.Common.{◌≡◌, ℕ, ◌<◌, Bool, true, false, not, ◌&&◌, ◌||◌, Option, Some, None, is_none, refl, arith}
 use Rattle.std.specs.Prelude.{nat_le, length, ◌==◌}
 use Rattle.std.specs.Option.{option_map}
 use Rattle.std.proofs.lemmas.Bool.Decides.{nat_tests}
-use Rattle.sig_terms.specs.declared.term.Term.{Term}
 use Rattle.sig_model.specs.Bodies.{Body}
-use Rattle.sig_model.specs.ProcessState.{is_cut}
 use Rattle.sig_model.specs.Executing.{executing}
 use Rattle.sig_model.specs.Finishing.{finished_exec}
 use Rattle.sig_model.specs.Running.{Running, advanced, can_exec, exec_next}

@@ -1,5 +1,5 @@
 -- What a handling leads to.
-use Rattle.std.specs.Prelude.{ℕ, ◌+◌, max, List, [], ◌∷◌, ◌++◌}
+use Rattle.std.specs.Prelude.{◌+◌, max, [], ◌∷◌, ◌++◌}
 use Rattle.sig_kinds.specs.declared.signal.Signal.{Signal}
 use Rattle.sig_model.specs.declared.event.Did.TheVariants as did
 use Rattle.sig_model.specs.declared.event.Outcome.{Outcome}

@@ -1,5 +1,5 @@
 -- The text of a record: one line for each fact. A record has one text.
-use Rattle.std.specs.Prelude.{ℕ, List, [], ◌++◌, codes, decimal}
+use Rattle.std.specs.Prelude.{ℕ, List, ◌++◌, codes, decimal}
 use Rattle.std.specs.List.{flat_map}
 use Rattle.sig_terms.specs.TermText.{term_text}
 use Rattle.sig_kinds.specs.declared.signal.Kind.{Kind}

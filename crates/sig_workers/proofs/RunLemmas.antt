@@ -1,5 +1,5 @@
 -- The run of one worker, step by step.
-use Rattle.std.proofs.Common.{◌≡◌, ℕ, zero, suc, ◌+◌, ◌-◌, ◌<◌, ◌≤◌, List, Bool, true, false, Option, Some, None, refl, sym, ◌∙◌, ap, subst, arith, ◌||◌}
+use Rattle.std.proofs.Common.{◌≡◌, ℕ, zero, suc, ◌+◌, ◌-◌, ◌<◌, ◌≤◌, List, Bool, true, false, Some, None, refl, sym, ◌∙◌, ap, subst, arith, ◌||◌}
 use Rattle.sig_model.specs.Running.{Running, can_exec, can_handle, exec_next, handle_next}
 use Rattle.sig_model.specs.OneWorker.{handle_all, exec_or_stay, visit, has_moved, pass_from, pass, RunsTo, rests, goes}
 

@@ -1,4 +1,4 @@
-use Rattle.std.proofs.Common.{◌≡◌, ◌∙◌, ap, sym, List, ◌++◌, ◌+◌, drop}
+use Rattle.std.proofs.Common.{◌∙◌, ap, sym, List, ◌++◌, ◌+◌, drop}
 use Rattle.std.specs.Prelude.{filter}
 use Rattle.sig_kinds.specs.declared.signal.Signal.{Signal}
 use Rattle.sig_record.specs.RecordOf.{is_from}

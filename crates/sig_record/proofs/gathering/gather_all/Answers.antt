@@ -1,7 +1,6 @@
-use Rattle.std.proofs.Common.{◌≡◌, ◌∙◌, ap, [], ◌∷◌, ◌++◌, List, subst, map, length}
+use Rattle.std.proofs.Common.{◌≡◌, []}
 use Rattle.std.proofs.lemmas.Grind.{common_steps}
 use Rattle.std.proofs.Common.{arith}
-use Rattle.std.specs.Prelude.{All}
 use Rattle.sig_model.specs.Running.{Running}
 use Rattle.sig_record.proofs.Lists.{all_later}
 use Rattle.sig_record.proofs.gathering.gather_all.Goals as goal

@@ -1,4 +1,4 @@
-use Rattle.std.proofs.Common.{◌≡◌, ◌∙◌, ap, sym, List, ℕ, ◌++◌, ◌+◌, drop}
+use Rattle.std.proofs.Common.{◌∙◌, ap, sym, List, ℕ, ◌++◌, ◌+◌, drop}
 use Rattle.std.specs.List.{flat_map}
 use Rattle.sig_record.specs.RecordText.{queued_text}
 use Rattle.sig_record.proofs.Lists.{flat_map_at}

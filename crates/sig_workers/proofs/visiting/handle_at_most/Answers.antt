@@ -1,4 +1,4 @@
-use Rattle.std.proofs.Common.{◌≡◌, ◌-◌, sym, ◌∙◌, arith}
+use Rattle.std.proofs.Common.{◌-◌, sym, ◌∙◌, arith}
 use Rattle.sig_workers.proofs.RunLemmas.{handle_refused, handle_stops, handle_none, turn_goes}
 use Rattle.sig_workers.proofs.visiting.handle_at_most.Goals as goal
 

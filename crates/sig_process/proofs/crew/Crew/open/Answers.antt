@@ -1,5 +1,4 @@
-use Rattle.std.proofs.Common.{◌≡◌, ◌++◌, [], ◌∷◌, sym, ◌∙◌, ap, subst, arith, List, length, drop, ◌<◌}
-use Rattle.sig_model.specs.Running.{Running}
+use Rattle.std.proofs.Common.{◌≡◌, ◌++◌, sym, ◌∙◌, ap, subst, arith, List, length, ◌<◌}
 use Rattle.sig_model.specs.OneWorker.{opened_from, IsClear}
 use Rattle.std.proofs.lemmas.List.{drop_all}
 use Rattle.std.proofs.Common.{append-nil, ◌≤◌}
