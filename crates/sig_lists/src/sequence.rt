@@ -41,6 +41,13 @@ impl<T> Sequence<T> {
         Sequence { items }
     }
 
+    /// The items of the list.
+    pub fn into_vec(self) -> Vec<T>
+        ensures { result.items ≡ self }
+    {
+        self.items
+    }
+
     /// How many items there are.
     pub fn len(&self) -> usize
         ensures { result ≡ length self.now }

@@ -1,5 +1,5 @@
 -- What a matcher binds against the first places: the words of the proof that the walk without bindings is the match.
-use Rattle.std.proofs.Common.{◌≡◌, ℕ, Bool, true, false, ◌&&◌, cond, List, [], ◌∷◌, refl, sym, ap, subst, ◌∙◌, Option, Some, None, option_and_then}
+use Rattle.std.proofs.Common.{◌≡◌, ℕ, Bool, true, false, ◌&&◌, cond, List, refl, sym, ap, ◌∙◌, Option, Some, None, option_and_then}
 use Rattle.std.specs.Option.{option_or}
 use Rattle.sig_terms.specs.TermTest.{same_term}
 use Rattle.sig_terms.specs.declared.term.Term.{Term}

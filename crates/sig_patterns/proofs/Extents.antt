@@ -1,5 +1,5 @@
 -- The nodes and the depth of the value of an expression, by its cases.
-use Rattle.std.proofs.Common.{◌≡◌, ℕ, ℤ, ◌+◌, ◌-◌, ◌^◌, min, List, map, sum, arith, sym, ap, ◌∙◌, refl}
+use Rattle.std.proofs.Common.{◌≡◌, ℕ, ℤ, ◌+◌, ◌-◌, ◌^◌, min, List, map, sum, arith, sym, ap, ◌∙◌}
 use Rattle.sig_terms.specs.Nodes.{node_count, depth_of, greatest, count_step, depth_step}
 use Rattle.sig_terms.specs.declared.pid.Pid.{Pid}
 use Rattle.sig_terms.specs.declared.term.Term.{Term}

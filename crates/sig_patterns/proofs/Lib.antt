@@ -5,3 +5,4 @@ pub mod Bindings
 pub mod Walks
 pub mod Settings
 pub mod Extents
+pub mod Examples

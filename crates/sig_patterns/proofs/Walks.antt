@@ -8,7 +8,7 @@ use Rattle.std.specs.Str.{bytes_eq}
 use Rattle.sig_terms.specs.TermTest.{same_term}
 use Rattle.sig_terms.specs.declared.term.Term.{Term}
 use Rattle.sig_terms.specs.declared.term.Term.TheVariants as term
-use Rattle.sig_patterns.specs.declared.pattern.Pattern.{Pattern, out-Pattern, roll-Pattern, map-Pattern}
+use Rattle.sig_patterns.specs.declared.pattern.Pattern.{Pattern, roll-Pattern, map-Pattern}
 use Rattle.sig_patterns.specs.declared.pattern.Pattern.TheOpen.{Pattern-F}
 use Rattle.sig_patterns.specs.declared.pattern.Pattern.TheOpen as pattern
 use Rattle.sig_patterns.specs.declared.pattern.Pattern.TheFolds.{fold-roll-Pattern, ind-Pattern}
@@ -105,8 +105,8 @@ module _ (env : Environment) where
       let f : Places = first_in e.0 t in
       let h : Places = first_cons (map first_in (patterns es)) (first_in q.0) ts in
       let same : (x : List ℕ) → option_or (f x) (h x) ≡ first_cons (map first_in (patterns (e ∷ es))) (first_in q.0) (t ∷ ts) x =
-          λ x. sym (or_assoc (f x) (first_each (map first_in (patterns es)) ts x) (first_tail (length (map first_in (patterns es))) (first_in q.0) ts x))
-              ∙ ap (option_or (first_each (map first_in (patterns (e ∷ es))) (t ∷ ts) x)) (tail_later (length (map first_in (patterns es))) (first_in q.0) t ts x) in
+      λ x. sym (or_assoc (f x) (first_each (map first_in (patterns es)) ts x) (first_tail (length (map first_in (patterns es))) (first_in q.0) ts x))
+      ∙ ap (option_or (first_each (map first_in (patterns (e ∷ es))) (t ∷ ts) x)) (tail_later (length (map first_in (patterns es))) (first_in q.0) t ts x) in
       let cover : Covers g bound (λ x. option_or (f x) (h x)) = covers_along g bound _ _ (λ x. sym (same x)) c in
       goes_along _ bound (λ x. option_or (f x) (h x)) _ _ _ same
       (sym (cons_more _ _ (fits env g e.0 t) _ _))
@@ -129,7 +129,7 @@ module _ (env : Environment) where
 
   cons_of : (es : Walks) (q : (p : Pattern) × IsWalk p) (o : Option (List Term)) (bound : Bindings) (g : Places) → Covers g bound (λ x. option_and_then (λ ts. first_cons (map first_in (patterns es)) (first_in q.0) ts x) o)
       → Goes (option_and_then (λ ts. match_cons (map (matching env) (patterns es)) (matching env q.0) ts bound) o) bound (λ x. option_and_then (λ ts. first_cons (map first_in (patterns es)) (first_in q.0) ts x) o)
-          (option_map_or (fits_cons (map (fits env g) (patterns es)) (fits env g q.0)) o false)
+      (option_map_or (fits_cons (map (fits env g) (patterns es)) (fits env g q.0)) o false)
   cons_of es q None bound g c = refl
   cons_of es q (Some ts) bound g c = cons es q ts bound g c
 

@@ -1,6 +1,6 @@
 -- What an expression builds (Erlang Reference Manual, Expressions, Terms and Variables), and which values are built: those
 -- of at most 1024 nodes and of a depth of at most 64 (this project's own).
-use Rattle.std.specs.Prelude.{◌≡◌, ℕ, ◌-◌, ◌^◌, Bool, true, false, ◌&&◌, nat_le, min}
+use Rattle.std.specs.Prelude.{◌≡◌, ◌-◌, ◌^◌, Bool, true, false, ◌&&◌, nat_le, min}
 use Rattle.sig_terms.specs.Nodes.{node_count, depth_of}
 use Rattle.sig_terms.specs.declared.term.Term.{Term}
 use Rattle.sig_terms.specs.declared.term.Term.TheVariants as term

@@ -1,6 +1,6 @@
 -- Whether a pattern matches a term, and what it binds (Erlang Reference Manual, Pattern Matching; Expressions, Receive).
 -- The variables of a pattern are bound from the left to the right.
-use Rattle.std.specs.Prelude.{ℕ, List, [], ◌∷◌, Bool, true, false, if◌then◌else◌, Option, Some, None, option_and_then}
+use Rattle.std.specs.Prelude.{ℕ, List, [], ◌∷◌, if◌then◌else◌, Option, Some, None, option_and_then}
 use Rattle.std.specs.Option.{option_map}
 use Rattle.std.specs.Str.{bytes_eq}
 use Rattle.std.specs.Map.{lookup}

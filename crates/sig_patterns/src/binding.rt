@@ -64,8 +64,11 @@ fn set_all(
     }
 }
 
-/// Binds the pattern's variables: the environment becomes the match's. Where memory is refused, some
-/// of the pattern's variables may be bound and others not; all other variables are as before.
+/// Binds the variables of a pattern that matches: the environment becomes the match's.
+/// (Erlang Reference Manual, Pattern Matching.)
+///
+/// `AllocError` comes only where memory is refused. Some of the pattern's variables may then be bound
+/// and others not, so the environment is not to be used further.
 pub fn bind_match(
     alloc: Global,
     pattern: &Pattern,

@@ -93,6 +93,10 @@ fn make(alloc: Global, expression: &Expr, env: &Env) -> Result<Term, AllocError>
 
 /// The value of the expression. It is measured first, so that nothing too large is begun: the
 /// measure takes the time of the expression's nodes and of the values of its variables.
+/// (Erlang Reference Manual, Expressions, Terms and Variables.)
+///
+/// - [`BuildFault::TooLarge`]: the value has more than 1024 nodes or a depth past 64.
+/// - [`BuildFault::Memory`]: it has not, and memory was refused.
 pub fn build(alloc: Global, expression: &Expr, env: &Env) -> Result<Term, BuildFault>
     ensures value { IfOk result (λ t. t ≡ value_of env.now expression.now) }
     ensures small { OnOk result (is_small (value_of env.now expression.now) ≡ true) }

@@ -74,11 +74,12 @@ fn fits(pattern: &Pattern, seen: Seen<'_>, whole: Against<'_>) -> bool
         Pattern::Atom(atom) => seen.is_atom(atom.bytes()),
         Pattern::Pid(pid) => seen.is_pid(*pid),
         Pattern::Tuple(patterns) => match seen.tuple_items() {
-            Some(terms) => patterns.len() == terms.len() && each_fits(patterns.as_slice(), terms, whole),
+            Some(terms) => patterns.len() == terms.len()
+                && each_fits(patterns.as_slice(), terms, whole),
             None => false,
         },
-        Pattern::List(patterns) => match seen.list_items() {
-            Some(terms) => patterns.len() == terms.len() && each_fits(patterns.as_slice(), terms, whole),
+        Pattern::List(items) => match seen.list_items() {
+            Some(terms) => items.len() == terms.len() && each_fits(items.as_slice(), terms, whole),
             None => false,
         },
         Pattern::Cons { heads, tail } => match seen.list_items() {
@@ -96,12 +97,8 @@ fn fits(pattern: &Pattern, seen: Seen<'_>, whole: Against<'_>) -> bool
 /// Whether the pattern matches the term in the environment. Counts one step, and takes no memory:
 /// in place of bindings it looks up each variable's first place in the pattern, so it takes at most
 /// the time of the pattern's nodes times its variables, and of the term's nodes.
-pub fn matches<L: Ledger>(
-    pattern: &Pattern,
-    env: &Env,
-    term: &Term,
-    steps: &mut Steps<L>,
-) -> bool
+/// (Erlang Reference Manual, Pattern Matching.)
+pub fn matches<L: Ledger>(pattern: &Pattern, env: &Env, term: &Term, steps: &mut Steps<L>) -> bool
     ensures matched { result ≡ is_some (match_of pattern.now env.now term.now) }
     ensures ticks { steps.new ≡ steps.old + 1 }
 {

@@ -9,7 +9,8 @@ use sig_terms::Term;
 use std::sync::ledger::Ledger;
 
 /// The first of the clauses whose pattern matches the message, from 0. `None` exactly where none
-/// does. Counts one step for each pattern that it tries.
+/// does. Counts one step for each pattern that it tries. (Erlang Reference Manual, Expressions,
+/// Receive.)
 pub fn first_match<L: Ledger>(
     clauses: &[Clause],
     env: &Env,

@@ -319,7 +319,10 @@ fn large_variables_are_refused(rt: HostRuntime) -> Result<(), Fail> {
         Ok(_) => assert!(rt; false),
         Err(fault) => assert_eq!(rt;
             fault,
-            BuildFault::TooLarge { nodes: 1025, depth: 3 }
+            BuildFault::TooLarge {
+                nodes: 1025,
+                depth: 3
+            }
         ),
     }
     Ok(())

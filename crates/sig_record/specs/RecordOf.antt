@@ -1,15 +1,16 @@
 -- The record of a run (this project's own): for each process its events, what is left of its messages, the signals that it
 -- has not handled, and how it stands.
 use Rattle.std.specs.Prelude.{ℕ, zero, suc, List, [], ◌++◌, map, filter, length, Bool, ◌==◌}
+use Rattle.sig_terms.specs.declared.term.Term.{Term}
 use Rattle.sig_kinds.specs.declared.signal.Signal.{Signal}
-use Rattle.sig_model.specs.declared.message.Message.{Message}
 use Rattle.sig_model.specs.Running.{Running}
 use Rattle.sig_model.specs.PrintedState.{printed_state}
 use Rattle.sig_record.specs.declared.report.Left.{Left}
 use Rattle.sig_record.specs.declared.report.Report.{Report}
 
-abbrev pub left_of : Message → Left
-left_of m = record { arrival = m.arrival; message = m.term }
+-- a message with its arrival number
+abbrev pub left_of : ℕ × Term → Left
+left_of m = record { arrival = m.0; message = m.1 }
 
 abbrev pub is_from : ℕ → Signal → Bool
 is_from sender signal = signal.from.0 == sender

@@ -8,7 +8,7 @@ use Rattle.sig_kinds.specs.declared.signal.Signal.{Signal}
 use Rattle.sig_model.specs.declared.event.Did.{Did}
 use Rattle.sig_model.specs.declared.event.Did.TheVariants.{Exec, From}
 use Rattle.sig_model.specs.declared.event.Outcome.{Outcome}
-use Rattle.sig_model.specs.declared.event.Outcome.TheVariants.{Sent, Took, After, Ended, Kept, Dropped}
+use Rattle.sig_model.specs.declared.event.Outcome.TheVariants.{Sent, Set, Done, Took, After, Ended, Kept, Dropped}
 use Rattle.sig_model.specs.declared.event.Event.{Event}
 use Rattle.sig_model.specs.declared.state.State.{State}
 use Rattle.sig_model.specs.declared.state.State.TheVariants as state
@@ -21,6 +21,8 @@ did_text (From p number) = codes " from " ++ decimal p.0 ++ codes " " ++ decimal
 
 abbrev pub outcome_text : Outcome → List ℕ
 outcome_text (Sent to message) = codes "sent " ++ term_text to ++ codes " " ++ term_text message
+outcome_text (Set value) = codes "set " ++ term_text value
+outcome_text Done = codes "done"
 outcome_text (Took clause looked message) = codes "took " ++ decimal clause ++ codes " " ++ decimal looked ++ codes " " ++ term_text message
 outcome_text (After looked) = codes "after " ++ decimal looked
 outcome_text (Ended reason) = codes "ended " ++ term_text reason

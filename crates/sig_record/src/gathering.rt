@@ -6,19 +6,19 @@ ghost use Rattle.sig_record.specs.RecordOf.{left_of, is_from, queued_below, repo
 use crate::report::{Left, Lefts, Report};
 use sig_kinds::{Push, Signal, Signals};
 use sig_lists::Sequence;
-use sig_model::{Message, Messages};
 use sig_process::Process;
+use sig_terms::Term;
 use std::alloc::{AllocError, Global};
 
 /// What is left of the messages.
-fn lefts_of(alloc: Global, messages: Messages) -> Result<Lefts, AllocError>
+fn lefts_of(alloc: Global, messages: Sequence<(u64, Term)>) -> Result<Lefts, AllocError>
     ensures { IfOk result (λ lefts. lefts ≡ map left_of messages) }
 {
     let mut lefts = Vec::new(alloc);
     for message in messages.into_vec() {
         lefts.push(Left {
-            arrival: message.arrival,
-            message: message.term,
+            arrival: message.0,
+            message: message.1,
         })?;
     }
     Ok(Sequence::from_vec(lefts))

@@ -63,6 +63,11 @@ fn put_outcome(into: &mut Vec<u8>, outcome: &Outcome) -> Result<(), AllocError>
             put(into, b" ")?;
             message.print(into)
         }
+        Outcome::Set { value } => {
+            put(into, b"set ")?;
+            value.print(into)
+        }
+        Outcome::Done => put(into, b"done"),
         Outcome::Took {
             clause,
             looked,

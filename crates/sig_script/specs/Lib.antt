@@ -1,1 +1,9 @@
 pub mod Scripts
+pub mod Faults
+pub mod Lines
+pub mod Tokens
+pub mod Numbers
+pub mod Forms
+pub mod Grammar
+pub mod Drafts
+pub mod Reading

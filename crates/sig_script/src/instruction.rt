@@ -19,23 +19,23 @@ pub enum Instr {
         to: Expr,
         message: Expr,
     },
-    /// Gives a variable a value.
+    /// Makes the value that of the variable. (Erlang Reference Manual, Expressions, Variables.)
     Set {
         var: Var,
         value: Expr,
     },
-    /// Goes on at a label.
-    Goto {
-        label: u32,
-    },
-    /// Ends the process.
-    Stop,
     /// Takes the oldest message that a clause matches. (Erlang Reference Manual, Expressions,
     /// Receive.)
     Receive {
         clauses: Clauses,
         after: Option<After>,
     },
+    /// Goes on at a label: its place among those of the process, from 0.
+    Goto {
+        label: u32,
+    },
+    /// Ends the process.
+    Stop,
 }
 
 /// The instructions of a process, in the order of their lines.
@@ -91,13 +91,13 @@ impl Instr {
                 let value = value.copy(alloc)?;
                 Ok(Instr::Set { var, value })
             }
-            Instr::Goto { label } => Ok(Instr::Goto { label: *label }),
-            Instr::Stop => Ok(Instr::Stop),
             Instr::Receive { clauses, after } => {
                 let clauses = copy_clauses(alloc, clauses)?;
                 let after = copy_after(after);
                 Ok(Instr::Receive { clauses, after })
             }
+            Instr::Goto { label } => Ok(Instr::Goto { label: *label }),
+            Instr::Stop => Ok(Instr::Stop),
         }
     }
 }

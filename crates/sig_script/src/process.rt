@@ -35,11 +35,10 @@ pub struct Proc {
 }
 
 impl Model for Proc {
-    ghost use Rattle.sig_script.specs.Scripts.{Declared, IsWithin};
-
     ghost use Rattle.std.specs.Coded.{codes};
     ghost use Rattle.sig_patterns.specs.contracts.expression.Expr as expr;
     ghost use Rattle.sig_patterns.specs.contracts.pattern.Pattern as pattern;
+    ghost use Rattle.sig_script.specs.Scripts.{Declared, IsWithin};
 
     ghost Value = { Declared };
 
@@ -54,6 +53,13 @@ impl Model for Proc {
 pub type Procs = Sequence<Proc>;
 
 impl Proc {
+    /// The process's name.
+    pub fn name(&self) -> &Name
+        ensures { result.now ≡ self.now.name }
+    {
+        &self.name
+    }
+
     /// How many instructions there are.
     pub fn count(&self) -> u32
         ensures count { result ≡ length self.now.instrs }

@@ -1,10 +1,13 @@
-ghost use Rattle.std.specs.Prelude.{◌≡◌, ◌≤◌, length, slice_get, option_copied};
+ghost use Rattle.std.specs.Prelude.{◌≡◌, ◌≤◌, ◌<◌, length, slice_get, option_copied, position, IfSome};
+ghost use Rattle.std.specs.Str.{bytes_eq};
+ghost use Rattle.sig_script.specs.Scripts.{Declared, IsSound};
 
 use crate::process::{Proc, Procs};
+use sig_terms::bytes::equal_bytes;
 use std::marker::Model;
 
 /// A script: at most 64 processes, each of which executes at most `turns` instructions, and these
-/// are at most 20,000.
+/// are at most 20,000. Each pid in it is below the count of processes.
 #[derive(Debug, Drop)]
 pub struct Script {
     /// How many instructions each process may execute.
@@ -14,12 +17,10 @@ pub struct Script {
 }
 
 impl Model for Script {
-    ghost use Rattle.std.specs.Prelude.{◌≤◌, length};
-    ghost use Rattle.sig_script.specs.Scripts.{Program};
-
     ghost use Rattle.std.specs.Coded.{codes};
     ghost use Rattle.sig_patterns.specs.contracts.expression.Expr as expr;
     ghost use Rattle.sig_patterns.specs.contracts.pattern.Pattern as pattern;
+    ghost use Rattle.sig_script.specs.Scripts.{Program, IsSound};
 
     ghost Value = { Program };
 
@@ -27,7 +28,7 @@ impl Model for Script {
 
     ghost view = { λ s. record { turns = s.turns; procs = s.procs } };
 
-    ghost invariant = { λ s. (length s.procs ≤ 64) × (s.turns ≤ 20000) };
+    ghost invariant = { λ s. IsSound (record { turns = s.turns; procs = s.procs }) };
 }
 
 impl Script {
@@ -35,6 +36,7 @@ impl Script {
     pub fn count(&self) -> u32
         ensures count { result ≡ length self.now.procs }
         ensures few { length self.now.procs ≤ 64 }
+        ensures sound { IsSound self.now }
     {
         self.procs.len() as u32
     }
@@ -53,4 +55,23 @@ impl Script {
     {
         self.procs.get(pid as usize)
     }
+
+    /// The pid of the process of this name. `None` exactly where no process has it.
+    pub fn pid_of(&self, name: &[u8]) -> Option<u32>
+        ensures { result ≡ position (λ (p : Declared). bytes_eq p.name name.now) self.now.procs }
+    {
+        match place_of_name(self.procs.as_slice(), name) {
+            Some(place) => Some(place as u32),
+            None => None,
+        }
+    }
+}
+
+fn place_of_name(procs: &[Proc], name: &[u8]) -> Option<usize>
+    ensures place { result ≡ position (λ (p : Declared). bytes_eq p.name name.now) procs.now }
+    ensures within { IfSome result (λ n. n < length procs.now) }
+{
+    procs
+        .iter()
+        .position(|proc| equal_bytes(proc.name.bytes(), name))
 }

@@ -4,15 +4,21 @@
 mod atom;
 pub mod bytes;
 mod name;
+mod nested;
 mod nodes;
 mod pid;
+mod reading;
 mod reference;
+mod refusal;
 mod term;
+mod tokens;
 
 pub use atom::Atom;
 pub use name::Name;
 pub use pid::Pid;
+pub use reading::{Front, read, read_front, texts_tell_terms_apart};
 pub use reference::Ref;
+pub use refusal::ReadTerm;
 pub use sig_lists::Pushed;
 pub use term::{Term, Terms};
 

@@ -1,4 +1,4 @@
-ghost use Rattle.std.specs.Prelude.{◌≡◌, OnOk, ◌++◌};
+ghost use Rattle.std.specs.Prelude.{◌≡◌, ◌<◌, ◌^◌, OnOk, ◌++◌};
 ghost use Rattle.sig_terms.specs.TermText.{pid_text};
 
 use itoa::Buffer;
@@ -12,7 +12,8 @@ pub struct Pid(pub u32);
 impl Pid {
     /// Appends the pid's text, `<N>`.
     pub fn print(self, into: &mut Vec<u8>) -> Result<(), AllocError>
-        ensures { OnOk result (into.new.items ≡ into.old.items ++ pid_text self.0) }
+        ensures text { OnOk result (into.new.items ≡ into.old.items ++ pid_text self.0) }
+        ensures fits { self.0 < 2 ^ 32 }
     {
         let mut buffer = Buffer::new();
         into.extend_from_slice(b"<")?;

@@ -1,4 +1,4 @@
-ghost use Rattle.std.specs.Prelude.{◌≡◌, OnOk, ◌++◌};
+ghost use Rattle.std.specs.Prelude.{◌≡◌, ◌<◌, ◌^◌, OnOk, ◌++◌};
 ghost use Rattle.sig_terms.specs.TermText.{reference_text};
 
 use crate::pid::Pid;
@@ -17,7 +17,8 @@ pub struct Ref {
 impl Ref {
     /// Appends the reference's text, `#Ref<O.S>`.
     pub fn print(self, into: &mut Vec<u8>) -> Result<(), AllocError>
-        ensures { OnOk result (into.new.items ≡ into.old.items ++ reference_text self) }
+        ensures text { OnOk result (into.new.items ≡ into.old.items ++ reference_text self) }
+        ensures fits { (self.owner.0 < 2 ^ 32) × (self.serial < 2 ^ 64) }
     {
         let mut owner = Buffer::new();
         let mut serial = Buffer::new();

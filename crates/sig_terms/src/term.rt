@@ -1,6 +1,8 @@
-ghost use Rattle.std.specs.Prelude.{◌≡◌, ◌++◌, IfOk, OnOk, IsTrue, ◌↔◌, map};
+ghost use Rattle.std.specs.Prelude.{◌≡◌, ◌++◌, IfOk, OnOk, IsTrue, ◌↔◌, map, true};
 ghost use Rattle.std.specs.Fmt.{signed_decimal};
+ghost use Rattle.std.specs.List.{list_all};
 ghost use Rattle.sig_terms.specs.TermText.{term_text, joined};
+ghost use Rattle.sig_terms.specs.Readable.{is_wide, is_term, IsTerm};
 ghost use Rattle.sig_terms.specs.TermTest.{same_term, same_list};
 
 use crate::atom::Atom;
@@ -69,7 +71,8 @@ fn same_all(a: &[Term], b: &[Term]) -> bool
 /// Appends the texts of the terms, with a comma between two.
 #[cycle(print)]
 fn print_all(items: &[Term], into: &mut Vec<u8>) -> Result<(), AllocError>
-    ensures { OnOk result (into.new.items ≡ into.old.items ++ joined (map term_text items.now)) }
+    ensures text { OnOk result (into.new.items ≡ into.old.items ++ joined (map term_text items.now)) }
+    ensures terms { OnOk result (list_all (λ b. b) (map is_term items.now) ≡ true) }
 {
     match items {
         [] => Ok(()),
@@ -86,7 +89,8 @@ fn print_all(items: &[Term], into: &mut Vec<u8>) -> Result<(), AllocError>
 
 /// Appends the text of an integer.
 fn print_int(n: i64, into: &mut Vec<u8>) -> Result<(), AllocError>
-    ensures { OnOk result (into.new.items ≡ into.old.items ++ signed_decimal n) }
+    ensures text { OnOk result (into.new.items ≡ into.old.items ++ signed_decimal n) }
+    ensures wide { is_wide n ≡ true }
 {
     let mut buffer = Buffer::new();
     into.extend_from_slice(buffer.format(n).as_bytes())
@@ -134,10 +138,12 @@ impl Term {
         }
     }
 
-    /// Appends the term's text. Each term has one text.
+    /// Appends the term's text. Each term has one text, and `read` gives the term back.
     #[cycle(print)]
     pub fn print(&self, into: &mut Vec<u8>) -> Result<(), AllocError>
-        ensures { OnOk result (into.new.items ≡ into.old.items ++ term_text self.now) }
+        ensures text { OnOk result (into.new.items ≡ into.old.items ++ term_text self.now) }
+        // What is printed is a term as `read` knows them.
+        ensures term { OnOk result (IsTerm self.now) }
     {
         match self {
             Term::Int(n) => print_int(*n, into),

@@ -1,4 +1,3 @@
-use Rattle.std.proofs.Common.{◌≡◌}
 use Rattle.sig_patterns.proofs.Settings.{setting-match_of, on_ok_some}
 use Rattle.sig_patterns.proofs.binding.bind_match.Goals as goal
 

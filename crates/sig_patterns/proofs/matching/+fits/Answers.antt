@@ -1,4 +1,4 @@
-use Rattle.std.proofs.Common.{◌≡◌, sym, ◌∙◌, map, drop}
+use Rattle.std.proofs.Common.{sym, ◌∙◌, map, drop}
 use Rattle.std.proofs.lemmas.List.{at_drop_all}
 use Rattle.sig_patterns.specs.Fitting.{term_seen, first_in, fits, fits_each}
 use Rattle.sig_patterns.proofs.PastTheEnd.{fits_each-true}

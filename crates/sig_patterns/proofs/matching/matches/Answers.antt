@@ -1,4 +1,4 @@
-use Rattle.std.proofs.Common.{◌≡◌, sym, ◌∙◌}
+use Rattle.std.proofs.Common.{sym, ◌∙◌}
 use Rattle.sig_patterns.proofs.Walks.{is_some-match_of}
 use Rattle.sig_patterns.proofs.matching.matches.Goals as goal
 

@@ -1,6 +1,5 @@
-use Rattle.std.proofs.Common.{rules, ◌≡◌, arith, sym, ◌∙◌, map, drop}
+use Rattle.std.proofs.Common.{arith}
 use Rattle.std.proofs.lemmas.Grind.{common_steps}
-use Rattle.sig_patterns.specs.Fitting.{first_each, first_in}
 use Rattle.sig_patterns.proofs.PastTheEnd.{first_each-none}
 use Rattle.sig_patterns.proofs.places.+first.Goals as goal
 

@@ -1,0 +1,30 @@
+-- What an answer tells of the scan.
+use Rattle.std.proofs.Common.{◌≡◌, ℕ, ◌+◌, ◌-◌, ◌<◌, length, Option, Some, None, refl, ap, ◌∙◌, arith}
+use Rattle.std.specs.Prelude.{IfSome}
+use Rattle.std.proofs.lemmas.List.{length-map}
+use Rattle.sig_patterns.specs.declared.found.Found.{Found}
+use Rattle.sig_inner.specs.declared.scan.Scan.TheVariants as answer
+use Rattle.sig_inner.specs.InnerQueue.{InnerQueue}
+use Rattle.sig_inner.specs.Receiving.{answer_to, IsWithin}
+
+pub answered_within : (q : InnerQueue) (clauses : ℕ) (found : Option Found) → IfSome found (λ f. (f.at < length q.messages) × (f.clause < clauses)) →
+    IsWithin clauses (length q.messages) (answer_to q found)
+answered_within q clauses (Some f) within = (omega arith, omega arith, omega arith, omega arith)
+answered_within q clauses None within = length-map q.messages (λ m. m.1)
+
+found_at : (f : Found) (clause looked : ℕ) → f.clause + 1 ≡ clause → f.at + 1 ≡ looked → ◌≡◌ {A = Option Found} (Some f) (Some (record { at = looked - 1; clause = clause - 1 }))
+found_at f clause looked c l =
+    let at : f.at ≡ looked - 1 = omega arith in
+    let by : f.clause ≡ clause - 1 = omega arith in
+    ap (λ (n : ℕ). Some (record { at = n; clause = f.clause })) at ∙ ap (λ (n : ℕ). Some (record { at = looked - 1; clause = n })) by
+
+-- a message was found, and which one
+pub answered_found : (q : InnerQueue) (found : Option Found) (clause looked : ℕ) → answer.Found clause looked ≡ answer_to q found →
+    found ≡ Some (record { at = looked - 1; clause = clause - 1 })
+answered_found q (Some f) clause looked e = found_at f clause looked (cc) (cc)
+answered_found q None clause looked e = cc
+
+-- none was
+pub answered_none : (q : InnerQueue) (found : Option Found) (looked : ℕ) → answer.None looked ≡ answer_to q found → found ≡ None
+answered_none q (Some f) looked e = cc
+answered_none q None looked e = refl

@@ -1,0 +1,4 @@
+pub mod ScanLemmas
+pub mod Numbering
+pub mod Resuming
+pub mod Answering

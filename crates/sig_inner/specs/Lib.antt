@@ -1,0 +1,2 @@
+pub mod InnerQueue
+pub mod Receiving

@@ -1,0 +1,34 @@
+//! What a match is, in the manual's words. Each function is a theorem on the definition of a match: its contract is what
+//! was proved, and its body is empty. (Erlang Reference Manual, Pattern Matching.)
+
+ghost use Rattle.std.specs.Prelude.{◌≡◌, if◌then◌else◌, List, [], ◌∷◌, Some, None};
+ghost use Rattle.std.specs.FinMap as map;
+ghost use Rattle.sig_terms.specs.TermTest.{same_term};
+ghost use Rattle.sig_terms.specs.declared.term.Term.{Term};
+ghost use Rattle.sig_terms.specs.declared.term.Term.TheVariants as term;
+ghost use Rattle.sig_patterns.specs.declared.var.Var.{Var};
+ghost use Rattle.sig_patterns.specs.declared.pattern.Pattern.{Pattern};
+ghost use Rattle.sig_patterns.specs.declared.pattern.Pattern.TheVariants as pattern;
+ghost use Rattle.sig_patterns.specs.Environment.{Environment, value_of_var};
+ghost use Rattle.sig_patterns.specs.Matching.{match_of};
+
+/// `[P1, P2, .. | Q]` matches as `[P1 | [P2, .. | Q]]` does.
+pub fn heads_nest()
+    ensures { (env : Environment) (p q : Pattern) (ps : List Pattern) (tail : Pattern) (t : Term) →
+        match_of (pattern.Cons (p ∷ q ∷ ps) tail) env t
+        ≡ match_of (pattern.Cons (p ∷ []) (pattern.Cons (q ∷ ps) tail)) env t }
+{}
+
+/// `{X, X}` matches a pair of equal terms, whatever `X` was before, and binds it.
+pub fn a_repeated_variable_compares()
+    ensures { (env : Environment) (x : Var) (t u : Term) →
+        match_of (pattern.Tuple (pattern.Bind x ∷ pattern.Bind x ∷ [])) env (term.Tuple (t ∷ u ∷ []))
+        ≡ (if same_term t u then Some (map.insert env x.0 t) else None) }
+{}
+
+/// `{X, ^X}` matches a pair whose second element is what `X` was before, and binds `X` to the first.
+pub fn a_pin_compares_with_the_value_before()
+    ensures { (env : Environment) (x : Var) (t u : Term) →
+        match_of (pattern.Tuple (pattern.Bind x ∷ pattern.Pin x ∷ [])) env (term.Tuple (t ∷ u ∷ []))
+        ≡ (if same_term (value_of_var env x.0) u then Some (map.insert env x.0 t) else None) }
+{}

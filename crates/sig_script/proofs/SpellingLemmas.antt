@@ -1,0 +1,128 @@
+-- How tokens are spelled.
+use Rattle.std.proofs.Common.{◌≡◌, ℕ, suc, ◌+◌, ◌-◌, ◌≤◌, List, [], ◌∷◌, ◌++◌, length, take, take_while, drop, cond, Bool, true, false, ◌&&◌, ◌||◌, nat_le, ◌==◌, if◌then◌else◌, Option, Some, None, refl, sym, ◌∙◌, ap, subst, arith}
+use Rattle.std.specs.List.{list_all}
+use Rattle.std.proofs.lemmas.Bool.Decides.{nat_tests}
+use Rattle.std.proofs.lemmas.List.Folds.{length-prefix_len}
+use Rattle.std.proofs.lemmas.List.Sums.{take_while-cons}
+use Rattle.sig_terms.specs.Words.{is_lower, is_upper, is_digit, is_name_byte, is_variable_byte, is_atom_byte, is_name, is_variable, is_token, is_atom}
+use Rattle.sig_script.specs.declared.token.TokenKind.{TokenKind}
+use Rattle.sig_script.specs.declared.token.TokenKind.TheVariants.{Name, Variable, Integer, Quoted, Process, Sign}
+use Rattle.sig_script.specs.declared.token.Token.{Token}
+use Rattle.sig_script.specs.Tokens.{front_run, process_at, minus_at, underscore_at, quote_at, is_sign, front_token, IsSpelled, IsToken, AreTokens}
+
+-- the bytes at the front that pass a test pass it
+passes-front : (p : ℕ → Bool) (b : ℕ) (bs : List ℕ) (v : Bool) → p b ≡ v → list_all p (take_while p bs) ≡ true → list_all p (cond v (b ∷ take_while p bs) []) ≡ true
+passes-front p b bs true e h = rw (e, h) refl
+passes-front p b bs false e h = refl
+
+run-passes : (p : ℕ → Bool) (bs : List ℕ) → list_all p (take_while p bs) ≡ true
+run-passes p [] = refl
+run-passes p (b ∷ bs) = rw (take_while-cons p b bs) (passes-front p b bs (p b) refl (run-passes p bs))
+
+and-first : (a b : Bool) → (a && b) ≡ true → a ≡ true
+and-first true b h = refl
+and-first false b h = h
+
+and-second : (a b : Bool) → (a && b) ≡ true → b ≡ true
+and-second true b h = h
+and-second false b h = cc
+
+name-in_atom : (b : ℕ) → is_name_byte b ≡ true → is_atom_byte b ≡ true
+name-in_atom b h = grind (arith, nat_tests)
+
+lower-in_atom : (b : ℕ) → is_lower b ≡ true → is_atom_byte b ≡ true
+lower-in_atom b h = grind (arith, nat_tests)
+
+names-in_atom : (bs : List ℕ) → list_all is_name_byte bs ≡ true → list_all is_atom_byte bs ≡ true
+names-in_atom [] h = refl
+names-in_atom (b ∷ bs) h =
+    rw (name-in_atom b (and-first (is_name_byte b) (list_all is_name_byte bs) h), names-in_atom bs (and-second (is_name_byte b) (list_all is_name_byte bs) h)) refl
+
+-- a byte, and the bytes behind it that pass a test
+front-word : (p : ℕ → Bool) (b : ℕ) (bs : List ℕ) → take (1 + front_run p bs) (b ∷ bs) ≡ b ∷ take_while p bs
+front-word p b bs =
+    let one : 1 + front_run p bs ≡ suc (front_run p bs) = omega arith in
+    ap (λ (n : ℕ). take n (b ∷ bs)) one ∙ ap (λ (n : ℕ). b ∷ take n bs) (length-prefix_len p bs)
+
+front-length : (p : ℕ → Bool) (b : ℕ) (bs : List ℕ) → nat_le (1 + front_run p bs) 255 ≡ true → nat_le (length (b ∷ take_while p bs)) 255 ≡ true
+front-length p b bs h =
+    let one : suc (front_run p bs) ≡ 1 + front_run p bs = omega arith in
+    ap (λ (n : ℕ). nat_le n 255) one ∙ h
+
+name-front : (b : ℕ) (bs : List ℕ) → is_lower b ≡ true → nat_le (1 + front_run is_name_byte bs) 255 ≡ true → IsSpelled Name (take (1 + front_run is_name_byte bs) (b ∷ bs))
+name-front b bs low short =
+    let passes = run-passes is_name_byte bs in
+    let few = front-length is_name_byte b bs short in
+    let token : is_token (b ∷ take_while is_name_byte bs) ≡ true = rw (few, low, passes) refl in
+    let atom : is_atom (b ∷ take_while is_name_byte bs) ≡ true = rw (few, lower-in_atom b low, names-in_atom (take_while is_name_byte bs) passes) refl in
+    subst (IsSpelled Name) (sym (front-word is_name_byte b bs)) (token, atom)
+
+or-second : (a : Bool) → (a || true) ≡ true
+or-second true = refl
+or-second false = refl
+
+variable-front : (b : ℕ) (bs : List ℕ) → is_upper b ≡ true → nat_le (1 + front_run is_variable_byte bs) 255 ≡ true → IsSpelled Variable (take (1 + front_run is_variable_byte bs) (b ∷ bs))
+variable-front b bs up short =
+    let passes = run-passes is_variable_byte bs in
+    let few = front-length is_variable_byte b bs short in
+    let word : is_variable (b ∷ take_while is_variable_byte bs) ≡ true = rw (up, passes) refl in
+    let token : is_token (b ∷ take_while is_variable_byte bs) ≡ true = rw few (ap (λ (v : Bool). is_name (b ∷ take_while is_variable_byte bs) || v) word ∙ or-second (is_name (b ∷ take_while is_variable_byte bs))) in
+    subst (IsSpelled Variable) (sym (front-word is_variable_byte b bs)) token
+
+zero-front : (kind : TokenKind) (n : ℕ) (rest : List ℕ) → IsSpelled kind (take n rest) → IsSpelled kind (take (0 + n) rest)
+zero-front kind n rest h = let same : n ≡ 0 + n = omega arith in subst (λ (m : ℕ). IsSpelled kind (take m rest)) same h
+
+-- a token at the front is spelled as its kind says
+abbrev pub IsGood : List ℕ → Option (TokenKind × ℕ) → Type 0
+IsGood rest None = Unit {0}
+IsGood rest (Some t) = IsSpelled t.0 (take t.1 rest)
+
+-- a test, and what is good in both cases
+either : (rest : List ℕ) (v : Bool) (x y : Option (TokenKind × ℕ)) → (v ≡ true → IsGood rest x) → IsGood rest y → IsGood rest (if v then x else y)
+either rest true x y f g = f refl
+either rest false x y f g = g
+
+process-good : (rest bs : List ℕ) → IsGood rest (process_at bs)
+process-good rest [] = tt
+process-good rest (b ∷ bs) =
+    either rest (is_lower b) _ _ (λ _. either rest (nat_le (1 + front_run is_name_byte bs) 255) (Some (Process, 1 + (1 + front_run is_name_byte bs))) None (λ _. tt) tt) tt
+
+minus-good : (rest bs : List ℕ) → IsGood rest (minus_at bs)
+minus-good rest [] = tt
+minus-good rest (b ∷ bs) =
+    either rest (is_digit b) (Some (Integer, 2 + front_run is_digit bs)) _ (λ _. tt) (either rest (b == 62) (Some (Sign, 2)) None (λ _. tt) tt)
+
+underscore-good : (rest bs : List ℕ) → IsGood rest (underscore_at bs)
+underscore-good rest [] = tt
+underscore-good rest (b ∷ bs) = either rest (is_name_byte b) None (Some (Sign, 1)) (λ _. tt) tt
+
+quote-good : (rest : List ℕ) (n : ℕ) (bs : List ℕ) → IsGood rest (quote_at n bs)
+quote-good rest n [] = tt
+quote-good rest n (b ∷ bs) = either rest (b == 39) _ None (λ _. either rest (nat_le n 255) (Some (Quoted, 2 + n)) None (λ _. tt) tt) tt
+
+pub front-good : (rest : List ℕ) → IsGood rest (front_token rest)
+front-good [] = tt
+front-good (b ∷ bs) =
+    let rest : List ℕ = b ∷ bs in
+    either rest (is_lower b) _ _ (λ low. either rest (nat_le (1 + front_run is_name_byte bs) 255) (Some (Name, 0 + (1 + front_run is_name_byte bs))) None (λ short. zero-front Name (1 + front_run is_name_byte bs) rest (name-front b bs low short)) tt)
+    (either rest (is_upper b) _ _ (λ up. either rest (nat_le (1 + front_run is_variable_byte bs) 255) (Some (Variable, 0 + (1 + front_run is_variable_byte bs))) None (λ short. zero-front Variable (1 + front_run is_variable_byte bs) rest (variable-front b bs up short)) tt)
+    (either rest (is_digit b) (Some (Integer, 1 + front_run is_digit bs)) _ (λ _. tt)
+    (either rest (b == 64) _ _ (λ _. process-good rest bs)
+    (either rest (b == 45) _ _ (λ _. minus-good rest bs)
+    (either rest (b == 95) _ _ (λ _. underscore-good rest bs)
+    (either rest (b == 39) _ _ (λ _. quote-good rest (front_run is_atom_byte bs) (drop (front_run is_atom_byte bs) bs))
+    (either rest (is_sign b) (Some (Sign, 1)) None (λ _. tt) tt)))))))
+
+-- tokens of a line, one after another
+pub tokens-push : (line : List ℕ) (ts : List Token) (t : Token) → AreTokens line ts → IsToken line t → AreTokens line (ts ++ t ∷ [])
+tokens-push line [] t h e = (e, tt)
+tokens-push line (u ∷ us) t h e = (h.0, tokens-push line us t h.1 e)
+
+-- the token at the front of the rest of a line
+pub token-known : (line : List ℕ) (i : ℕ) (kind : TokenKind) (len : ℕ) (rest : List ℕ) → rest ≡ drop i line → front_token rest ≡ Some (kind, len) → i + len ≤ length line →
+    IsToken line (record { kind = kind; start = i; end = i + len })
+token-known line i kind len rest is some within =
+    let good : IsSpelled kind (take len rest) = subst (IsGood rest) some (front-good rest) in
+    let same : i + len - i ≡ len = omega arith in
+    let above : i ≤ i + len = omega arith in
+    (above, within, subst (IsSpelled kind) (ap (take len) is ∙ ap (λ (n : ℕ). take n (drop i line)) (sym same)) good)

@@ -1,0 +1,25 @@
+-- The integers that tokens write. Leading zeros count for nothing.
+use Rattle.std.specs.Prelude.{ℕ, ◌+◌, ◌-◌, ◌*◌, ◌^◌, List, [], ◌∷◌, Bool, false, ◌&&◌, not, nat_le, ◌==◌, if◌then◌else◌, Option, Some, None}
+
+-- the number that the digits write behind those of n
+unfoldable pub number_after : ℕ → List ℕ → ℕ
+number_after n [] = n
+number_after n (d ∷ ds) = number_after (n * 10 + (d - 48)) ds
+
+-- the number that the digits write
+abbrev pub number : List ℕ → ℕ
+number digits = number_after 0 digits
+
+-- the number, where it isn't above the bound
+abbrev pub up_to : ℕ → ℕ → Option ℕ
+up_to most n = if nat_le n most then Some n else None
+
+-- digits, with or without `-`, of 64 bits signed
+abbrev pub is_in_range : List ℕ → Bool
+is_in_range [] = false
+is_in_range (b ∷ bs) = if b == 45 then nat_le (number bs) (2 ^ 63) else nat_le (number (b ∷ bs)) (2 ^ 63 - 1)
+
+-- digits of the value 1
+abbrev pub is_one : List ℕ → Bool
+is_one [] = false
+is_one (b ∷ bs) = not (b == 45) && number (b ∷ bs) == 1

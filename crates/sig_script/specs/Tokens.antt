@@ -1,0 +1,97 @@
+-- The tokens of a line, cut from left to right, each as long as possible.
+use Rattle.std.specs.Prelude.{◌≡◌, ◌≤◌, ℕ, zero, suc, ◌+◌, ◌-◌, List, [], ◌∷◌, length, take_while, Bool, true, ◌||◌, nat_le, ◌==◌, if◌then◌else◌, Option, Some, None, drop, slice_range}
+use Rattle.sig_terms.specs.Words.{is_lower, is_upper, is_digit, is_name_byte, is_variable_byte, is_atom_byte, is_token, is_atom}
+use Rattle.sig_script.specs.declared.token.TokenKind.{TokenKind}
+use Rattle.sig_script.specs.declared.token.TokenKind.TheVariants.{Name, Variable, Integer, Quoted, Process, Sign}
+use Rattle.sig_script.specs.declared.token.Token.{Token}
+use Rattle.sig_script.specs.declared.token.Cut.{Cut}
+
+-- a space, a tab and a carriage return
+abbrev pub is_blank : ℕ → Bool
+is_blank b = b == 32 || b == 9 || b == 13
+
+-- `{` `}` `[` `]` `,` `|` `^` `=`
+abbrev pub is_sign : ℕ → Bool
+is_sign b = b == 123 || b == 125 || b == 91 || b == 93 || b == 44 || b == 124 || b == 94 || b == 61
+
+-- how many bytes at the front pass the test
+abbrev pub front_run : (ℕ → Bool) → List ℕ → ℕ
+front_run test bytes = length (take_while test bytes)
+
+-- a word of at most 255 bytes is a token, with so many bytes before and behind it; a longer one is none
+abbrev pub short_word : TokenKind → ℕ → ℕ → Option (TokenKind × ℕ)
+short_word kind around n = if nat_le n 255 then Some (kind, around + n) else None
+
+-- behind `@`: a name
+abbrev pub process_at : List ℕ → Option (TokenKind × ℕ)
+process_at [] = None
+process_at (b ∷ bs) = if is_lower b then short_word Process 1 (1 + front_run is_name_byte bs) else None
+
+-- behind `-`: digits, or `>`
+abbrev pub minus_at : List ℕ → Option (TokenKind × ℕ)
+minus_at [] = None
+minus_at (b ∷ bs) = if is_digit b then Some (Integer, 2 + front_run is_digit bs) else if b == 62 then Some (Sign, 2) else None
+
+-- behind `_`: no byte with which a name could go on
+abbrev pub underscore_at : List ℕ → Option (TokenKind × ℕ)
+underscore_at [] = Some (Sign, 1)
+underscore_at (b ∷ bs) = if is_name_byte b then None else Some (Sign, 1)
+
+-- behind so many bytes of a quoted atom: `'`
+abbrev pub quote_at : ℕ → List ℕ → Option (TokenKind × ℕ)
+quote_at n [] = None
+quote_at n (b ∷ bs) = if b == 39 then short_word Quoted 2 n else None
+
+-- behind `'`: the bytes of an atom, and `'`
+abbrev pub quoted_at : List ℕ → Option (TokenKind × ℕ)
+quoted_at bs = let n = front_run is_atom_byte bs in quote_at n (drop n bs)
+
+-- the token at the front of the bytes, as long as possible: its kind and how many bytes it has
+abbrev pub front_token : List ℕ → Option (TokenKind × ℕ)
+front_token [] = None
+front_token (b ∷ bs) =
+    if is_lower b then short_word Name 0 (1 + front_run is_name_byte bs)
+    else if is_upper b then short_word Variable 0 (1 + front_run is_variable_byte bs)
+    else if is_digit b then Some (Integer, 1 + front_run is_digit bs)
+    else if b == 64 then process_at bs
+    else if b == 45 then minus_at bs
+    else if b == 95 then underscore_at bs
+    else if b == 39 then quoted_at bs
+    else if is_sign b then Some (Sign, 1)
+    else None
+
+-- a token, and the tokens after it; a place at which none stands ends the tokens
+abbrev pub with_token : Option (TokenKind × ℕ) → ℕ → (ℕ → Cut) → Cut
+with_token None at after = record { tokens = []; stop = Some at }
+with_token (Some t) at after =
+    let cut = after (t.1 - 1) in
+    record { tokens = record { kind = t.0; start = at; end = at + t.1 } ∷ cut.tokens; stop = cut.stop }
+
+-- the tokens from this place of a line on, where so many bytes belong to the token before; `%` begins a comment
+unfoldable pub cut_of : ℕ → ℕ → List ℕ → Cut
+cut_of at skip [] = record { tokens = []; stop = None }
+cut_of at (suc skip) (b ∷ bs) = cut_of (at + 1) skip bs
+cut_of at zero (b ∷ bs) =
+    if is_blank b then cut_of (at + 1) 0 bs
+    else if b == 37 then record { tokens = []; stop = None }
+    else with_token (front_token (b ∷ bs)) at (λ skip. cut_of (at + 1) skip bs)
+
+-- the bytes of a token
+abbrev pub text : List ℕ → Token → List ℕ
+text line t = slice_range line t.start t.end
+
+-- what is known of these bytes: those of a name token or a variable token are a name or a variable, and those of a name
+-- token may stand in an atom
+abbrev pub IsSpelled : TokenKind → List ℕ → Type 0
+IsSpelled Name word = (is_token word ≡ true) × (is_atom word ≡ true)
+IsSpelled Variable word = is_token word ≡ true
+IsSpelled _ word = Unit {0}
+
+-- a token lies in its line, and is spelled as its kind says
+abbrev pub IsToken : List ℕ → Token → Type 0
+IsToken line t = (t.start ≤ t.end) × (t.end ≤ length line) × IsSpelled t.kind (text line t)
+
+-- each is a token of the line
+abbrev pub AreTokens : List ℕ → List Token → Type 0
+AreTokens line [] = Unit {0}
+AreTokens line (t ∷ ts) = IsToken line t × AreTokens line ts

@@ -1,0 +1,35 @@
+/// Why a line of a text is no line of a script.
+#[derive(Clone, Copy, Debug, PartialEq, Eq)]
+pub enum FaultKind {
+    /// The first line isn't the header.
+    Header,
+    /// No token stands at some place, a token can't stand where it is, or one is missing.
+    Syntax,
+    /// An integer has more than 64 bits.
+    IntRange,
+    /// An expression or a pattern has more than 1,024 nodes, or its depth is past 64.
+    TermTooLarge,
+    /// A process has the name of an earlier one.
+    DuplicateName,
+    /// It would be process 65.
+    TooManyProcesses,
+    /// A label of a process has the name of an earlier one.
+    DuplicateLabel,
+    /// The turns are more than 20,000.
+    TooManyTurns,
+    /// No process has the name behind an `@`.
+    UnknownProcess,
+    /// No label of the process has the name.
+    UnknownLabel,
+    /// The text has more than 1,048,576 bytes.
+    TooLong,
+}
+
+/// A line that is refused, and why.
+#[derive(Clone, Copy, Debug, PartialEq, Eq)]
+pub struct Fault {
+    /// The line, from 1. It is 0 where the text is refused as a whole.
+    pub line: u64,
+    /// Why it is refused.
+    pub kind: FaultKind,
+}

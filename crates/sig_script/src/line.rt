@@ -1,0 +1,120 @@
+ghost use Rattle.std.specs.Prelude.{
+  ◌≡◌,
+  ◌≤◌,
+  ◌==◌,
+  length,
+  take_while,
+  not,
+  IfOk,
+};
+ghost use Rattle.std.specs.List.{list_all};
+ghost use Rattle.sig_script.specs.Tokens.{AreTokens, IsToken, cut_of, text};
+ghost use Rattle.sig_script.specs.Forms.{is_token_in_range, tokens_of};
+
+use crate::fault::FaultKind;
+use crate::number::fits_in_range;
+use crate::token::{Cut, Token, TokenKind, Tokens, is_blank_byte, token_at};
+use sig_lists::{Pushed, Sequence};
+use std::alloc::{AllocError, Global};
+
+fn line_len(bytes: &[u8]) -> usize
+    ensures len { result ≡ length (take_while (λ b. not (b == 10)) bytes.now) }
+    ensures bound { result ≤ length bytes.now }
+{
+    bytes.iter().take_while(|b| **b != b'\n').count()
+}
+
+/// The bytes up to the first line feed, or all.
+pub fn first_line(bytes: &[u8]) -> &[u8]
+    ensures line { result.now ≡ take_while (λ b. not (b == 10)) bytes.now }
+    ensures bound { length result.now ≤ length bytes.now }
+{
+    let n = line_len(bytes);
+    &bytes[..n]
+}
+
+/// The tokens of a line up to the first place at which none stands.
+fn cut_line(alloc: Global, line: &[u8]) -> Result<Cut, AllocError>
+    ensures cut { IfOk result (λ cut. cut ≡ cut_of 0 0 line.now) }
+    ensures known { IfOk result (λ cut. AreTokens line.now cut.tokens) }
+{
+    let mut tokens = Sequence::new(alloc);
+    let mut at = 0;
+    while at < line.len() {
+        let b = line[at];
+        if b == b'%' {
+            return Ok(Cut { tokens, stop: None });
+        }
+        if is_blank_byte(b) {
+            at += 1;
+        } else {
+            match token_at(&line[at..]) {
+                None => {
+                    return Ok(Cut {
+                        tokens,
+                        stop: Some(at),
+                    });
+                }
+                Some((kind, len)) => {
+                    let token = Token {
+                        kind,
+                        start: at,
+                        end: at + len,
+                    };
+                    match tokens.push(token) {
+                        Pushed::Added => at += len,
+                        Pushed::Memory { item: _ } => return Err(AllocError),
+                    }
+                }
+            }
+        }
+    }
+    Ok(Cut { tokens, stop: None })
+}
+
+/// The bytes of a token.
+pub fn text_of(line: &[u8], token: Token) -> &[u8]
+    requires { IsToken line.now token }
+    ensures { result.now ≡ text line.now token }
+{
+    &line[token.start..token.end]
+}
+
+fn fits(line: &[u8], token: Token) -> bool
+    requires { IsToken line.now token }
+    ensures { result ≡ is_token_in_range (text line.now token) token.kind }
+{
+    match token.kind {
+        TokenKind::Integer => fits_in_range(text_of(line, token)),
+        _ => true,
+    }
+}
+
+fn all_fit(line: &[u8], tokens: &[Token]) -> bool
+    requires { AreTokens line.now tokens.now }
+    ensures { result ≡ list_all (λ t. is_token_in_range (text line.now t) t.kind) tokens.now }
+{
+    let mut rest = tokens;
+    while let Some((token, others)) = rest.split_first() {
+        if !fits(line, *token) {
+            return false;
+        }
+        rest = others;
+    }
+    true
+}
+
+/// The tokens of a line, or what is wrong with them.
+pub fn read_tokens(alloc: Global, line: &[u8]) -> Result<Result<Tokens, FaultKind>, AllocError>
+    ensures tokens { IfOk result (λ tokens. tokens ≡ tokens_of line.now) }
+    ensures known { IfOk result (λ tokens. IfOk tokens (λ ts. AreTokens line.now ts)) }
+{
+    let cut = cut_line(alloc, line)?;
+    if !all_fit(line, cut.tokens.as_slice()) {
+        return Ok(Err(FaultKind::IntRange));
+    }
+    if cut.stop.is_some() {
+        return Ok(Err(FaultKind::Syntax));
+    }
+    Ok(Ok(cut.tokens))
+}

@@ -1,0 +1,187 @@
+ghost use Rattle.std.specs.Prelude.{
+  ◌≡◌,
+  ◌+◌,
+  ◌<◌,
+  ◌≤◌,
+  length,
+  IfSome,
+};
+ghost use Rattle.sig_terms.specs.Words.{is_digit, is_name_byte, is_variable_byte, is_atom_byte};
+ghost use Rattle.sig_script.specs.Tokens.{
+  is_blank,
+  is_sign,
+  front_run,
+  short_word,
+  process_at,
+  minus_at,
+  underscore_at,
+  quoted_at,
+  front_token,
+};
+
+use sig_lists::Sequence;
+use sig_terms::bytes::{
+    follows_in_name, follows_in_variable, is_digit_byte, is_lower_byte, is_upper_byte,
+    stands_in_atom,
+};
+
+#[derive(Clone, Copy, Debug, PartialEq, Eq)]
+pub enum TokenKind {
+    Name,
+    Variable,
+    Integer,
+    Quoted,
+    Process,
+    Sign,
+}
+
+/// A token: the bytes from `start` to below `end`.
+#[derive(Clone, Copy, Debug, PartialEq, Eq)]
+pub struct Token {
+    pub kind: TokenKind,
+    pub start: usize,
+    pub end: usize,
+}
+
+/// The tokens of a line, from left to right.
+pub type Tokens = Sequence<Token>;
+
+/// The tokens of a line up to the first place at which no token stands.
+#[derive(Drop)]
+pub struct Cut {
+    pub tokens: Tokens,
+    pub stop: Option<usize>,
+}
+
+pub fn is_blank_byte(b: u8) -> bool
+    ensures { result ≡ is_blank b }
+{
+    b == 32 || b == 9 || b == 13
+}
+
+fn is_sign_byte(b: u8) -> bool
+    ensures { result ≡ is_sign b }
+{
+    b == 123 || b == 125 || b == 91 || b == 93 || b == 44 || b == 124 || b == 94 || b == 61
+}
+
+fn run_of_name(bytes: &[u8]) -> usize
+    ensures run { result ≡ front_run is_name_byte bytes.now }
+    ensures bound { result ≤ length bytes.now }
+{
+    bytes.iter().take_while(|b| follows_in_name(**b)).count()
+}
+
+fn run_of_variable(bytes: &[u8]) -> usize
+    ensures run { result ≡ front_run is_variable_byte bytes.now }
+    ensures bound { result ≤ length bytes.now }
+{
+    bytes
+        .iter()
+        .take_while(|b| follows_in_variable(**b))
+        .count()
+}
+
+fn run_of_digits(bytes: &[u8]) -> usize
+    ensures run { result ≡ front_run is_digit bytes.now }
+    ensures bound { result ≤ length bytes.now }
+{
+    bytes.iter().take_while(|b| is_digit_byte(**b)).count()
+}
+
+fn run_of_atom(bytes: &[u8]) -> usize
+    ensures run { result ≡ front_run is_atom_byte bytes.now }
+    ensures bound { result ≤ length bytes.now }
+{
+    bytes.iter().take_while(|b| stands_in_atom(**b)).count()
+}
+
+/// The token of a word of `n` bytes with `around` bytes before and behind it.
+fn short_token(kind: TokenKind, around: usize, n: usize) -> Option<(TokenKind, usize)>
+    requires { around ≤ 2 }
+    ensures token { result ≡ short_word kind around n }
+    ensures len { IfSome result (λ t. t.1 ≡ around + n) }
+{
+    if n <= 255 {
+        Some((kind, around + n))
+    } else {
+        None
+    }
+}
+
+fn process_token(rest: &[u8]) -> Option<(TokenKind, usize)>
+    ensures token { result ≡ process_at rest.now }
+    ensures within { IfSome result (λ t. (0 < t.1) × (t.1 ≤ length rest.now + 1)) }
+{
+    let (first, tail) = rest.split_first()?;
+    if is_lower_byte(*first) {
+        short_token(TokenKind::Process, 1, 1 + run_of_name(tail))
+    } else {
+        None
+    }
+}
+
+fn minus_token(rest: &[u8]) -> Option<(TokenKind, usize)>
+    ensures token { result ≡ minus_at rest.now }
+    ensures within { IfSome result (λ t. (0 < t.1) × (t.1 ≤ length rest.now + 1)) }
+{
+    let (first, tail) = rest.split_first()?;
+    if is_digit_byte(*first) {
+        Some((TokenKind::Integer, 2 + run_of_digits(tail)))
+    } else if *first == b'>' {
+        Some((TokenKind::Sign, 2))
+    } else {
+        None
+    }
+}
+
+fn underscore_token(rest: &[u8]) -> Option<(TokenKind, usize)>
+    ensures token { result ≡ underscore_at rest.now }
+    ensures within { IfSome result (λ t. (0 < t.1) × (t.1 ≤ length rest.now + 1)) }
+{
+    match rest.split_first() {
+        Some((first, _)) if follows_in_name(*first) => None,
+        _ => Some((TokenKind::Sign, 1)),
+    }
+}
+
+fn quoted_token(rest: &[u8]) -> Option<(TokenKind, usize)>
+    ensures token { result ≡ quoted_at rest.now }
+    ensures within { IfSome result (λ t. (0 < t.1) × (t.1 ≤ length rest.now + 1)) }
+{
+    let n = run_of_atom(rest);
+    let (first, _) = rest[n..].split_first()?;
+    if *first == b'\'' {
+        short_token(TokenKind::Quoted, 2, n)
+    } else {
+        None
+    }
+}
+
+/// The token at the front of the bytes, as long as possible: its kind and length.
+pub fn token_at(rest: &[u8]) -> Option<(TokenKind, usize)>
+    ensures token { result ≡ front_token rest.now }
+    ensures within { IfSome result (λ t. (0 < t.1) × (t.1 ≤ length rest.now)) }
+{
+    let (first, tail) = rest.split_first()?;
+    let b = *first;
+    if is_lower_byte(b) {
+        short_token(TokenKind::Name, 0, 1 + run_of_name(tail))
+    } else if is_upper_byte(b) {
+        short_token(TokenKind::Variable, 0, 1 + run_of_variable(tail))
+    } else if is_digit_byte(b) {
+        Some((TokenKind::Integer, 1 + run_of_digits(tail)))
+    } else if b == b'@' {
+        process_token(tail)
+    } else if b == b'-' {
+        minus_token(tail)
+    } else if b == b'_' {
+        underscore_token(tail)
+    } else if b == b'\'' {
+        quoted_token(tail)
+    } else if is_sign_byte(b) {
+        Some((TokenKind::Sign, 1))
+    } else {
+        None
+    }
+}

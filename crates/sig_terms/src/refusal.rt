@@ -1,0 +1,26 @@
+//! Why bytes are read as no term.
+
+ghost use Rattle.std.specs.Prelude.{◌≡◌};
+ghost use Rattle.sig_terms.specs.declared.refusal.ReadTerm.TheVariants.{Memory};
+
+use std::alloc::AllocError;
+use thiserror::Error;
+
+/// Why a reader gave no term.
+#[derive(Clone, Copy, Debug, PartialEq, Eq, Error)]
+pub enum ReadTerm {
+    /// The bytes are the text of no term of at most 1,029 nodes and depth 65.
+    #[error("no term")]
+    BadTerm,
+    /// Memory ran out.
+    #[error("out of memory")]
+    Memory,
+}
+
+impl From<AllocError> for ReadTerm {
+    ghost from_gives = { λ _ e. e ≡ Memory };
+
+    fn from(_e: AllocError) -> ReadTerm {
+        ReadTerm::Memory
+    }
+}

@@ -1,0 +1,191 @@
+//! Readers of what has no elements: integers, atoms, pids and references. Each reads as many
+//! bytes as it can, and answers what is behind them.
+
+ghost use Rattle.std.specs.Prelude.{◌≡◌, ◌≤◌, ◌^◌, ◌-◌, ◌*◌, ◌+◌, ◌<◌, IfSome, take, length};
+ghost use Rattle.std.specs.Option.{option_map};
+ghost use Rattle.std.specs.List.{prefix_len};
+ghost use Rattle.sig_terms.specs.Words.{is_name_byte, is_atom_byte};
+ghost use Rattle.sig_terms.specs.Tokens.{digits_on, number_at, int_at, after_text, atom_of, name_at, quoted_at, pid_at, reference_at};
+ghost use Rattle.sig_terms.specs.Fronts.{Gives, leaf_at};
+
+use crate::atom::Atom;
+use crate::bytes::{follows_in_name, is_digit_byte, is_lower_byte, spells_name, stands_in_atom};
+use crate::pid::Pid;
+use crate::reference::Ref;
+use crate::refusal::ReadTerm;
+use crate::term::Term;
+use std::alloc::Global;
+
+/// The number whose digits are those of `first` and those at the front of the bytes, as many as
+/// leave it at most `most`.
+fn digits(most: u64, first: u64, bytes: &[u8]) -> (u64, &[u8])
+    requires { first ≤ most }
+    ensures number { (result.0, result.1.now) ≡ digits_on most first bytes.now }
+    ensures most { result.0 ≤ most }
+{
+    let mut number = first;
+    for (i, b) in bytes.iter().enumerate() {
+        if !is_digit_byte(*b) {
+            return (number, &bytes[i..]);
+        }
+        let next = 10 * u128::from(number) + u128::from(*b - b'0');
+        if next > u128::from(most) {
+            return (number, &bytes[i..]);
+        }
+        number = next as u64;
+    }
+    (number, &[])
+}
+
+/// The number at the front of the bytes, at most `most` and without leading zeros.
+fn number(most: u64, bytes: &[u8]) -> Option<(u64, &[u8])>
+    requires { 9 ≤ most }
+    ensures number { option_map (λ x. (x.0, x.1.now)) result ≡ number_at most bytes.now }
+    ensures most { IfSome result (λ x. x.0 ≤ most) }
+{
+    match bytes {
+        [first, rest @ ..] if is_digit_byte(*first) => {
+            if *first == b'0' {
+                Some((0, rest))
+            } else {
+                Some(digits(most, u64::from(*first - b'0'), rest))
+            }
+        }
+        _ => None,
+    }
+}
+
+/// The integer at the front of the bytes.
+fn int(bytes: &[u8]) -> Option<(i64, &[u8])>
+    ensures { option_map (λ x. (x.0, x.1.now)) result ≡ int_at bytes.now }
+{
+    match bytes {
+        [b'-', digits @ ..] => {
+            let (n, rest) = number(1 << 63, digits)?;
+            if n == 0 {
+                None
+            } else {
+                Some((-((n - 1) as i64) - 1, rest))
+            }
+        }
+        _ => {
+            let (n, rest) = number((1 << 63) - 1, bytes)?;
+            Some((n as i64, rest))
+        }
+    }
+}
+
+/// What follows the text.
+fn after<'a>(text: &[u8], bytes: &'a [u8]) -> Option<&'a [u8]>
+    ensures { option_map (λ x. x.now) result ≡ after_text text.now bytes.now }
+{
+    bytes.strip_prefix(text)
+}
+
+/// The pid that `<` begins.
+fn pid(bytes: &[u8]) -> Option<(Pid, &[u8])>
+    ensures { option_map (λ x. (x.0, x.1.now)) result ≡ pid_at bytes.now }
+{
+    let (n, rest) = number((1 << 32) - 1, bytes)?;
+    let rest = after(b">", rest)?;
+    Some((Pid(n as u32), rest))
+}
+
+/// The reference that `#` begins.
+fn reference(bytes: &[u8]) -> Option<(Ref, &[u8])>
+    ensures { option_map (λ x. (x.0, x.1.now)) result ≡ reference_at bytes.now }
+{
+    let digits = after(b"Ref<", bytes)?;
+    let (owner, more) = number((1 << 32) - 1, digits)?;
+    let more = after(b".", more)?;
+    let (serial, rest) = number(u64::MAX, more)?;
+    let rest = after(b">", rest)?;
+    let owner = Pid(owner as u32);
+    Some((Ref { owner, serial }, rest))
+}
+
+/// How many bytes at the front may follow in a name, up to 255.
+fn name_length(bytes: &[u8]) -> usize
+    ensures length { result ≡ prefix_len is_name_byte (take 255 bytes.now) }
+    ensures within { result ≤ length bytes.now }
+{
+    bytes
+        .iter()
+        .take(255)
+        .take_while(|b| follows_in_name(**b))
+        .count()
+}
+
+/// How many bytes at the front may stand in an atom.
+fn quoted_length(bytes: &[u8]) -> usize
+    ensures length { result ≡ prefix_len is_atom_byte bytes.now }
+    ensures within { result ≤ length bytes.now }
+{
+    bytes.iter().take_while(|b| stands_in_atom(**b)).count()
+}
+
+/// The atom of these bytes.
+fn atom_from(alloc: Global, bytes: &[u8]) -> Result<Atom, ReadTerm>
+    ensures { Gives (λ a. a) result (atom_of bytes.now) }
+{
+    match Atom::new(alloc, bytes)? {
+        Some(atom) => Ok(atom),
+        None => Err(ReadTerm::BadTerm),
+    }
+}
+
+/// The atom whose name is at the front of the bytes.
+fn name(alloc: Global, bytes: &[u8]) -> Result<(Atom, &[u8]), ReadTerm>
+    ensures { Gives (λ x. (x.0, x.1.now)) result (name_at bytes.now) }
+{
+    let (name, rest) = bytes.split_at(name_length(bytes));
+    let atom = atom_from(alloc, name)?;
+    Ok((atom, rest))
+}
+
+/// The atom that a quote begins.
+fn quoted(alloc: Global, bytes: &[u8]) -> Result<(Atom, &[u8]), ReadTerm>
+    ensures { Gives (λ x. (x.0, x.1.now)) result (quoted_at bytes.now) }
+{
+    let (body, rest) = bytes.split_at(quoted_length(bytes));
+    if spells_name(body) {
+        return Err(ReadTerm::BadTerm);
+    }
+    match after(b"'", rest) {
+        None => Err(ReadTerm::BadTerm),
+        Some(rest) => {
+            let atom = atom_from(alloc, body)?;
+            Ok((atom, rest))
+        }
+    }
+}
+
+/// The term without elements at the front of the bytes.
+#[tactic(auto, unfolding(crate::specs::Fronts::leaf_at))]
+pub fn leaf(alloc: Global, bytes: &[u8]) -> Result<(Term, &[u8]), ReadTerm>
+    ensures { Gives (λ x. (x.0, x.1.now)) result (leaf_at bytes.now) }
+{
+    match bytes {
+        [first, ..] if *first == b'-' || is_digit_byte(*first) => {
+            let (n, rest) = int(bytes).ok_or(ReadTerm::BadTerm)?;
+            Ok((Term::Int(n), rest))
+        }
+        [first, ..] if is_lower_byte(*first) => {
+            let (atom, rest) = name(alloc, bytes)?;
+            Ok((Term::Atom(atom), rest))
+        }
+        [b'\'', inside @ ..] => {
+            let (atom, rest) = quoted(alloc, inside)?;
+            Ok((Term::Atom(atom), rest))
+        }
+        [b'<', inside @ ..] => {
+            let (pid, rest) = pid(inside).ok_or(ReadTerm::BadTerm)?;
+            Ok((Term::Pid(pid), rest))
+        }
+        [b'#', inside @ ..] => {
+            let (reference, rest) = reference(inside).ok_or(ReadTerm::BadTerm)?;
+            Ok((Term::Ref(reference), rest))
+        }
+        _ => Err(ReadTerm::BadTerm),
+    }
+}
