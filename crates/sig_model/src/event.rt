@@ -20,7 +20,9 @@ pub enum Outcome {
         message: Term,
     },
     /// A variable got the value.
-    Set { value: Term },
+    Set {
+        value: Term,
+    },
     /// The instruction has no result.
     Done,
     /// A receive took the message.

@@ -22,11 +22,19 @@ pub(crate) enum Step {
     /// The value of an expression is too large.
     TooLarge,
     /// It sends a message.
-    Send { to: Term, message: Term },
+    Send {
+        to: Term,
+        message: Term,
+    },
     /// A variable gets a value.
-    Set { var: Var, value: Term },
+    Set {
+        var: Var,
+        value: Term,
+    },
     /// It goes on at a place.
-    Goto { place: u32 },
+    Goto {
+        place: u32,
+    },
     /// It takes the message at this place of the list, by the clause of this number with this
     /// pattern, both from 0, and goes on.
     Take {
@@ -36,7 +44,9 @@ pub(crate) enum Step {
         place: u32,
     },
     /// No message matches, and it goes on with `after`.
-    PassBy { place: u32 },
+    PassBy {
+        place: u32,
+    },
     /// No message matches, and there is no `after`.
     Wait,
 }
@@ -138,7 +148,12 @@ impl Process {
         ensures step { IfOk result (λ step. receiving self.now.proc self.now.state clauses.now after.now (scan clauses.now self.now.state.env (terms_of self.now.state.messages)) ≡ step_body self.now.state step) }
         ensures fit { IfOk result (IsFit self.now) }
     {
-        match find_message(self.messages.as_slice(), clauses.as_slice(), &self.env, steps) {
+        match find_message(
+            self.messages.as_slice(),
+            clauses.as_slice(),
+            &self.env,
+            steps,
+        ) {
             Some(found) => self.take_step(clauses, found),
             None => match after {
                 Some(after) => Ok(Step::PassBy {

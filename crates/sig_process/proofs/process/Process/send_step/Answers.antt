@@ -8,12 +8,12 @@ pub returns-in-None-2-clause-step : goal.returns-in-None-2-clause-step
 returns-in-None-2-clause-step c =
     let s = c.args.self.now.state in
     ap Some (
-      value_given s c.args.to.now (λ t. with_value s c.args.message.now (λ m. sending s t m)) c.in-Some.to (ap (λ (r : Running). built r.state.env c.args.to.now) (sym c.self.view_is) ∙ sym c.in_ok-value_of.ensures ∙ c.in-Some.is)
-      ∙ value_too_large s c.args.message.now (λ m. sending s c.in-Some.to m) (ap (λ (r : Running). built r.state.env c.args.message.now) (sym c.self.view_is) ∙ sym c.in_ok-value_of-in-Some.ensures ∙ c.in-None-2.is))
+    value_given s c.args.to.now (λ t. with_value s c.args.message.now (λ m. sending s t m)) c.in-Some.to (ap (λ (r : Running). built r.state.env c.args.to.now) (sym c.self.view_is) ∙ sym c.in_ok-value_of.ensures ∙ c.in-Some.is)
+    ∙ value_too_large s c.args.message.now (λ m. sending s c.in-Some.to m) (ap (λ (r : Running). built r.state.env c.args.message.now) (sym c.self.view_is) ∙ sym c.in_ok-value_of-in-Some.ensures ∙ c.in-None-2.is))
 
 pub returns-in-Some-2-clause-step : goal.returns-in-Some-2-clause-step
 returns-in-Some-2-clause-step c =
     let s = c.args.self.now.state in
     ap Some (
-      value_given s c.args.to.now (λ t. with_value s c.args.message.now (λ m. sending s t m)) c.in-Some.to (ap (λ (r : Running). built r.state.env c.args.to.now) (sym c.self.view_is) ∙ sym c.in_ok-value_of.ensures ∙ c.in-Some.is)
-      ∙ value_given s c.args.message.now (λ m. sending s c.in-Some.to m) c.in-Some-2.message (ap (λ (r : Running). built r.state.env c.args.message.now) (sym c.self.view_is) ∙ sym c.in_ok-value_of-in-Some.ensures ∙ c.in-Some-2.is))
+    value_given s c.args.to.now (λ t. with_value s c.args.message.now (λ m. sending s t m)) c.in-Some.to (ap (λ (r : Running). built r.state.env c.args.to.now) (sym c.self.view_is) ∙ sym c.in_ok-value_of.ensures ∙ c.in-Some.is)
+    ∙ value_given s c.args.message.now (λ m. sending s c.in-Some.to m) c.in-Some-2.message (ap (λ (r : Running). built r.state.env c.args.message.now) (sym c.self.view_is) ∙ sym c.in_ok-value_of-in-Some.ensures ∙ c.in-Some-2.is))

@@ -9,4 +9,4 @@ pub returns-in_ok-var-in-Some-clause-step : goal.returns-in_ok-var-in-Some-claus
 returns-in_ok-var-in-Some-clause-step c =
     let s = c.args.self.now.state in
     ap Some (value_given s c.args.value.now (λ v. setting s c.args.var.now.0 v) c.in-Some.value (ap (λ (r : Running). built r.state.env c.args.value.now) (sym c.self.view_is) ∙ sym c.in_ok-value_of.ensures ∙ c.in-Some.is)
-      ∙ ap (λ (v : Var). setting s v.0 c.in-Some.value) (sym c.in_ok-var-in-Some.ensures))
+    ∙ ap (λ (v : Var). setting s v.0 c.in-Some.value) (sym c.in_ok-var-in-Some.ensures))
