@@ -5,10 +5,10 @@ use Rattle.std.proofs.lemmas.List.{length-map}
 use Rattle.sig_patterns.specs.declared.found.Found.{Found}
 use Rattle.sig_inner.specs.declared.scan.Scan.TheVariants as answer
 use Rattle.sig_inner.specs.InnerQueue.{InnerQueue}
-use Rattle.sig_inner.specs.Receiving.{answer_to, IsWithin}
+use Rattle.sig_inner.specs.Receiving.{answer_to, IsScanWithin}
 
 pub answered_within : (q : InnerQueue) (clauses : ℕ) (found : Option Found) → IfSome found (λ f. (f.at < length q.messages) × (f.clause < clauses)) →
-    IsWithin clauses (length q.messages) (answer_to q found)
+    IsScanWithin clauses (length q.messages) (answer_to q found)
 answered_within q clauses (Some f) within = (omega arith, omega arith, omega arith, omega arith)
 answered_within q clauses None within = length-map q.messages (λ m. m.1)
 

@@ -50,9 +50,9 @@ abbrev pub KeepsPassed : InnerQueue → InnerQueue → Type 0
 KeepsPassed before after = (clauses : List Clause) (env : Environment) → HasPassed before clauses env → HasPassed after clauses env
 
 -- The numbers of an answer are those of a clause and of messages that are there.
-abbrev pub IsWithin : ℕ → ℕ → Scan → Type 0
-IsWithin clauses messages (answer.Found clause looked) = (1 ≤ clause) × (clause ≤ clauses) × (1 ≤ looked) × (looked ≤ messages)
-IsWithin clauses messages (answer.None looked) = looked ≡ messages
+abbrev pub IsScanWithin : ℕ → ℕ → Scan → Type 0
+IsScanWithin clauses messages (answer.Found clause looked) = (1 ≤ clause) × (clause ≤ clauses) × (1 ≤ looked) × (looked ≤ messages)
+IsScanWithin clauses messages (answer.None looked) = looked ≡ messages
 
 -- nothing is left of a scan
 abbrev pub forgotten : InnerQueue → InnerQueue
