@@ -112,7 +112,8 @@ fn run_source<S: Source, O: Sink>(alloc: Global, script: &mut S, out: &mut O) ->
 }
 
 /// Reads the words, which are none, and the script to its end; runs the script with one worker;
-/// and writes the text of the record to `out`.
+/// and writes the text of the record to `out`. What the record tells is a settled run of the
+/// script's machine.
 ///
 /// `Usage` comes where there are words. `ReadFault` comes only where a read failed, and
 /// `WriteFault` only where a write to `out` failed, which then holds the beginning of the text.
