@@ -1,5 +1,5 @@
 -- How tokens are spelled.
-use Rattle.std.proofs.Common.{◌≡◌, ℕ, suc, ◌+◌, ◌-◌, ◌≤◌, List, [], ◌∷◌, ◌++◌, length, take, take_while, drop, cond, Bool, true, false, ◌&&◌, ◌||◌, nat_le, ◌==◌, if◌then◌else◌, Option, Some, None, refl, sym, ◌∙◌, ap, subst, arith}
+use Rattle.std.proofs.Common.{◌≡◌, ℕ, zero, suc, ◌+◌, ◌-◌, ◌≤◌, List, [], ◌∷◌, ◌++◌, length, take, take_while, drop, cond, Bool, true, false, ◌&&◌, ◌||◌, nat_le, ◌==◌, if◌then◌else◌, Option, Some, None, refl, sym, ◌∙◌, ap, subst, arith}
 use Rattle.std.specs.List.{list_all}
 use Rattle.std.proofs.lemmas.Bool.Decides.{nat_tests}
 use Rattle.std.proofs.lemmas.List.Folds.{length-prefix_len}
@@ -7,8 +7,10 @@ use Rattle.std.proofs.lemmas.List.Sums.{take_while-cons}
 use Rattle.sig_terms.specs.Words.{is_lower, is_upper, is_digit, is_name_byte, is_variable_byte, is_atom_byte, is_name, is_variable, is_token, is_atom}
 use Rattle.sig_script.specs.declared.token.TokenKind.{TokenKind}
 use Rattle.sig_script.specs.declared.token.TokenKind.TheVariants.{Name, Variable, Integer, Quoted, Process, Sign}
+use Rattle.sig_script.specs.declared.token.Sign as signs
+use Rattle.sig_script.specs.declared.token.Sign.TheVariants as sign
 use Rattle.sig_script.specs.declared.token.Token.{Token}
-use Rattle.sig_script.specs.Tokens.{front_run, process_at, minus_at, underscore_at, quote_at, is_sign, front_token, IsSpelled, IsToken, AreTokens}
+use Rattle.sig_script.specs.Tokens.{text, front_run, process_at, minus_at, underscore_at, quote_at, quoted_at, sign_of, sign_at, front_token, unquoted, is_token_in_range, IsSpelled, IsToken, AreTokens, AreWhole}
 
 -- the bytes at the front that pass a test pass it
 passes-front : (p : ℕ → Bool) (b : ℕ) (bs : List ℕ) (v : Bool) → p b ≡ v → list_all p (take_while p bs) ≡ true → list_all p (cond v (b ∷ take_while p bs) []) ≡ true
@@ -90,15 +92,43 @@ process-good rest (b ∷ bs) =
 minus-good : (rest bs : List ℕ) → IsGood rest (minus_at bs)
 minus-good rest [] = tt
 minus-good rest (b ∷ bs) =
-    either rest (is_digit b) (Some (Integer, 2 + front_run is_digit bs)) _ (λ _. tt) (either rest (b == 62) (Some (Sign, 2)) None (λ _. tt) tt)
+    either rest (is_digit b) (Some (Integer, 2 + front_run is_digit bs)) _ (λ _. tt) (either rest (b == 62) (Some (Sign sign.Arrow, 2)) None (λ _. tt) tt)
 
 underscore-good : (rest bs : List ℕ) → IsGood rest (underscore_at bs)
 underscore-good rest [] = tt
-underscore-good rest (b ∷ bs) = either rest (is_name_byte b) None (Some (Sign, 1)) (λ _. tt) tt
+underscore-good rest (b ∷ bs) = either rest (is_name_byte b) None (Some (Sign sign.Underscore, 1)) (λ _. tt) tt
 
-quote-good : (rest : List ℕ) (n : ℕ) (bs : List ℕ) → IsGood rest (quote_at n bs)
-quote-good rest n [] = tt
-quote-good rest n (b ∷ bs) = either rest (b == 39) _ None (λ _. either rest (nat_le n 255) (Some (Quoted, 2 + n)) None (λ _. tt) tt) tt
+sign-good : (rest : List ℕ) (s : Option signs.Sign) → IsGood rest (sign_at s)
+sign-good rest None = tt
+sign-good rest (Some s) = tt
+
+-- the bytes between the quotes may stand in an atom
+shorter-front : (p : ℕ → Bool) (b : ℕ) (xs ys : List ℕ) (v : Bool) → length xs ≤ length ys → length (cond v (b ∷ xs) []) ≤ length (cond v (b ∷ ys) [])
+shorter-front p b xs ys true h = omega (arith, h)
+shorter-front p b xs ys false h = omega arith
+
+shorter-run : (p : ℕ → Bool) (m : ℕ) (bs : List ℕ) → length (take_while p (take m bs)) ≤ length (take_while p bs)
+shorter-run p zero bs = omega arith
+shorter-run p (suc m) [] = omega arith
+shorter-run p (suc m) (b ∷ bs) =
+    let h = shorter-run p m bs in
+    rw (take_while-cons p b (take m bs), take_while-cons p b bs) (shorter-front p b (take_while p (take m bs)) (take_while p bs) (p b) h)
+
+quoted-spelled : (b : ℕ) (bs : List ℕ) → nat_le (front_run is_atom_byte bs) 255 ≡ true → IsSpelled Quoted (take (2 + front_run is_atom_byte bs) (b ∷ bs))
+quoted-spelled b bs short =
+    let n : ℕ = front_run is_atom_byte bs in
+    let two : 2 + n ≡ suc (suc n) = omega arith in
+    let cut : take (2 + n) (b ∷ bs) ≡ b ∷ take (suc n) bs = ap (λ (m : ℕ). take m (b ∷ bs)) two in
+    let few : length (take_while is_atom_byte (take (suc n) bs)) ≤ n = shorter-run is_atom_byte (suc n) bs in
+    let le : nat_le (length (take_while is_atom_byte (take (suc n) bs))) 255 ≡ true = grind (arith, nat_tests) in
+    let whole : is_atom (take_while is_atom_byte (take (suc n) bs)) ≡ true = rw (le, run-passes is_atom_byte (take (suc n) bs)) refl in
+    subst (IsSpelled Quoted) (sym cut) whole
+
+quote-good : (b : ℕ) (bs cs : List ℕ) → IsGood (b ∷ bs) (quote_at (front_run is_atom_byte bs) cs)
+quote-good b bs [] = tt
+quote-good b bs (c ∷ cs) =
+    let n : ℕ = front_run is_atom_byte bs in
+    either (b ∷ bs) (c == 39) _ None (λ _. either (b ∷ bs) (nat_le n 255) (Some (Quoted, 2 + n)) None (λ short. quoted-spelled b bs short) tt) tt
 
 pub front-good : (rest : List ℕ) → IsGood rest (front_token rest)
 front-good [] = tt
@@ -110,8 +140,16 @@ front-good (b ∷ bs) =
     (either rest (b == 64) _ _ (λ _. process-good rest bs)
     (either rest (b == 45) _ _ (λ _. minus-good rest bs)
     (either rest (b == 95) _ _ (λ _. underscore-good rest bs)
-    (either rest (b == 39) _ _ (λ _. quote-good rest (front_run is_atom_byte bs) (drop (front_run is_atom_byte bs) bs))
-    (either rest (is_sign b) (Some (Sign, 1)) None (λ _. tt) tt)))))))
+    (either rest (b == 39) _ _ (λ _. quote-good b bs (drop (front_run is_atom_byte bs) bs))
+    (sign-good rest (sign_of b))))))))
+
+-- tokens that aren't refused by themselves
+pub all_whole : (line : List ℕ) (ts : List Token) → AreTokens line ts → list_all (λ t. is_token_in_range (text line t) t.kind) ts ≡ true → AreWhole line ts
+all_whole line [] h e = tt
+all_whole line (t ∷ ts) h e =
+    let first = and-first (is_token_in_range (text line t) t.kind) (list_all (λ u. is_token_in_range (text line u) u.kind) ts) e in
+    let rest = and-second (is_token_in_range (text line t) t.kind) (list_all (λ u. is_token_in_range (text line u) u.kind) ts) e in
+    ((h.0, first), all_whole line ts h.1 rest)
 
 -- tokens of a line, one after another
 pub tokens-push : (line : List ℕ) (ts : List Token) (t : Token) → AreTokens line ts → IsToken line t → AreTokens line (ts ++ t ∷ [])

@@ -1,66 +1,71 @@
--- What was read so far, and what follows.
-use Rattle.std.specs.Prelude.{◌≡◌, ℕ, ◌≤◌, List, [], ◌∷◌, ◌++◌, map, length, All, Option, Some, None, Result, Ok}
+-- What was read so far, and with one form more.
+use Rattle.std.specs.Prelude.{ℕ, ◌+◌, List, [], ◌∷◌, ◌++◌, length, nat_le, if◌then◌else◌, Option, Some, None, Result, Ok, Err}
+use Rattle.std.specs.Option.{option_map_or}
+use Rattle.std.specs.List.{list_any}
+use Rattle.std.specs.Str.{bytes_eq}
 use Rattle.sig_patterns.specs.declared.clause.Clause.{Clause}
+use Rattle.sig_script.specs.declared.label.Label.{Label}
+use Rattle.sig_script.specs.declared.instruction.After.{After}
 use Rattle.sig_script.specs.declared.instruction.Instr.{Instr}
+use Rattle.sig_script.specs.declared.instruction.Instr.TheVariants as instr
 use Rattle.sig_script.specs.declared.fault.FaultKind.{FaultKind}
-use Rattle.sig_script.specs.declared.fault.Fault.{Fault}
-use Rattle.sig_script.specs.declared.known.Known.{Known}
-use Rattle.sig_script.specs.declared.known.Known.TheVariants.{Any, Among}
-use Rattle.sig_script.specs.declared.place.Place.{Place}
-use Rattle.sig_script.specs.declared.place.Place.TheVariants.{Before, Outside, Inside}
+use Rattle.sig_script.specs.declared.fault.FaultKind.TheVariants.{Syntax, DuplicateName, TooManyProcesses, DuplicateLabel, TooManyTurns}
+use Rattle.sig_script.specs.declared.draft.Place.{Place}
+use Rattle.sig_script.specs.declared.draft.Place.TheVariants.{Before, Outside, Inside}
 use Rattle.sig_script.specs.declared.draft.Draft.{Draft}
-use Rattle.sig_script.specs.Scripts.{Declared, IsTarget, IsLawful}
+use Rattle.sig_script.specs.declared.form.Form.{Form}
+use Rattle.sig_script.specs.declared.form.Form.TheVariants as form
+use Rattle.sig_script.specs.Scripts.{Declared, Program}
 use Rattle.sig_script.specs.Faults.{on_ok}
-use Rattle.sig_script.specs.Grammar.{Body, at_line, walk}
 
--- the processes so far with the one that is being read, and those after it
-abbrev pub closed : List Declared → Option (List ℕ) → List Instr → List Declared → List Declared
-closed procs None instrs others = procs ++ others
-closed procs (Some name) instrs others = procs ++ record { name = name; labels = []; instrs = instrs } ∷ others
+-- before the first line
+abbrev pub blank : Draft
+blank = record { turns = None; procs = []; place = Before }
+
+-- the process that is being read
+abbrev pub open_proc : Place → List Declared
+open_proc Before = []
+open_proc (Outside p) = p ∷ []
+open_proc (Inside p clauses after) = p ∷ []
 
 -- the processes so far
 abbrev pub all_procs : Draft → List Declared
-all_procs d = closed d.procs d.name d.instrs []
+all_procs d = d.procs ++ open_proc d.place
 
--- their names, the one that is being read at the end
-abbrev pub names_of : List Declared → Option (List ℕ) → List (List ℕ)
-names_of procs None = map (λ (p : Declared). p.name) procs
-names_of procs (Some name) = map (λ (p : Declared). p.name) procs ++ name ∷ []
+-- each process may execute 1,000 instructions where nothing else is said
+abbrev pub program_of : Draft → Program
+program_of d = record { turns = option_map_or (λ n. n) d.turns 1000; procs = all_procs d }
 
--- the names of the processes of a draft
-abbrev pub all_names : Draft → List (List ℕ)
-all_names d = names_of d.procs d.name
+-- a process begins: its name is a new one, and there are at most 64 processes
+abbrev pub begun : Draft → List ℕ → Result Draft FaultKind
+begun d name =
+    if list_any (λ (p : Declared). bytes_eq p.name name) (all_procs d) then Err DuplicateName
+    else if nat_le 64 (length (all_procs d)) then Err TooManyProcesses
+    else Ok (record d { procs = all_procs d; place = Outside (record { name = name; labels = []; instrs = [] }) })
 
--- the processes of a draft that what follows completes
-abbrev pub glued : Draft → Result Body Fault → Result (List Declared) Fault
-glued d b = on_ok (λ (rest : Body). closed d.procs d.name (d.instrs ++ rest.instrs) rest.procs) b
+-- a label before the next instruction: its name is a new one in its process
+abbrev pub labelled : Declared → List ℕ → Result Declared FaultKind
+labelled p name =
+    if list_any (λ (l : Label). bytes_eq l.name name) p.labels then Err DuplicateLabel
+    else Ok (record p { labels = p.labels ++ record { name = name; place = length p.instrs + 1 } ∷ [] })
 
--- what follows, unless this line is refused
-abbrev pub unless : {A : Type 0} → ℕ → Option FaultKind → Result A Fault → Result A Fault
-unless n None after = after
-unless n (Some kind) after = at_line n kind
+-- one instruction more
+abbrev pub with_instr : Declared → Instr → Declared
+with_instr p i = record p { instrs = p.instrs ++ i ∷ [] }
 
--- A line was taken: the draft before it, with this line and the lines behind it, and the draft after it, with the lines
--- behind it, come to the same, whatever those lines say.
-abbrev pub IsTaken : ℕ → ((Place → List (List ℕ) → Result Body Fault) → Result Body Fault) → Draft → Draft → Option FaultKind → Type 0
-IsTaken n line before after fault =
-    (rest : Place → List (List ℕ) → Result Body Fault) → glued before (line rest) ≡ unless n fault (glued after (rest after.place (all_names after)))
+-- a form behind what was read so far; a receive with all its lines is one instruction
+abbrev pub taken_at : Draft → Place → Form → Result Draft FaultKind
+taken_at d Before (form.Turns n) = if nat_le n 20000 then Ok (record d { turns = Some n }) else Err TooManyTurns
+taken_at d Before (form.Process name) = begun d name
+taken_at d (Outside p) (form.Process name) = begun d name
+taken_at d (Outside p) (form.Label name) = on_ok (λ q. record d { place = Outside q }) (labelled p name)
+taken_at d (Outside p) (form.Do i) = Ok (record d { place = Outside (with_instr p i) })
+taken_at d (Outside p) form.Receive = Ok (record d { place = Inside p [] None })
+taken_at d (Inside p clauses after) (form.On pattern target) =
+    Ok (record d { place = Inside p (clauses ++ record { pattern = pattern; target = target } ∷ []) after })
+taken_at d (Inside p clauses after) (form.After next) = Ok (record d { place = Inside p clauses (Some next) })
+taken_at d (Inside p clauses after) form.End = Ok (record d { place = Outside (with_instr p (instr.Receive clauses after)) })
+taken_at d _ _ = Err Syntax
 
--- the script of the second walk is the one that the first walk gave
-abbrev pub IsWalked : Known → List (List ℕ) → Type 0
-IsWalked Any lines = Unit {0}
-IsWalked (Among script) lines = walk Any lines ≡ Ok script
-
--- the clauses so far
-abbrev pub clauses_in : Place → List Clause
-clauses_in Before = []
-clauses_in Outside = []
-clauses_in (Inside clauses) = clauses
-
--- the bounds of a draft before line n
-pub record IsFit (n : ℕ) (d : Draft) : Type 0 where
-  pub instrs : length d.instrs ≤ n
-  pub lawful : All (IsLawful 0) d.instrs
-  pub clauses : length (clauses_in d.place) ≤ n
-  pub targets : All (λ (c : Clause). IsTarget 0 c.target) (clauses_in d.place)
-  pub names : length (all_names d) ≤ 64
+abbrev pub taken : Draft → Form → Result Draft FaultKind
+taken d f = taken_at d d.place f

@@ -1,34 +1,31 @@
--- What a line says.
-use Rattle.std.specs.Prelude.{ℕ, List, [], ◌∷◌, Bool, true, false, is_some, drop, position, codes, ok_or, if◌then◌else◌, Option, Some, None, Result, Ok, Err}
+-- What a line says: its word, and what stands behind it.
+use Rattle.std.specs.Prelude.{ℕ, List, [], ◌∷◌, Bool, true, false, not, is_some, is_none, codes, ok_or, length, if◌then◌else◌, Option, Some, None, Result, Ok, Err}
 use Rattle.std.specs.List.{list_all}
 use Rattle.std.specs.Str.{bytes_eq}
-use Rattle.sig_patterns.specs.declared.expression.Expr.{Expr}
-use Rattle.sig_patterns.specs.declared.expression.Expr.TheVariants as expr
-use Rattle.sig_patterns.specs.declared.pattern.Pattern.{Pattern}
-use Rattle.sig_patterns.specs.declared.pattern.Pattern.TheVariants as pattern
+use Rattle.sig_script.specs.declared.instruction.After.{After}
+use Rattle.sig_script.specs.declared.instruction.Instr.{Instr}
+use Rattle.sig_script.specs.declared.instruction.Instr.TheVariants as instr
 use Rattle.sig_script.specs.declared.fault.FaultKind.{FaultKind}
-use Rattle.sig_script.specs.declared.fault.FaultKind.TheVariants.{Syntax, IntRange, UnknownProcess}
+use Rattle.sig_script.specs.declared.fault.FaultKind.TheVariants.{Syntax, IntRange}
 use Rattle.sig_script.specs.declared.token.TokenKind.{TokenKind}
-use Rattle.sig_script.specs.declared.token.TokenKind.TheVariants.{Name, Variable, Integer, Process, Sign}
+use Rattle.sig_script.specs.declared.token.TokenKind.TheVariants.{Integer}
 use Rattle.sig_script.specs.declared.token.Token.{Token}
 use Rattle.sig_script.specs.declared.token.Cut.{Cut}
 use Rattle.sig_script.specs.declared.known.Known.{Known}
-use Rattle.sig_script.specs.declared.known.Known.TheVariants.{Any, Among}
 use Rattle.sig_script.specs.declared.keyword.Keyword.{Keyword}
 use Rattle.sig_script.specs.declared.keyword.Keyword.TheVariants as keyword
-use Rattle.sig_script.specs.declared.place.Place.{Place}
-use Rattle.sig_script.specs.declared.place.Place.TheVariants.{Before, Outside, Inside}
+use Rattle.sig_script.specs.declared.draft.Place.{Place}
+use Rattle.sig_script.specs.declared.draft.Place.TheVariants.{Before, Outside, Inside}
+use Rattle.sig_script.specs.declared.draft.Draft.{Draft}
 use Rattle.sig_script.specs.declared.form.Form.{Form}
 use Rattle.sig_script.specs.declared.form.Form.TheVariants as form
-use Rattle.sig_script.specs.Scripts.{Declared}
 use Rattle.sig_script.specs.Faults.{◌>>=◌, on_ok}
-use Rattle.sig_script.specs.Numbers.{is_in_range}
-use Rattle.sig_script.specs.Tokens.{text, cut_of}
-
--- an integer has 64 bits signed
-abbrev pub is_token_in_range : List ℕ → TokenKind → Bool
-is_token_in_range text Integer = is_in_range text
-is_token_in_range text _ = true
+use Rattle.sig_script.specs.Numbers.{count_of}
+use Rattle.sig_script.specs.Tokens.{text, cut_of, is_token_in_range}
+use Rattle.sig_script.specs.Signs.{is_arrow}
+use Rattle.sig_script.specs.Names.{label_of, name_at, variable_at}
+use Rattle.sig_script.specs.Expressions.{expr_of}
+use Rattle.sig_script.specs.PatternTexts.{pattern_of}
 
 -- A line is cut whole, and each integer is in range. The tokens that were cut stand to the left of a place at which none stands.
 abbrev pub checked : List ℕ → Cut → Result (List Token) FaultKind
@@ -42,77 +39,124 @@ tokens_of line = checked line (cut_of 0 0 line)
 -- the word with which a line begins
 abbrev pub keyword_of : List ℕ → Option Keyword
 keyword_of word =
-    if bytes_eq word (codes "process") then Some keyword.Process
+    if bytes_eq word (codes "turns") then Some keyword.Turns
+    else if bytes_eq word (codes "process") then Some keyword.Process
+    else if bytes_eq word (codes "label") then Some keyword.Label
     else if bytes_eq word (codes "send") then Some keyword.Send
+    else if bytes_eq word (codes "set") then Some keyword.Set
+    else if bytes_eq word (codes "goto") then Some keyword.Goto
+    else if bytes_eq word (codes "stop") then Some keyword.Stop
     else if bytes_eq word (codes "receive") then Some keyword.Receive
     else if bytes_eq word (codes "on") then Some keyword.On
+    else if bytes_eq word (codes "after") then Some keyword.After
     else if bytes_eq word (codes "end") then Some keyword.End
     else None
 
--- where a line that begins with this word may stand: a process begins outside a receive, instructions stand in a process
--- outside a receive, and `on` and `end` inside one
-abbrev pub may_stand : Place → Keyword → Bool
-may_stand Before keyword.Process = true
-may_stand Outside keyword.Process = true
-may_stand Outside keyword.Send = true
-may_stand Outside keyword.Receive = true
-may_stand (Inside clauses) keyword.On = true
-may_stand (Inside clauses) keyword.End = true
-may_stand _ _ = false
+-- before the first process: the turns once, and a process
+abbrev pub may_begin : Option ℕ → Keyword → Bool
+may_begin turns keyword.Turns = is_none turns
+may_begin turns keyword.Process = true
+may_begin turns _ = false
 
--- the pid of the process of this name: its place among the processes, from 0
-abbrev pub pid_of : Known → List ℕ → Result ℕ FaultKind
-pid_of Any name = Ok 0
-pid_of (Among script) name = ok_or (position (λ (p : Declared). bytes_eq p.name name) script.procs) UnknownProcess
+-- in a process, outside a receive: a label, an instruction, the next process
+abbrev pub may_be_outside : Keyword → Bool
+may_be_outside keyword.Turns = false
+may_be_outside keyword.On = false
+may_be_outside keyword.After = false
+may_be_outside keyword.End = false
+may_be_outside _ = true
 
--- a name
-abbrev pub name_of : TokenKind → List ℕ → Result (List ℕ) FaultKind
-name_of Name text = Ok text
-name_of _ text = Err Syntax
+-- in a receive: clauses up to its `after`, which stands once, and the end
+abbrev pub may_be_inside : Bool → Keyword → Bool
+may_be_inside has_after keyword.On = not has_after
+may_be_inside has_after keyword.After = not has_after
+may_be_inside has_after keyword.End = true
+may_be_inside has_after _ = false
 
--- `@N`
-abbrev pub process_of : Known → TokenKind → List ℕ → Result Expr FaultKind
-process_of known Process text = on_ok (λ n. expr.Pid (record { 0 = n })) (pid_of known (drop 1 text))
-process_of known _ text = Err Syntax
+-- where a line that begins with this word may stand
+abbrev pub may_stand : Option ℕ → Place → Keyword → Bool
+may_stand turns Before word = may_begin turns word
+may_stand turns (Outside p) word = may_be_outside word
+may_stand turns (Inside p clauses after) word = may_be_inside (is_some after) word
 
--- a name, which is an atom, or a process
-abbrev pub expr_of : Known → TokenKind → List ℕ → Result Expr FaultKind
-expr_of known Name text = Ok (expr.Atom text)
-expr_of known Process text = on_ok (λ n. expr.Pid (record { 0 = n })) (pid_of known (drop 1 text))
-expr_of known _ text = Err Syntax
+-- no token is left
+abbrev pub ends : {A : Type 0} → A → List Token → Result A FaultKind
+ends said [] = Ok said
+ends said (t ∷ ts) = Err Syntax
 
--- the same, a variable, or `_`
-abbrev pub pattern_of : Known → TokenKind → List ℕ → Result Pattern FaultKind
-pattern_of known Name text = Ok (pattern.Atom text)
-pattern_of known Process text = on_ok (λ n. pattern.Pid (record { 0 = n })) (pid_of known (drop 1 text))
-pattern_of known Variable text = Ok (pattern.Bind (record { 0 = text }))
-pattern_of known Sign text = if bytes_eq text (codes "_") then Ok pattern.Any else Err Syntax
-pattern_of known _ text = Err Syntax
+-- a label at the front of the tokens, and the tokens behind it
+abbrev pub target_at : Known → ℕ → List ℕ → List Token → Result (ℕ × List Token) FaultKind
+target_at known here line ts = name_at line ts >>= λ x. on_ok (λ n. (n, x.1)) (label_of known here x.0)
 
--- what stands behind the word: `process N`, `send @N E`, `receive`, `on P`, `end`
-unfoldable pub form_of : Known → Keyword → List ℕ → List Token → Result Form FaultKind
-form_of known keyword.Process line (n ∷ []) = on_ok form.Process (name_of n.kind (text line n))
-form_of known keyword.Send line (to ∷ m ∷ []) = do
-  target ← process_of known to.kind (text line to)
-  message ← expr_of known m.kind (text line m)
-  Ok (form.Send target message)
-form_of known keyword.Receive line [] = Ok form.Receive
-form_of known keyword.On line (p ∷ []) = on_ok form.On (pattern_of known p.kind (text line p))
-form_of known keyword.End line [] = Ok form.End
-form_of known _ line _ = Err Syntax
+-- nothing, or `-> L`
+abbrev pub arrow_of : Known → ℕ → List ℕ → List Token → Result (Option ℕ) FaultKind
+arrow_of known here line [] = Ok None
+arrow_of known here line (t ∷ ts) = if is_arrow t.kind then (target_at known here line ts >>= λ x. ends (Some x.0) x.1) else Err Syntax
+
+-- an integer that isn't below 0
+abbrev pub count_from : TokenKind → List ℕ → Result ℕ FaultKind
+count_from Integer word = ok_or (count_of word) Syntax
+count_from _ word = Err Syntax
+
+abbrev pub turns_of : List ℕ → List Token → Result Form FaultKind
+turns_of line [] = Err Syntax
+turns_of line (t ∷ ts) = count_from t.kind (text line t) >>= λ n. ends (form.Turns n) ts
+
+-- `send E E`
+abbrev pub send_of : Known → List ℕ → List Token → Result Instr FaultKind
+send_of known line ts = do
+  to ← expr_of known line ts
+  message ← expr_of known line to.1
+  ends (instr.Send to.0 message.0) message.1
+
+-- `set X E`
+abbrev pub set_of : Known → List ℕ → List Token → Result Instr FaultKind
+set_of known line ts = do
+  var ← variable_at line ts
+  value ← expr_of known line var.1
+  ends (instr.Set (record { 0 = var.0 }) value.0) value.1
+
+-- `goto L`
+abbrev pub goto_of : Known → ℕ → List ℕ → List Token → Result Instr FaultKind
+goto_of known here line ts = target_at known here line ts >>= λ x. ends (instr.Goto x.0) x.1
+
+unfoldable pub instr_of : Known → ℕ → Keyword → List ℕ → List Token → Result Instr FaultKind
+instr_of known here keyword.Send line ts = send_of known line ts
+instr_of known here keyword.Set line ts = set_of known line ts
+instr_of known here keyword.Goto line ts = goto_of known here line ts
+instr_of known here keyword.Stop line ts = ends instr.Stop ts
+instr_of known here _ line ts = Err Syntax
+
+-- a name, and nothing behind it
+abbrev pub whole_name : List ℕ → List Token → Result (List ℕ) FaultKind
+whole_name line ts = name_at line ts >>= λ x. ends x.0 x.1
+
+-- `on P`, `on P -> L`
+abbrev pub on_of : Known → ℕ → List ℕ → List Token → Result Form FaultKind
+on_of known here line ts = pattern_of known line ts >>= λ x. on_ok (form.On x.0) (arrow_of known here line x.1)
+
+-- what stands behind the word
+unfoldable pub form_of : Known → ℕ → Keyword → List ℕ → List Token → Result Form FaultKind
+form_of known here keyword.Turns line ts = turns_of line ts
+form_of known here keyword.Process line ts = on_ok form.Process (whole_name line ts)
+form_of known here keyword.Label line ts = on_ok form.Label (whole_name line ts)
+form_of known here keyword.Receive line ts = ends form.Receive ts
+form_of known here keyword.On line ts = on_of known here line ts
+form_of known here keyword.After line ts = on_ok (λ target. form.After (record { target = target })) (arrow_of known here line ts)
+form_of known here keyword.End line ts = ends form.End ts
+form_of known here word line ts = on_ok form.Do (instr_of known here word line ts)
 
 -- the form behind a word that may stand here
-abbrev pub form_behind : Known → Place → Option Keyword → List ℕ → List Token → Result Form FaultKind
-form_behind known place None line tokens = Err Syntax
-form_behind known place (Some word) line tokens = if may_stand place word then form_of known word line tokens else Err Syntax
+abbrev pub form_behind : Known → Draft → Option Keyword → List ℕ → List Token → Result Form FaultKind
+form_behind known draft None line ts = Err Syntax
+form_behind known draft (Some word) line ts =
+    if may_stand draft.turns draft.place word then form_of known (length draft.procs) word line ts else Err Syntax
 
 -- a line without tokens says nothing
-unfoldable pub said_by : Known → Place → List ℕ → List Token → Result (Option Form) FaultKind
-said_by known place line [] = Ok None
-said_by known place line (word ∷ tokens) = on_ok Some (form_behind known place (keyword_of (text line word)) line tokens)
+unfoldable pub said_by : Known → Draft → List ℕ → List Token → Result (Option Form) FaultKind
+said_by known draft line [] = Ok None
+said_by known draft line (word ∷ ts) = on_ok Some (form_behind known draft (keyword_of (text line word)) line ts)
 
--- what a line says at this place, or the first that is wrong with it: its tokens are cut before its form is read
-unfoldable pub said : Known → Place → List ℕ → Result (Option Form) FaultKind
-said known place line = do
-  tokens ← tokens_of line
-  said_by known place line tokens
+-- what a line says behind what was read so far, or the first that is wrong with it: its tokens are cut before its form is read
+unfoldable pub said : Known → Draft → List ℕ → Result (Option Form) FaultKind
+said known draft line = tokens_of line >>= said_by known draft line

@@ -1,98 +1,56 @@
 -- The script that a text spells, or the first line that is refused and why. The language of scripts is this project's own.
-use Rattle.std.specs.Prelude.{ℕ, ◌+◌, List, [], ◌∷◌, ◌++◌, length, Bool, false, ◌&&◌, nat_le, codes, if◌then◌else◌, Option, Some, None, Result, Ok, Err}
-use Rattle.std.specs.List.{list_any}
+use Rattle.std.specs.Prelude.{ℕ, ◌+◌, List, [], ◌∷◌, length, Bool, false, ◌&&◌, nat_le, codes, if◌then◌else◌, Option, Some, None, Result, Ok, Err}
 use Rattle.std.specs.Str.{bytes_eq}
-use Rattle.sig_patterns.specs.declared.clause.Clause.{Clause}
-use Rattle.sig_patterns.specs.declared.pattern.Pattern.{Pattern}
-use Rattle.sig_script.specs.declared.instruction.Instr.{Instr}
-use Rattle.sig_script.specs.declared.instruction.Instr.TheVariants as instr
 use Rattle.sig_script.specs.declared.fault.FaultKind.{FaultKind}
-use Rattle.sig_script.specs.declared.fault.FaultKind.TheVariants.{Header, Syntax, DuplicateName, TooManyProcesses, TooLong}
-use Rattle.sig_script.specs.declared.fault.Fault.{Fault}
+use Rattle.sig_script.specs.declared.fault.FaultKind.TheVariants.{Header, Syntax, TooLong}
 use Rattle.sig_script.specs.declared.token.TokenKind.{TokenKind}
 use Rattle.sig_script.specs.declared.token.TokenKind.TheVariants.{Integer}
 use Rattle.sig_script.specs.declared.token.Token.{Token}
 use Rattle.sig_script.specs.declared.known.Known.{Known}
 use Rattle.sig_script.specs.declared.known.Known.TheVariants.{Any, Among}
-use Rattle.sig_script.specs.declared.place.Place.{Place}
-use Rattle.sig_script.specs.declared.place.Place.TheVariants.{Before, Outside, Inside}
+use Rattle.sig_script.specs.declared.draft.Place.{Place}
+use Rattle.sig_script.specs.declared.draft.Place.TheVariants.{Before, Outside, Inside}
+use Rattle.sig_script.specs.declared.draft.Draft.{Draft}
 use Rattle.sig_script.specs.declared.form.Form.{Form}
-use Rattle.sig_script.specs.declared.form.Form.TheVariants as form
-use Rattle.sig_script.specs.Scripts.{Declared, Program}
-use Rattle.sig_script.specs.Faults.{◌>>=◌, on_ok}
+use Rattle.sig_script.specs.Scripts.{Program}
+use Rattle.sig_script.specs.Faults.{Fault, ◌>>=◌}
 use Rattle.sig_script.specs.Lines.{lines_of}
 use Rattle.sig_script.specs.Tokens.{text}
 use Rattle.sig_script.specs.Numbers.{is_one}
 use Rattle.sig_script.specs.Forms.{tokens_of, said}
+use Rattle.sig_script.specs.Drafts.{blank, program_of, taken}
 
 -- a refusal of this line
 abbrev pub at_line : {A : Type 0} → ℕ → FaultKind → Result A Fault
 at_line n kind = Err (record { line = n; kind = kind })
 
--- the instructions up to the next process line, and the processes from there on
-pub record Body : Type 0 where
-  pub instrs : List Instr
-  pub procs : List Declared
-
--- an instruction in front of what follows
-abbrev pub with_instr : Instr → Body → Body
-with_instr i b = record { instrs = i ∷ b.instrs; procs = b.procs }
-
--- a process whose instructions end at the next process line
-abbrev pub with_process : List ℕ → Body → Body
-with_process name b = record { instrs = []; procs = record { name = name; labels = []; instrs = b.instrs } ∷ b.procs }
+-- what is refused is refused at this line
+abbrev pub located : {A : Type 0} → ℕ → Result A FaultKind → Result A Fault
+located n (Ok x) = Ok x
+located n (Err kind) = at_line n kind
 
 -- A text doesn't end inside a receive. The line that is refused is the one after the last.
-abbrev pub at_end : ℕ → Place → Result Body Fault
-at_end n (Inside clauses) = at_line n Syntax
-at_end n _ = Ok (record { instrs = []; procs = [] })
+abbrev pub finished : ℕ → Draft → Place → Result Program Fault
+finished n d (Inside p clauses after) = at_line n Syntax
+finished n d _ = Ok (program_of d)
 
--- a process line: the name is a new one, and there are at most 64 processes
-abbrev pub begun : ℕ → List ℕ → List (List ℕ) → Result Body Fault → Result Body Fault
-begun n name names after =
-    if list_any (λ other. bytes_eq other name) names then at_line n DuplicateName
-    else if nat_le 64 (length names) then at_line n TooManyProcesses
-    else on_ok (with_process name) after
+-- a line that says nothing is passed over
+abbrev pub taken_if : Draft → Option Form → Result Draft FaultKind
+taken_if d None = Ok d
+taken_if d (Some f) = taken d f
 
--- a receive has exactly one `on` line
-abbrev pub with_pattern : ℕ → List Clause → Pattern → (Place → Result Body Fault) → Result Body Fault
-with_pattern n [] p after = after (Inside (record { pattern = p; target = None } ∷ []))
-with_pattern n (c ∷ cs) p after = at_line n Syntax
+-- one line behind what was read so far
+abbrev pub line_taken : Known → Draft → List ℕ → Result Draft FaultKind
+line_taken known d line = said known d line >>= taken_if d
 
--- the end of a receive, which then is one instruction
-abbrev pub with_receive : ℕ → List Clause → Result Body Fault → Result Body Fault
-with_receive n [] after = at_line n Syntax
-with_receive n (c ∷ cs) after = on_ok (with_instr (instr.Receive (c ∷ cs) None)) after
-
--- A form at a place, and what the lines after it say from the next place on. The names are those of the processes so far.
-abbrev pub with_form : ℕ → Place → List (List ℕ) → Form → (Place → List (List ℕ) → Result Body Fault) → Result Body Fault
-with_form n Before names (form.Process name) after = begun n name names (after Outside (names ++ name ∷ []))
-with_form n Outside names (form.Process name) after = begun n name names (after Outside (names ++ name ∷ []))
-with_form n Outside names (form.Send to message) after = on_ok (with_instr (instr.Send to message)) (after Outside names)
-with_form n Outside names form.Receive after = after (Inside []) names
-with_form n (Inside clauses) names (form.On p) after = with_pattern n clauses p (λ place. after place names)
-with_form n (Inside clauses) names form.End after = with_receive n clauses (after Outside names)
-with_form n _ names _ after = at_line n Syntax
-
--- a line, and what the lines after it say; a line that says nothing is passed over
-abbrev pub with_line : ℕ → Place → List (List ℕ) → Result (Option Form) FaultKind → (Place → List (List ℕ) → Result Body Fault) → Result Body Fault
-with_line n place names (Ok (Some f)) after = with_form n place names f after
-with_line n place names (Ok None) after = after place names
-with_line n place names (Err kind) after = at_line n kind
-
--- what the lines from number n on say from this place on
-unfoldable pub body : Known → ℕ → Place → List (List ℕ) → List (List ℕ) → Result Body Fault
-body known n place names [] = at_end n place
-body known n place names (line ∷ lines) =
-    with_line n place names (said known place line) (λ place names. body known (n + 1) place names lines)
-
--- each process may execute 1,000 instructions
-abbrev pub program_of : Body → Program
-program_of b = record { turns = 1000; procs = b.procs }
+-- the lines from number n on, behind what was read so far
+unfoldable pub body : Known → ℕ → Draft → List (List ℕ) → Result Program Fault
+body known n d [] = finished n d d.place
+body known n d (line ∷ lines) = located n (line_taken known d line) >>= λ e. body known (n + 1) e lines
 
 -- the script of the lines after the first
 abbrev pub walk : Known → List (List ℕ) → Result Program Fault
-walk known lines = on_ok program_of (body known 2 Before [] lines)
+walk known lines = body known 2 blank lines
 
 -- an integer token of value 1
 abbrev pub is_integer_one : TokenKind → List ℕ → Bool
@@ -109,7 +67,8 @@ abbrev pub is_header : Result (List Token) FaultKind → List ℕ → Bool
 is_header (Ok tokens) line = are_header line tokens
 is_header (Err kind) line = false
 
--- The lines after the first are walked twice. In the first walk `@` and a name is any process, in the second one of the script.
+-- The lines after the first are walked twice. In the first walk a name behind `@` is that of any process, and each label may
+-- be one of any process; in the second one the names are those that the first has found.
 abbrev pub walk_twice : List (List ℕ) → Result Program Fault
 walk_twice lines = walk Any lines >>= λ script. walk (Among script) lines
 

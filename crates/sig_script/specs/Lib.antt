@@ -1,9 +1,15 @@
 pub mod Scripts
 pub mod Faults
 pub mod Lines
-pub mod Tokens
 pub mod Numbers
+pub mod Tokens
+pub mod Signs
+pub mod Operands
+pub mod Names
+pub mod Expressions
+pub mod PatternTexts
 pub mod Forms
-pub mod Grammar
 pub mod Drafts
+pub mod Fitting
+pub mod Grammar
 pub mod Reading

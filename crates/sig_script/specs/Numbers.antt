@@ -1,5 +1,5 @@
 -- The integers that tokens write. Leading zeros count for nothing.
-use Rattle.std.specs.Prelude.{ℕ, ◌+◌, ◌-◌, ◌*◌, ◌^◌, List, [], ◌∷◌, Bool, false, ◌&&◌, not, nat_le, ◌==◌, if◌then◌else◌, Option, Some, None}
+use Rattle.std.specs.Prelude.{ℕ, ◌+◌, ◌-◌, ◌*◌, ◌^◌, ℤ, pos, negsuc, List, [], ◌∷◌, Bool, false, ◌&&◌, not, nat_le, ◌==◌, if◌then◌else◌, Option, Some, None}
 
 -- the number that the digits write behind those of n
 unfoldable pub number_after : ℕ → List ℕ → ℕ
@@ -23,3 +23,17 @@ is_in_range (b ∷ bs) = if b == 45 then nat_le (number bs) (2 ^ 63) else nat_le
 abbrev pub is_one : List ℕ → Bool
 is_one [] = false
 is_one (b ∷ bs) = not (b == 45) && number (b ∷ bs) == 1
+
+-- n below 0
+abbrev pub negative : ℕ → ℤ
+negative n = if n == 0 then pos 0 else negsuc (n - 1)
+
+-- the integer that digits write, with or without `-`
+abbrev pub int_of : List ℕ → ℤ
+int_of [] = pos 0
+int_of (b ∷ bs) = if b == 45 then negative (number bs) else pos (number (b ∷ bs))
+
+-- the same, where it isn't below 0
+abbrev pub count_of : List ℕ → Option ℕ
+count_of [] = None
+count_of (b ∷ bs) = if b == 45 then (if number bs == 0 then Some 0 else None) else Some (number (b ∷ bs))

@@ -1,8 +1,11 @@
 -- The tokens of a line, cut from left to right, each as long as possible.
 use Rattle.std.specs.Prelude.{◌≡◌, ◌≤◌, ℕ, zero, suc, ◌+◌, ◌-◌, List, [], ◌∷◌, length, take_while, Bool, true, ◌||◌, nat_le, ◌==◌, if◌then◌else◌, Option, Some, None, drop, slice_range}
 use Rattle.sig_terms.specs.Words.{is_lower, is_upper, is_digit, is_name_byte, is_variable_byte, is_atom_byte, is_token, is_atom}
+use Rattle.sig_script.specs.Numbers.{is_in_range}
+use Rattle.sig_script.specs.declared.token.Sign as signs
 use Rattle.sig_script.specs.declared.token.TokenKind.{TokenKind}
 use Rattle.sig_script.specs.declared.token.TokenKind.TheVariants.{Name, Variable, Integer, Quoted, Process, Sign}
+use Rattle.sig_script.specs.declared.token.Sign.TheVariants as sign
 use Rattle.sig_script.specs.declared.token.Token.{Token}
 use Rattle.sig_script.specs.declared.token.Cut.{Cut}
 
@@ -11,8 +14,22 @@ abbrev pub is_blank : ℕ → Bool
 is_blank b = b == 32 || b == 9 || b == 13
 
 -- `{` `}` `[` `]` `,` `|` `^` `=`
-abbrev pub is_sign : ℕ → Bool
-is_sign b = b == 123 || b == 125 || b == 91 || b == 93 || b == 44 || b == 124 || b == 94 || b == 61
+abbrev pub sign_of : ℕ → Option signs.Sign
+sign_of b =
+    if b == 123 then Some sign.OpenBrace
+    else if b == 125 then Some sign.CloseBrace
+    else if b == 91 then Some sign.OpenBracket
+    else if b == 93 then Some sign.CloseBracket
+    else if b == 44 then Some sign.Comma
+    else if b == 124 then Some sign.Bar
+    else if b == 94 then Some sign.Caret
+    else if b == 61 then Some sign.Equals
+    else None
+
+-- a sign of one byte
+abbrev pub sign_at : Option signs.Sign → Option (TokenKind × ℕ)
+sign_at None = None
+sign_at (Some s) = Some (Sign s, 1)
 
 -- how many bytes at the front pass the test
 abbrev pub front_run : (ℕ → Bool) → List ℕ → ℕ
@@ -30,12 +47,12 @@ process_at (b ∷ bs) = if is_lower b then short_word Process 1 (1 + front_run i
 -- behind `-`: digits, or `>`
 abbrev pub minus_at : List ℕ → Option (TokenKind × ℕ)
 minus_at [] = None
-minus_at (b ∷ bs) = if is_digit b then Some (Integer, 2 + front_run is_digit bs) else if b == 62 then Some (Sign, 2) else None
+minus_at (b ∷ bs) = if is_digit b then Some (Integer, 2 + front_run is_digit bs) else if b == 62 then Some (Sign sign.Arrow, 2) else None
 
 -- behind `_`: no byte with which a name could go on
 abbrev pub underscore_at : List ℕ → Option (TokenKind × ℕ)
-underscore_at [] = Some (Sign, 1)
-underscore_at (b ∷ bs) = if is_name_byte b then None else Some (Sign, 1)
+underscore_at [] = Some (Sign sign.Underscore, 1)
+underscore_at (b ∷ bs) = if is_name_byte b then None else Some (Sign sign.Underscore, 1)
 
 -- behind so many bytes of a quoted atom: `'`
 abbrev pub quote_at : ℕ → List ℕ → Option (TokenKind × ℕ)
@@ -57,8 +74,7 @@ front_token (b ∷ bs) =
     else if b == 45 then minus_at bs
     else if b == 95 then underscore_at bs
     else if b == 39 then quoted_at bs
-    else if is_sign b then Some (Sign, 1)
-    else None
+    else sign_at (sign_of b)
 
 -- a token, and the tokens after it; a place at which none stands ends the tokens
 abbrev pub with_token : Option (TokenKind × ℕ) → ℕ → (ℕ → Cut) → Cut
@@ -80,11 +96,21 @@ cut_of at zero (b ∷ bs) =
 abbrev pub text : List ℕ → Token → List ℕ
 text line t = slice_range line t.start t.end
 
--- what is known of these bytes: those of a name token or a variable token are a name or a variable, and those of a name
--- token may stand in an atom
+-- the bytes between the quotes of a quoted atom: behind the first quote those that may stand in an atom
+abbrev pub unquoted : List ℕ → List ℕ
+unquoted word = take_while is_atom_byte (drop 1 word)
+
+-- an integer has 64 bits signed
+abbrev pub is_token_in_range : List ℕ → TokenKind → Bool
+is_token_in_range text Integer = is_in_range text
+is_token_in_range text _ = true
+
+-- what is known of these bytes: those of a name token or a variable token are a name or a variable, those of a name token
+-- may stand in an atom, and those of a quoted atom do
 abbrev pub IsSpelled : TokenKind → List ℕ → Type 0
 IsSpelled Name word = (is_token word ≡ true) × (is_atom word ≡ true)
 IsSpelled Variable word = is_token word ≡ true
+IsSpelled Quoted word = is_atom (unquoted word) ≡ true
 IsSpelled _ word = Unit {0}
 
 -- a token lies in its line, and is spelled as its kind says
@@ -95,3 +121,12 @@ IsToken line t = (t.start ≤ t.end) × (t.end ≤ length line) × IsSpelled t.k
 abbrev pub AreTokens : List ℕ → List Token → Type 0
 AreTokens line [] = Unit {0}
 AreTokens line (t ∷ ts) = IsToken line t × AreTokens line ts
+
+-- a token that isn't refused by itself
+abbrev pub IsWhole : List ℕ → Token → Type 0
+IsWhole line t = IsToken line t × (is_token_in_range (text line t) t.kind ≡ true)
+
+-- each is such a token of the line
+abbrev pub AreWhole : List ℕ → List Token → Type 0
+AreWhole line [] = Unit {0}
+AreWhole line (t ∷ ts) = IsWhole line t × AreWhole line ts

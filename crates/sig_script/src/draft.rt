@@ -1,109 +1,79 @@
-ghost use Rattle.std.specs.Prelude.{
-  ◌≡◌,
-  ◌+◌,
-  ◌<◌,
-  ◌≤◌,
-  ◌^◌,
-  ◌++◌,
-  [],
-  ◌∷◌,
-  length,
-  IfOk,
-  OnOk,
-  IfNone,
-  nat_le,
-  All,
-};
+ghost use Rattle.std.specs.Prelude.{◌≡◌, ◌+◌, ◌<◌, ◌≤◌, ◌^◌, ◌++◌, [], ◌∷◌, length, OnOk, Ok};
 ghost use Rattle.std.specs.List.{list_any};
 ghost use Rattle.std.specs.Str.{bytes_eq};
-ghost use Rattle.sig_script.specs.Forms.{said};
-ghost use Rattle.sig_script.specs.Grammar.{
-  at_end,
-  begun,
-  with_pattern,
-  with_receive,
-  with_form,
-  with_line,
-};
-ghost use Rattle.sig_script.specs.Drafts.{glued, all_procs, all_names, IsTaken, IsFit};
-ghost use Rattle.sig_script.specs.Scripts.{Declared, IsLawful, IsTarget};
+ghost use Rattle.sig_script.specs.declared.label.Label.{Label};
+ghost use Rattle.sig_script.specs.Faults.{Gives};
+ghost use Rattle.sig_script.specs.Scripts.{Declared, Program};
+ghost use Rattle.sig_script.specs.Drafts.{open_proc, all_procs, begun, labelled, with_instr, taken_at, taken};
+ghost use Rattle.sig_script.specs.Grammar.{finished, line_taken};
+ghost use Rattle.sig_script.specs.Reading.{IsReading};
+ghost use Rattle.sig_script.specs.Fitting.{IsFewKnown, IsSmall, IsFit};
 
-use crate::added::added;
-use crate::fault::{Fault, FaultKind};
+use crate::drafted::{DraftProc, DraftProcs, DraftScript};
+use crate::fault::{FaultKind, Stop};
 use crate::form::{Form, read_line};
-use crate::instruction::{Instr, Instrs};
+use crate::instruction::{After, Instr};
 use crate::known::Known;
-use crate::place::Place;
-use crate::process::{Proc, Procs};
+use crate::label::Label;
+use crate::reader::ScriptError;
 use sig_lists::{Pushed, Sequence};
 use sig_patterns::{Clause, Clauses, Pattern};
 use sig_terms::Name;
 use sig_terms::bytes::equal_bytes;
 use std::alloc::{AllocError, Global};
-use std::mem;
 
-/// The processes so far, and the one that is being read.
+/// Where in a script a line stands.
+#[derive(Drop)]
+pub enum Place {
+    /// Before the first process.
+    Before,
+    /// In this process, outside a receive.
+    Outside(DraftProc),
+    /// In a receive of this process, behind these clauses, and behind its `after` where it has one.
+    Inside(DraftProc, Clauses, Option<After>),
+}
+
+/// What was read so far.
 #[derive(Drop)]
 pub struct Draft {
+    /// How many instructions each process may execute, where that was said.
+    pub turns: Option<u32>,
     /// The processes before the one that is being read.
-    pub procs: Procs,
-    /// The name of the one that is being read.
-    pub name: Option<Name>,
-    /// Its instructions so far.
-    pub instrs: Instrs,
+    pub procs: DraftProcs,
     /// Where the next line stands.
     pub place: Place,
 }
 
-impl Draft {
-    /// Before the first line.
-    pub fn new(alloc: Global) -> Draft
-        ensures { result ≡ record { procs = []; name = None; instrs = []; place = Place.Before } }
-    {
-        Draft {
-            procs: Sequence::new(alloc),
-            name: None,
-            instrs: Sequence::new(alloc),
-            place: Place::Before,
+/// Adds an item.
+fn add<T: Drop>(items: &mut Sequence<T>, item: T) -> Result<(), AllocError>
+    ensures { OnOk result (items.new ≡ items.old ++ item ∷ []) }
+{
+    match items.push(item) {
+        Pushed::Added => Ok(()),
+        Pushed::Memory { item: _ } => Err(AllocError),
+    }
+}
+
+/// Closes the process that is being read.
+fn close(procs: DraftProcs, place: Place) -> Result<DraftProcs, Stop>
+    ensures { Gives (λ ps. ps) result (Ok (procs ++ open_proc place)) }
+{
+    let mut procs = procs;
+    match place {
+        Place::Before => Ok(procs),
+        Place::Outside(proc) => {
+            add(&mut procs, proc)?;
+            Ok(procs)
+        }
+        Place::Inside(proc, _, _) => {
+            add(&mut procs, proc)?;
+            Ok(procs)
         }
     }
 }
 
-/// Adds an instruction to the process that is being read.
-#[tactic(auto, using(crate::proofs::DraftLemmas::fit_more))]
-fn add_instr(draft: &mut Draft, n: u64, instr: Instr) -> Result<(), AllocError>
-    requires fit { IsFit n draft.old }
-    requires lawful { IsLawful 0 instr }
-    ensures added { OnOk result (draft.new ≡ record draft.old { instrs = draft.old.instrs ++ instr ∷ [] }) }
-    ensures fit { OnOk result (IsFit (n + 1) draft.new) }
-{
-    added(draft.instrs.push(instr))
-}
-
-/// Ends the process that is being read.
-fn close(alloc: Global, draft: &mut Draft, n: u64) -> Result<(), AllocError>
-    requires few { n < 2 ^ 31 }
-    requires fit { IsFit n draft.old }
-    ensures { OnOk result (draft.new ≡ record draft.old { procs = all_procs draft.old; name = None; instrs = [] }) }
-{
-    let instrs = mem::replace(&mut draft.instrs, Sequence::new(alloc));
-    match draft.name.take() {
-        None => Ok(()),
-        Some(name) => {
-            let labels = Sequence::new(alloc);
-            match draft.procs.push(Proc {
-                name,
-                labels,
-                instrs,
-            }) {
-                Pushed::Added => Ok(()),
-                Pushed::Memory { item: _ } => Err(AllocError),
-            }
-        }
-    }
-}
-
-fn is_among(procs: &[Proc], name: &[u8]) -> bool
+/// Whether a process has the name.
+fn is_proc_among(procs: &[DraftProc], name: &[u8]) -> bool
     ensures { result ≡ list_any (λ (p : Declared). bytes_eq p.name name.now) procs.now }
 {
     procs
@@ -111,239 +81,219 @@ fn is_among(procs: &[Proc], name: &[u8]) -> bool
         .any(|proc| equal_bytes(proc.name.bytes(), name))
 }
 
-/// Whether a process so far has the name.
-fn is_declared(draft: &Draft, name: &[u8]) -> bool
-    ensures { result ≡ list_any (λ other. bytes_eq other name.now) (all_names draft.now) }
+/// Whether a label has the name.
+fn is_label_among(labels: &[Label], name: &[u8]) -> bool
+    ensures { result ≡ list_any (λ (l : Label). bytes_eq l.name name.now) labels.now }
 {
-    let before = is_among(draft.procs.as_slice(), name);
-    match &draft.name {
-        None => before,
-        Some(current) => before | equal_bytes(current.bytes(), name),
-    }
-}
-
-/// Whether there are 64 processes.
-#[tactic(auto, using(crate::proofs::DraftLemmas::count_names))]
-fn is_full(draft: &Draft) -> bool
-    ensures { result ≡ nat_le 64 (length (all_names draft.now)) }
-{
-    let before = draft.procs.len();
-    match &draft.name {
-        None => before >= 64,
-        Some(_) => before >= 63,
-    }
+    labels
+        .iter()
+        .any(|label| equal_bytes(label.name.bytes(), name))
 }
 
 /// A process line.
-#[tactic(auto, using(crate::proofs::DraftLemmas::begins, crate::proofs::DraftLemmas::fit_started))]
 fn begin(
     alloc: Global,
-    draft: &mut Draft,
-    n: u64,
+    turns: Option<u32>,
+    procs: DraftProcs,
+    place: Place,
     name: Name,
-) -> Result<Option<FaultKind>, AllocError>
-    requires few { n < 2 ^ 31 }
-    requires fit { IsFit n draft.old }
-    ensures taken { IfOk result (λ fault. IsTaken n (λ after. begun n name (all_names draft.old) (after Place.Outside (all_names draft.old ++ name ∷ []))) draft.old draft.new fault) }
-    ensures fit { IfOk result (λ fault. IfNone fault (IsFit (n + 1) draft.new)) }
+) -> Result<Draft, Stop>
+    ensures { Gives (λ d. d) result (begun (record { turns = turns; procs = procs; place = place }) name) }
 {
-    if is_declared(draft, name.bytes()) {
-        return Ok(Some(FaultKind::DuplicateName));
+    let procs = close(procs, place)?;
+    if is_proc_among(procs.as_slice(), name.bytes()) {
+        return Err(Stop::Fault(FaultKind::DuplicateName));
     }
-    if is_full(draft) {
-        return Ok(Some(FaultKind::TooManyProcesses));
+    if procs.len() >= 64 {
+        return Err(Stop::Fault(FaultKind::TooManyProcesses));
     }
-    close(alloc, draft, n)?;
-    draft.name = Some(name);
-    draft.place = Place::Outside;
-    Ok(None)
+    let proc = DraftProc {
+        name,
+        labels: Sequence::new(alloc),
+        instrs: Sequence::new(alloc),
+    };
+    Ok(Draft {
+        turns,
+        procs,
+        place: Place::Outside(proc),
+    })
 }
 
-/// A line before the first process.
+/// A label line.
+fn add_label(proc: DraftProc, name: Name) -> Result<DraftProc, Stop>
+    requires { length proc.instrs + 1 < 2 ^ 32 }
+    ensures { Gives (λ p. p) result (labelled proc name) }
+{
+    if is_label_among(proc.labels.as_slice(), name.bytes()) {
+        return Err(Stop::Fault(FaultKind::DuplicateLabel));
+    }
+    let place = proc.instrs.len() as u32 + 1;
+    let mut proc = proc;
+    add(&mut proc.labels, Label { name, place })?;
+    Ok(proc)
+}
+
+/// An instruction.
+fn add_instr(proc: DraftProc, instr: Instr) -> Result<DraftProc, Stop>
+    ensures { Gives (λ p. p) result (Ok (with_instr proc instr)) }
+{
+    let mut proc = proc;
+    add(&mut proc.instrs, instr)?;
+    Ok(proc)
+}
+
+/// The turns, before the first process.
+fn set_turns(procs: DraftProcs, turns: Option<u32>, n: u64) -> Result<Draft, Stop>
+    ensures { Gives (λ d. d) result (taken_at (record { turns = turns; procs = procs; place = Place.Before }) Place.Before (Form.Turns n)) }
+{
+    if n <= 20000 {
+        Ok(Draft {
+            turns: Some(n as u32),
+            procs,
+            place: Place::Before,
+        })
+    } else {
+        Err(Stop::Fault(FaultKind::TooManyTurns))
+    }
+}
+
+/// A form before the first process.
 fn take_before(
     alloc: Global,
-    draft: &mut Draft,
-    n: u64,
+    turns: Option<u32>,
+    procs: DraftProcs,
     form: Form,
-) -> Result<Option<FaultKind>, AllocError>
-    requires few { n < 2 ^ 31 }
-    requires fit { IsFit n draft.old }
-    ensures taken { IfOk result (λ fault. IsTaken n (with_form n Place.Before (all_names draft.old) form) draft.old draft.new fault) }
-    ensures fit { IfOk result (λ fault. IfNone fault (IsFit (n + 1) draft.new)) }
+) -> Result<Draft, Stop>
+    ensures { Gives (λ d. d) result (taken (record { turns = turns; procs = procs; place = Place.Before }) form) }
 {
     match form {
-        Form::Process(name) => begin(alloc, draft, n, name),
-        Form::Send { to: _, message: _ } => Ok(Some(FaultKind::Syntax)),
-        Form::Receive => Ok(Some(FaultKind::Syntax)),
-        Form::On(_) => Ok(Some(FaultKind::Syntax)),
-        Form::End => Ok(Some(FaultKind::Syntax)),
+        Form::Turns(n) => set_turns(procs, turns, n),
+        Form::Process(name) => begin(alloc, turns, procs, Place::Before, name),
+        Form::Label(_) => Err(Stop::Fault(FaultKind::Syntax)),
+        Form::Do(_) => Err(Stop::Fault(FaultKind::Syntax)),
+        Form::Receive => Err(Stop::Fault(FaultKind::Syntax)),
+        Form::On(_, _) => Err(Stop::Fault(FaultKind::Syntax)),
+        Form::After(_) => Err(Stop::Fault(FaultKind::Syntax)),
+        Form::End => Err(Stop::Fault(FaultKind::Syntax)),
     }
 }
 
-/// A line in a process, outside a receive.
-#[tactic(auto, using(crate::proofs::DraftLemmas::one_more, crate::proofs::DraftLemmas::fit_later))]
+/// A form in this process, outside a receive: where the next line stands.
 fn take_outside(
     alloc: Global,
-    draft: &mut Draft,
-    n: u64,
+    turns: Option<u32>,
+    procs: DraftProcs,
+    proc: DraftProc,
     form: Form,
-) -> Result<Option<FaultKind>, AllocError>
-    requires few { n < 2 ^ 31 }
-    requires fit { IsFit n draft.old }
-    requires place { draft.old.place ≡ Place.Outside }
-    ensures taken { IfOk result (λ fault. IsTaken n (with_form n Place.Outside (all_names draft.old) form) draft.old draft.new fault) }
-    ensures fit { IfOk result (λ fault. IfNone fault (IsFit (n + 1) draft.new)) }
+) -> Result<Draft, Stop>
+    requires { length proc.instrs + 1 < 2 ^ 32 }
+    ensures { Gives (λ d. d) result (taken (record { turns = turns; procs = procs; place = Place.Outside proc }) form) }
 {
-    match form {
-        Form::Process(name) => begin(alloc, draft, n, name),
-        Form::Send { to, message } => {
-            add_instr(draft, n, Instr::Send { to, message })?;
-            Ok(None)
+    let place = match form {
+        Form::Process(name) => {
+            return begin(alloc, turns, procs, Place::Outside(proc), name);
         }
-        Form::Receive => {
-            draft.place = Place::Inside(Sequence::new(alloc));
-            Ok(None)
-        }
-        Form::On(_) => Ok(Some(FaultKind::Syntax)),
-        Form::End => Ok(Some(FaultKind::Syntax)),
-    }
-}
-
-/// A clause of a receive.
-fn take_pattern(
-    draft: &mut Draft,
-    n: u64,
-    mut clauses: Clauses,
-    pattern: Pattern,
-) -> Result<Option<FaultKind>, AllocError>
-    requires fit { IsFit n draft.old }
-    ensures taken { IfOk result (λ fault. IsTaken n (λ after. with_pattern n clauses pattern (λ place. after place (all_names draft.old))) draft.old draft.new fault) }
-    ensures fit { IfOk result (λ fault. IfNone fault (IsFit (n + 1) draft.new)) }
-{
-    if !clauses.is_empty() {
-        return Ok(Some(FaultKind::Syntax));
-    }
-    let clause = Clause {
-        pattern,
-        target: None,
+        Form::Label(name) => Place::Outside(add_label(proc, name)?),
+        Form::Do(instr) => Place::Outside(add_instr(proc, instr)?),
+        Form::Receive => Place::Inside(proc, Sequence::new(alloc), None),
+        Form::Turns(_) => return Err(Stop::Fault(FaultKind::Syntax)),
+        Form::On(_, _) => return Err(Stop::Fault(FaultKind::Syntax)),
+        Form::After(_) => return Err(Stop::Fault(FaultKind::Syntax)),
+        Form::End => return Err(Stop::Fault(FaultKind::Syntax)),
     };
-    match clauses.push(clause) {
-        Pushed::Added => {
-            draft.place = Place::Inside(clauses);
-            Ok(None)
-        }
-        Pushed::Memory { item: _ } => Err(AllocError),
-    }
+    Ok(Draft { turns, procs, place })
 }
 
-/// The end of a receive with these clauses.
-#[tactic(auto, using(crate::proofs::DraftLemmas::one_more))]
-fn take_end(draft: &mut Draft, n: u64, clauses: Clauses) -> Result<Option<FaultKind>, AllocError>
-    requires few { n < 2 ^ 31 }
-    requires fit { IsFit n draft.old }
-    requires place { draft.old.place ≡ Place.Outside }
-    requires count { length clauses ≤ n }
-    requires targets { All (λ (c : Clause). IsTarget 0 c.target) clauses }
-    ensures taken { IfOk result (λ fault. IsTaken n (λ after. with_receive n clauses (after Place.Outside (all_names draft.old))) draft.old draft.new fault) }
-    ensures fit { IfOk result (λ fault. IfNone fault (IsFit (n + 1) draft.new)) }
+/// A clause behind these.
+fn add_clause(clauses: Clauses, pattern: Pattern, target: Option<u32>) -> Result<Clauses, Stop>
+    ensures { Gives (λ cs. cs) result (Ok (clauses ++ record { pattern = pattern; target = target } ∷ [])) }
 {
-    if clauses.is_empty() {
-        return Ok(Some(FaultKind::Syntax));
-    }
-    add_instr(
-        draft,
-        n,
-        Instr::Receive {
-            clauses,
-            after: None,
-        },
-    )?;
-    Ok(None)
+    let mut clauses = clauses;
+    add(&mut clauses, Clause { pattern, target })?;
+    Ok(clauses)
 }
 
-/// A line in a receive, behind these clauses.
+/// A form in a receive of this process.
 fn take_inside(
-    draft: &mut Draft,
-    n: u64,
+    turns: Option<u32>,
+    procs: DraftProcs,
+    proc: DraftProc,
     clauses: Clauses,
+    after: Option<After>,
     form: Form,
-) -> Result<Option<FaultKind>, AllocError>
-    requires few { n < 2 ^ 31 }
-    requires fit { IsFit n draft.old }
-    requires place { draft.old.place ≡ Place.Outside }
-    requires count { length clauses ≤ n }
-    requires targets { All (λ (c : Clause). IsTarget 0 c.target) clauses }
-    ensures taken { IfOk result (λ fault. IsTaken n (with_form n (Place.Inside clauses) (all_names draft.old) form) draft.old draft.new fault) }
-    ensures fit { IfOk result (λ fault. IfNone fault (IsFit (n + 1) draft.new)) }
+) -> Result<Draft, Stop>
+    ensures { Gives (λ d. d) result (taken (record { turns = turns; procs = procs; place = Place.Inside proc clauses after }) form) }
 {
-    match form {
-        Form::Process(_) => Ok(Some(FaultKind::Syntax)),
-        Form::Send { to: _, message: _ } => Ok(Some(FaultKind::Syntax)),
-        Form::Receive => Ok(Some(FaultKind::Syntax)),
-        Form::On(pattern) => take_pattern(draft, n, clauses, pattern),
-        Form::End => take_end(draft, n, clauses),
+    let place = match form {
+        Form::On(pattern, target) => {
+            Place::Inside(proc, add_clause(clauses, pattern, target)?, after)
+        }
+        Form::After(after) => Place::Inside(proc, clauses, Some(after)),
+        Form::End => Place::Outside(add_instr(proc, Instr::Receive { clauses, after })?),
+        Form::Turns(_) => return Err(Stop::Fault(FaultKind::Syntax)),
+        Form::Process(_) => return Err(Stop::Fault(FaultKind::Syntax)),
+        Form::Label(_) => return Err(Stop::Fault(FaultKind::Syntax)),
+        Form::Do(_) => return Err(Stop::Fault(FaultKind::Syntax)),
+        Form::Receive => return Err(Stop::Fault(FaultKind::Syntax)),
+    };
+    Ok(Draft { turns, procs, place })
+}
+
+/// A form behind what was read so far.
+#[tactic(auto, using(crate::proofs::FitLemmas::open_small))]
+fn take_form(alloc: Global, draft: Draft, n: u64, form: Form) -> Result<Draft, Stop>
+    requires few { n < 2 ^ 31 }
+    requires fit { IsFit n draft }
+    ensures { Gives (λ d. d) result (taken draft form) }
+{
+    let Draft {
+        turns,
+        procs,
+        place,
+    } = draft;
+    match place {
+        Place::Before => take_before(alloc, turns, procs, form),
+        Place::Outside(proc) => take_outside(alloc, turns, procs, proc, form),
+        Place::Inside(proc, clauses, after) => {
+            take_inside(turns, procs, proc, clauses, after, form)
+        }
     }
 }
 
-/// Takes what line `n` says, and tells what is wrong with it at its place.
-fn take_form(
-    alloc: Global,
-    draft: &mut Draft,
-    n: u64,
-    form: Form,
-) -> Result<Option<FaultKind>, AllocError>
-    requires few { n < 2 ^ 31 }
-    requires fit { IsFit n draft.old }
-    ensures taken { IfOk result (λ fault. IsTaken n (with_form n draft.old.place (all_names draft.old) form) draft.old draft.new fault) }
-    ensures fit { IfOk result (λ fault. IfNone fault (IsFit (n + 1) draft.new)) }
-{
-    match mem::replace(&mut draft.place, Place::Outside) {
-        Place::Before => take_before(alloc, draft, n, form),
-        Place::Outside => take_outside(alloc, draft, n, form),
-        Place::Inside(clauses) => take_inside(draft, n, clauses, form),
-    }
-}
-
-/// Takes line `n`, and tells what is wrong with it.
-#[tactic(auto, using(crate::proofs::DraftLemmas::fit_later))]
+/// Line `n` behind what was read so far, or what is wrong with it.
 pub fn take_line(
     alloc: Global,
     known: &Known,
-    draft: &mut Draft,
+    draft: Draft,
     n: u64,
     line: &[u8],
-) -> Result<Option<FaultKind>, AllocError>
+) -> Result<Draft, Stop>
+    requires known { IsFewKnown known.now }
     requires few { n < 2 ^ 31 }
-    requires fit { IsFit n draft.old }
-    ensures taken { IfOk result (λ fault. IsTaken n (with_line n draft.old.place (all_names draft.old) (said known.now draft.old.place line.now)) draft.old draft.new fault) }
-    ensures fit { IfOk result (λ fault. IfNone fault (IsFit (n + 1) draft.new)) }
+    requires fit { IsFit n draft }
+    ensures { Gives (λ d. d) result (line_taken known.now draft line.now) }
 {
-    match read_line(alloc, known, &draft.place, line)? {
-        Ok(Some(form)) => take_form(alloc, draft, n, form),
-        Ok(None) => Ok(None),
-        Err(kind) => Ok(Some(kind)),
+    match read_line(alloc, known, &draft, line)? {
+        Some(form) => take_form(alloc, draft, n, form),
+        None => Ok(draft),
     }
 }
 
-/// The processes, where the text may end before line `n`.
-pub fn finish(alloc: Global, mut draft: Draft, n: u64) -> Result<Result<Procs, Fault>, AllocError>
-    requires few { n < 2 ^ 31 }
-    requires fit { IsFit n draft }
-    ensures procs { IfOk result (λ procs. procs ≡ glued draft (at_end n draft.place)) }
-    ensures few { IfOk result (λ procs. IfOk procs (λ ps. length ps ≤ 64)) }
+/// The script, where the text may end before line `n`.
+pub fn finish(draft: Draft, n: u64) -> Result<DraftScript, ScriptError>
+    ensures { IsReading (finished n draft draft.place) result }
 {
-    match &draft.place {
-        Place::Before => {
-            close(alloc, &mut draft, n)?;
-            Ok(Ok(draft.procs))
-        }
-        Place::Outside => {
-            close(alloc, &mut draft, n)?;
-            Ok(Ok(draft.procs))
-        }
-        Place::Inside(_) => Ok(Err(Fault {
+    if let Place::Inside(_, _, _) = &draft.place {
+        return Err(ScriptError::Fault {
             line: n,
             kind: FaultKind::Syntax,
-        })),
+        });
+    }
+    match close(draft.procs, draft.place) {
+        Ok(procs) => Ok(DraftScript {
+            turns: draft.turns.unwrap_or(1000),
+            procs,
+        }),
+        Err(_) => Err(ScriptError::Memory),
     }
 }

@@ -1,3 +1,8 @@
+ghost use Rattle.std.specs.Prelude.{◌≡◌};
+ghost use Rattle.sig_script.specs.declared.fault.Stop.TheVariants.{Memory};
+
+use std::alloc::AllocError;
+
 /// Why a line of a text is no line of a script.
 #[derive(Clone, Copy, Debug, PartialEq, Eq)]
 pub enum FaultKind {
@@ -25,11 +30,19 @@ pub enum FaultKind {
     TooLong,
 }
 
-/// A line that is refused, and why.
+/// Why a reader stops.
 #[derive(Clone, Copy, Debug, PartialEq, Eq)]
-pub struct Fault {
-    /// The line, from 1. It is 0 where the text is refused as a whole.
-    pub line: u64,
-    /// Why it is refused.
-    pub kind: FaultKind,
+pub enum Stop {
+    /// The line is refused.
+    Fault(FaultKind),
+    /// There was no memory.
+    Memory,
+}
+
+impl From<AllocError> for Stop {
+    ghost from_gives = { λ _ e. e ≡ Memory };
+
+    fn from(_e: AllocError) -> Stop {
+        Stop::Memory
+    }
 }

@@ -1,253 +1,245 @@
-ghost use Rattle.std.specs.Prelude.{◌≡◌, IfOk, drop};
-ghost use Rattle.sig_script.specs.Tokens.{AreTokens, IsSpelled, text};
+ghost use Rattle.std.specs.Prelude.{◌≡◌, length, IfOk};
+ghost use Rattle.sig_script.specs.Faults.{Gives};
+ghost use Rattle.sig_script.specs.Tokens.{AreWhole};
 ghost use Rattle.sig_script.specs.Forms.{
-  name_of,
-  process_of,
-  expr_of,
-  pattern_of,
+  may_stand,
+  ends,
+  arrow_of,
+  count_from,
+  turns_of,
+  send_of,
+  set_of,
+  goto_of,
+  whole_name,
+  on_of,
+  instr_of,
   form_of,
   form_behind,
   said_by,
   said,
 };
+ghost use Rattle.sig_script.specs.Fitting.{IsFewKnown};
 
-use crate::fault::FaultKind;
-use crate::keyword::{Keyword, read_keyword, stands_at};
-use crate::known::{Known, find_pid};
+use crate::draft::{Draft, Place};
+use crate::expressions::take_expr;
+use crate::fault::{FaultKind, Stop};
+use crate::instruction::{After, Instr};
+use crate::keyword::{Keyword, read_keyword};
+use crate::known::Known;
 use crate::line::{read_tokens, text_of};
-use crate::place::Place;
+use crate::names::{take_name, take_target, take_variable};
+use crate::number::read_count;
+use crate::patterns::take_pattern;
 use crate::token::{Token, TokenKind};
-use sig_patterns::{Expr, Pattern, Var};
-use sig_terms::bytes::equal_bytes;
-use sig_terms::{Atom, Name, Pid};
-use std::alloc::{AllocError, Global};
+use sig_patterns::Pattern;
+use sig_terms::Name;
+use std::alloc::Global;
 
 /// What a line says.
 #[derive(Drop)]
 pub enum Form {
+    /// How many instructions each process may execute.
+    Turns(u64),
     /// A process begins.
     Process(Name),
-    /// A message is sent.
-    Send { to: Expr, message: Expr },
+    /// The place of the next instruction has a name.
+    Label(Name),
+    /// An instruction that is no receive.
+    Do(Instr),
     /// A receive begins.
     Receive,
-    /// A clause of a receive.
-    On(Pattern),
+    /// A clause of a receive: its pattern, and the label at which it goes on.
+    On(Pattern, Option<u32>),
+    /// What a receive does that finds no message.
+    After(After),
     /// A receive ends.
     End,
 }
 
-/// What stands behind the `@`.
-fn behind_sign(text: &[u8]) -> &[u8]
-    ensures { result.now ≡ drop 1 text.now }
+/// No token is left.
+fn end(tokens: &[Token]) -> Result<(), Stop>
+    ensures { Gives (λ u. u) result (ends tt tokens.now) }
 {
-    if text.is_empty() { text } else { &text[1..] }
-}
-
-fn read_name(
-    alloc: Global,
-    kind: TokenKind,
-    text: &[u8],
-) -> Result<Result<Name, FaultKind>, AllocError>
-    requires { IsSpelled kind text.now }
-    ensures { IfOk result (λ name. name ≡ name_of kind text.now) }
-{
-    match kind {
-        TokenKind::Name => match Name::new(alloc, text)? {
-            Some(name) => Ok(Ok(name)),
-            None => unreachable!(),
-        },
-        _ => Ok(Err(FaultKind::Syntax)),
+    if tokens.is_empty() {
+        Ok(())
+    } else {
+        Err(Stop::Fault(FaultKind::Syntax))
     }
 }
 
-fn read_process(known: &Known, kind: TokenKind, text: &[u8]) -> Result<Expr, FaultKind>
-    ensures { result ≡ process_of known.now kind text.now }
-{
-    match kind {
-        TokenKind::Process => match find_pid(known, behind_sign(text)) {
-            Ok(pid) => Ok(Expr::Pid(Pid(pid))),
-            Err(kind) => Err(kind),
-        },
-        _ => Err(FaultKind::Syntax),
-    }
-}
-
-fn read_expr(
+/// Nothing, or `->` and a label of the process with this place among the processes.
+fn take_arrow(
     alloc: Global,
     known: &Known,
-    kind: TokenKind,
-    text: &[u8],
-) -> Result<Result<Expr, FaultKind>, AllocError>
-    requires { IsSpelled kind text.now }
-    ensures { IfOk result (λ e. e ≡ expr_of known.now kind text.now) }
+    here: usize,
+    line: &[u8],
+    tokens: &[Token],
+) -> Result<Option<u32>, Stop>
+    requires known { IsFewKnown known.now }
+    requires whole { AreWhole line.now tokens.now }
+    ensures { Gives (λ t. t) result (arrow_of known.now here line.now tokens.now) }
 {
-    match kind {
-        TokenKind::Name => match Atom::new(alloc, text)? {
-            Some(atom) => Ok(Ok(Expr::Atom(atom))),
-            None => unreachable!(),
-        },
-        TokenKind::Process => match find_pid(known, behind_sign(text)) {
-            Ok(pid) => Ok(Ok(Expr::Pid(Pid(pid)))),
-            Err(kind) => Ok(Err(kind)),
-        },
-        _ => Ok(Err(FaultKind::Syntax)),
+    match tokens {
+        [] => Ok(None),
+        [token, rest @ ..] if token.kind.is_arrow() => {
+            let (target, rest) = take_target(alloc, known, here, line, rest)?;
+            end(rest)?;
+            Ok(Some(target))
+        }
+        _ => Err(Stop::Fault(FaultKind::Syntax)),
     }
 }
 
-fn read_pattern(
-    alloc: Global,
-    known: &Known,
-    kind: TokenKind,
-    text: &[u8],
-) -> Result<Result<Pattern, FaultKind>, AllocError>
-    requires { IsSpelled kind text.now }
-    ensures { IfOk result (λ p. p ≡ pattern_of known.now kind text.now) }
+fn read_turns(line: &[u8], tokens: &[Token]) -> Result<Form, Stop>
+    requires { AreWhole line.now tokens.now }
+    ensures { Gives (λ f. f) result (turns_of line.now tokens.now) }
 {
-    match kind {
-        TokenKind::Name => match Atom::new(alloc, text)? {
-            Some(atom) => Ok(Ok(Pattern::Atom(atom))),
-            None => unreachable!(),
-        },
-        TokenKind::Process => match find_pid(known, behind_sign(text)) {
-            Ok(pid) => Ok(Ok(Pattern::Pid(Pid(pid)))),
-            Err(kind) => Ok(Err(kind)),
-        },
-        TokenKind::Variable => match Name::new(alloc, text)? {
-            Some(name) => Ok(Ok(Pattern::Bind(Var(name)))),
-            None => unreachable!(),
-        },
-        TokenKind::Sign => {
-            if equal_bytes(text, b"_") {
-                Ok(Ok(Pattern::Any))
-            } else {
-                Ok(Err(FaultKind::Syntax))
+    match tokens {
+        [token, rest @ ..] if token.kind == TokenKind::Integer => {
+            match read_count(text_of(line, *token)) {
+                Some(turns) => {
+                    end(rest)?;
+                    Ok(Form::Turns(turns))
+                }
+                None => Err(Stop::Fault(FaultKind::Syntax)),
             }
         }
-        _ => Ok(Err(FaultKind::Syntax)),
+        _ => Err(Stop::Fault(FaultKind::Syntax)),
     }
 }
 
-#[tactic(auto, unfolding(crate::specs::Forms::form_of))]
-fn read_process_line(
+fn read_send(alloc: Global, known: &Known, line: &[u8], tokens: &[Token]) -> Result<Instr, Stop>
+    requires known { IsFewKnown known.now }
+    requires whole { AreWhole line.now tokens.now }
+    ensures { Gives (λ i. i) result (send_of known.now line.now tokens.now) }
+{
+    let (to, rest) = take_expr(alloc, known, line, tokens)?;
+    let (message, rest) = take_expr(alloc, known, line, rest)?;
+    end(rest)?;
+    Ok(Instr::Send { to, message })
+}
+
+fn read_set(alloc: Global, known: &Known, line: &[u8], tokens: &[Token]) -> Result<Instr, Stop>
+    requires known { IsFewKnown known.now }
+    requires whole { AreWhole line.now tokens.now }
+    ensures { Gives (λ i. i) result (set_of known.now line.now tokens.now) }
+{
+    let (var, rest) = take_variable(alloc, line, tokens)?;
+    let (value, rest) = take_expr(alloc, known, line, rest)?;
+    end(rest)?;
+    Ok(Instr::Set { var, value })
+}
+
+fn read_goto(
     alloc: Global,
     known: &Known,
+    here: usize,
     line: &[u8],
     tokens: &[Token],
-) -> Result<Result<Form, FaultKind>, AllocError>
-    requires { AreTokens line.now tokens.now }
-    ensures { IfOk result (λ form. form ≡ form_of known.now Keyword.Process line.now tokens.now) }
+) -> Result<Instr, Stop>
+    requires known { IsFewKnown known.now }
+    requires whole { AreWhole line.now tokens.now }
+    ensures { Gives (λ i. i) result (goto_of known.now here line.now tokens.now) }
 {
-    match tokens {
-        [token] => match read_name(alloc, token.kind, text_of(line, *token))? {
-            Ok(name) => Ok(Ok(Form::Process(name))),
-            Err(kind) => Ok(Err(kind)),
-        },
-        _ => Ok(Err(FaultKind::Syntax)),
-    }
+    let (label, rest) = take_target(alloc, known, here, line, tokens)?;
+    end(rest)?;
+    Ok(Instr::Goto { label })
 }
 
-#[tactic(auto, unfolding(crate::specs::Forms::form_of))]
-fn read_send_line(
+fn read_name(alloc: Global, line: &[u8], tokens: &[Token]) -> Result<Name, Stop>
+    requires { AreWhole line.now tokens.now }
+    ensures { Gives (λ n. n) result (whole_name line.now tokens.now) }
+{
+    let (name, rest) = take_name(alloc, line, tokens)?;
+    end(rest)?;
+    Ok(name)
+}
+
+fn read_on(
     alloc: Global,
     known: &Known,
+    here: usize,
     line: &[u8],
     tokens: &[Token],
-) -> Result<Result<Form, FaultKind>, AllocError>
-    requires { AreTokens line.now tokens.now }
-    ensures { IfOk result (λ form. form ≡ form_of known.now Keyword.Send line.now tokens.now) }
+) -> Result<Form, Stop>
+    requires known { IsFewKnown known.now }
+    requires whole { AreWhole line.now tokens.now }
+    ensures { Gives (λ f. f) result (on_of known.now here line.now tokens.now) }
 {
-    match tokens {
-        [to, token] => match read_process(known, to.kind, text_of(line, *to)) {
-            Ok(to) => match read_expr(alloc, known, token.kind, text_of(line, *token))? {
-                Ok(message) => Ok(Ok(Form::Send { to, message })),
-                Err(kind) => Ok(Err(kind)),
-            },
-            Err(kind) => Ok(Err(kind)),
-        },
-        _ => Ok(Err(FaultKind::Syntax)),
-    }
+    let (pattern, rest) = take_pattern(alloc, known, line, tokens)?;
+    let target = take_arrow(alloc, known, here, line, rest)?;
+    Ok(Form::On(pattern, target))
 }
 
-#[tactic(auto, unfolding(crate::specs::Forms::form_of))]
-fn read_receive_line(known: &Known, line: &[u8], tokens: &[Token]) -> Result<Form, FaultKind>
-    ensures { result ≡ form_of known.now Keyword.Receive line.now tokens.now }
-{
-    match tokens {
-        [] => Ok(Form::Receive),
-        _ => Err(FaultKind::Syntax),
-    }
-}
-
-#[tactic(auto, unfolding(crate::specs::Forms::form_of))]
-fn read_on_line(
-    alloc: Global,
-    known: &Known,
-    line: &[u8],
-    tokens: &[Token],
-) -> Result<Result<Form, FaultKind>, AllocError>
-    requires { AreTokens line.now tokens.now }
-    ensures { IfOk result (λ form. form ≡ form_of known.now Keyword.On line.now tokens.now) }
-{
-    match tokens {
-        [token] => match read_pattern(alloc, known, token.kind, text_of(line, *token))? {
-            Ok(pattern) => Ok(Ok(Form::On(pattern))),
-            Err(kind) => Ok(Err(kind)),
-        },
-        _ => Ok(Err(FaultKind::Syntax)),
-    }
-}
-
-#[tactic(auto, unfolding(crate::specs::Forms::form_of))]
-fn read_end_line(known: &Known, line: &[u8], tokens: &[Token]) -> Result<Form, FaultKind>
-    ensures { result ≡ form_of known.now Keyword.End line.now tokens.now }
-{
-    match tokens {
-        [] => Ok(Form::End),
-        _ => Err(FaultKind::Syntax),
-    }
-}
-
-/// What a line says by its word and the tokens behind it.
+/// What stands behind the word, for the process with this place among the processes.
+#[tactic(auto, unfolding(crate::specs::Forms::form_of, crate::specs::Forms::instr_of))]
 fn read_form(
     alloc: Global,
     known: &Known,
+    here: usize,
     word: Keyword,
     line: &[u8],
     tokens: &[Token],
-) -> Result<Result<Form, FaultKind>, AllocError>
-    requires { AreTokens line.now tokens.now }
-    ensures { IfOk result (λ form. form ≡ form_of known.now word line.now tokens.now) }
+) -> Result<Form, Stop>
+    requires known { IsFewKnown known.now }
+    requires whole { AreWhole line.now tokens.now }
+    ensures { Gives (λ f. f) result (form_of known.now here word line.now tokens.now) }
 {
     match word {
-        Keyword::Process => read_process_line(alloc, known, line, tokens),
-        Keyword::Send => read_send_line(alloc, known, line, tokens),
-        Keyword::Receive => Ok(read_receive_line(known, line, tokens)),
-        Keyword::On => read_on_line(alloc, known, line, tokens),
-        Keyword::End => Ok(read_end_line(known, line, tokens)),
+        Keyword::Turns => read_turns(line, tokens),
+        Keyword::Process => Ok(Form::Process(read_name(alloc, line, tokens)?)),
+        Keyword::Label => Ok(Form::Label(read_name(alloc, line, tokens)?)),
+        Keyword::Send => Ok(Form::Do(read_send(alloc, known, line, tokens)?)),
+        Keyword::Set => Ok(Form::Do(read_set(alloc, known, line, tokens)?)),
+        Keyword::Goto => Ok(Form::Do(read_goto(alloc, known, here, line, tokens)?)),
+        Keyword::Stop => {
+            end(tokens)?;
+            Ok(Form::Do(Instr::Stop))
+        }
+        Keyword::Receive => {
+            end(tokens)?;
+            Ok(Form::Receive)
+        }
+        Keyword::On => read_on(alloc, known, here, line, tokens),
+        Keyword::After => {
+            let target = take_arrow(alloc, known, here, line, tokens)?;
+            Ok(Form::After(After { target }))
+        }
+        Keyword::End => {
+            end(tokens)?;
+            Ok(Form::End)
+        }
+    }
+}
+
+/// Whether a line that begins with the word may stand behind what was read so far.
+fn stands(draft: &Draft, word: Keyword) -> bool
+    ensures { result ≡ may_stand draft.now.turns draft.now.place word }
+{
+    match &draft.place {
+        Place::Before => word.may_begin(draft.turns),
+        Place::Outside(_) => word.may_be_outside(),
+        Place::Inside(_, _, after) => word.may_be_inside(after.is_some()),
     }
 }
 
 fn read_behind(
     alloc: Global,
     known: &Known,
-    place: &Place,
+    draft: &Draft,
     word: Option<Keyword>,
     line: &[u8],
     tokens: &[Token],
-) -> Result<Result<Form, FaultKind>, AllocError>
-    requires { AreTokens line.now tokens.now }
-    ensures { IfOk result (λ form. form ≡ form_behind known.now place.now word line.now tokens.now) }
+) -> Result<Form, Stop>
+    requires known { IsFewKnown known.now }
+    requires whole { AreWhole line.now tokens.now }
+    ensures { Gives (λ f. f) result (form_behind known.now draft.now word line.now tokens.now) }
 {
     match word {
-        None => Ok(Err(FaultKind::Syntax)),
-        Some(word) => {
-            if stands_at(place, word) {
-                read_form(alloc, known, word, line, tokens)
-            } else {
-                Ok(Err(FaultKind::Syntax))
-            }
+        Some(word) if stands(draft, word) => {
+            read_form(alloc, known, draft.procs.len(), word, line, tokens)
         }
+        _ => Err(Stop::Fault(FaultKind::Syntax)),
     }
 }
 
@@ -255,37 +247,36 @@ fn read_behind(
 fn read_said(
     alloc: Global,
     known: &Known,
-    place: &Place,
+    draft: &Draft,
     line: &[u8],
     tokens: &[Token],
-) -> Result<Result<Option<Form>, FaultKind>, AllocError>
-    requires { AreTokens line.now tokens.now }
-    ensures { IfOk result (λ form. form ≡ said_by known.now place.now line.now tokens.now) }
+) -> Result<Option<Form>, Stop>
+    requires known { IsFewKnown known.now }
+    requires whole { AreWhole line.now tokens.now }
+    ensures { Gives (λ f. f) result (said_by known.now draft.now line.now tokens.now) }
 {
     match tokens {
-        [] => Ok(Ok(None)),
+        [] => Ok(None),
         [token, rest @ ..] => {
             let word = read_keyword(text_of(line, *token));
-            match read_behind(alloc, known, place, word, line, rest)? {
-                Ok(form) => Ok(Ok(Some(form))),
-                Err(kind) => Ok(Err(kind)),
-            }
+            let form = read_behind(alloc, known, draft, word, line, rest)?;
+            Ok(Some(form))
         }
     }
 }
 
-/// What a line says at this place, or what is wrong with it. A line without tokens says nothing.
+/// What a line says behind what was read so far, or what is wrong with it. A line without tokens
+/// says nothing.
 #[tactic(auto, unfolding(crate::specs::Forms::said))]
 pub fn read_line(
     alloc: Global,
     known: &Known,
-    place: &Place,
+    draft: &Draft,
     line: &[u8],
-) -> Result<Result<Option<Form>, FaultKind>, AllocError>
-    ensures { IfOk result (λ form. form ≡ said known.now place.now line.now) }
+) -> Result<Option<Form>, Stop>
+    requires { IsFewKnown known.now }
+    ensures { Gives (λ f. f) result (said known.now draft.now line.now) }
 {
-    match read_tokens(alloc, line)? {
-        Ok(tokens) => read_said(alloc, known, place, line, tokens.as_slice()),
-        Err(kind) => Ok(Err(kind)),
-    }
+    let tokens = read_tokens(alloc, line)?;
+    read_said(alloc, known, draft, line, tokens.as_slice())
 }

@@ -1,16 +1,21 @@
-ghost use Rattle.std.specs.Prelude.{◌≡◌, []};
-ghost use Rattle.sig_script.specs.Forms.{keyword_of, may_stand};
+ghost use Rattle.std.specs.Prelude.{◌≡◌};
+ghost use Rattle.sig_script.specs.Forms.{keyword_of, may_begin, may_be_outside, may_be_inside};
 
-use crate::place::Place;
 use sig_terms::bytes::equal_bytes;
 
 /// The word with which a line begins.
 #[derive(Clone, Copy, Debug, PartialEq, Eq)]
 pub enum Keyword {
+    Turns,
     Process,
+    Label,
     Send,
+    Set,
+    Goto,
+    Stop,
     Receive,
     On,
+    After,
     End,
 }
 
@@ -18,14 +23,26 @@ pub enum Keyword {
 pub fn read_keyword(word: &[u8]) -> Option<Keyword>
     ensures { result ≡ keyword_of word.now }
 {
-    if equal_bytes(word, b"process") {
+    if equal_bytes(word, b"turns") {
+        Some(Keyword::Turns)
+    } else if equal_bytes(word, b"process") {
         Some(Keyword::Process)
+    } else if equal_bytes(word, b"label") {
+        Some(Keyword::Label)
     } else if equal_bytes(word, b"send") {
         Some(Keyword::Send)
+    } else if equal_bytes(word, b"set") {
+        Some(Keyword::Set)
+    } else if equal_bytes(word, b"goto") {
+        Some(Keyword::Goto)
+    } else if equal_bytes(word, b"stop") {
+        Some(Keyword::Stop)
     } else if equal_bytes(word, b"receive") {
         Some(Keyword::Receive)
     } else if equal_bytes(word, b"on") {
         Some(Keyword::On)
+    } else if equal_bytes(word, b"after") {
+        Some(Keyword::After)
     } else if equal_bytes(word, b"end") {
         Some(Keyword::End)
     } else {
@@ -33,49 +50,61 @@ pub fn read_keyword(word: &[u8]) -> Option<Keyword>
     }
 }
 
-fn begins_process(word: Keyword) -> bool
-    ensures { result ≡ may_stand Place.Before word }
-{
-    match word {
-        Keyword::Process => true,
-        Keyword::Send => false,
-        Keyword::Receive => false,
-        Keyword::On => false,
-        Keyword::End => false,
+impl Keyword {
+    /// Whether a line may begin with it before the first process, behind these turns.
+    pub fn may_begin(self, turns: Option<u32>) -> bool
+        ensures { result ≡ may_begin turns self }
+    {
+        match self {
+            Keyword::Turns => turns.is_none(),
+            Keyword::Process => true,
+            Keyword::Label => false,
+            Keyword::Send => false,
+            Keyword::Set => false,
+            Keyword::Goto => false,
+            Keyword::Stop => false,
+            Keyword::Receive => false,
+            Keyword::On => false,
+            Keyword::After => false,
+            Keyword::End => false,
+        }
     }
-}
 
-fn stands_outside(word: Keyword) -> bool
-    ensures { result ≡ may_stand Place.Outside word }
-{
-    match word {
-        Keyword::Process => true,
-        Keyword::Send => true,
-        Keyword::Receive => true,
-        Keyword::On => false,
-        Keyword::End => false,
+    /// Whether a line may begin with it in a process, outside a receive.
+    pub fn may_be_outside(self) -> bool
+        ensures { result ≡ may_be_outside self }
+    {
+        match self {
+            Keyword::Turns => false,
+            Keyword::Process => true,
+            Keyword::Label => true,
+            Keyword::Send => true,
+            Keyword::Set => true,
+            Keyword::Goto => true,
+            Keyword::Stop => true,
+            Keyword::Receive => true,
+            Keyword::On => false,
+            Keyword::After => false,
+            Keyword::End => false,
+        }
     }
-}
 
-fn stands_inside(word: Keyword) -> bool
-    ensures { result ≡ may_stand (Place.Inside []) word }
-{
-    match word {
-        Keyword::Process => false,
-        Keyword::Send => false,
-        Keyword::Receive => false,
-        Keyword::On => true,
-        Keyword::End => true,
-    }
-}
-
-/// Whether a line that begins with the word may stand at the place.
-pub fn stands_at(place: &Place, word: Keyword) -> bool
-    ensures { result ≡ may_stand place.now word }
-{
-    match place {
-        Place::Before => begins_process(word),
-        Place::Outside => stands_outside(word),
-        Place::Inside(_) => stands_inside(word),
+    /// Whether a line may begin with it in a receive, whose `after` has stood or not.
+    pub fn may_be_inside(self, has_after: bool) -> bool
+        ensures { result ≡ may_be_inside has_after self }
+    {
+        match self {
+            Keyword::Turns => false,
+            Keyword::Process => false,
+            Keyword::Label => false,
+            Keyword::Send => false,
+            Keyword::Set => false,
+            Keyword::Goto => false,
+            Keyword::Stop => false,
+            Keyword::Receive => false,
+            Keyword::On => !has_after,
+            Keyword::After => !has_after,
+            Keyword::End => true,
+        }
     }
 }

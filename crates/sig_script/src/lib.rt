@@ -1,8 +1,9 @@
 //! Scripts: what the processes of a machine do, and the reader of their text.
 #![tactic(auto)]
 
-mod added;
 mod draft;
+mod drafted;
+mod expressions;
 mod fault;
 mod form;
 mod instruction;
@@ -10,8 +11,9 @@ mod keyword;
 mod known;
 mod label;
 mod line;
+mod names;
 mod number;
-mod place;
+mod patterns;
 mod process;
 mod reader;
 mod script;

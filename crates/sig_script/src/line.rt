@@ -8,10 +8,11 @@ ghost use Rattle.std.specs.Prelude.{
   IfOk,
 };
 ghost use Rattle.std.specs.List.{list_all};
-ghost use Rattle.sig_script.specs.Tokens.{AreTokens, IsToken, cut_of, text};
-ghost use Rattle.sig_script.specs.Forms.{is_token_in_range, tokens_of};
+ghost use Rattle.sig_script.specs.Faults.{Gives};
+ghost use Rattle.sig_script.specs.Tokens.{AreTokens, IsToken, IsWhole, AreWhole, is_token_in_range, cut_of, text};
+ghost use Rattle.sig_script.specs.Forms.{tokens_of};
 
-use crate::fault::FaultKind;
+use crate::fault::{FaultKind, Stop};
 use crate::number::fits_in_range;
 use crate::token::{Cut, Token, TokenKind, Tokens, is_blank_byte, token_at};
 use sig_lists::{Pushed, Sequence};
@@ -105,16 +106,17 @@ fn all_fit(line: &[u8], tokens: &[Token]) -> bool
 }
 
 /// The tokens of a line, or what is wrong with them.
-pub fn read_tokens(alloc: Global, line: &[u8]) -> Result<Result<Tokens, FaultKind>, AllocError>
-    ensures tokens { IfOk result (λ tokens. tokens ≡ tokens_of line.now) }
-    ensures known { IfOk result (λ tokens. IfOk tokens (λ ts. AreTokens line.now ts)) }
+#[tactic(auto, using(crate::proofs::SpellingLemmas::all_whole))]
+pub fn read_tokens(alloc: Global, line: &[u8]) -> Result<Tokens, Stop>
+    ensures tokens { Gives (λ ts. ts) result (tokens_of line.now) }
+    ensures whole { IfOk result (λ ts. AreWhole line.now ts) }
 {
     let cut = cut_line(alloc, line)?;
     if !all_fit(line, cut.tokens.as_slice()) {
-        return Ok(Err(FaultKind::IntRange));
+        return Err(Stop::Fault(FaultKind::IntRange));
     }
     if cut.stop.is_some() {
-        return Ok(Err(FaultKind::Syntax));
+        return Err(Stop::Fault(FaultKind::Syntax));
     }
-    Ok(Ok(cut.tokens))
+    Ok(cut.tokens)
 }

@@ -1,5 +1,5 @@
-ghost use Rattle.std.specs.Prelude.{◌≡◌};
-ghost use Rattle.sig_script.specs.Numbers.{number, up_to, is_in_range, is_one};
+ghost use Rattle.std.specs.Prelude.{◌≡◌, ◌≤◌, ◌^◌, true};
+ghost use Rattle.sig_script.specs.Numbers.{number, up_to, is_in_range, is_one, negative, int_of, count_of};
 
 /// The number that the digits write, where it isn't above the bound.
 fn number_up_to(most: u64, digits: &[u8]) -> Option<u64>
@@ -34,5 +34,49 @@ pub fn spells_one(text: &[u8]) -> bool
         [] => false,
         [b'-', ..] => false,
         _ => number_up_to(1, text) == Some(1),
+    }
+}
+
+/// The integer so much below 0.
+fn negated(n: u64) -> i64
+    requires { n ≤ 2 ^ 63 }
+    ensures { result ≡ negative n }
+{
+    if n == 0 { 0 } else { -((n - 1) as i64) - 1 }
+}
+
+/// The integer.
+pub fn read_int(text: &[u8]) -> i64
+    requires { is_in_range text.now ≡ true }
+    ensures { result ≡ int_of text.now }
+{
+    match text {
+        [] => 0,
+        [b'-', digits @ ..] => match number_up_to(1 << 63, digits) {
+            Some(n) => negated(n),
+            None => unreachable!(),
+        },
+        _ => match number_up_to((1 << 63) - 1, text) {
+            Some(n) => n as i64,
+            None => unreachable!(),
+        },
+    }
+}
+
+/// The integer, where it isn't below 0.
+pub fn read_count(text: &[u8]) -> Option<u64>
+    requires { is_in_range text.now ≡ true }
+    ensures { result ≡ count_of text.now }
+{
+    match text {
+        [] => None,
+        [b'-', digits @ ..] => {
+            if number_up_to(0, digits).is_some() {
+                Some(0)
+            } else {
+                None
+            }
+        }
+        _ => number_up_to((1 << 63) - 1, text),
     }
 }

@@ -1,4 +1,4 @@
-ghost use Rattle.std.specs.Prelude.{◌≡◌, ◌+◌, ◌<◌, ◌^◌, length, IfOk, drop};
+ghost use Rattle.std.specs.Prelude.{◌≡◌, ◌+◌, ◌<◌, ◌^◌, length, IfOk, drop, All};
 ghost use Rattle.sig_script.specs.Lines.{lines_of};
 ghost use Rattle.sig_script.specs.Tokens.{AreTokens};
 ghost use Rattle.sig_script.specs.Forms.{tokens_of};
@@ -11,53 +11,65 @@ ghost use Rattle.sig_script.specs.Grammar.{
   script_of_lines,
   script_of,
 };
-ghost use Rattle.sig_script.specs.Drafts.{IsWalked};
+ghost use Rattle.sig_script.specs.Scripts.{IsWithin};
+ghost use Rattle.sig_script.specs.Fitting.{IsFewKnown};
 ghost use Rattle.sig_script.specs.Reading.{IsReading};
+ghost use Rattle.sig_script.specs.declared.reader.ScriptError.TheVariants.{Memory};
 
-use crate::draft::{Draft, finish, take_line};
-use crate::fault::{Fault, FaultKind};
+use crate::draft::{Draft, Place, finish, take_line};
+use crate::drafted::{DraftProcs, DraftScript};
+use crate::fault::{FaultKind, Stop};
 use crate::known::Known;
 use crate::line::{first_line, read_tokens, text_of};
 use crate::number::spells_one;
+use crate::process::{Proc, Procs};
 use crate::script::Script;
 use crate::token::{Token, TokenKind};
+use sig_lists::Sequence;
 use sig_terms::bytes::equal_bytes;
 use std::alloc::{AllocError, Global};
 
 /// Why no script was read.
 #[derive(Clone, Copy, Debug, PartialEq, Eq)]
 pub enum ScriptError {
-    /// The text spells no script.
+    /// The text spells no script: its first line that is refused, and why.
     Fault { line: u64, kind: FaultKind },
     /// There was no memory.
     Memory,
 }
 
+impl From<AllocError> for ScriptError {
+    ghost from_gives = { λ _ e. e ≡ Memory };
+
+    fn from(_e: AllocError) -> ScriptError {
+        ScriptError::Memory
+    }
+}
+
 /// The script of the lines after the first.
-fn read_lines(
-    alloc: Global,
-    known: &Known,
-    bytes: &[u8],
-) -> Result<Result<Script, Fault>, AllocError>
+fn read_lines(alloc: Global, known: &Known, bytes: &[u8]) -> Result<DraftScript, ScriptError>
     requires short { length bytes.now < 2 ^ 30 }
-    requires walked { IsWalked known.now (lines_of bytes.now) }
-    ensures { IfOk result (λ script. script ≡ walk known.now (lines_of bytes.now)) }
+    requires known { IsFewKnown known.now }
+    ensures { IsReading (walk known.now (lines_of bytes.now)) result }
 {
-    let mut draft = Draft::new(alloc);
+    let mut draft = Draft {
+        turns: None,
+        procs: Sequence::new(alloc),
+        place: Place::Before,
+    };
     let mut n: u64 = 2;
     let mut at = 0;
     while at < bytes.len() {
         let line = first_line(&bytes[at..]);
-        if let Some(kind) = take_line(alloc, known, &mut draft, n, line)? {
-            return Ok(Err(Fault { line: n, kind }));
-        }
+        draft = match take_line(alloc, known, draft, n, line) {
+            Ok(next) => next,
+            Err(Stop::Fault(kind)) => return Err(ScriptError::Fault { line: n, kind }),
+            Err(Stop::Memory) => return Err(ScriptError::Memory),
+        };
         at += line.len() + 1;
         n += 1;
     }
-    match finish(alloc, draft, n)? {
-        Ok(procs) => Ok(Ok(Script { turns: 1000, procs })),
-        Err(fault) => Ok(Err(fault)),
-    }
+    finish(draft, n)
 }
 
 /// Whether a token is an integer of value 1.
@@ -88,9 +100,10 @@ fn are_header_tokens(line: &[u8], tokens: &[Token]) -> bool
 fn is_header_line(alloc: Global, line: &[u8]) -> Result<bool, AllocError>
     ensures { IfOk result (λ yes. yes ≡ is_header (tokens_of line.now) line.now) }
 {
-    match read_tokens(alloc, line)? {
+    match read_tokens(alloc, line) {
         Ok(tokens) => Ok(are_header_tokens(line, tokens.as_slice())),
-        Err(_) => Ok(false),
+        Err(Stop::Fault(_)) => Ok(false),
+        Err(Stop::Memory) => Err(AllocError),
     }
 }
 
@@ -105,62 +118,68 @@ fn behind_line<'a>(bytes: &'a [u8], line: &[u8]) -> &'a [u8]
     }
 }
 
-/// Both walks over the lines after the first.
-fn read_twice(alloc: Global, bytes: &[u8]) -> Result<Result<Script, Fault>, AllocError>
-    requires { length bytes.now < 2 ^ 30 }
-    ensures { IfOk result (λ script. script ≡ walk_twice (lines_of bytes.now)) }
+/// The processes, whose bounds are known.
+fn seal_procs(alloc: Global, drafts: DraftProcs) -> Result<Procs, AllocError>
+    requires { All IsWithin drafts }
+    ensures { IfOk result (λ procs. procs ≡ drafts) }
 {
-    match read_lines(alloc, &Known::Any, bytes)? {
-        Ok(script) => read_lines(alloc, &Known::Among(script), bytes),
-        Err(fault) => Ok(Err(fault)),
+    let mut procs = Vec::new(alloc);
+    for draft in drafts.into_vec() {
+        procs.push(Proc {
+            name: draft.name,
+            labels: draft.labels,
+            instrs: draft.instrs,
+        })?;
     }
+    Ok(Sequence::from_vec(procs))
+}
+
+/// Both walks over the lines after the first.
+fn read_twice(alloc: Global, bytes: &[u8]) -> Result<Script, ScriptError>
+    requires { length bytes.now < 2 ^ 30 }
+    ensures { IsReading (walk_twice (lines_of bytes.now)) result }
+{
+    let first = read_lines(alloc, &Known::Any, bytes)?;
+    let second = read_lines(alloc, &Known::Among(first), bytes)?;
+    let procs = seal_procs(alloc, second.procs)?;
+    Ok(Script {
+        turns: second.turns,
+        procs,
+    })
 }
 
 /// The script of the text, or the first line that is refused.
-fn read_text(alloc: Global, bytes: &[u8]) -> Result<Result<Script, Fault>, AllocError>
+fn read_text(alloc: Global, bytes: &[u8]) -> Result<Script, ScriptError>
     requires { length bytes.now < 2 ^ 30 }
-    ensures { IfOk result (λ script. script ≡ script_of_lines (lines_of bytes.now)) }
+    ensures { IsReading (script_of_lines (lines_of bytes.now)) result }
 {
-    let header = Fault {
+    let header = ScriptError::Fault {
         line: 1,
         kind: FaultKind::Header,
     };
     if bytes.is_empty() {
-        return Ok(Err(header));
+        return Err(header);
     }
     let first = first_line(bytes);
     if !is_header_line(alloc, first)? {
-        return Ok(Err(header));
+        return Err(header);
     }
     read_twice(alloc, behind_line(bytes, first))
 }
 
-/// The script of a text of any length, or the line that is refused and why.
+/// Reads the text of a script: the script that it spells. `Fault` exactly where it spells none, with
+/// the line and the kind of its first refusal; lines count from 1, and a text of more than 1,048,576
+/// bytes is refused at line 0. `Memory` only where memory is refused. (The language of scripts is
+/// this project's own.)
 #[tactic(auto, unfolding(crate::specs::Grammar::script_of))]
-fn read_bounded(alloc: Global, bytes: &[u8]) -> Result<Result<Script, Fault>, AllocError>
-    ensures { IfOk result (λ script. script ≡ script_of bytes.now) }
-{
-    if bytes.len() <= 1048576 {
-        read_text(alloc, bytes)
-    } else {
-        Ok(Err(Fault {
-            line: 0,
-            kind: FaultKind::TooLong,
-        }))
-    }
-}
-
-/// Reads the text of a script: the script that it spells, and `Fault` only where it spells none.
-/// Every refusal is told as line 0, `Syntax`.
 pub fn read_script(alloc: Global, bytes: &[u8]) -> Result<Script, ScriptError>
     ensures { IsReading (script_of bytes.now) result }
 {
-    match read_bounded(alloc, bytes) {
-        Ok(Ok(script)) => Ok(script),
-        Ok(Err(_)) => Err(ScriptError::Fault {
+    if bytes.len() > 1048576 {
+        return Err(ScriptError::Fault {
             line: 0,
-            kind: FaultKind::Syntax,
-        }),
-        Err(_) => Err(ScriptError::Memory),
+            kind: FaultKind::TooLong,
+        });
     }
+    read_text(alloc, bytes)
 }

@@ -4,12 +4,14 @@ ghost use Rattle.std.specs.Prelude.{
   ◌<◌,
   ◌≤◌,
   length,
+  drop,
   IfSome,
 };
 ghost use Rattle.sig_terms.specs.Words.{is_digit, is_name_byte, is_variable_byte, is_atom_byte};
 ghost use Rattle.sig_script.specs.Tokens.{
   is_blank,
-  is_sign,
+  sign_of,
+  sign_at,
   front_run,
   short_word,
   process_at,
@@ -17,13 +19,31 @@ ghost use Rattle.sig_script.specs.Tokens.{
   underscore_at,
   quoted_at,
   front_token,
+  unquoted,
 };
+
+ghost use Rattle.sig_script.specs.Signs as signs;
 
 use sig_lists::Sequence;
 use sig_terms::bytes::{
     follows_in_name, follows_in_variable, is_digit_byte, is_lower_byte, is_upper_byte,
     stands_in_atom,
 };
+
+/// A token that stands for itself.
+#[derive(Clone, Copy, Debug, PartialEq, Eq)]
+pub enum Sign {
+    OpenBrace,
+    CloseBrace,
+    OpenBracket,
+    CloseBracket,
+    Comma,
+    Bar,
+    Caret,
+    Equals,
+    Arrow,
+    Underscore,
+}
 
 #[derive(Clone, Copy, Debug, PartialEq, Eq)]
 pub enum TokenKind {
@@ -32,7 +52,69 @@ pub enum TokenKind {
     Integer,
     Quoted,
     Process,
-    Sign,
+    Sign(Sign),
+}
+
+impl TokenKind {
+    /// Whether it is no sign.
+    pub fn is_word(self) -> bool
+        ensures { result ≡ signs.is_word self }
+    {
+        !matches!(self, TokenKind::Sign(_))
+    }
+
+    pub fn is_open_brace(self) -> bool
+        ensures { result ≡ signs.is_open_brace self }
+    {
+        matches!(self, TokenKind::Sign(Sign::OpenBrace))
+    }
+
+    pub fn is_open_bracket(self) -> bool
+        ensures { result ≡ signs.is_open_bracket self }
+    {
+        matches!(self, TokenKind::Sign(Sign::OpenBracket))
+    }
+
+    pub fn is_comma(self) -> bool
+        ensures { result ≡ signs.is_comma self }
+    {
+        matches!(self, TokenKind::Sign(Sign::Comma))
+    }
+
+    pub fn is_bar(self) -> bool
+        ensures { result ≡ signs.is_bar self }
+    {
+        matches!(self, TokenKind::Sign(Sign::Bar))
+    }
+
+    pub fn is_caret(self) -> bool
+        ensures { result ≡ signs.is_caret self }
+    {
+        matches!(self, TokenKind::Sign(Sign::Caret))
+    }
+
+    pub fn is_arrow(self) -> bool
+        ensures { result ≡ signs.is_arrow self }
+    {
+        matches!(self, TokenKind::Sign(Sign::Arrow))
+    }
+
+    pub fn is_underscore(self) -> bool
+        ensures { result ≡ signs.is_underscore self }
+    {
+        matches!(self, TokenKind::Sign(Sign::Underscore))
+    }
+
+    /// Whether it is the sign that ends a tuple or a list.
+    pub fn closes(self, close: Sign) -> bool
+        ensures { result ≡ signs.closes close self }
+    {
+        match (close, self) {
+            (Sign::CloseBrace, TokenKind::Sign(Sign::CloseBrace)) => true,
+            (Sign::CloseBracket, TokenKind::Sign(Sign::CloseBracket)) => true,
+            _ => false,
+        }
+    }
 }
 
 /// A token: the bytes from `start` to below `end`.
@@ -59,10 +141,36 @@ pub fn is_blank_byte(b: u8) -> bool
     b == 32 || b == 9 || b == 13
 }
 
-fn is_sign_byte(b: u8) -> bool
-    ensures { result ≡ is_sign b }
+fn sign_of_byte(b: u8) -> Option<Sign>
+    ensures { result ≡ sign_of b }
 {
-    b == 123 || b == 125 || b == 91 || b == 93 || b == 44 || b == 124 || b == 94 || b == 61
+    if b == b'{' {
+        Some(Sign::OpenBrace)
+    } else if b == b'}' {
+        Some(Sign::CloseBrace)
+    } else if b == b'[' {
+        Some(Sign::OpenBracket)
+    } else if b == b']' {
+        Some(Sign::CloseBracket)
+    } else if b == b',' {
+        Some(Sign::Comma)
+    } else if b == b'|' {
+        Some(Sign::Bar)
+    } else if b == b'^' {
+        Some(Sign::Caret)
+    } else if b == b'=' {
+        Some(Sign::Equals)
+    } else {
+        None
+    }
+}
+
+fn sign_token(b: u8) -> Option<(TokenKind, usize)>
+    ensures token { result ≡ sign_at (sign_of b) }
+    ensures len { IfSome result (λ t. t.1 ≡ 1) }
+{
+    let sign = sign_of_byte(b)?;
+    Some((TokenKind::Sign(sign), 1))
 }
 
 fn run_of_name(bytes: &[u8]) -> usize
@@ -129,7 +237,7 @@ fn minus_token(rest: &[u8]) -> Option<(TokenKind, usize)>
     if is_digit_byte(*first) {
         Some((TokenKind::Integer, 2 + run_of_digits(tail)))
     } else if *first == b'>' {
-        Some((TokenKind::Sign, 2))
+        Some((TokenKind::Sign(Sign::Arrow), 2))
     } else {
         None
     }
@@ -141,7 +249,7 @@ fn underscore_token(rest: &[u8]) -> Option<(TokenKind, usize)>
 {
     match rest.split_first() {
         Some((first, _)) if follows_in_name(*first) => None,
-        _ => Some((TokenKind::Sign, 1)),
+        _ => Some((TokenKind::Sign(Sign::Underscore), 1)),
     }
 }
 
@@ -179,9 +287,23 @@ pub fn token_at(rest: &[u8]) -> Option<(TokenKind, usize)>
         underscore_token(tail)
     } else if b == b'\'' {
         quoted_token(tail)
-    } else if is_sign_byte(b) {
-        Some((TokenKind::Sign, 1))
     } else {
-        None
+        sign_token(b)
     }
+}
+
+/// What stands behind the first byte.
+pub fn behind_first(word: &[u8]) -> &[u8]
+    ensures { result.now ≡ drop 1 word.now }
+{
+    if word.is_empty() { word } else { &word[1..] }
+}
+
+/// The bytes between the quotes of a quoted atom.
+pub fn unquoted(word: &[u8]) -> &[u8]
+    ensures { result.now ≡ unquoted word.now }
+{
+    let rest = behind_first(word);
+    let n = run_of_atom(rest);
+    &rest[..n]
 }

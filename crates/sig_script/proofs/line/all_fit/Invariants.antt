@@ -1,7 +1,6 @@
 use Rattle.std.proofs.Common.{◌≡◌, length}
 use Rattle.std.specs.List.{list_all}
-use Rattle.sig_script.specs.Tokens.{AreTokens, text}
-use Rattle.sig_script.specs.Forms.{is_token_in_range}
+use Rattle.sig_script.specs.Tokens.{AreTokens, text, is_token_in_range}
 use Rattle.sig_script.proofs.line.all_fit.Given as goal
 
 -- the tokens so far fit
