@@ -4,3 +4,7 @@ pub mod CutLemmas
 pub mod LineLemmas
 pub mod BelowLemmas
 pub mod FitLemmas
+pub mod OperandLemmas
+pub mod ReaderLemmas
+pub mod BoundTermLemmas
+pub mod BoundLemmas

@@ -65,7 +65,7 @@ fn close(procs: DraftProcs, place: Place) -> Result<DraftProcs, Stop>
             add(&mut procs, proc)?;
             Ok(procs)
         }
-        Place::Inside(proc, _, _) => {
+        Place::Inside(proc, _clauses, _after) => {
             add(&mut procs, proc)?;
             Ok(procs)
         }

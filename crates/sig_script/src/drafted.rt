@@ -1,7 +1,15 @@
+ghost use Rattle.std.specs.Prelude.{◌≡◌, ◌≤◌, ◌<◌, ◌^◌, length, position, IfSome, All};
+ghost use Rattle.std.specs.Str.{bytes_eq};
+ghost use Rattle.sig_script.specs.declared.label.Label.{Label};
+ghost use Rattle.sig_script.specs.Scripts.{Declared};
+ghost use Rattle.sig_script.specs.Names.{labels_at};
+ghost use Rattle.sig_script.specs.Fitting.{IsSmall};
+
 use crate::instruction::Instrs;
-use crate::label::Labels;
+use crate::label::{Label, Labels};
 use sig_lists::Sequence;
 use sig_terms::Name;
+use sig_terms::bytes::equal_bytes;
 use std::marker::Model;
 
 /// A process as it was read. Its targets may still be labels of any process.
@@ -46,4 +54,65 @@ impl Model for DraftScript {
     ghost coded = { Prim.hlevel (codes, expr.the_row.coded, pattern.the_row.coded) };
 
     ghost view = { λ s. record { turns = s.turns; procs = s.procs } };
+}
+
+impl DraftProc {
+    fn labels(&self) -> &[Label]
+        ensures { result.now ≡ self.now.labels }
+    {
+        self.labels.as_slice()
+    }
+}
+
+fn place_of_proc(procs: &[DraftProc], name: &[u8]) -> Option<usize>
+    ensures place { result ≡ position (λ (p : Declared). bytes_eq p.name name.now) procs.now }
+    ensures within { IfSome result (λ n. n < length procs.now) }
+{
+    procs
+        .iter()
+        .position(|proc| equal_bytes(proc.name.bytes(), name))
+}
+
+fn place_of_label(labels: &[Label], name: &[u8]) -> Option<usize>
+    ensures place { result ≡ position (λ (l : Label). bytes_eq l.name name.now) labels.now }
+    ensures within { IfSome result (λ n. n < length labels.now) }
+{
+    labels
+        .iter()
+        .position(|label| equal_bytes(label.name.bytes(), name))
+}
+
+fn labels_of(procs: &[DraftProc], here: usize) -> &[Label]
+    ensures { result.now ≡ labels_at here procs.now }
+{
+    match procs.get(here) {
+        Some(proc) => proc.labels(),
+        None => &[],
+    }
+}
+
+impl DraftScript {
+    /// The pid of the process of this name. `None` exactly where no process has it.
+    pub fn pid_of(&self, name: &[u8]) -> Option<u32>
+        requires { length self.now.procs ≤ 64 }
+        ensures { result ≡ position (λ (p : Declared). bytes_eq p.name name.now) self.now.procs }
+    {
+        match place_of_proc(self.procs.as_slice(), name) {
+            Some(place) => Some(place as u32),
+            None => None,
+        }
+    }
+
+    /// The place of the label of this name among those of the process with this place among the
+    /// processes. `None` exactly where it has no such label.
+    #[tactic(auto, using(crate::proofs::FitLemmas::few_labels))]
+    pub fn label_of(&self, here: usize, name: &[u8]) -> Option<u32>
+        requires { All (IsSmall (2 ^ 31)) self.now.procs }
+        ensures { result ≡ position (λ (l : Label). bytes_eq l.name name.now) (labels_at here self.now.procs) }
+    {
+        match place_of_label(labels_of(self.procs.as_slice(), here), name) {
+            Some(place) => Some(place as u32),
+            None => None,
+        }
+    }
 }

@@ -132,6 +132,17 @@ fn long_text(
     Ok(text)
 }
 
+/// The header, a process, and `set X` with a list of so many atoms, and what ends it.
+fn long_term(alloc: Global, count: usize, end: &[u8]) -> Result<Vec<u8>, AllocError> {
+    let mut text = Vec::new(alloc);
+    text.extend_from_slice(b"sigscript 1\nprocess a\nset X [a")?;
+    for _ in 1..count {
+        text.extend_from_slice(b",a")?;
+    }
+    text.extend_from_slice(end)?;
+    Ok(text)
+}
+
 #[test]
 fn bounds_are_kept(rt: HostRuntime) -> Result<(), Fail> {
     let alloc = rt.alloc();
@@ -157,10 +168,87 @@ fn bounds_are_kept(rt: HostRuntime) -> Result<(), Fail> {
     Ok(())
 }
 
+/// The texts behind the header line that are refused, each with the line and the kind.
+const REFUSED: [(&[u8], u64, FaultKind); 60] = [
+    (b"send @a hi", 2, FaultKind::Syntax),
+    (b"foo", 2, FaultKind::Syntax),
+    (b"foo 99999999999999999999", 2, FaultKind::IntRange),
+    (b"turns -1", 2, FaultKind::Syntax),
+    (b"turns 1 1", 2, FaultKind::Syntax),
+    (b"turns a", 2, FaultKind::Syntax),
+    (b"turns", 2, FaultKind::Syntax),
+    (b"turns 1\nturns 1", 3, FaultKind::Syntax),
+    (b"turns 20001", 2, FaultKind::TooManyTurns),
+    (b"turns 20001 1", 2, FaultKind::Syntax),
+    (b"turns 99999999999999999999", 2, FaultKind::IntRange),
+    (b"process a\nturns 1", 3, FaultKind::Syntax),
+    (b"process 'a'", 2, FaultKind::Syntax),
+    (b"process A", 2, FaultKind::Syntax),
+    (b"process a b", 2, FaultKind::Syntax),
+    (b"process a\n\nprocess a", 4, FaultKind::DuplicateName),
+    (b"process a\nlabel l\nlabel l", 4, FaultKind::DuplicateLabel),
+    (b"process a\nlabel 'l'", 3, FaultKind::Syntax),
+    (b"label l", 2, FaultKind::Syntax),
+    (b"process a\ngoto l", 3, FaultKind::UnknownLabel),
+    (b"process a\ngoto l\nprocess b\nlabel l", 3, FaultKind::UnknownLabel),
+    (b"process a\ngoto l m", 3, FaultKind::Syntax),
+    (b"process a\ngoto", 3, FaultKind::Syntax),
+    (b"process a\ngoto L", 3, FaultKind::Syntax),
+    (b"process a\nstop 1", 3, FaultKind::Syntax),
+    (b"process a\nset x 1", 3, FaultKind::Syntax),
+    (b"process a\nset X", 3, FaultKind::Syntax),
+    (b"process a\nset X 1 2", 3, FaultKind::Syntax),
+    (b"process a\nset X _", 3, FaultKind::Syntax),
+    (b"process a\nset X ^Y", 3, FaultKind::Syntax),
+    (b"process a\nset X [a|b]", 3, FaultKind::Syntax),
+    (b"process a\nset X {a,}", 3, FaultKind::Syntax),
+    (b"process a\nset X {a b}", 3, FaultKind::Syntax),
+    (b"process a\nset X {a]", 3, FaultKind::Syntax),
+    (b"process a\nset X [a", 3, FaultKind::Syntax),
+    (b"process a\nset X 9223372036854775808", 3, FaultKind::IntRange),
+    (b"process a\nset X {9223372036854775808,'", 3, FaultKind::IntRange),
+    (b"process a\nset X {',9223372036854775808", 3, FaultKind::Syntax),
+    (b"process a\nset X -9223372036854775809", 3, FaultKind::IntRange),
+    (b"process a\nsend @a", 3, FaultKind::Syntax),
+    (b"process a\nsend @b hi", 3, FaultKind::UnknownProcess),
+    (b"process a\nsend @b @c\nfoo", 4, FaultKind::Syntax),
+    (b"process a\nsend a @b\ngoto l", 3, FaultKind::UnknownProcess),
+    (b"process a\ngoto l\nsend a @b", 3, FaultKind::UnknownLabel),
+    (b"process a\nreceive\non {@b,X} -> l\nend", 4, FaultKind::UnknownProcess),
+    (b"process a\nreceive\non X -> l\nend", 4, FaultKind::UnknownLabel),
+    (b"process a\nreceive\nafter -> l\nend", 4, FaultKind::UnknownLabel),
+    (b"process a\nreceive\non X -> l m\nend", 4, FaultKind::Syntax),
+    (b"process a\nreceive\non X ->\nend", 4, FaultKind::Syntax),
+    (b"process a\nreceive\non X l\nend", 4, FaultKind::Syntax),
+    (b"process a\nreceive\non [|X]\nend", 4, FaultKind::Syntax),
+    (b"process a\nreceive\non [A|B,C]\nend", 4, FaultKind::Syntax),
+    (b"process a\nreceive\non {A|B}\nend", 4, FaultKind::Syntax),
+    (b"process a\nreceive\non ^x\nend", 4, FaultKind::Syntax),
+    (b"process a\nreceive\nafter\non X\nend", 5, FaultKind::Syntax),
+    (b"process a\nreceive\nafter\nafter\nend", 5, FaultKind::Syntax),
+    (b"process a\nreceive\nsend @a x\nend", 4, FaultKind::Syntax),
+    (b"process a\nreceive\nreceive\nend", 4, FaultKind::Syntax),
+    (b"process a\nreceive\non x", 5, FaultKind::Syntax),
+    (b"process a\nreceive\n%\n\n", 6, FaultKind::Syntax),
+];
+
 #[test]
-fn texts_are_refused(rt: HostRuntime) -> Result<(), Fail> {
+fn texts_are_refused_at_their_line(rt: HostRuntime) -> Result<(), Fail> {
     let alloc = rt.alloc();
-    let rows: [&[u8]; 24] = [
+    for (rest, line, kind) in REFUSED {
+        let mut text = Vec::new(alloc);
+        text.extend_from_slice(b"sigscript 1\n")?;
+        text.extend_from_slice(rest)?;
+        let fault = ScriptError::Fault { line, kind };
+        assert!(rt; read_script(alloc, text.as_slice()).err() == Some(fault));
+    }
+    Ok(())
+}
+
+#[test]
+fn other_first_lines_are_refused(rt: HostRuntime) -> Result<(), Fail> {
+    let alloc = rt.alloc();
+    let rows: [&[u8]; 9] = [
         b"",
         b"\nsigscript 1",
         b"sigscript 2",
@@ -168,30 +256,62 @@ fn texts_are_refused(rt: HostRuntime) -> Result<(), Fail> {
         b"sigscript",
         b"sigscript 1 1",
         b"sigscript '1'",
-        b"sigscript 1\nsend @a hi",
-        b"sigscript 1\nprocess a\nreceive",
-        b"sigscript 1\nprocess a\nreceive\non X\n",
-        b"sigscript 1\nprocess a\nreceive\nend",
-        b"sigscript 1\nprocess a\nreceive\non X\non Y\nend",
-        b"sigscript 1\nprocess a\nreceive\nprocess b\non X\nend",
-        b"sigscript 1\nprocess a\non X",
-        b"sigscript 1\nprocess a\nend",
-        b"sigscript 1\nprocess a\nprocess a",
-        b"sigscript 1\nprocess a\nsend @b hi",
-        b"sigscript 1\nprocess a\nreceive\non @b\nend",
-        b"sigscript 1\nprocess a\nsend a hi",
-        b"sigscript 1\nprocess a\nsend @a X",
-        b"sigscript 1\nprocess a\nsend @a 1",
-        b"sigscript 1\nprocess a\nsend @a _x",
-        b"sigscript 1\nprocess a\nsend @a 'x",
-        b"sigscript 1\nprocess 'a'",
+        b"sigscript 1 '",
+        b"sigscript 99999999999999999999",
     ];
     for text in rows {
         let fault = ScriptError::Fault {
-            line: 0,
-            kind: FaultKind::Syntax,
+            line: 1,
+            kind: FaultKind::Header,
         };
         assert!(rt; read_script(alloc, text).err() == Some(fault));
+    }
+    Ok(())
+}
+
+/// The header, a process, and `set X` with so many brackets round `inner`.
+fn nested(
+    alloc: Global,
+    open: &[u8],
+    inner: &[u8],
+    close: &[u8],
+    count: usize,
+) -> Result<Vec<u8>, AllocError> {
+    let mut text = Vec::new(alloc);
+    text.extend_from_slice(b"sigscript 1\nprocess a\nset X ")?;
+    for _ in 0..count {
+        text.extend_from_slice(open)?;
+    }
+    text.extend_from_slice(inner)?;
+    for _ in 0..count {
+        text.extend_from_slice(close)?;
+    }
+    Ok(text)
+}
+
+#[test]
+fn terms_are_bounded(rt: HostRuntime) -> Result<(), Fail> {
+    let alloc = rt.alloc();
+    let too_large = Some(ScriptError::Fault {
+        line: 3,
+        kind: FaultKind::TermTooLarge,
+    });
+    let syntax = Some(ScriptError::Fault {
+        line: 3,
+        kind: FaultKind::Syntax,
+    });
+    let rows = [
+        (nested(alloc, b"{", b"a", b"}", 63)?, None),
+        (nested(alloc, b"{", b"a", b"}", 64)?, too_large),
+        (nested(alloc, b"[", b"", b"]", 64)?, None),
+        (nested(alloc, b"[", b"", b"]", 65)?, too_large),
+        (long_term(alloc, 1023, b"]")?, None),
+        (long_term(alloc, 1024, b"]")?, too_large),
+        (long_term(alloc, 1023, b",]")?, syntax),
+        (long_term(alloc, 1023, b",a")?, too_large),
+    ];
+    for (text, fault) in rows {
+        assert!(rt; read_script(alloc, text.as_slice()).err() == fault);
     }
     Ok(())
 }

@@ -1,0 +1,207 @@
+-- What holds of each result that isn't a refusal; the pids in the expressions and the patterns that are read.
+use Rattle.std.proofs.Common.{◌≡◌, ℕ, zero, suc, ◌+◌, ◌<◌, ◌≤◌, List, [], ◌∷◌, ◌++◌, length, drop, position, ok_or, All, Bool, true, false, if◌then◌else◌, Option, Some, None, Result, Ok, Err, refl, sym, ◌∙◌, ap, subst, arith}
+use Rattle.std.specs.Str.{bytes_eq}
+use Rattle.std.proofs.lemmas.List.Quantifiers.{position-Some}
+use Rattle.std.proofs.lemmas.List.Elements.{All-nil, All-push}
+use Rattle.sig_patterns.specs.declared.expression.Expr.{Expr}
+use Rattle.sig_patterns.specs.declared.expression.Expr.TheVariants as expr
+use Rattle.sig_patterns.specs.declared.pattern.Pattern.{Pattern}
+use Rattle.sig_patterns.specs.declared.pattern.Pattern.TheVariants as pattern
+use Rattle.sig_script.specs.declared.fault.FaultKind.{FaultKind}
+use Rattle.sig_script.specs.declared.fault.FaultKind.TheVariants.{UnknownProcess}
+use Rattle.sig_script.specs.declared.token.Sign.TheVariants.{CloseBrace, CloseBracket}
+use Rattle.sig_script.specs.declared.token.TokenKind.{TokenKind}
+use Rattle.sig_script.specs.declared.token.TokenKind.TheVariants.{Name, Variable, Integer, Quoted, Process, Sign}
+use Rattle.sig_script.specs.declared.token.Token.{Token}
+use Rattle.sig_script.specs.declared.known.Known.{Known}
+use Rattle.sig_script.specs.declared.known.Known.TheVariants.{Any, Among}
+use Rattle.sig_script.specs.Scripts.{Declared, Program, IsExprBelow, IsPatternBelow}
+use Rattle.sig_script.specs.Faults.{◌>>=◌, on_ok}
+use Rattle.sig_script.specs.Tokens.{text, unquoted}
+use Rattle.sig_script.specs.Numbers.{int_of}
+use Rattle.sig_script.specs.Names.{pid_of, variable_at}
+use Rattle.sig_script.specs.Signs.{is_open_brace, is_open_bracket, is_comma, is_bar, is_caret, is_underscore, closes}
+use Rattle.sig_script.specs.Operands.{Read, behind, elements, closed, enclosed}
+use Rattle.sig_script.specs.Expressions.{expr_leaf, expr_by, expr_front, expr_at, expr_of}
+use Rattle.sig_script.specs.PatternTexts.{pattern_leaf, list_end, pin_at, pattern_by, pattern_front, pattern_at, pattern_of}
+use Rattle.sig_script.proofs.BelowLemmas.{int_below, atom_below, var_below, pid_below, tuple_below, list_below, any_pattern_below, bind_pattern_below, pin_pattern_below, int_pattern_below, atom_pattern_below, pid_pattern_below, tuple_pattern_below, list_pattern_below, cons_pattern_below}
+
+-- what holds of a result that isn't a refusal
+abbrev pub Holds : {A E : Type 0} → (A → Type 0) → Result A E → Type 0
+Holds P (Ok x) = P x
+Holds P (Err e) = Unit {0}
+
+pub anything : {A E : Type 0} (r : Result A E) → Holds (λ _. Unit {0}) r
+anything (Ok x) = tt
+anything (Err e) = tt
+
+pub holds-of : {A E : Type 0} (P : A → Type 0) (r : Result A E) (x : A) → Holds P r → r ≡ Ok x → P x
+holds-of P (Ok y) x h e = let same : y ≡ x = cc in subst P same h
+holds-of P (Err f) x h e = cc
+
+pub holds-if : {A E : Type 0} (P : A → Type 0) (v : Bool) (x y : Result A E) → (v ≡ true → Holds P x) → (v ≡ false → Holds P y) → Holds P (if v then x else y)
+holds-if P true x y f g = f refl
+holds-if P false x y f g = g refl
+
+pub holds-on_ok : {A B E : Type 0} (P : A → Type 0) (Q : B → Type 0) (f : A → B) (r : Result A E) → Holds P r → ((x : A) → P x → Q (f x)) → Holds Q (on_ok f r)
+holds-on_ok P Q f (Ok x) h k = k x h
+holds-on_ok P Q f (Err e) h k = tt
+
+pub holds-then : {A B E : Type 0} (P : A → Type 0) (Q : B → Type 0) (f : A → Result B E) (r : Result A E) → Holds P r → ((x : A) → P x → Holds Q (f x)) → Holds Q (r >>= f)
+holds-then P Q f (Ok x) h k = k x h
+holds-then P Q f (Err e) h k = tt
+
+-- the same of what was read, whatever is left behind it
+abbrev pub Reads : {A : Type 0} → (A → Type 0) → Read A → Type 0
+Reads {A} P r = Holds (λ (x : A × ℕ × List Token). P x.0) r
+
+closed-reads : {A : Type 0} (P : A → Type 0) (ends : TokenKind → Bool) (item : A) (nodes : ℕ) (ts : List Token) → P item → Reads P (closed ends item nodes ts)
+closed-reads P ends item nodes [] h = tt
+closed-reads {A} P ends item nodes (t ∷ ts) h = holds-if (λ (x : A × ℕ × List Token). P x.0) (ends t.kind) _ _ (λ _. h) (λ _. tt)
+
+-- from here on P holds of each element that is read, and Q of what the elements become
+module _ {A B : Type 0} (P : A → Type 0) (Q : B → Type 0) (read : ℕ → List Token → Read A) (finish : List A → ℕ → List Token → Read B)
+    (reads : (nodes : ℕ) (ts : List Token) → Reads P (read nodes ts))
+    (finishes : (items : List A) (nodes : ℕ) (ts : List Token) → All P items → Reads Q (finish items nodes ts)) where
+  behind-reads : (more : ℕ → List A → List Token → Read B) → ((nodes : ℕ) (items : List A) (ts : List Token) → All P items → Reads Q (more nodes items ts)) →
+      (nodes : ℕ) (items : List A) (ts : List Token) → All P items → Reads Q (behind more finish nodes items ts)
+  behind-reads more mores nodes items [] h = tt
+  behind-reads more mores nodes items (t ∷ ts) h =
+      holds-if (λ (x : B × ℕ × List Token). Q x.0) (is_comma t.kind) _ _ (λ _. mores nodes items ts h) (λ _. finishes items nodes (t ∷ ts) h)
+
+  elements-read : (room nodes : ℕ) (items : List A) (ts : List Token) → All P items → Reads Q (elements read finish room nodes items ts)
+  unfolding elements
+  elements-read zero nodes items ts h = tt
+  elements-read (suc room) nodes items ts h =
+      holds-then (λ (x : A × ℕ × List Token). P x.0) (λ (x : B × ℕ × List Token). Q x.0)
+      (λ x. behind (elements read finish room) finish x.1 (items ++ x.0 ∷ []) x.2) (read nodes ts) (reads nodes ts)
+      (λ x p. behind-reads (elements read finish room) (elements-read room) x.1 (items ++ x.0 ∷ []) x.2 (All-push P items x.0 h p))
+
+  enclosed-reads : (ends : TokenKind → Bool) (none : B) (nodes : ℕ) (ts : List Token) → Q none → Reads Q (enclosed ends none read finish nodes ts)
+  unfolding enclosed
+  enclosed-reads ends none nodes [] q = tt
+  enclosed-reads ends none nodes (t ∷ ts) q =
+      holds-if (λ (x : B × ℕ × List Token). Q x.0) (ends t.kind) _ _ (λ _. q) (λ _. elements-read (length (t ∷ ts)) nodes [] (t ∷ ts) (All-nil P))
+
+-- the pids of a script's processes
+found : (m : ℕ) (o : Option ℕ) → ((i : ℕ) → o ≡ Some i → i < m) → Holds (λ n. n < m) (ok_or o UnknownProcess)
+found m None h = tt
+found m (Some i) h = h i refl
+
+pid-below : (s : Program) (name : List ℕ) → Holds (λ n. n < length s.procs) (pid_of (Among s) name)
+pid-below s name =
+    found (length s.procs) (position (λ (p : Declared). bytes_eq p.name name) s.procs)
+    (λ i e. (position-Some (λ (p : Declared). bytes_eq p.name name) s.procs i (record { name = []; labels = []; instrs = [] }) e).0)
+
+-- from here on the names are those of a script
+module _ (s : Program) (line : List ℕ) where
+  expr_leaf-below : (kind : TokenKind) (word : List ℕ) → Holds (IsExprBelow (length s.procs)) (expr_leaf (Among s) kind word)
+  expr_leaf-below Name word = atom_below (length s.procs) word
+  expr_leaf-below Quoted word = atom_below (length s.procs) (unquoted word)
+  expr_leaf-below Integer word = int_below (length s.procs) (int_of word)
+  expr_leaf-below Variable word = var_below (length s.procs) (record { 0 = word })
+  expr_leaf-below Process word =
+      holds-on_ok (λ n. n < length s.procs) (IsExprBelow (length s.procs)) (λ n. expr.Pid (record { 0 = n })) (pid_of (Among s) (drop 1 word)) (pid-below s (drop 1 word))
+      (λ n h. pid_below (length s.procs) n h)
+  expr_leaf-below (Sign g) word = tt
+
+  module _ (read : ℕ → List Token → Read Expr) (reads : (nodes : ℕ) (ts : List Token) → Reads (IsExprBelow (length s.procs)) (read nodes ts)) where
+    exprs-below : (ends : TokenKind → Bool) (nodes : ℕ) (ts : List Token) → Reads (All (IsExprBelow (length s.procs))) (enclosed ends [] read (closed ends) nodes ts)
+    exprs-below ends nodes ts =
+        enclosed-reads (IsExprBelow (length s.procs)) (All (IsExprBelow (length s.procs))) read (closed ends) reads
+        (λ items nodes ts h. closed-reads (All (IsExprBelow (length s.procs))) ends items nodes ts h) ends [] nodes ts (All-nil (IsExprBelow (length s.procs)))
+
+    expr_by-below : (kind : TokenKind) (word : List ℕ) (nodes : ℕ) (ts : List Token) → Reads (IsExprBelow (length s.procs)) (expr_by (Among s) read kind word nodes ts)
+    expr_by-below kind word nodes ts =
+        let Below : Expr × ℕ × List Token → Type 0 = λ x. IsExprBelow (length s.procs) x.0 in
+        let AllBelow : List Expr × ℕ × List Token → Type 0 = λ x. All (IsExprBelow (length s.procs)) x.0 in
+        holds-if Below (is_open_brace kind) _ _
+        (λ _. holds-on_ok AllBelow Below (λ x. (expr.Tuple x.0, x.1, x.2)) (enclosed (closes CloseBrace) [] read (closed (closes CloseBrace)) nodes ts)
+        (exprs-below (closes CloseBrace) nodes ts) (λ x h. tuple_below (length s.procs) x.0 h))
+        (λ _. holds-if Below (is_open_bracket kind) _ _
+        (λ _. holds-on_ok AllBelow Below (λ x. (expr.List x.0, x.1, x.2)) (enclosed (closes CloseBracket) [] read (closed (closes CloseBracket)) nodes ts)
+        (exprs-below (closes CloseBracket) nodes ts) (λ x h. list_below (length s.procs) x.0 h))
+        (λ _. holds-on_ok (IsExprBelow (length s.procs)) Below (λ e. (e, nodes, ts)) (expr_leaf (Among s) kind word) (expr_leaf-below kind word) (λ e h. h)))
+
+    expr_front-below : (nodes : ℕ) (ts : List Token) → Reads (IsExprBelow (length s.procs)) (expr_front (Among s) line read nodes ts)
+    unfolding expr_front
+    expr_front-below zero ts = tt
+    expr_front-below (suc nodes) [] = tt
+    expr_front-below (suc nodes) (t ∷ ts) = expr_by-below t.kind (text line t) nodes ts
+
+  expr_at-below : (depth nodes : ℕ) (ts : List Token) → Reads (IsExprBelow (length s.procs)) (expr_at (Among s) line depth nodes ts)
+  unfolding expr_at
+  expr_at-below zero nodes ts = tt
+  expr_at-below (suc depth) nodes ts = expr_front-below (expr_at (Among s) line depth) (expr_at-below depth) nodes ts
+
+  -- each pid of an expression is that of a process
+  pub expr_of-below : (ts : List Token) → Holds (λ (x : Expr × List Token). IsExprBelow (length s.procs) x.0) (expr_of (Among s) line ts)
+  expr_of-below ts =
+      holds-on_ok (λ (x : Expr × ℕ × List Token). IsExprBelow (length s.procs) x.0) (λ (x : Expr × List Token). IsExprBelow (length s.procs) x.0)
+      (λ x. (x.0, x.2)) (expr_at (Among s) line 64 1024 ts) (expr_at-below 64 1024 ts) (λ x h. h)
+
+-- the same with patterns
+module _ (s : Program) (line : List ℕ) where
+  pattern_leaf-below : (kind : TokenKind) (word : List ℕ) → Holds (IsPatternBelow (length s.procs)) (pattern_leaf (Among s) kind word)
+  pattern_leaf-below Name word = atom_pattern_below (length s.procs) word
+  pattern_leaf-below Quoted word = atom_pattern_below (length s.procs) (unquoted word)
+  pattern_leaf-below Integer word = int_pattern_below (length s.procs) (int_of word)
+  pattern_leaf-below Variable word = bind_pattern_below (length s.procs) (record { 0 = word })
+  pattern_leaf-below Process word =
+      holds-on_ok (λ n. n < length s.procs) (IsPatternBelow (length s.procs)) (λ n. pattern.Pid (record { 0 = n })) (pid_of (Among s) (drop 1 word)) (pid-below s (drop 1 word))
+      (λ n h. pid_pattern_below (length s.procs) n h)
+  pattern_leaf-below (Sign g) word = tt
+
+  pin-below : (nodes : ℕ) (ts : List Token) → Reads (IsPatternBelow (length s.procs)) (pin_at line nodes ts)
+  pin-below nodes ts =
+      holds-on_ok (λ (x : List ℕ × List Token). Unit {0}) (λ (x : Pattern × ℕ × List Token). IsPatternBelow (length s.procs) x.0)
+      (λ x. (pattern.Pin (record { 0 = x.0 }), nodes, x.1)) (variable_at line ts) (anything (variable_at line ts)) (λ x _. pin_pattern_below (length s.procs) (record { 0 = x.0 }))
+
+  module _ (read : ℕ → List Token → Read Pattern) (reads : (nodes : ℕ) (ts : List Token) → Reads (IsPatternBelow (length s.procs)) (read nodes ts)) where
+    patterns-below : (ends : TokenKind → Bool) (nodes : ℕ) (ts : List Token) → Reads (All (IsPatternBelow (length s.procs))) (enclosed ends [] read (closed ends) nodes ts)
+    patterns-below ends nodes ts =
+        enclosed-reads (IsPatternBelow (length s.procs)) (All (IsPatternBelow (length s.procs))) read (closed ends) reads
+        (λ items nodes ts h. closed-reads (All (IsPatternBelow (length s.procs))) ends items nodes ts h) ends [] nodes ts (All-nil (IsPatternBelow (length s.procs)))
+
+    list_end-below : (items : List Pattern) (nodes : ℕ) (ts : List Token) → All (IsPatternBelow (length s.procs)) items → Reads (IsPatternBelow (length s.procs)) (list_end read items nodes ts)
+    list_end-below items nodes [] h = tt
+    list_end-below items nodes (t ∷ ts) h =
+        let Below : Pattern × ℕ × List Token → Type 0 = λ x. IsPatternBelow (length s.procs) x.0 in
+        holds-if Below (is_bar t.kind) _ _
+        (λ _. holds-then Below Below (λ x. closed (closes CloseBracket) (pattern.Cons items x.0) x.1 x.2) (read nodes ts) (reads nodes ts)
+        (λ x k. closed-reads (IsPatternBelow (length s.procs)) (closes CloseBracket) (pattern.Cons items x.0) x.1 x.2 (cons_pattern_below (length s.procs) items x.0 h k)))
+        (λ _. closed-reads (IsPatternBelow (length s.procs)) (closes CloseBracket) (pattern.List items) nodes (t ∷ ts) (list_pattern_below (length s.procs) items h))
+
+    list-below : (nodes : ℕ) (ts : List Token) → Reads (IsPatternBelow (length s.procs)) (enclosed (closes CloseBracket) (pattern.List []) read (list_end read) nodes ts)
+    list-below nodes ts =
+        enclosed-reads (IsPatternBelow (length s.procs)) (IsPatternBelow (length s.procs)) read (list_end read) reads list_end-below
+        (closes CloseBracket) (pattern.List []) nodes ts (list_pattern_below (length s.procs) [] (All-nil (IsPatternBelow (length s.procs))))
+
+    pattern_by-below : (kind : TokenKind) (word : List ℕ) (nodes : ℕ) (ts : List Token) → Reads (IsPatternBelow (length s.procs)) (pattern_by (Among s) line read kind word nodes ts)
+    pattern_by-below kind word nodes ts =
+        let Below : Pattern × ℕ × List Token → Type 0 = λ x. IsPatternBelow (length s.procs) x.0 in
+        let AllBelow : List Pattern × ℕ × List Token → Type 0 = λ x. All (IsPatternBelow (length s.procs)) x.0 in
+        holds-if Below (is_open_brace kind) _ _
+        (λ _. holds-on_ok AllBelow Below (λ x. (pattern.Tuple x.0, x.1, x.2)) (enclosed (closes CloseBrace) [] read (closed (closes CloseBrace)) nodes ts)
+        (patterns-below (closes CloseBrace) nodes ts) (λ x h. tuple_pattern_below (length s.procs) x.0 h))
+        (λ _. holds-if Below (is_open_bracket kind) _ _ (λ _. list-below nodes ts)
+        (λ _. holds-if Below (is_caret kind) _ _ (λ _. pin-below nodes ts)
+        (λ _. holds-if Below (is_underscore kind) _ _ (λ _. any_pattern_below (length s.procs))
+        (λ _. holds-on_ok (IsPatternBelow (length s.procs)) Below (λ p. (p, nodes, ts)) (pattern_leaf (Among s) kind word) (pattern_leaf-below kind word) (λ p h. h)))))
+
+    pattern_front-below : (nodes : ℕ) (ts : List Token) → Reads (IsPatternBelow (length s.procs)) (pattern_front (Among s) line read nodes ts)
+    unfolding pattern_front
+    pattern_front-below zero ts = tt
+    pattern_front-below (suc nodes) [] = tt
+    pattern_front-below (suc nodes) (t ∷ ts) = pattern_by-below t.kind (text line t) nodes ts
+
+  pattern_at-below : (depth nodes : ℕ) (ts : List Token) → Reads (IsPatternBelow (length s.procs)) (pattern_at (Among s) line depth nodes ts)
+  unfolding pattern_at
+  pattern_at-below zero nodes ts = tt
+  pattern_at-below (suc depth) nodes ts = pattern_front-below (pattern_at (Among s) line depth) (pattern_at-below depth) nodes ts
+
+  -- each pid of a pattern is that of a process
+  pub pattern_of-below : (ts : List Token) → Holds (λ (x : Pattern × List Token). IsPatternBelow (length s.procs) x.0) (pattern_of (Among s) line ts)
+  pattern_of-below ts =
+      holds-on_ok (λ (x : Pattern × ℕ × List Token). IsPatternBelow (length s.procs) x.0) (λ (x : Pattern × List Token). IsPatternBelow (length s.procs) x.0)
+      (λ x. (x.0, x.2)) (pattern_at (Among s) line 64 1024 ts) (pattern_at-below 64 1024 ts) (λ x h. h)
