@@ -106,7 +106,6 @@ fn all_fit(line: &[u8], tokens: &[Token]) -> bool
 }
 
 /// The tokens of a line, or what is wrong with them.
-#[tactic(auto, using(crate::proofs::SpellingLemmas::all_whole))]
 pub fn read_tokens(alloc: Global, line: &[u8]) -> Result<Tokens, Stop>
     ensures tokens { Gives (λ ts. ts) result (tokens_of line.now) }
     ensures whole { IfOk result (λ ts. AreWhole line.now ts) }

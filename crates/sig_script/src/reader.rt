@@ -1,6 +1,6 @@
 ghost use Rattle.std.specs.Prelude.{◌≡◌, ◌+◌, ◌<◌, ◌^◌, length, IfOk, drop, All};
 ghost use Rattle.sig_script.specs.Lines.{lines_of};
-ghost use Rattle.sig_script.specs.Tokens.{AreTokens};
+ghost use Rattle.sig_script.specs.Tokens.{AreWhole};
 ghost use Rattle.sig_script.specs.Forms.{tokens_of};
 ghost use Rattle.sig_script.specs.Grammar.{
   is_integer_one,
@@ -84,7 +84,7 @@ fn is_one_token(kind: TokenKind, text: &[u8]) -> bool
 
 /// Whether the tokens are those of the header.
 fn are_header_tokens(line: &[u8], tokens: &[Token]) -> bool
-    requires { AreTokens line.now tokens.now }
+    requires { AreWhole line.now tokens.now }
     ensures { result ≡ are_header line.now tokens.now }
 {
     match tokens {
