@@ -1,8 +1,10 @@
--- The bounds that hold of what is read.
-use Rattle.std.proofs.Common.{◌≡◌, ℕ, suc, ◌+◌, ◌<◌, ◌≤◌, List, [], ◌∷◌, ◌++◌, length, All, Bool, true, false, if◌then◌else◌, nat_le, Option, Some, None, Result, Ok, Err, refl, sym, ◌∙◌, ap, subst, arith, length-append}
+-- The bounds that hold while a text is walked, and of the scripts that the walks give.
+use Rattle.std.proofs.Common.{◌≡◌, ℕ, suc, ◌+◌, ◌<◌, ◌≤◌, List, [], ◌∷◌, ◌++◌, length, All, Bool, true, false, if◌then◌else◌, ◌==◌, nat_le, Option, Some, None, Result, Ok, Err, refl, sym, ◌∙◌, ap, subst, arith, length-append, ◌^◌, le_refl, map, zero, get_or, IfSome}
+use Rattle.std.specs.Option.{option_map_or}
 use Rattle.std.specs.List.{list_any}
 use Rattle.std.specs.Str.{bytes_eq}
 use Rattle.std.proofs.lemmas.Bool.Decides.{nat_tests}
+use Rattle.std.proofs.lemmas.List.{map-append, length-map}
 use Rattle.std.proofs.lemmas.List.Elements.{All-nil, All-cons, All-head, All-tail, All-push, All-weaker}
 use Rattle.sig_patterns.specs.declared.clause.Clause.{Clause}
 use Rattle.sig_script.specs.declared.label.Label.{Label}
@@ -10,48 +12,33 @@ use Rattle.sig_script.specs.declared.instruction.After.{After}
 use Rattle.sig_script.specs.declared.instruction.Instr.{Instr}
 use Rattle.sig_script.specs.declared.instruction.Instr.TheVariants as instr
 use Rattle.sig_script.specs.declared.fault.FaultKind.{FaultKind}
+use Rattle.sig_script.specs.declared.token.Token.{Token}
+use Rattle.sig_script.specs.declared.keyword.Keyword.{Keyword}
+use Rattle.sig_script.specs.declared.keyword.Keyword.TheVariants as keyword
 use Rattle.sig_script.specs.declared.known.Known.{Known}
+use Rattle.sig_script.specs.declared.known.Known.TheVariants.{Any, Among}
 use Rattle.sig_script.specs.declared.draft.Place.{Place}
 use Rattle.sig_script.specs.declared.draft.Place.TheVariants.{Before, Outside, Inside}
 use Rattle.sig_script.specs.declared.draft.Draft.{Draft}
 use Rattle.sig_script.specs.declared.form.Form.{Form}
 use Rattle.sig_script.specs.declared.form.Form.TheVariants as form
-use Rattle.sig_script.specs.Scripts.{Declared}
-use Rattle.sig_script.specs.Faults.{◌>>=◌, on_ok}
-use Rattle.sig_script.specs.Forms.{said}
-use Rattle.sig_script.specs.Drafts.{blank, all_procs, begun, labelled, with_instr, taken_at}
-use Rattle.sig_script.specs.Grammar.{taken_if, line_taken}
-use Rattle.sig_script.specs.Fitting.{IsSmall, IsFit}
-
--- what holds of a result that isn't a refusal
-abbrev pub Holds : {A E : Type 0} → (A → Type 0) → Result A E → Type 0
-Holds P (Ok x) = P x
-Holds P (Err e) = Unit {0}
-
-pub holds-of : {A E : Type 0} (P : A → Type 0) (r : Result A E) (x : A) → Holds P r → r ≡ Ok x → P x
-holds-of P (Ok y) x h e = let same : y ≡ x = cc in subst P same h
-holds-of P (Err f) x h e = cc
-
-pub holds-if : {A E : Type 0} (P : A → Type 0) (v : Bool) (x y : Result A E) → (v ≡ true → Holds P x) → (v ≡ false → Holds P y) → Holds P (if v then x else y)
-holds-if P true x y f g = f refl
-holds-if P false x y f g = g refl
-
-pub holds-on_ok : {A B E : Type 0} (P : A → Type 0) (Q : B → Type 0) (f : A → B) (r : Result A E) → Holds P r → ((x : A) → P x → Q (f x)) → Holds Q (on_ok f r)
-holds-on_ok P Q f (Ok x) h k = k x h
-holds-on_ok P Q f (Err e) h k = tt
-
-pub holds-then : {A B E : Type 0} (P : A → Type 0) (Q : B → Type 0) (f : A → Result B E) (r : Result A E) → Holds P r → ((x : A) → P x → Holds Q (f x)) → Holds Q (r >>= f)
-holds-then P Q f (Ok x) h k = k x h
-holds-then P Q f (Err e) h k = tt
+use Rattle.sig_script.specs.Scripts.{Declared, Program, IsTarget, IsLawful, IsPlace, IsWithin, IsPatternBelow, IsInstrBelow, IsSound}
+use Rattle.sig_script.specs.Faults.{Fault, ◌>>=◌, on_ok}
+use Rattle.sig_script.specs.Lines.{lines_of, onto_first}
+use Rattle.sig_script.specs.Tokens.{text}
+use Rattle.sig_script.specs.Names.{labels_at}
+use Rattle.sig_script.specs.PatternTexts.{pattern_of}
+use Rattle.sig_script.specs.Forms.{tokens_of, keyword_of, may_stand, ends, arrow_of, count_from, turns_of, whole_name, on_of, instr_of, form_of, form_behind, said_by, said}
+use Rattle.sig_script.specs.Drafts.{blank, open_proc, all_procs, program_of, begun, labelled, with_instr, taken_at}
+use Rattle.sig_script.specs.Grammar.{located, finished, taken_if, line_taken, body, walk}
+use Rattle.sig_script.specs.Fitting.{IsSmall, IsFit, IsFewKnown}
+use Rattle.sig_script.proofs.FitLemmas.{all-last}
+use Rattle.sig_script.proofs.BoundTermLemmas.{Holds, anything, holds-of, holds-if, holds-on_ok, holds-then, holds-ends, IsMeantForm, said-meant}
 
 -- each item but the last
 all-front : {A : Type 0} (P : A → Type 0) (xs : List A) (x : A) → All P (xs ++ x ∷ []) → All P xs
 all-front P [] x h = All-nil P
 all-front P (y ∷ ys) x h = All-cons P y ys (All-head P y (ys ++ x ∷ []) h) (all-front P ys x (All-tail P y (ys ++ x ∷ []) h))
-
-all-last : {A : Type 0} (P : A → Type 0) (xs : List A) (x : A) → All P (xs ++ x ∷ []) → P x
-all-last P [] x h = All-head P x [] h
-all-last P (y ∷ ys) x h = all-last P ys x (All-tail P y (ys ++ x ∷ []) h)
 
 -- one line more
 small_later : (n : ℕ) (p : Declared) → IsSmall n p → IsSmall (n + 1) p
@@ -126,11 +113,457 @@ fit_said : (n : ℕ) (d : Draft) (said : Option Form) → IsFit n d → Holds (I
 fit_said n d None h = fit_later n d h
 fit_said n d (Some f) h = fit_at n d.turns d.procs d.place f h
 
-anything : {A E : Type 0} (r : Result A E) → Holds (λ _. Unit {0}) r
-anything (Ok x) = tt
-anything (Err e) = tt
+fit_line : (known : Known) (n : ℕ) (d : Draft) (line : List ℕ) → IsFit n d → Holds (IsFit (n + 1)) (line_taken known d line)
+fit_line known n d line h = holds-then (λ _. Unit {0}) (IsFit (n + 1)) (taken_if d) (said known d line) (anything (said known d line)) (λ s _. fit_said n d s h)
 
 pub fit_taken : (known : Known) (n : ℕ) (d e : Draft) (line : List ℕ) → IsFit n d → line_taken known d line ≡ Ok e → IsFit (n + 1) e
 fit_taken known n d e line h taken =
-    holds-of (IsFit (n + 1)) (line_taken known d line) e
-    (holds-then (λ _. Unit {0}) (IsFit (n + 1)) (taken_if d) (said known d line) (anything (said known d line)) (λ s _. fit_said n d s h)) taken
+    holds-of (IsFit (n + 1)) (line_taken known d line) e (fit_line known n d line h) taken
+
+-- bodies: what holds before each line, and of the script behind the last
+holds-located : {A B : Type 0} (P : A → Type 0) (Q : B → Type 0) (n : ℕ) (f : A → Result B Fault) (r : Result A FaultKind) →
+    Holds P r → ((x : A) → P x → Holds Q (f x)) → Holds Q (located n r >>= f)
+holds-located P Q n f (Ok x) h k = k x h
+holds-located P Q n f (Err e) h k = tt
+
+holds-finished : (Q : Program → Type 0) (n : ℕ) (d : Draft) (place : Place) → Q (program_of d) → Holds Q (finished n d place)
+holds-finished Q n d Before h = h
+holds-finished Q n d (Outside p) h = h
+holds-finished Q n d (Inside p clauses after) h = tt
+
+module _ (known : Known) (P : ℕ → Draft → Type 0) (Q : Program → Type 0) (m : ℕ)
+    (step : (n : ℕ) (d : Draft) (line : List ℕ) → n < m → P n d → Holds (P (n + 1)) (line_taken known d line))
+    (last : (n : ℕ) (d : Draft) → n ≤ m → P n d → Q (program_of d)) where
+  body-holds : (n : ℕ) (d : Draft) (lines : List (List ℕ)) → n + length lines ≤ m → P n d → Holds Q (body known n d lines)
+  unfolding body
+  body-holds n d [] le h = holds-finished Q n d d.place (last n d (omega (arith, le)) h)
+  body-holds n d (line ∷ lines) le h =
+      holds-located (P (n + 1)) Q n (λ e. body known (n + 1) e lines) (line_taken known d line) (step n d line (omega (arith, le)) h)
+      (λ e k. body-holds (n + 1) e lines (omega (arith, le)) k)
+
+-- few processes, and few instructions and labels in each
+abbrev IsFew : ℕ → Program → Type 0
+IsFew m s = (length s.procs ≤ 64) × All (IsSmall m) s.procs
+
+small_more : (n m : ℕ) (p : Declared) → n ≤ m → IsSmall n p → IsSmall m p
+small_more n m p le h = record { instrs = omega (arith, h.instrs); labels = omega (arith, h.labels) }
+
+few-more : (n m : ℕ) (ps : List Declared) → n ≤ m → All (IsSmall n) ps → All (IsSmall m) ps
+few-more n m ps le h = All-weaker (IsSmall n) (IsSmall m) (λ p k. small_more n m p le k) ps h
+
+few_walked : (known : Known) (lines : List (List ℕ)) (s : Program) → walk known lines ≡ Ok s → IsFew (2 + length lines) s
+few_walked known lines s e =
+    holds-of (IsFew (2 + length lines)) (walk known lines) s
+    (body-holds known IsFit (IsFew (2 + length lines)) (2 + length lines) (λ n d line _ h. fit_line known n d line h)
+    (λ n d le h. (h.few, few-more n (2 + length lines) (all_procs d) le h.small)) 2 blank lines (le_refl (2 + length lines)) (fit_blank 2)) e
+
+pub few_known : (known : Known) (lines : List (List ℕ)) (s : Program) → walk known lines ≡ Ok s → length lines ≤ 2 ^ 30 → IsFewKnown (Among s)
+few_known known lines s e le =
+    let few = few_walked known lines s e in (few.0, few-more (2 + length lines) (2 ^ 31) s.procs (omega (arith, le)) few.1)
+
+-- a text has no more lines than bytes
+few-if : (v : Bool) (n : ℕ) (x y : List (List ℕ)) → length x ≤ n → length y ≤ n → length (if v then x else y) ≤ n
+few-if true n x y h k = h
+few-if false n x y h k = k
+
+few-onto : (b n : ℕ) (lines : List (List ℕ)) → length lines ≤ n → length (onto_first b lines) ≤ suc n
+few-onto b n [] h = omega arith
+few-onto b n (line ∷ lines) h = omega (arith, h)
+
+pub few_lines : (bytes : List ℕ) → length (lines_of bytes) ≤ length bytes
+few_lines [] = omega arith
+few_lines (b ∷ bs) =
+    let first : length ([] ∷ lines_of bs) ≤ length (b ∷ bs) = omega (arith, few_lines bs) in
+    few-if (b == 10) (length (b ∷ bs)) ([] ∷ lines_of bs) (onto_first b (lines_of bs)) first (few-onto b (length bs) (lines_of bs) (few_lines bs))
+
+-- how many labels each process has: told by the words of the lines alone
+abbrev pub counts : List Declared → List ℕ
+counts ps = map (λ (p : Declared). length p.labels) ps
+
+-- one label more in the last process
+abbrev one_more : List ℕ → List ℕ
+one_more [] = []
+one_more (c ∷ []) = (c + 1) ∷ []
+one_more (c ∷ d ∷ ds) = c ∷ one_more (d ∷ ds)
+
+abbrev counted_word : Keyword → List ℕ → List ℕ
+counted_word keyword.Process cs = cs ++ 0 ∷ []
+counted_word keyword.Label cs = one_more cs
+counted_word _ cs = cs
+
+abbrev counted_form : Form → List ℕ → List ℕ
+counted_form (form.Process name) cs = cs ++ 0 ∷ []
+counted_form (form.Label name) cs = one_more cs
+counted_form _ cs = cs
+
+abbrev counted_said : Option Form → List ℕ → List ℕ
+counted_said None cs = cs
+counted_said (Some f) cs = counted_form f cs
+
+abbrev counted_by : Option Keyword → List ℕ → List ℕ
+counted_by None cs = cs
+counted_by (Some word) cs = counted_word word cs
+
+abbrev counted_in : List ℕ → Result (List Token) FaultKind → List ℕ → List ℕ
+counted_in line (Err k) cs = cs
+counted_in line (Ok []) cs = cs
+counted_in line (Ok (w ∷ ts)) cs = counted_by (keyword_of (text line w)) cs
+
+counted : List ℕ → List ℕ → List ℕ
+counted line cs = counted_in line (tokens_of line) cs
+
+abbrev counted_all : List (List ℕ) → List ℕ → List ℕ
+counted_all [] cs = cs
+counted_all (line ∷ lines) cs = counted_all lines (counted line cs)
+
+abbrev SaysAs : Keyword → Form → Type 0
+SaysAs word f = (cs : List ℕ) → counted_form f cs ≡ counted_word word cs
+
+turns-counted : (line : List ℕ) (ts : List Token) → Holds (SaysAs keyword.Turns) (turns_of line ts)
+turns-counted line [] = tt
+turns-counted line (t ∷ ts) =
+    holds-then (λ _. Unit {0}) (SaysAs keyword.Turns) (λ n. ends (form.Turns n) ts) (count_from t.kind (text line t)) (anything (count_from t.kind (text line t)))
+    (λ n _. holds-ends (SaysAs keyword.Turns) (form.Turns n) ts (λ cs. refl))
+
+on-counted : (known : Known) (here : ℕ) (line : List ℕ) (ts : List Token) → Holds (SaysAs keyword.On) (on_of known here line ts)
+on-counted known here line ts =
+    holds-then (λ _. Unit {0}) (SaysAs keyword.On) (λ x. on_ok (form.On x.0) (arrow_of known here line x.1)) (pattern_of known line ts) (anything (pattern_of known line ts))
+    (λ x _. holds-on_ok (λ _. Unit {0}) (SaysAs keyword.On) (form.On x.0) (arrow_of known here line x.1) (anything (arrow_of known here line x.1)) (λ o _ cs. refl))
+
+form-counted : (known : Known) (here : ℕ) (word : Keyword) (line : List ℕ) (ts : List Token) → Holds (SaysAs word) (form_of known here word line ts)
+unfolding form_of
+form-counted known here keyword.Turns line ts = turns-counted line ts
+form-counted known here keyword.Process line ts =
+    holds-on_ok (λ _. Unit {0}) (SaysAs keyword.Process) form.Process (whole_name line ts) (anything (whole_name line ts)) (λ n _ cs. refl)
+form-counted known here keyword.Label line ts =
+    holds-on_ok (λ _. Unit {0}) (SaysAs keyword.Label) form.Label (whole_name line ts) (anything (whole_name line ts)) (λ n _ cs. refl)
+form-counted known here keyword.Receive line ts = holds-ends (SaysAs keyword.Receive) form.Receive ts (λ cs. refl)
+form-counted known here keyword.On line ts = on-counted known here line ts
+form-counted known here keyword.After line ts =
+    holds-on_ok (λ _. Unit {0}) (SaysAs keyword.After) (λ target. form.After (record { target = target })) (arrow_of known here line ts) (anything (arrow_of known here line ts)) (λ o _ cs. refl)
+form-counted known here keyword.End line ts = holds-ends (SaysAs keyword.End) form.End ts (λ cs. refl)
+form-counted known here keyword.Send line ts =
+    holds-on_ok (λ _. Unit {0}) (SaysAs keyword.Send) form.Do (instr_of known here keyword.Send line ts) (anything (instr_of known here keyword.Send line ts)) (λ i _ cs. refl)
+form-counted known here keyword.Set line ts =
+    holds-on_ok (λ _. Unit {0}) (SaysAs keyword.Set) form.Do (instr_of known here keyword.Set line ts) (anything (instr_of known here keyword.Set line ts)) (λ i _ cs. refl)
+form-counted known here keyword.Goto line ts =
+    holds-on_ok (λ _. Unit {0}) (SaysAs keyword.Goto) form.Do (instr_of known here keyword.Goto line ts) (anything (instr_of known here keyword.Goto line ts)) (λ i _ cs. refl)
+form-counted known here keyword.Stop line ts =
+    holds-on_ok (λ _. Unit {0}) (SaysAs keyword.Stop) form.Do (instr_of known here keyword.Stop line ts) (anything (instr_of known here keyword.Stop line ts)) (λ i _ cs. refl)
+
+form_behind-counted : (known : Known) (d : Draft) (word : Option Keyword) (line : List ℕ) (ts : List Token) →
+    Holds (λ f. (cs : List ℕ) → counted_form f cs ≡ counted_by word cs) (form_behind known d word line ts)
+form_behind-counted known d None line ts = tt
+form_behind-counted known d (Some word) line ts =
+    holds-if (SaysAs word) (may_stand d.turns d.place word) _ _ (λ _. form-counted known (length d.procs) word line ts) (λ _. tt)
+
+said_by-counted : (known : Known) (d : Draft) (line : List ℕ) (ts : List Token) →
+    Holds (λ o. (cs : List ℕ) → counted_said o cs ≡ counted_in line (Ok ts) cs) (said_by known d line ts)
+unfolding said_by
+said_by-counted known d line [] = λ cs. refl
+said_by-counted known d line (w ∷ ts) =
+    holds-on_ok (λ f. (cs : List ℕ) → counted_form f cs ≡ counted_by (keyword_of (text line w)) cs) (λ o. (cs : List ℕ) → counted_said o cs ≡ counted_by (keyword_of (text line w)) cs) Some
+    (form_behind known d (keyword_of (text line w)) line ts) (form_behind-counted known d (keyword_of (text line w)) line ts) (λ f h. h)
+
+said_in-counted : (known : Known) (d : Draft) (line : List ℕ) (r : Result (List Token) FaultKind) →
+    Holds (λ o. (cs : List ℕ) → counted_said o cs ≡ counted_in line r cs) (r >>= said_by known d line)
+said_in-counted known d line (Ok ts) = said_by-counted known d line ts
+said_in-counted known d line (Err k) = tt
+
+said-counted : (known : Known) (d : Draft) (line : List ℕ) → Holds (λ o. (cs : List ℕ) → counted_said o cs ≡ counted line cs) (said known d line)
+unfolding said counted
+said-counted known d line = said_in-counted known d line (tokens_of line)
+
+-- a form more
+counts-push : (ps : List Declared) (p : Declared) → counts (ps ++ p ∷ []) ≡ counts ps ++ length p.labels ∷ []
+counts-push ps p = map-append (λ (q : Declared). length q.labels) ps (p ∷ [])
+
+counts-last : (ps : List Declared) (p q : Declared) → length q.labels ≡ length p.labels → counts (ps ++ q ∷ []) ≡ counts (ps ++ p ∷ [])
+counts-last ps p q e = counts-push ps q ∙ ap (λ (n : ℕ). counts ps ++ n ∷ []) e ∙ sym (counts-push ps p)
+
+one_more-last : (cs : List ℕ) (c : ℕ) → one_more (cs ++ c ∷ []) ≡ cs ++ (c + 1) ∷ []
+one_more-last [] c = refl
+one_more-last (d ∷ []) c = refl
+one_more-last (d ∷ e ∷ es) c = ap (λ (xs : List ℕ). d ∷ xs) (one_more-last (e ∷ es) c)
+
+counts-more : (ps : List Declared) (p q : Declared) → length q.labels ≡ length p.labels + 1 → counts (ps ++ q ∷ []) ≡ one_more (counts (ps ++ p ∷ []))
+counts-more ps p q e =
+    counts-push ps q ∙ ap (λ (n : ℕ). counts ps ++ n ∷ []) e ∙ sym (one_more-last (counts ps) (length p.labels)) ∙ ap one_more (sym (counts-push ps p))
+
+begun-counted : (d : Draft) (name : List ℕ) → Holds (λ e. counts (all_procs e) ≡ counts (all_procs d) ++ 0 ∷ []) (begun d name)
+begun-counted d name =
+    let P : Draft → Type 0 = λ e. counts (all_procs e) ≡ counts (all_procs d) ++ 0 ∷ [] in
+    holds-if P (list_any (λ (p : Declared). bytes_eq p.name name) (all_procs d)) _ _ (λ _. tt)
+    (λ _. holds-if P (nat_le 64 (length (all_procs d))) _ _ (λ _. tt) (λ _. counts-push (all_procs d) (record { name = name; labels = []; instrs = [] })))
+
+labelled-counted : (p : Declared) (name : List ℕ) → Holds (λ q. length q.labels ≡ length p.labels + 1) (labelled p name)
+labelled-counted p name =
+    holds-if (λ (q : Declared). length q.labels ≡ length p.labels + 1) (list_any (λ (l : Label). bytes_eq l.name name) p.labels) _ _ (λ _. tt)
+    (λ _. length-append p.labels (record { name = name; place = length p.instrs + 1 } ∷ []))
+
+abbrev CountedAs : List ℕ → Draft → Type 0
+CountedAs cs e = counts (all_procs e) ≡ cs
+
+taken_at-counted : (turns : Option ℕ) (procs : List Declared) (place : Place) (f : Form) →
+    Holds (CountedAs (counted_form f (counts (procs ++ open_proc place)))) (taken_at (record { turns = turns; procs = procs; place = place }) place f)
+taken_at-counted turns procs Before (form.Turns m) = holds-if (CountedAs (counts (procs ++ []))) (nat_le m 20000) _ _ (λ _. refl) (λ _. tt)
+taken_at-counted turns procs Before (form.Process name) = begun-counted (record { turns = turns; procs = procs; place = Before }) name
+taken_at-counted turns procs Before _ = tt
+taken_at-counted turns procs (Outside p) (form.Process name) = begun-counted (record { turns = turns; procs = procs; place = Outside p }) name
+taken_at-counted turns procs (Outside p) (form.Label name) =
+    holds-on_ok (λ q. length q.labels ≡ length p.labels + 1) (CountedAs (one_more (counts (procs ++ p ∷ [])))) (λ q. record { turns = turns; procs = procs; place = Outside q })
+    (labelled p name) (labelled-counted p name) (λ q h. counts-more procs p q h)
+taken_at-counted turns procs (Outside p) (form.Do i) = counts-last procs p (with_instr p i) refl
+taken_at-counted turns procs (Outside p) form.Receive = refl
+taken_at-counted turns procs (Outside p) _ = tt
+taken_at-counted turns procs (Inside p clauses after) (form.On pattern target) = refl
+taken_at-counted turns procs (Inside p clauses after) (form.After next) = refl
+taken_at-counted turns procs (Inside p clauses after) form.End = counts-last procs p (with_instr p (instr.Receive clauses after)) refl
+taken_at-counted turns procs (Inside p clauses after) _ = tt
+
+taken_if-counted : (d : Draft) (o : Option Form) → Holds (CountedAs (counted_said o (counts (all_procs d)))) (taken_if d o)
+taken_if-counted d None = refl
+taken_if-counted d (Some f) = taken_at-counted d.turns d.procs d.place f
+
+line-counted : (known : Known) (d : Draft) (line : List ℕ) → Holds (CountedAs (counted line (counts (all_procs d)))) (line_taken known d line)
+line-counted known d line =
+    holds-then (λ o. (cs : List ℕ) → counted_said o cs ≡ counted line cs) (CountedAs (counted line (counts (all_procs d)))) (taken_if d) (said known d line) (said-counted known d line)
+    (λ o h. subst (λ cs. Holds (CountedAs cs) (taken_if d o)) (h (counts (all_procs d))) (taken_if-counted d o))
+
+body-counted : (known : Known) (n : ℕ) (d : Draft) (lines : List (List ℕ)) → Holds (λ s. counts s.procs ≡ counted_all lines (counts (all_procs d))) (body known n d lines)
+unfolding body
+body-counted known n d [] = holds-finished (λ s. counts s.procs ≡ counts (all_procs d)) n d d.place refl
+body-counted known n d (line ∷ lines) =
+    holds-located (CountedAs (counted line (counts (all_procs d)))) (λ s. counts s.procs ≡ counted_all lines (counted line (counts (all_procs d)))) n
+    (λ e. body known (n + 1) e lines) (line_taken known d line) (line-counted known d line)
+    (λ e h. subst (λ cs. Holds (λ s. counts s.procs ≡ counted_all lines cs) (body known (n + 1) e lines)) h (body-counted known (n + 1) e lines))
+
+walk-counted : (known : Known) (lines : List (List ℕ)) (s : Program) → walk known lines ≡ Ok s → counts s.procs ≡ counted_all lines []
+walk-counted known lines s e = holds-of (λ (s : Program). counts s.procs ≡ counted_all lines []) (walk known lines) s (body-counted known 2 blank lines) e
+
+-- two walks find as many processes, and in each as many labels
+pub same_counts : (known other : Known) (lines : List (List ℕ)) (first s : Program) → walk known lines ≡ Ok first → walk other lines ≡ Ok s → counts first.procs ≡ counts s.procs
+same_counts known other lines first s e k = walk-counted known lines first e ∙ sym (walk-counted other lines s k)
+
+-- what holds of each process and its place among the processes
+abbrev Each : (ℕ → Declared → Type 0) → ℕ → List Declared → Type 0
+Each P i [] = Unit {0}
+Each P i (p ∷ ps) = P i p × Each P (i + 1) ps
+
+each-push : (P : ℕ → Declared → Type 0) (i j : ℕ) (ps : List Declared) (q : Declared) → j ≡ i + length ps → Each P i ps → P j q → Each P i (ps ++ q ∷ [])
+each-push P i j [] q e h k = let same : j ≡ i = omega (arith, e) in (subst (λ n. P n q) same k, tt)
+each-push P i j (p ∷ ps) q e h k = let next : j ≡ i + 1 + length ps = omega (arith, e) in (h.0, each-push P (i + 1) j ps q next h.1 k)
+
+each-front : (P : ℕ → Declared → Type 0) (i : ℕ) (ps : List Declared) (q : Declared) → Each P i (ps ++ q ∷ []) → Each P i ps
+each-front P i [] q h = tt
+each-front P i (p ∷ ps) q h = (h.0, each-front P (i + 1) ps q h.1)
+
+each-last : (P : ℕ → Declared → Type 0) (i j : ℕ) (ps : List Declared) (q : Declared) → j ≡ i + length ps → Each P i (ps ++ q ∷ []) → P j q
+each-last P i j [] q e h = let same : i ≡ j = omega (arith, e) in subst (λ n. P n q) same h.0
+each-last P i j (p ∷ ps) q e h = let next : j ≡ i + 1 + length ps = omega (arith, e) in each-last P (i + 1) j ps q next h.1
+
+each-at : (P : ℕ → Declared → Type 0) (i j k : ℕ) (ps : List Declared) (d : Declared) → j ≡ i + k → k < length ps → Each P i ps → P j (get_or ps k d)
+each-at P i j k [] d e lt h = absurd (omega (arith, lt))
+each-at P i j zero (p ∷ ps) d e lt h = let same : i ≡ j = omega (arith, e) in subst (λ n. P n p) same h.0
+each-at P i j (suc k) (p ∷ ps) d e lt h =
+    let next : j ≡ i + 1 + k = omega (arith, e) in
+    let less : k < length ps = omega (arith, lt) in
+    each-at P (i + 1) j k ps d next less h.1
+
+-- the process at a place, where the names are those of a script
+record IsMeant (s : Program) (here : ℕ) (p : Declared) : Type 0 where
+  places : All (IsPlace (length p.instrs)) p.labels
+  lawful : All (IsLawful (length (labels_at here s.procs))) p.instrs
+  below : All (IsInstrBelow (length s.procs)) p.instrs
+
+-- the same of an open receive before line n
+abbrev IsOpen : Program → ℕ → ℕ → Place → Type 0
+IsOpen s n here Before = Unit {0}
+IsOpen s n here (Outside p) = Unit {0}
+IsOpen s n here (Inside p clauses after) =
+    (length clauses ≤ n) × All (λ (c : Clause). IsTarget (length (labels_at here s.procs)) c.target) clauses
+    × All (λ (c : Clause). IsPatternBelow (length s.procs) c.pattern) clauses × IfSome after (λ (a : After). IsTarget (length (labels_at here s.procs)) a.target)
+
+record IsMeantDraft (s : Program) (n : ℕ) (d : Draft) : Type 0 where
+  turns : IfSome d.turns (λ t. t ≤ 20000)
+  procs : Each (IsMeant s) 0 (all_procs d)
+  receive : IsOpen s n (length d.procs) d.place
+
+empty-meant : (s : Program) (here : ℕ) (name : List ℕ) → IsMeant s here (record { name = name; labels = []; instrs = [] })
+empty-meant s here name = record {
+  places = All-nil (IsPlace 0);
+  lawful = All-nil (IsLawful (length (labels_at here s.procs)));
+  below = All-nil (IsInstrBelow (length s.procs));
+}
+
+place-later : (n m : ℕ) (l : Label) → n ≤ m → IsPlace n l → IsPlace m l
+place-later n m l le h = (h.0, omega (arith, h.1))
+
+instr-more : (s : Program) (here : ℕ) (p : Declared) (i : Instr) → IsLawful (length (labels_at here s.procs)) i → IsInstrBelow (length s.procs) i → IsMeant s here p → IsMeant s here (with_instr p i)
+instr-more s here p i l b h =
+    let le : length p.instrs ≤ length (p.instrs ++ i ∷ []) = omega (arith, length-append p.instrs (i ∷ [])) in
+    record {
+      places = All-weaker (IsPlace (length p.instrs)) (IsPlace (length (p.instrs ++ i ∷ []))) (λ l k. place-later (length p.instrs) (length (p.instrs ++ i ∷ [])) l le k) p.labels h.places;
+      lawful = All-push (IsLawful (length (labels_at here s.procs))) p.instrs i h.lawful l;
+      below = All-push (IsInstrBelow (length s.procs)) p.instrs i h.below b;
+    }
+
+label-more : (s : Program) (here : ℕ) (p : Declared) (name : List ℕ) → IsMeant s here p → Holds (IsMeant s here) (labelled p name)
+label-more s here p name h =
+    let first : 1 ≤ length p.instrs + 1 = omega arith in
+    holds-if (IsMeant s here) (list_any (λ (l : Label). bytes_eq l.name name) p.labels) _ _ (λ _. tt)
+    (λ _. record {
+      places = All-push (IsPlace (length p.instrs)) p.labels (record { name = name; place = length p.instrs + 1 }) h.places (first, le_refl (length p.instrs + 1));
+      lawful = h.lawful;
+      below = h.below;
+    })
+
+-- one line more
+open-later : (s : Program) (n here : ℕ) (place : Place) → IsOpen s n here place → IsOpen s (n + 1) here place
+open-later s n here Before h = tt
+open-later s n here (Outside p) h = tt
+open-later s n here (Inside p clauses after) h = (omega (arith, h.0), h.1, h.2, h.3)
+
+few-turns : (n : ℕ) → nat_le n 20000 ≡ true → n ≤ 20000
+few-turns n h = grind (arith, nat_tests)
+
+begun-meant : (s : Program) (n : ℕ) (d : Draft) (name : List ℕ) → IsMeantDraft s n d → Holds (IsMeantDraft s (n + 1)) (begun d name)
+begun-meant s n d name h =
+    let p : Declared = record { name = name; labels = []; instrs = [] } in
+    let place : length (all_procs d) ≡ 0 + length (all_procs d) = omega arith in
+    holds-if (IsMeantDraft s (n + 1)) (list_any (λ (p : Declared). bytes_eq p.name name) (all_procs d)) _ _ (λ _. tt)
+    (λ _. holds-if (IsMeantDraft s (n + 1)) (nat_le 64 (length (all_procs d))) _ _ (λ _. tt)
+    (λ _. record {
+      turns = h.turns;
+      procs = each-push (IsMeant s) 0 (length (all_procs d)) (all_procs d) p place h.procs (empty-meant s (length (all_procs d)) name);
+      receive = tt;
+    }))
+
+-- from here on the names are those of a script, and n is a line of a text that isn't too long
+module _ (s : Program) (n : ℕ) (turns : Option ℕ) (procs : List Declared) (bounded : IfSome turns (λ t. t ≤ 20000)) where
+  here-is : length procs ≡ 0 + length procs
+  here-is = omega arith
+
+  current : (p : Declared) → Each (IsMeant s) 0 (procs ++ p ∷ []) → IsMeant s (length procs) p
+  current p h = each-last (IsMeant s) 0 (length procs) procs p here-is h
+
+  changed : (p q : Declared) → Each (IsMeant s) 0 (procs ++ p ∷ []) → IsMeant s (length procs) q → IsMeantDraft s (n + 1) (record { turns = turns; procs = procs; place = Outside q })
+  changed p q h k = record {
+    turns = bounded;
+    procs = each-push (IsMeant s) 0 (length procs) procs q here-is (each-front (IsMeant s) 0 procs p h) k;
+    receive = tt;
+  }
+
+  clause-more : (p : Declared) (clauses : List Clause) (after : Option After) (c : Clause) → IsOpen s n (length procs) (Inside p clauses after) →
+      IsPatternBelow (length s.procs) c.pattern → IsTarget (length (labels_at (length procs) s.procs)) c.target → IsOpen s (n + 1) (length procs) (Inside p (clauses ++ c ∷ []) after)
+  clause-more p clauses after c h b t = (
+    omega (arith, h.0, length-append clauses (c ∷ [])),
+    All-push (λ (c : Clause). IsTarget (length (labels_at (length procs) s.procs)) c.target) clauses c h.1 t,
+    All-push (λ (c : Clause). IsPatternBelow (length s.procs) c.pattern) clauses c h.2 b,
+    h.3,
+  )
+
+  receive-more : (p : Declared) (clauses : List Clause) (after : Option After) → n < 2 ^ 32 → IsOpen s n (length procs) (Inside p clauses after) →
+      IsMeant s (length procs) p → IsMeant s (length procs) (with_instr p (instr.Receive clauses after))
+  receive-more p clauses after lt h k =
+      let few : length clauses < 2 ^ 32 = omega (arith, lt, h.0) in
+      instr-more s (length procs) p (instr.Receive clauses after) (few, h.1, h.3) h.2 k
+
+  taken_at-meant : (place : Place) (f : Form) → n < 2 ^ 32 → Each (IsMeant s) 0 (procs ++ open_proc place) → IsOpen s n (length procs) place →
+      IsMeantForm (length s.procs) (length (labels_at (length procs) s.procs)) f →
+      Holds (IsMeantDraft s (n + 1)) (taken_at (record { turns = turns; procs = procs; place = place }) place f)
+  taken_at-meant Before (form.Turns m) lt h o k =
+      holds-if (IsMeantDraft s (n + 1)) (nat_le m 20000) _ _ (λ e. record { turns = few-turns m e; procs = h; receive = tt }) (λ _. tt)
+  taken_at-meant Before (form.Process name) lt h o k =
+      begun-meant s n (record { turns = turns; procs = procs; place = Before }) name (record { turns = bounded; procs = h; receive = tt })
+  taken_at-meant Before _ lt h o k = tt
+  taken_at-meant (Outside p) (form.Process name) lt h o k =
+      begun-meant s n (record { turns = turns; procs = procs; place = Outside p }) name (record { turns = bounded; procs = h; receive = tt })
+  taken_at-meant (Outside p) (form.Label name) lt h o k =
+      holds-on_ok (IsMeant s (length procs)) (IsMeantDraft s (n + 1)) (λ q. record { turns = turns; procs = procs; place = Outside q })
+      (labelled p name) (label-more s (length procs) p name (current p h)) (λ q m. changed p q h m)
+  taken_at-meant (Outside p) (form.Do i) lt h o k = changed p (with_instr p i) h (instr-more s (length procs) p i k.0 k.1 (current p h))
+  taken_at-meant (Outside p) form.Receive lt h o k = record {
+    turns = bounded;
+    procs = h;
+    receive = (omega arith, All-nil (λ (c : Clause). IsTarget (length (labels_at (length procs) s.procs)) c.target), All-nil (λ (c : Clause). IsPatternBelow (length s.procs) c.pattern), tt);
+  }
+  taken_at-meant (Outside p) _ lt h o k = tt
+  taken_at-meant (Inside p clauses after) (form.On pattern target) lt h o k =
+      record { turns = bounded; procs = h; receive = clause-more p clauses after (record { pattern = pattern; target = target }) o k.0 k.1 }
+  taken_at-meant (Inside p clauses after) (form.After next) lt h o k = record { turns = bounded; procs = h; receive = (omega (arith, o.0), o.1, o.2, k) }
+  taken_at-meant (Inside p clauses after) form.End lt h o k =
+      changed p (with_instr p (instr.Receive clauses after)) h (receive-more p clauses after lt o (current p h))
+  taken_at-meant (Inside p clauses after) _ lt h o k = tt
+
+taken_if-meant : (s : Program) (n : ℕ) (d : Draft) (o : Option Form) → n < 2 ^ 32 → IsMeantDraft s n d →
+    IfSome o (IsMeantForm (length s.procs) (length (labels_at (length d.procs) s.procs))) → Holds (IsMeantDraft s (n + 1)) (taken_if d o)
+taken_if-meant s n d None lt h k = record { turns = h.turns; procs = h.procs; receive = open-later s n (length d.procs) d.place h.receive }
+taken_if-meant s n d (Some f) lt h k = taken_at-meant s n d.turns d.procs h.turns d.place f lt h.procs h.receive k
+
+line-meant : (s : Program) (n : ℕ) (d : Draft) (line : List ℕ) → n < 2 ^ 32 → IsMeantDraft s n d → Holds (IsMeantDraft s (n + 1)) (line_taken (Among s) d line)
+line-meant s n d line lt h =
+    holds-then (λ o. IfSome o (IsMeantForm (length s.procs) (length (labels_at (length d.procs) s.procs)))) (IsMeantDraft s (n + 1)) (taken_if d) (said (Among s) d line) (said-meant s d line)
+    (λ o k. taken_if-meant s n d o lt h k)
+
+-- the second walk
+abbrev IsMeantScript : Program → Program → Type 0
+IsMeantScript first s = (s.turns ≤ 20000) × Each (IsMeant first) 0 s.procs
+
+turns-or : (o : Option ℕ) → IfSome o (λ t. t ≤ 20000) → option_map_or (λ n. n) o 1000 ≤ 20000
+turns-or None h = omega arith
+turns-or (Some n) h = h
+
+walk-meant : (first : Program) (lines : List (List ℕ)) (s : Program) → length lines ≤ 2 ^ 30 → walk (Among first) lines ≡ Ok s → IsMeantScript first s
+walk-meant first lines s le e =
+    let blank-meant : IsMeantDraft first 2 blank = record { turns = tt; procs = tt; receive = tt } in
+    holds-of (IsMeantScript first) (walk (Among first) lines) s
+    (body-holds (Among first) (IsMeantDraft first) (IsMeantScript first) (2 + length lines) (λ n d line lt h. line-meant first n d line (omega (arith, lt, le)) h)
+    (λ n d _ h. (turns-or d.turns h.turns, h.procs)) 2 blank lines (le_refl (2 + length lines)) blank-meant) e
+
+-- the labels of a process are as many as those of the process at the same place that the first walk found
+labels-counted : (k : ℕ) (ps : List Declared) → length (labels_at k ps) ≡ get_or (counts ps) k 0
+labels-counted k [] = refl
+labels-counted zero (p ∷ ps) = refl
+labels-counted (suc k) (p ∷ ps) = labels-counted k ps
+
+counted-at : (k : ℕ) (ps : List Declared) (d : Declared) → k < length ps → get_or (counts ps) k 0 ≡ length (get_or ps k d).labels
+counted-at k [] d lt = absurd (omega (arith, lt))
+counted-at zero (p ∷ ps) d lt = refl
+counted-at (suc k) (p ∷ ps) d lt = let less : k < length ps = omega (arith, lt) in counted-at k ps d less
+
+same-labels : (k : ℕ) (ps qs : List Declared) (d : Declared) → counts ps ≡ counts qs → k < length qs → length (labels_at k ps) ≡ length (get_or qs k d).labels
+same-labels k ps qs d e lt = labels-counted k ps ∙ ap (λ (cs : List ℕ). get_or cs k 0) e ∙ counted-at k qs d lt
+
+same-number : (ps qs : List Declared) → counts ps ≡ counts qs → length ps ≡ length qs
+same-number ps qs e = sym (length-map ps (λ (p : Declared). length p.labels)) ∙ ap length e ∙ length-map qs (λ (p : Declared). length p.labels)
+
+proc-within : (first : Program) (here m : ℕ) (p : Declared) → m < 2 ^ 31 → IsSmall m p → length (labels_at here first.procs) ≡ length p.labels → IsMeant first here p → IsWithin p
+proc-within first here m p lt small e h = record {
+  few_instrs = omega (arith, lt, small.instrs);
+  few_labels = omega (arith, lt, small.labels);
+  places = h.places;
+  lawful = subst (λ (n : ℕ). All (IsLawful n) p.instrs) e h.lawful;
+}
+
+pub procs_within : (lines : List (List ℕ)) (first s : Program) → walk Any lines ≡ Ok first → walk (Among first) lines ≡ Ok s → length lines ≤ 2 ^ 30 → All IsWithin s.procs
+procs_within lines first s e k le =
+    let few = few_walked (Among first) lines s k in
+    let meant = walk-meant first lines s le k in
+    let same = same_counts Any (Among first) lines first s e k in
+    λ i d lt. proc-within first i (2 + length lines) (get_or s.procs i d) (omega (arith, le)) (few.1 i d lt) (same-labels i first.procs s.procs d same lt)
+    (each-at (IsMeant first) 0 i i s.procs d (omega arith) lt meant.1)
+
+pub script_sound : (lines : List (List ℕ)) (first s : Program) → walk Any lines ≡ Ok first → walk (Among first) lines ≡ Ok s → length lines ≤ 2 ^ 30 → IsSound s
+script_sound lines first s e k le =
+    let few = few_walked (Among first) lines s k in
+    let meant = walk-meant first lines s le k in
+    let same = same-number first.procs s.procs (same_counts Any (Among first) lines first s e k) in
+    record {
+      few = few.0;
+      turns = meant.0;
+      pids = λ i d lt. subst (λ (n : ℕ). All (IsInstrBelow n) (get_or s.procs i d).instrs) same (each-at (IsMeant first) 0 i i s.procs d (omega arith) lt meant.1).below;
+    }
+
+pub within_second : (lines : List (List ℕ)) (first s : Program) → walk Any lines ≡ Ok first → walk (Among first) lines ≡ Ok s → length lines ≤ 2 ^ 30 → All IsWithin s.procs × IsSound s
+within_second lines first s e k le = (procs_within lines first s e k le, script_sound lines first s e k le)

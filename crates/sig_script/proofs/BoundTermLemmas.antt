@@ -1,5 +1,5 @@
--- What holds of each result that isn't a refusal; the pids in the expressions and the patterns that are read.
-use Rattle.std.proofs.Common.{◌≡◌, ℕ, zero, suc, ◌+◌, ◌<◌, ◌≤◌, List, [], ◌∷◌, ◌++◌, length, drop, position, ok_or, All, Bool, true, false, if◌then◌else◌, Option, Some, None, Result, Ok, Err, refl, sym, ◌∙◌, ap, subst, arith}
+-- What a line says where the names are those of a script: each pid is that of a process, and each target a label of its own.
+use Rattle.std.proofs.Common.{◌≡◌, ℕ, zero, suc, ◌<◌, List, [], ◌∷◌, ◌++◌, length, drop, position, ok_or, All, IfSome, Bool, true, false, if◌then◌else◌, Option, Some, None, Result, Ok, Err, refl, subst}
 use Rattle.std.specs.Str.{bytes_eq}
 use Rattle.std.proofs.lemmas.List.Quantifiers.{position-Some}
 use Rattle.std.proofs.lemmas.List.Elements.{All-nil, All-push}
@@ -7,23 +7,30 @@ use Rattle.sig_patterns.specs.declared.expression.Expr.{Expr}
 use Rattle.sig_patterns.specs.declared.expression.Expr.TheVariants as expr
 use Rattle.sig_patterns.specs.declared.pattern.Pattern.{Pattern}
 use Rattle.sig_patterns.specs.declared.pattern.Pattern.TheVariants as pattern
-use Rattle.sig_script.specs.declared.fault.FaultKind.{FaultKind}
-use Rattle.sig_script.specs.declared.fault.FaultKind.TheVariants.{UnknownProcess}
+use Rattle.sig_script.specs.declared.label.Label.{Label}
+use Rattle.sig_script.specs.declared.instruction.Instr.{Instr}
+use Rattle.sig_script.specs.declared.instruction.Instr.TheVariants as instr
+use Rattle.sig_script.specs.declared.fault.FaultKind.TheVariants.{UnknownProcess, UnknownLabel}
 use Rattle.sig_script.specs.declared.token.Sign.TheVariants.{CloseBrace, CloseBracket}
 use Rattle.sig_script.specs.declared.token.TokenKind.{TokenKind}
 use Rattle.sig_script.specs.declared.token.TokenKind.TheVariants.{Name, Variable, Integer, Quoted, Process, Sign}
 use Rattle.sig_script.specs.declared.token.Token.{Token}
-use Rattle.sig_script.specs.declared.known.Known.{Known}
-use Rattle.sig_script.specs.declared.known.Known.TheVariants.{Any, Among}
-use Rattle.sig_script.specs.Scripts.{Declared, Program, IsExprBelow, IsPatternBelow}
+use Rattle.sig_script.specs.declared.known.Known.TheVariants.{Among}
+use Rattle.sig_script.specs.declared.keyword.Keyword.{Keyword}
+use Rattle.sig_script.specs.declared.keyword.Keyword.TheVariants as keyword
+use Rattle.sig_script.specs.declared.draft.Draft.{Draft}
+use Rattle.sig_script.specs.declared.form.Form.{Form}
+use Rattle.sig_script.specs.declared.form.Form.TheVariants as form
+use Rattle.sig_script.specs.Scripts.{Declared, Program, IsTarget, IsLawful, IsExprBelow, IsPatternBelow, IsInstrBelow}
 use Rattle.sig_script.specs.Faults.{◌>>=◌, on_ok}
 use Rattle.sig_script.specs.Tokens.{text, unquoted}
 use Rattle.sig_script.specs.Numbers.{int_of}
-use Rattle.sig_script.specs.Names.{pid_of, variable_at}
-use Rattle.sig_script.specs.Signs.{is_open_brace, is_open_bracket, is_comma, is_bar, is_caret, is_underscore, closes}
+use Rattle.sig_script.specs.Names.{pid_of, labels_at, label_of, name_at, variable_at}
+use Rattle.sig_script.specs.Signs.{is_open_brace, is_open_bracket, is_arrow, is_comma, is_bar, is_caret, is_underscore, closes}
 use Rattle.sig_script.specs.Operands.{Read, behind, elements, closed, enclosed}
 use Rattle.sig_script.specs.Expressions.{expr_leaf, expr_by, expr_front, expr_at, expr_of}
 use Rattle.sig_script.specs.PatternTexts.{pattern_leaf, list_end, pin_at, pattern_by, pattern_front, pattern_at, pattern_of}
+use Rattle.sig_script.specs.Forms.{tokens_of, keyword_of, may_stand, ends, target_at, arrow_of, count_from, turns_of, send_of, set_of, goto_of, whole_name, on_of, instr_of, form_of, form_behind, said_by, said}
 use Rattle.sig_script.proofs.BelowLemmas.{int_below, atom_below, var_below, pid_below, tuple_below, list_below, any_pattern_below, bind_pattern_below, pin_pattern_below, int_pattern_below, atom_pattern_below, pid_pattern_below, tuple_pattern_below, list_pattern_below, cons_pattern_below}
 
 -- what holds of a result that isn't a refusal
@@ -83,14 +90,15 @@ module _ {A B : Type 0} (P : A → Type 0) (Q : B → Type 0) (read : ℕ → Li
   enclosed-reads ends none nodes (t ∷ ts) q =
       holds-if (λ (x : B × ℕ × List Token). Q x.0) (ends t.kind) _ _ (λ _. q) (λ _. elements-read (length (t ∷ ts)) nodes [] (t ∷ ts) (All-nil P))
 
--- the pids of a script's processes
-found : (m : ℕ) (o : Option ℕ) → ((i : ℕ) → o ≡ Some i → i < m) → Holds (λ n. n < m) (ok_or o UnknownProcess)
-found m None h = tt
-found m (Some i) h = h i refl
+-- a place that was found
+pub found : {E : Type 0} (e : E) (m : ℕ) (o : Option ℕ) → ((i : ℕ) → o ≡ Some i → i < m) → Holds (λ n. n < m) (ok_or o e)
+found e m None h = tt
+found e m (Some i) h = h i refl
 
+-- the pids of a script's processes
 pid-below : (s : Program) (name : List ℕ) → Holds (λ n. n < length s.procs) (pid_of (Among s) name)
 pid-below s name =
-    found (length s.procs) (position (λ (p : Declared). bytes_eq p.name name) s.procs)
+    found UnknownProcess (length s.procs) (position (λ (p : Declared). bytes_eq p.name name) s.procs)
     (λ i e. (position-Some (λ (p : Declared). bytes_eq p.name name) s.procs i (record { name = []; labels = []; instrs = [] }) e).0)
 
 -- from here on the names are those of a script
@@ -205,3 +213,117 @@ module _ (s : Program) (line : List ℕ) where
   pattern_of-below ts =
       holds-on_ok (λ (x : Pattern × ℕ × List Token). IsPatternBelow (length s.procs) x.0) (λ (x : Pattern × List Token). IsPatternBelow (length s.procs) x.0)
       (λ x. (x.0, x.2)) (pattern_at (Among s) line 64 1024 ts) (pattern_at-below 64 1024 ts) (λ x h. h)
+
+-- nothing behind what was said
+pub holds-ends : {A : Type 0} (P : A → Type 0) (x : A) (ts : List Token) → P x → Holds P (ends x ts)
+holds-ends P x [] h = h
+holds-ends P x (t ∷ ts) h = tt
+
+-- the labels of a script's processes
+label-below : (s : Program) (here : ℕ) (name : List ℕ) → Holds (λ n. n < length (labels_at here s.procs)) (label_of (Among s) here name)
+label-below s here name =
+    found UnknownLabel (length (labels_at here s.procs)) (position (λ (l : Label). bytes_eq l.name name) (labels_at here s.procs))
+    (λ i e. (position-Some (λ (l : Label). bytes_eq l.name name) (labels_at here s.procs) i (record { name = []; place = 0 }) e).0)
+
+-- the targets of a form are labels, and its pids those of processes
+abbrev pub IsMeantForm : ℕ → ℕ → Form → Type 0
+IsMeantForm count labels (form.Do i) = IsLawful labels i × IsInstrBelow count i
+IsMeantForm count labels (form.On pattern target) = IsPatternBelow count pattern × IsTarget labels target
+IsMeantForm count labels (form.After after) = IsTarget labels after.target
+IsMeantForm count labels _ = Unit {0}
+
+module _ (s : Program) (here : ℕ) (line : List ℕ) where
+  target-below : (ts : List Token) → Holds (λ (x : ℕ × List Token). x.0 < length (labels_at here s.procs)) (target_at (Among s) here line ts)
+  target-below ts =
+      holds-then (λ _. Unit {0}) (λ (x : ℕ × List Token). x.0 < length (labels_at here s.procs)) (λ x. on_ok (λ n. (n, x.1)) (label_of (Among s) here x.0)) (name_at line ts) (anything (name_at line ts))
+      (λ x _. holds-on_ok (λ n. n < length (labels_at here s.procs)) (λ (x : ℕ × List Token). x.0 < length (labels_at here s.procs)) (λ n. (n, x.1)) (label_of (Among s) here x.0) (label-below s here x.0) (λ n h. h))
+
+  arrow-below : (ts : List Token) → Holds (IsTarget (length (labels_at here s.procs))) (arrow_of (Among s) here line ts)
+  arrow-below [] = tt
+  arrow-below (t ∷ ts) =
+      holds-if (IsTarget (length (labels_at here s.procs))) (is_arrow t.kind) _ _
+      (λ _. holds-then (λ (x : ℕ × List Token). x.0 < length (labels_at here s.procs)) (IsTarget (length (labels_at here s.procs))) (λ x. ends (Some x.0) x.1) (target_at (Among s) here line ts) (target-below ts)
+      (λ x h. holds-ends (IsTarget (length (labels_at here s.procs))) (Some x.0) x.1 h))
+      (λ _. tt)
+
+  abbrev IsMeantInstr : Instr → Type 0
+  IsMeantInstr i = IsLawful (length (labels_at here s.procs)) i × IsInstrBelow (length s.procs) i
+
+  abbrev IsBelow : Expr × List Token → Type 0
+  IsBelow x = IsExprBelow (length s.procs) x.0
+
+  send-meant : (ts : List Token) → Holds IsMeantInstr (send_of (Among s) line ts)
+  send-meant ts =
+      holds-then IsBelow IsMeantInstr (λ to. expr_of (Among s) line to.1 >>= λ message. ends (instr.Send to.0 message.0) message.1) (expr_of (Among s) line ts) (expr_of-below s line ts)
+      (λ to h. holds-then IsBelow IsMeantInstr (λ message. ends (instr.Send to.0 message.0) message.1) (expr_of (Among s) line to.1) (expr_of-below s line to.1)
+      (λ message k. holds-ends IsMeantInstr (instr.Send to.0 message.0) message.1 (tt, (h, k))))
+
+  set-meant : (ts : List Token) → Holds IsMeantInstr (set_of (Among s) line ts)
+  set-meant ts =
+      holds-then (λ _. Unit {0}) IsMeantInstr (λ var. expr_of (Among s) line var.1 >>= λ value. ends (instr.Set (record { 0 = var.0 }) value.0) value.1) (variable_at line ts) (anything (variable_at line ts))
+      (λ var _. holds-then IsBelow IsMeantInstr (λ value. ends (instr.Set (record { 0 = var.0 }) value.0) value.1) (expr_of (Among s) line var.1) (expr_of-below s line var.1)
+      (λ value k. holds-ends IsMeantInstr (instr.Set (record { 0 = var.0 }) value.0) value.1 (tt, k)))
+
+  goto-meant : (ts : List Token) → Holds IsMeantInstr (goto_of (Among s) here line ts)
+  goto-meant ts =
+      holds-then (λ (x : ℕ × List Token). x.0 < length (labels_at here s.procs)) IsMeantInstr (λ x. ends (instr.Goto x.0) x.1) (target_at (Among s) here line ts) (target-below ts)
+      (λ x h. holds-ends IsMeantInstr (instr.Goto x.0) x.1 (h, tt))
+
+  instr-meant : (word : Keyword) (ts : List Token) → Holds IsMeantInstr (instr_of (Among s) here word line ts)
+  unfolding instr_of
+  instr-meant keyword.Send ts = send-meant ts
+  instr-meant keyword.Set ts = set-meant ts
+  instr-meant keyword.Goto ts = goto-meant ts
+  instr-meant keyword.Stop ts = holds-ends IsMeantInstr instr.Stop ts (tt, tt)
+  instr-meant _ ts = tt
+
+  abbrev IsMeantHere : Form → Type 0
+  IsMeantHere f = IsMeantForm (length s.procs) (length (labels_at here s.procs)) f
+
+  on-meant : (ts : List Token) → Holds IsMeantHere (on_of (Among s) here line ts)
+  on-meant ts =
+      holds-then (λ (x : Pattern × List Token). IsPatternBelow (length s.procs) x.0) IsMeantHere (λ x. on_ok (form.On x.0) (arrow_of (Among s) here line x.1)) (pattern_of (Among s) line ts) (pattern_of-below s line ts)
+      (λ x h. holds-on_ok (IsTarget (length (labels_at here s.procs))) IsMeantHere (form.On x.0) (arrow_of (Among s) here line x.1) (arrow-below x.1) (λ o k. (h, k)))
+
+  turns-meant : (ts : List Token) → Holds IsMeantHere (turns_of line ts)
+  turns-meant [] = tt
+  turns-meant (t ∷ ts) =
+      holds-then (λ _. Unit {0}) IsMeantHere (λ n. ends (form.Turns n) ts) (count_from t.kind (text line t)) (anything (count_from t.kind (text line t)))
+      (λ n _. holds-ends IsMeantHere (form.Turns n) ts tt)
+
+  do-meant : (word : Keyword) (ts : List Token) → Holds IsMeantHere (on_ok form.Do (instr_of (Among s) here word line ts))
+  do-meant word ts = holds-on_ok IsMeantInstr IsMeantHere form.Do (instr_of (Among s) here word line ts) (instr-meant word ts) (λ i h. h)
+
+  form-meant : (word : Keyword) (ts : List Token) → Holds IsMeantHere (form_of (Among s) here word line ts)
+  unfolding form_of
+  form-meant keyword.Turns ts = turns-meant ts
+  form-meant keyword.Process ts = holds-on_ok (λ _. Unit {0}) IsMeantHere form.Process (whole_name line ts) (anything (whole_name line ts)) (λ n _. tt)
+  form-meant keyword.Label ts = holds-on_ok (λ _. Unit {0}) IsMeantHere form.Label (whole_name line ts) (anything (whole_name line ts)) (λ n _. tt)
+  form-meant keyword.Receive ts = holds-ends IsMeantHere form.Receive ts tt
+  form-meant keyword.On ts = on-meant ts
+  form-meant keyword.After ts =
+      holds-on_ok (IsTarget (length (labels_at here s.procs))) IsMeantHere (λ target. form.After (record { target = target })) (arrow_of (Among s) here line ts) (arrow-below ts) (λ o h. h)
+  form-meant keyword.End ts = holds-ends IsMeantHere form.End ts tt
+  form-meant keyword.Send ts = do-meant keyword.Send ts
+  form-meant keyword.Set ts = do-meant keyword.Set ts
+  form-meant keyword.Goto ts = do-meant keyword.Goto ts
+  form-meant keyword.Stop ts = do-meant keyword.Stop ts
+
+module _ (s : Program) (d : Draft) (line : List ℕ) where
+  abbrev pub IsMeantNext : Form → Type 0
+  IsMeantNext f = IsMeantForm (length s.procs) (length (labels_at (length d.procs) s.procs)) f
+
+  form_behind-meant : (word : Option Keyword) (ts : List Token) → Holds IsMeantNext (form_behind (Among s) d word line ts)
+  form_behind-meant None ts = tt
+  form_behind-meant (Some word) ts = holds-if IsMeantNext (may_stand d.turns d.place word) _ _ (λ _. form-meant s (length d.procs) line word ts) (λ _. tt)
+
+  said_by-meant : (ts : List Token) → Holds (λ o. IfSome o IsMeantNext) (said_by (Among s) d line ts)
+  unfolding said_by
+  said_by-meant [] = tt
+  said_by-meant (w ∷ ts) =
+      holds-on_ok IsMeantNext (λ o. IfSome o IsMeantNext) Some (form_behind (Among s) d (keyword_of (text line w)) line ts) (form_behind-meant (keyword_of (text line w)) ts) (λ f h. h)
+
+  -- what a line says behind what was read so far
+  pub said-meant : Holds (λ o. IfSome o IsMeantNext) (said (Among s) d line)
+  unfolding said
+  said-meant = holds-then (λ _. Unit {0}) (λ o. IfSome o IsMeantNext) (said_by (Among s) d line) (tokens_of line) (anything (tokens_of line)) (λ ts _. said_by-meant ts)

@@ -135,6 +135,7 @@ fn seal_procs(alloc: Global, drafts: DraftProcs) -> Result<Procs, AllocError>
 }
 
 /// Both walks over the lines after the first.
+#[tactic(auto, using(crate::proofs::BoundLemmas::few_known, crate::proofs::BoundLemmas::few_lines))]
 fn read_twice(alloc: Global, bytes: &[u8]) -> Result<Script, ScriptError>
     requires { length bytes.now < 2 ^ 30 }
     ensures { IsReading (walk_twice (lines_of bytes.now)) result }

@@ -5,11 +5,11 @@ use Rattle.sig_script.proofs.ReaderLemmas.{no_line, no_header, after_header}
 use Rattle.sig_script.proofs.reader.read_text.Goals as goal
 
 pub returns-then-is_empty : goal.returns-then-is_empty
-returns-then-is_empty c = sym (no_line c.args.bytes.now (sym c.if-is_empty.ensures))
+returns-then-is_empty c = no_line c.args.bytes.now (sym c.if-is_empty.ensures)
 
 pub returns-then-not-branch : goal.returns-then-not-branch
 returns-then-not-branch c =
-    sym (no_header c.args.bytes.now c.first_line-first.result.now (sym c.if-is_empty.ensures) c.first_line-first.ensures.line (sym c.in_ok-is_header_line.ensures ∙ c.if-not-branch.true))
+    no_header c.args.bytes.now c.first_line-first.result.now (sym c.if-is_empty.ensures) c.first_line-first.ensures.line (sym c.in_ok-is_header_line.ensures ∙ c.if-not-branch.true)
 
 pub returns : goal.returns
 returns c =
