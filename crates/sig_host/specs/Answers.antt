@@ -1,7 +1,7 @@
 -- What each answer of a run says of the bytes that were read and written.
-use Rattle.std.specs.Prelude.{◌≡◌, ℕ, ◌<◌, List, take, Option, IfSome, Result, Ok, Err, IsErr}
+use Rattle.std.specs.Prelude.{◌≡◌, ℕ, ◌<◌, List, take, Option, IfSome, Result, Ok, Err}
 use Rattle.sig_base.specs.Flow.{Rose, Adds}
-use Rattle.sig_script.specs.declared.fault.FaultKind.TheVariants.{Syntax}
+use Rattle.sig_script.specs.declared.fault.FaultKind.{FaultKind}
 use Rattle.sig_script.specs.Scripts.{Program}
 use Rattle.sig_script.specs.Grammar.{script_of}
 use Rattle.sig_model.specs.Running.{Running}
@@ -12,9 +12,9 @@ use Rattle.sig_record.specs.RecordText.{record_text}
 use Rattle.sig_host.specs.declared.status.Status.{Status}
 use Rattle.sig_host.specs.declared.status.Status.TheVariants.{Done, BadScript, Usage, ReadFault, WriteFault, Memory}
 
--- the bytes are no script
-abbrev pub IsRefused : List ℕ → Type 0
-IsRefused bytes = IsErr (script_of bytes)
+-- the bytes are no script: this line is the first that is refused, and this is why
+abbrev pub IsRefused : ℕ → FaultKind → List ℕ → Type 0
+IsRefused line kind bytes = script_of bytes ≡ Err (record { line = line; kind = kind })
 
 -- The text is that of the record of the one-worker run of the script, and what the record tells is a settled run of the
 -- script's machine.
@@ -25,7 +25,7 @@ IsRecordOf script text =
 -- reading the script: what the source had left, its faults before and after, and the script or why there is none
 abbrev pub IsSourceRead : Option (List ℕ) → ℕ → ℕ → Result Program Status → Type 0
 IsSourceRead left before after (Ok script) = IfSome left (λ bytes. script_of bytes ≡ Ok script)
-IsSourceRead left before after (Err (BadScript line kind)) = (line ≡ 0) × (kind ≡ Syntax) × IfSome left IsRefused
+IsSourceRead left before after (Err (BadScript line kind)) = IfSome left (IsRefused line kind)
 IsSourceRead left before after (Err ReadFault) = Rose before after
 IsSourceRead left before after (Err Memory) = Unit {0}
 IsSourceRead left before after (Err _) = ⊥
@@ -56,7 +56,7 @@ HasRun s Has = IfSome s.left (λ bytes. (script : Program) × (script_of bytes �
 
 abbrev pub IsAnswer : Sides → Status → Type 0
 IsAnswer s Done = (s.words ≡ 0) × HasRun s (λ text. Adds s.held s.new text)
-IsAnswer s (BadScript line kind) = (s.words ≡ 0) × (line ≡ 0) × (kind ≡ Syntax) × IfSome s.left IsRefused × (s.new ≡ s.held)
+IsAnswer s (BadScript line kind) = (s.words ≡ 0) × IfSome s.left (IsRefused line kind) × (s.new ≡ s.held)
 IsAnswer s Usage = (0 < s.words) × (s.new ≡ s.held)
 IsAnswer s ReadFault = (s.words ≡ 0) × Rose s.source_before s.source_after × (s.new ≡ s.held)
 IsAnswer s WriteFault =

@@ -1,5 +1,7 @@
 -- What a run tells of its end: a number, and a text on `err`.
-use Rattle.std.specs.Prelude.{ℕ, List, [], codes}
+use Rattle.std.specs.Prelude.{ℕ, List, [], ◌++◌, codes, decimal}
+use Rattle.sig_script.specs.declared.fault.FaultKind.{FaultKind}
+use Rattle.sig_script.specs.declared.fault.FaultKind.TheVariants as kind
 use Rattle.sig_host.specs.declared.status.Status.{Status}
 use Rattle.sig_host.specs.declared.status.Status.TheVariants.{Done, BadScript, Usage, ReadFault, WriteFault, Memory}
 
@@ -11,10 +13,27 @@ number_of ReadFault = 3
 number_of WriteFault = 4
 number_of Memory = 5
 
--- every refused script is told as line 0 and `syntax`
+-- the word for why a script is refused
+abbrev pub word_of : FaultKind → List ℕ
+word_of kind.Header = codes "header"
+word_of kind.Syntax = codes "syntax"
+word_of kind.IntRange = codes "int_range"
+word_of kind.TermTooLarge = codes "term_too_large"
+word_of kind.DuplicateName = codes "duplicate_name"
+word_of kind.TooManyProcesses = codes "too_many_processes"
+word_of kind.DuplicateLabel = codes "duplicate_label"
+word_of kind.TooManyTurns = codes "too_many_turns"
+word_of kind.UnknownProcess = codes "unknown_process"
+word_of kind.UnknownLabel = codes "unknown_label"
+word_of kind.TooLong = codes "too_long"
+
+-- the line that is refused, and why
+abbrev pub refusal_text : ℕ → FaultKind → List ℕ
+refusal_text line kind = codes "sigrun: line " ++ decimal line ++ codes ": " ++ word_of kind ++ codes "\n"
+
 abbrev pub told_text : Status → List ℕ
 told_text Done = []
-told_text (BadScript line kind) = codes "sigrun: line 0: syntax\n"
+told_text (BadScript line kind) = refusal_text line kind
 told_text Usage = codes "usage: sigrun\n"
 told_text ReadFault = codes "sigrun: read fault\n"
 told_text WriteFault = codes "sigrun: write fault\n"

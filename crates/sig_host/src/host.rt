@@ -4,6 +4,7 @@ ghost use Rattle.sig_host.specs.Answers.{IsRecordOf, IsSourceRead, IsScriptRun, 
 ghost use Rattle.sig_host.specs.Told.{told_text};
 
 use crate::status::Status;
+use crate::telling::tell;
 use sig_base::{Gate, ReadAll, Sink, Source, Written, read_all, write_whole};
 use sig_model::one_worker_run_is_settled;
 use sig_process::Crew;
@@ -37,7 +38,7 @@ fn read_source<S: Source>(alloc: Global, source: &mut S) -> Result<Script, Statu
         ReadAll::Whole => read_bytes(alloc, bytes.as_slice()),
         ReadAll::TooLong => Err(Status::BadScript {
             line: 0,
-            kind: FaultKind::Syntax,
+            kind: FaultKind::TooLong,
         }),
         ReadAll::ReadFault => Err(Status::ReadFault),
         ReadAll::Memory => Err(Status::Memory),
@@ -71,27 +72,6 @@ fn run_script<O: Sink>(alloc: Global, script: &Script, out: &mut O) -> Status
     }
 }
 
-/// What is written to `err`.
-fn told(status: Status) -> &'static [u8]
-    ensures { result.now ≡ told_text status }
-{
-    match status {
-        Status::Done => b"",
-        Status::BadScript { line: _, kind: _ } => b"sigrun: line 0: syntax\n",
-        Status::Usage => b"usage: sigrun\n",
-        Status::ReadFault => b"sigrun: read fault\n",
-        Status::WriteFault => b"sigrun: write fault\n",
-        Status::Memory => b"sigrun: out of memory\n",
-    }
-}
-
-/// Writes what there is to tell. A fault there changes no status.
-fn tell<E: Sink>(err: &mut E, status: Status)
-    ensures { (Rose (E.faults err.old) (E.faults err.new) → ⊥) → Adds (E.held err.old) (E.held err.new) (told_text status) }
-{
-    let _ = write_whole(err, told(status));
-}
-
 /// Reads the script, runs it, and writes the record.
 fn run_source<S: Source, O: Sink>(alloc: Global, script: &mut S, out: &mut O) -> Status
     ensures answer { IsAnswer (record {
@@ -117,8 +97,8 @@ fn run_source<S: Source, O: Sink>(alloc: Global, script: &mut S, out: &mut O) ->
 ///
 /// `Usage` comes where there are words. `ReadFault` comes only where a read failed, and
 /// `WriteFault` only where a write to `out` failed, which then holds the beginning of the text.
-/// `BadScript` comes where the bytes are more than 1,048,576 or spell no script. Where there is
-/// memory, all else is `Done`. Before the first write nothing was written to `out`. What a status
+/// `BadScript` comes where the bytes spell no script, with the first line that is refused and why; it
+/// is line 0 where they are more than 1,048,576. Where there is memory, all else is `Done`. Before the first write nothing was written to `out`. What a status
 /// tells is written to `err`, and a fault of `err` changes no status.
 pub fn run<S: Source, O: Sink, E: Sink, G: Gate>(
     alloc: Global,

@@ -3,6 +3,7 @@
 
 mod host;
 mod status;
+mod telling;
 
 pub use host::run;
 pub use status::Status;
