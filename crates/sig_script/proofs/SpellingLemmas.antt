@@ -10,7 +10,7 @@ use Rattle.sig_script.specs.declared.token.TokenKind.TheVariants.{Name, Variable
 use Rattle.sig_script.specs.declared.token.Sign as signs
 use Rattle.sig_script.specs.declared.token.Sign.TheVariants as sign
 use Rattle.sig_script.specs.declared.token.Token.{Token}
-use Rattle.sig_script.specs.Tokens.{text, front_run, process_at, minus_at, underscore_at, quote_at, quoted_at, sign_of, sign_at, front_token, unquoted, is_token_in_range, IsSpelled, IsToken, AreTokens, AreWhole}
+use Rattle.sig_script.specs.Tokens.{text, front_run, process_at, minus_at, underscore_at, quote_at, sign_of, sign_at, front_token, is_token_in_range, IsSpelled, IsToken, AreTokens, AreWhole}
 
 -- the bytes at the front that pass a test pass it
 passes-front : (p : ℕ → Bool) (b : ℕ) (bs : List ℕ) (v : Bool) → p b ≡ v → list_all p (take_while p bs) ≡ true → list_all p (cond v (b ∷ take_while p bs) []) ≡ true

@@ -1,5 +1,5 @@
 -- The bounds that hold while a text is read.
-use Rattle.std.specs.Prelude.{ℕ, ◌≤◌, ◌<◌, ◌^◌, List, length, All}
+use Rattle.std.specs.Prelude.{ℕ, ◌≤◌, ◌^◌, length, All}
 use Rattle.sig_script.specs.declared.known.Known.{Known}
 use Rattle.sig_script.specs.declared.known.Known.TheVariants.{Any, Among}
 use Rattle.sig_script.specs.declared.draft.Draft.{Draft}

@@ -9,7 +9,7 @@ use Rattle.sig_script.specs.declared.token.Token.{Token}
 use Rattle.sig_script.specs.declared.known.Known.{Known}
 use Rattle.sig_script.specs.declared.known.Known.TheVariants.{Any, Among}
 use Rattle.sig_script.specs.declared.draft.Place.{Place}
-use Rattle.sig_script.specs.declared.draft.Place.TheVariants.{Before, Outside, Inside}
+use Rattle.sig_script.specs.declared.draft.Place.TheVariants.{Inside}
 use Rattle.sig_script.specs.declared.draft.Draft.{Draft}
 use Rattle.sig_script.specs.declared.form.Form.{Form}
 use Rattle.sig_script.specs.Scripts.{Program}

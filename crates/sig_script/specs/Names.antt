@@ -1,5 +1,5 @@
 -- The names in a line: those of the processes behind `@`, those of labels, and variables.
-use Rattle.std.specs.Prelude.{ℕ, List, [], ◌∷◌, drop, position, slice_get, ok_or, Option, Result, Ok, Err}
+use Rattle.std.specs.Prelude.{ℕ, List, [], ◌∷◌, position, slice_get, ok_or, Result, Ok, Err}
 use Rattle.std.specs.Option.{option_map_or}
 use Rattle.std.specs.Str.{bytes_eq}
 use Rattle.sig_script.specs.declared.label.Label.{Label}

@@ -1,6 +1,5 @@
 -- What the reader answers.
 use Rattle.std.specs.Prelude.{◌≡◌, Result, Ok, Err}
-use Rattle.sig_script.specs.declared.fault.FaultKind.{FaultKind}
 use Rattle.sig_script.specs.declared.reader.ScriptError.{ScriptError}
 use Rattle.sig_script.specs.declared.reader.ScriptError.TheVariants as error
 use Rattle.sig_script.specs.Scripts.{Program}

@@ -201,7 +201,11 @@ fn take_outside(
         Form::After(_) => return Err(Stop::Fault(FaultKind::Syntax)),
         Form::End => return Err(Stop::Fault(FaultKind::Syntax)),
     };
-    Ok(Draft { turns, procs, place })
+    Ok(Draft {
+        turns,
+        procs,
+        place,
+    })
 }
 
 /// A clause behind these.
@@ -236,7 +240,11 @@ fn take_inside(
         Form::Do(_) => return Err(Stop::Fault(FaultKind::Syntax)),
         Form::Receive => return Err(Stop::Fault(FaultKind::Syntax)),
     };
-    Ok(Draft { turns, procs, place })
+    Ok(Draft {
+        turns,
+        procs,
+        place,
+    })
 }
 
 /// A form behind what was read so far.

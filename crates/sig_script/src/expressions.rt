@@ -156,12 +156,26 @@ fn behind_token<'t>(
     ensures whole { IfOk result (λ x. AreWhole line.now x.2.now) }
 {
     if token.kind.is_open_brace() {
-        let (items, left, rest) =
-            all_elements(alloc, known, Sign::CloseBrace, depth, nodes, line, rest)?;
+        let (items, left, rest) = all_elements(
+            alloc,
+            known,
+            Sign::CloseBrace,
+            depth,
+            nodes,
+            line,
+            rest,
+        )?;
         Ok((Expr::Tuple(items), left, rest))
     } else if token.kind.is_open_bracket() {
-        let (items, left, rest) =
-            all_elements(alloc, known, Sign::CloseBracket, depth, nodes, line, rest)?;
+        let (items, left, rest) = all_elements(
+            alloc,
+            known,
+            Sign::CloseBracket,
+            depth,
+            nodes,
+            line,
+            rest,
+        )?;
         Ok((Expr::List(items), left, rest))
     } else {
         let value = leaf(alloc, known, token.kind, text_of(line, token))?;

@@ -21,7 +21,6 @@ ghost use Rattle.sig_script.specs.Tokens.{
   front_token,
   unquoted,
 };
-
 ghost use Rattle.sig_script.specs.Signs as signs;
 
 use sig_lists::Sequence;

@@ -1,4 +1,4 @@
-use Rattle.std.proofs.Common.{◌≡◌, true, sym, ◌∙◌, ap}
+use Rattle.std.proofs.Common.{sym, ◌∙◌, ap}
 use Rattle.std.specs.List.{list_all}
 use Rattle.sig_script.specs.Tokens.{text, is_token_in_range}
 use Rattle.sig_script.proofs.SpellingLemmas.{all_whole}

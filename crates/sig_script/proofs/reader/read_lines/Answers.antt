@@ -1,6 +1,5 @@
-use Rattle.std.proofs.Common.{◌≡◌, Err, sym, ◌∙◌, ap, subst, arith}
+use Rattle.std.proofs.Common.{◌≡◌, Err, arith}
 use Rattle.sig_script.specs.Grammar.{line_taken}
-use Rattle.sig_script.specs.Reading.{IsReading}
 use Rattle.sig_script.proofs.LineLemmas.{line-within}
 use Rattle.sig_script.proofs.BoundLemmas.{fit_taken}
 use Rattle.sig_script.proofs.ReaderLemmas.{step_taken, step_refused, lines_end}

@@ -1,4 +1,4 @@
-use Rattle.std.proofs.Common.{◌≡◌, ◌^◌, ◌≤◌, length, All, List, sym, subst, arith}
+use Rattle.std.proofs.Common.{◌^◌, ◌≤◌, length, All, List, sym, subst, arith}
 use Rattle.sig_script.specs.Lines.{lines_of}
 use Rattle.sig_script.specs.Scripts.{Declared, Program, IsWithin, IsSound}
 use Rattle.sig_script.proofs.BoundLemmas.{few_lines, procs_within, script_sound}
