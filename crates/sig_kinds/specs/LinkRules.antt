@@ -2,8 +2,8 @@
 -- Links). Of the manual is that there is at most one link between two processes, and that after `unlink` the link has no effect
 -- on the caller until it is set up again. How that is kept is this project's own: each unlink has an id, its receiver acknowledges
 -- it with that id, and a link signal from a peer whose acknowledgement is awaited has no effect.
-use Rattle.std.specs.Prelude.{ℕ, ◌+◌, Bool, true, false, ◌||◌, ◌==◌, if◌then◌else◌, nat_lt, List, Option, Some, None, is_some, filter}
-use Rattle.std.specs.Option.{option_map_or}
+use Rattle.std.specs.Prelude.{ℕ, ◌+◌, Bool, true, false, ◌||◌, ◌==◌, if◌then◌else◌, nat_eq, nat_lt, List, Option, Some, None, is_some, filter}
+use Rattle.std.specs.Option.{option_eq}
 use Rattle.std.specs.Ordering.{nat_cmp}
 use Rattle.std.specs.FinMap as map
 use Rattle.sig_terms.specs.declared.pid.Pid.{Pid}
@@ -62,7 +62,7 @@ on_unlink links peer = (is_active links peer, deactivated links peer)
 -- An acknowledgement counts where its id is the awaited one (this project's own). Then none is awaited.
 abbrev pub on_ack : LinkState → ℕ → ℕ → Bool × LinkState
 on_ack links peer id =
-    if option_map_or (λ awaited. awaited == id) (awaited_from links peer) false
+    if option_eq nat_eq (awaited_from links peer) (Some id)
     then (true, record links { awaited = map.remove links.awaited peer })
     else (false, links)
 
