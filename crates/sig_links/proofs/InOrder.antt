@@ -34,7 +34,7 @@ pub keys-peers_of : (ks : List ℕ) → IsStrictlySortedBy nat_cmp ks → keys (
 keys-peers_of ks sorted =
     let in_order = sorted_marked ks sorted in
     ap (λ m. keys m) (same_map nat_cmp_total nat_cmp-IsAntisymmetric (peers_of ks) (from_sorted (marked ks)) (λ q.
-        get-from_entries nat_cmp_total (marked ks) q ∙ sym (get-from_sorted nat_cmp (marked ks) q in_order)))
+    get-from_entries nat_cmp_total (marked ks) q ∙ sym (get-from_sorted nat_cmp (marked ks) q in_order)))
     ∙ ap (map (λ (e : ℕ × Unit {0}). e.0)) (entries-from_sorted nat_cmp (marked ks) in_order)
     ∙ keys_marked ks
 

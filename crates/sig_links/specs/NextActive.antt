@@ -1,5 +1,7 @@
 -- The active peers one after another, in ascending order.
 use Rattle.std.specs.Prelude.{◌≡◌, ℕ, ◌<◌, ◌≤◌, true, false, [], ◌∷◌, Option, Some, None}
+use Rattle.std.specs.declared.ops.Bound.{Bound}
+use Rattle.std.specs.declared.ops.Bound.TheVariants.{Excluded, Unbounded}
 use Rattle.sig_terms.specs.declared.pid.Pid.{Pid}
 use Rattle.sig_kinds.specs.LinkRules.{LinkState, is_active, active_after}
 
@@ -8,7 +10,11 @@ abbrev pub IsNextActive : LinkState → Option Pid → Option Pid → Type 0
 IsNextActive links after None = active_after links after ≡ []
 IsNextActive links after (Some peer) = active_after links after ≡ peer.0 ∷ active_after links (Some peer)
 
--- every pid is above none
+-- where the pids above `after` begin, as the start of a range; every pid is above none
+abbrev pub start_above : Option Pid → Bound ℕ
+start_above None = Unbounded
+start_above (Some after) = Excluded after.0
+
 abbrev pub IsAbove : Option Pid → ℕ → Type 0
 IsAbove None peer = Unit {0}
 IsAbove (Some after) peer = after.0 < peer

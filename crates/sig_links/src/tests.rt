@@ -32,7 +32,7 @@ fn called(links: &mut Links, sign: u8, peer: Pid) -> Result<u8, Fail>
 
 /// The answers to these calls.
 fn answers(alloc: Global, links: &mut Links, calls: &[&[u8; 2]]) -> Result<Vec<u8>, Fail>
-    requires { links.old.next_id ≤ 1000 }
+    requires { links.old.next_id < 2 ^ 62 }
     ensures { links.new.next_id ≤ links.old.next_id + 1000 }
 {
     let mut answers = Vec::new(alloc);
@@ -137,7 +137,10 @@ fn active_peers_ascend(rt: HostRuntime) -> Result<(), Fail> {
     let mut links = Links::open(alloc, Pid(0));
     assert!(rt; links.next_active(None).is_none());
     let calls: [&[u8; 2]; 4] = [b"+9", b"+2", b"l5", b"+2"];
-    assert_eq!(rt; answers(alloc, &mut links, &calls)?.as_slice(), b"yyyn".as_slice());
+    assert_eq!(rt;
+        answers(alloc, &mut links, &calls)?.as_slice(),
+        b"yyyn".as_slice()
+    );
     assert_eq!(rt; active_peers(alloc, &links)?.as_slice(), b"259".as_slice());
     assert!(rt; links.next_active(Some(Pid(3))) == Some(Pid(5)));
     assert!(rt; links.next_active(Some(Pid(9))).is_none());
@@ -150,11 +153,17 @@ fn the_next_id_outlives_the_links(rt: HostRuntime) -> Result<(), Fail> {
     let alloc = rt.alloc();
     let mut links = Links::open(alloc, Pid(0));
     let before: [&[u8; 2]; 3] = [b"+1", b"-1", b"+2"];
-    assert_eq!(rt; answers(alloc, &mut links, &before)?.as_slice(), b"y1y".as_slice());
+    assert_eq!(rt;
+        answers(alloc, &mut links, &before)?.as_slice(),
+        b"y1y".as_slice()
+    );
     links.empty();
     assert!(rt; active_peers(alloc, &links)?.is_empty());
     assert!(rt; awaited_ids(alloc, &links)?.is_empty());
     let after: [&[u8; 2]; 3] = [b"l1", b"+2", b"-2"];
-    assert_eq!(rt; answers(alloc, &mut links, &after)?.as_slice(), b"yy2".as_slice());
+    assert_eq!(rt;
+        answers(alloc, &mut links, &after)?.as_slice(),
+        b"yy2".as_slice()
+    );
     Ok(())
 }
