@@ -10,11 +10,12 @@ abbrev pub IsNextActive : LinkState → Option Pid → Option Pid → Type 0
 IsNextActive links after None = active_after links after ≡ []
 IsNextActive links after (Some peer) = active_after links after ≡ peer.0 ∷ active_after links (Some peer)
 
--- where the pids above `after` begin, as the start of a range; every pid is above none
+-- where a range of the pids above `after` begins
 abbrev pub start_above : Option Pid → Bound ℕ
 start_above None = Unbounded
 start_above (Some after) = Excluded after.0
 
+-- every pid is above none
 abbrev pub IsAbove : Option Pid → ℕ → Type 0
 IsAbove None peer = Unit {0}
 IsAbove (Some after) peer = after.0 < peer
