@@ -1,0 +1,2 @@
+pub mod NextActive
+pub mod Tables
