@@ -21,22 +21,22 @@ abbrev pub with_rest : Running → List (ℕ × Term) → Environment → Runnin
 with_rest r messages env = record r { state = record r.state { env = env; messages = messages } }
 
 module _ (r : Running) (clauses : List Clause) (after : Option After) (can : can_exec r ≡ true)
-    (at : slice_get r.proc.instrs (r.state.place - 1) ≡ Some (instr.Receive clauses after)) where
+    (here : slice_get r.proc.instrs (r.state.place - 1) ≡ Some (instr.Receive clauses after)) where
   -- it takes a message
   pub takes : (found : Found) (clause : Clause) (m : ℕ × Term) (env : Environment) →
       scan clauses r.state.env (terms_of r.state.messages) ≡ Some found → slice_get clauses found.clause ≡ Some clause →
       slice_get r.state.messages found.at ≡ Some m → match_of clause.pattern r.state.env m.1 ≡ Some env →
       exec_next r ≡ Some (noted (with_rest r (remove r.state.messages found.at) env) (place_after r.proc.labels clause.target r.state.place) (outcome.Took (found.clause + 1) (found.at + 1) m.1))
   unfolding executing
-  takes found clause m env is by from binds = stepping r can ∙ rw (at, is, from, by, binds) refl
+  takes found clause m env is by from binds = stepping r can ∙ rw (here, is, from, by, binds) refl
 
   -- it goes on with `after`
   pub goes_by : (target : After) → after ≡ Some target → scan clauses r.state.env (terms_of r.state.messages) ≡ None →
       exec_next r ≡ Some (noted r (place_after r.proc.labels target.target r.state.place) (outcome.After (looked (terms_of r.state.messages) None)))
   unfolding executing
-  goes_by target some none = stepping r can ∙ rw (at, some, none) refl
+  goes_by target some none = stepping r can ∙ rw (here, some, none) refl
 
   -- it can't be executed
   pub waits : after ≡ None → scan clauses r.state.env (terms_of r.state.messages) ≡ None → exec_next r ≡ None
   unfolding executing
-  waits some none = stepping r can ∙ rw (at, some, none) refl
+  waits some none = stepping r can ∙ rw (here, some, none) refl

@@ -28,9 +28,13 @@ module _ (clauses : List Clause) (env : Environment) where
   later : (m : ℕ × Term) (messages : List (ℕ × Term)) (first : Option ℕ) (back : Option Found) (f : Found) →
       first_clause clauses env m.1 ≡ first → ((g : Found) → back ≡ Some g → IsMatch messages g.at g.clause) →
       or_later first back ≡ Some f → IsMatch (m ∷ messages) f.at f.clause
-  later m messages (Some i) back f e go is = subst (λ (g : Found). IsMatch (m ∷ messages) g.at g.clause) (cc) (fits m i (slice_get clauses i) refl e)
+  later m messages (Some i) back f e go is =
+      let same : ◌≡◌ {A = Found} (record { at = 0; clause = i }) f = cc in
+      subst (λ (g : Found). IsMatch (m ∷ messages) g.at g.clause) same (fits m i (slice_get clauses i) refl e)
   later m messages None None f e go is = cc
-  later m messages None (Some g) f e go is = subst (λ (g : Found). IsMatch (m ∷ messages) g.at g.clause) (cc) (go g refl)
+  later m messages None (Some g) f e go is =
+      let same : ◌≡◌ {A = Found} (record { at = g.at + 1; clause = g.clause }) f = cc in
+      subst (λ (h : Found). IsMatch (m ∷ messages) h.at h.clause) same (go g refl)
 
   pub found_matches : (messages : List (ℕ × Term)) (f : Found) → scan clauses env (terms_of messages) ≡ Some f → IsMatch messages f.at f.clause
   unfolding scan

@@ -195,11 +195,7 @@ impl Process {
 
     /// Makes the step that the next instruction asks for.
     #[tactic(auto, using(crate::proofs::ExecLemmas::ready_stamp, crate::proofs::ExecLemmas::ready_turns, crate::proofs::ExecLemmas::stepping))]
-    fn make<L: Ledger>(
-        &mut self,
-        step: Step,
-        steps: &mut Steps<L>,
-    ) -> Result<Exec, AllocError>
+    fn make<L: Ledger>(&mut self, step: Step, steps: &mut Steps<L>) -> Result<Exec, AllocError>
         requires ready { can_exec self.old ≡ true }
         requires step { executing self.old.proc self.old.state ≡ step_body self.old.proc self.old.state step }
         requires fit { IsFit self.old step }

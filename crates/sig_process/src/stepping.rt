@@ -17,19 +17,11 @@ pub(crate) enum Step {
     /// The value of an expression is too large.
     TooLarge,
     /// It sends a message.
-    Send {
-        to: Term,
-        message: Term,
-    },
+    Send { to: Term, message: Term },
     /// A variable gets a value.
-    Set {
-        var: Var,
-        value: Term,
-    },
+    Set { var: Var, value: Term },
     /// It goes on at a place.
-    Goto {
-        place: u32,
-    },
+    Goto { place: u32 },
     /// It is a receive.
     Receive,
 }
@@ -108,10 +100,12 @@ impl Process {
                 place: self.place_after(Some(*label)),
             }),
             Some(Instr::Stop) => Ok(Step::Stop),
-            Some(Instr::Receive {
-                clauses: _,
-                after: _,
-            }) => Ok(Step::Receive),
+            Some(
+                Instr::Receive {
+                    clauses: _,
+                    after: _,
+                },
+            ) => Ok(Step::Receive),
         }
     }
 }
