@@ -1,5 +1,5 @@
 -- What the scan of a receive finds.
-use Rattle.std.proofs.Common.{◌≡◌, ℕ, zero, suc, ◌+◌, List, [], ◌∷◌, Option, Some, None, refl, subst, Bool, true}
+use Rattle.std.proofs.Common.{◌≡◌, ℕ, zero, suc, ◌+◌, List, [], ◌∷◌, Option, Some, None, refl, subst, Bool, true, add-one}
 use Rattle.std.specs.Prelude.{position, slice_get, is_some, IfSome, IsSome}
 use Rattle.std.specs.Option.{option_map}
 use Rattle.std.proofs.lemmas.List.Quantifiers.{position-Some}
@@ -34,7 +34,7 @@ module _ (clauses : List Clause) (env : Environment) where
   later m messages None None f e go is = cc
   later m messages None (Some g) f e go is =
       let same : ◌≡◌ {A = Found} (record { at = g.at + 1; clause = g.clause }) f = cc in
-      subst (λ (h : Found). IsMatch (m ∷ messages) h.at h.clause) same (go g refl)
+      subst (λ (h : Found). IsMatch (m ∷ messages) h.at h.clause) same (rw add-one (go g refl))
 
   pub found_matches : (messages : List (ℕ × Term)) (f : Found) → scan clauses env (terms_of messages) ≡ Some f → IsMatch messages f.at f.clause
   unfolding scan

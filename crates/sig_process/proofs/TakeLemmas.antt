@@ -1,5 +1,5 @@
 -- The message that a scan of the queue found, and what is left when it is taken.
-use Rattle.std.proofs.Common.{◌≡◌, ℕ, ◌+◌, ◌-◌, ◌≤◌, List, Option, Some, None, refl, sym, ◌∙◌, ap, subst, arith}
+use Rattle.std.proofs.Common.{◌≡◌, ℕ, ◌+◌, ◌-◌, ◌≤◌, List, false, Option, Some, None, refl, sym, ◌∙◌, ap, subst, arith}
 use Rattle.std.specs.Prelude.{slice_get, IfSome, IsSome}
 use Rattle.std.specs.Option.{option_map}
 use Rattle.sig_terms.specs.declared.term.Term.{Term}
@@ -9,7 +9,7 @@ use Rattle.sig_patterns.specs.Environment.{Environment}
 use Rattle.sig_patterns.specs.Matching.{match_of}
 use Rattle.sig_inner.specs.declared.scan.Scan.TheVariants as answer
 use Rattle.sig_inner.specs.InnerQueue.{InnerQueue, terms_of, found_place, found_message, without, taken}
-use Rattle.sig_inner.specs.Receiving.{scanned, answer_to, after_scan}
+use Rattle.sig_inner.specs.Receiving.{scanned, answer_to, after_scan, is_saved}
 use Rattle.sig_inner.proofs.Answering.{answered_found}
 use Rattle.sig_process.specs.declared.receiving.Received.TheVariants.{Took}
 use Rattle.sig_process.specs.Received.{IsTaken, IsReceived}
@@ -31,8 +31,9 @@ module _ (clauses : List Clause) (env : Environment) (before scan : InnerQueue) 
   kept : scan ≡ after_scan before (Some found)
   kept = left ∙ ap (after_scan before) by_scan
 
-  pub is_kept : IsSome (found_place scan.last)
-  is_kept = subst (λ (q : InnerQueue). IsSome (found_place q.last)) (sym kept) tt
+  -- nothing is left of the scan
+  pub nothing_saved : (after : InnerQueue) → after ≡ taken scan → is_saved after.last ≡ false
+  nothing_saved after rest = ap (λ (q : InnerQueue). is_saved q.last) (rest ∙ ap taken kept)
 
   module _ (message : Term) (chosen : Clause) (by_clause : slice_get clauses (number - 1) ≡ Some chosen) (is : Some message ≡ found_message scan) where
     from : (n : ℕ) × (slice_get before.messages (looked - 1) ≡ Some (n, message))
@@ -50,14 +51,16 @@ module _ (clauses : List Clause) (env : Environment) (before scan : InnerQueue) 
       found,
       chosen,
       from.0,
-      omega arith,
-      omega arith,
-      refl,
-      record {
-        by_scan = by_scan;
-        by_clause = by_clause;
-        from = from.1;
-        binds = sym binds;
-        rest = rest ∙ ap taken kept;
-      },
+      (
+        omega arith,
+        omega arith,
+        refl,
+        record {
+          by_scan = by_scan;
+          by_clause = by_clause;
+          from = from.1;
+          binds = sym binds;
+          rest = rest ∙ ap taken kept;
+        },
+      ),
     )

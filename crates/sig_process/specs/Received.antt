@@ -1,5 +1,5 @@
 -- What a receive does with the messages of a process (Erlang Reference Manual, Expressions, Receive).
-use Rattle.std.specs.Prelude.{◌≡◌, ⊥, ℕ, ◌+◌, List, slice_get, Option, Some, None}
+use Rattle.std.specs.Prelude.{◌≡◌, ℕ, ◌+◌, List, slice_get, Option, Some, None}
 use Rattle.sig_terms.specs.declared.term.Term.{Term}
 use Rattle.sig_patterns.specs.declared.clause.Clause.{Clause}
 use Rattle.sig_patterns.specs.declared.found.Found.{Found}

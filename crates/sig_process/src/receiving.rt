@@ -92,6 +92,7 @@ fn receive_from<L: Ledger>(
 
 impl Process {
     /// Executes a receive.
+    #[tactic(auto, using(crate::proofs::ExecLemmas::ready_stamp, crate::proofs::ExecLemmas::ready_turns))]
     pub(crate) fn receive<L: Ledger>(&mut self, steps: &mut Steps<L>) -> Result<Exec, AllocError>
         requires ready { can_exec self.old ≡ true }
         requires receive { IsReceive (slice_get self.old.proc.instrs (self.old.state.place - 1)) }
@@ -121,7 +122,8 @@ impl Process {
             Received::Nothing { looked } => match after {
                 None => Ok(Exec::Waiting),
                 Some(after) => {
-                    let place = self.place_after(after.target);
+                    let target = after.target;
+                    let place = self.place_after(target);
                     self.note(Outcome::After { looked }, place)?;
                     Ok(Exec::Stepped)
                 }
