@@ -1,5 +1,5 @@
 -- What the execution of a receive leads to.
-use Rattle.std.proofs.Common.{◌≡◌, ℕ, ◌+◌, ◌-◌, List, true, Option, Some, None, refl, sym, ◌∙◌, ap, arith}
+use Rattle.std.proofs.Common.{◌≡◌, ℕ, ◌+◌, ◌-◌, List, true, Option, Some, None, refl, sym, ◌∙◌, ap}
 use Rattle.std.specs.Prelude.{remove, slice_get, length}
 use Rattle.sig_terms.specs.declared.term.Term.{Term}
 use Rattle.sig_patterns.specs.declared.clause.Clause.{Clause}

@@ -1,5 +1,5 @@
 -- What holds of every running process, after its queue has changed.
-use Rattle.std.proofs.Common.{◌≡◌, ℕ, zero, suc, ◌+◌, ◌-◌, ◌≤◌, List, length, false, Option, refl, ◌∙◌, ap, subst, sym, arith}
+use Rattle.std.proofs.Common.{◌≡◌, ℕ, zero, suc, ◌+◌, ◌-◌, ◌≤◌, List, length, refl, subst, sym, arith}
 use Rattle.std.specs.Prelude.{slice_get, slice_index, replicate}
 use Rattle.sig_patterns.specs.Environment.{Environment}
 use Rattle.sig_inner.specs.InnerQueue.{InnerQueue, opened, emptied}

@@ -1,5 +1,5 @@
 -- The message that a scan of the queue found, and what is left when it is taken.
-use Rattle.std.proofs.Common.{◌≡◌, ℕ, ◌+◌, ◌-◌, ◌≤◌, List, false, Option, Some, None, refl, sym, ◌∙◌, ap, subst, arith}
+use Rattle.std.proofs.Common.{◌≡◌, ℕ, ◌-◌, ◌≤◌, List, false, Option, Some, None, refl, sym, ◌∙◌, ap, subst, arith}
 use Rattle.std.specs.Prelude.{slice_get, IfSome, IsSome}
 use Rattle.std.specs.Option.{option_map}
 use Rattle.sig_terms.specs.declared.term.Term.{Term}
@@ -8,11 +8,11 @@ use Rattle.sig_patterns.specs.declared.found.Found.{Found}
 use Rattle.sig_patterns.specs.Environment.{Environment}
 use Rattle.sig_patterns.specs.Matching.{match_of}
 use Rattle.sig_inner.specs.declared.scan.Scan.TheVariants as answer
-use Rattle.sig_inner.specs.InnerQueue.{InnerQueue, terms_of, found_place, found_message, without, taken}
+use Rattle.sig_inner.specs.InnerQueue.{InnerQueue, found_message, taken}
 use Rattle.sig_inner.specs.Receiving.{scanned, answer_to, after_scan, is_saved}
 use Rattle.sig_inner.proofs.Answering.{answered_found}
 use Rattle.sig_process.specs.declared.receiving.Received.TheVariants.{Took}
-use Rattle.sig_process.specs.Received.{IsTaken, IsReceived}
+use Rattle.sig_process.specs.Received.{IsReceived}
 use Rattle.sig_process.proofs.ScanLemmas.{IsMatch, found_matches}
 
 -- the message with its arrival number

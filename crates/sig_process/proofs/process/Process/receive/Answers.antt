@@ -1,4 +1,4 @@
-use Rattle.std.proofs.Common.{◌≡◌, ◌-◌, ◌<◌, length, arith, sym, ◌∙◌, ap, subst, refl, Some, None}
+use Rattle.std.proofs.Common.{◌-◌, ◌<◌, length, arith, sym, ◌∙◌, ap, subst, refl, Some}
 use Rattle.std.proofs.lemmas.Option.{slice_get_within}
 use Rattle.sig_model.specs.Running.{exec_next, can_exec}
 use Rattle.sig_process.specs.declared.receiving.Received.{Received}
