@@ -1,5 +1,9 @@
 pub mod ScanLemmas
+pub mod SavedPlace
+pub mod SoundLemmas
 pub mod ValueLemmas
 pub mod ExecLemmas
+pub mod TakeLemmas
+pub mod ReceiveLemmas
 pub mod HandleLemmas
 pub mod Lists

@@ -1,4 +1,5 @@
 pub mod Soundness
+pub mod Received
 pub mod Steps
 pub mod Handled
 pub mod PartsOf

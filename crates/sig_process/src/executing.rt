@@ -1,11 +1,10 @@
-ghost use Rattle.std.specs.Prelude.{◌≡◌, ◌+◌, ◌<◌, ◌≤◌, ◌^◌, length, true, Some, OnOk, IfOk, IfSome, IsSome, slice_get, slice_index, option_map};
+ghost use Rattle.std.specs.Prelude.{◌≡◌, ◌+◌, ◌<◌, ◌≤◌, ◌^◌, length, true, Some, OnOk, IfOk, slice_index};
 ghost use Rattle.sig_terms.specs.Words.{is_atom};
-ghost use Rattle.sig_patterns.specs.Matching.{match_of};
 ghost use Rattle.sig_model.specs.Bodies.{going_on, ending, normal, badarg, system_limit};
 ghost use Rattle.sig_model.specs.Executing.{sending, setting, executing};
 ghost use Rattle.sig_model.specs.Finishing.{drawn};
 ghost use Rattle.sig_model.specs.Running.{can_exec};
-ghost use Rattle.sig_process.specs.Steps.{step_body, taken_body, IsPlaceOf, IsFit, noted, made, IsExec};
+ghost use Rattle.sig_process.specs.Steps.{step_body, IsPlaceOf, IsFit, noted, made, IsExec};
 
 use crate::process::{Process, draw};
 use crate::stepping::Step;
@@ -13,7 +12,7 @@ use sig_base::Steps;
 use sig_kinds::{Kind, Signal};
 use sig_lists::Pushed;
 use sig_model::{Did, Event, Outcome};
-use sig_patterns::{Pattern, Var, bind_match};
+use sig_patterns::Var;
 use sig_terms::{Atom, Pid, Term};
 use std::alloc::{AllocError, Global};
 use std::sync::ledger::Ledger;
@@ -40,7 +39,7 @@ fn plain_atom(alloc: Global, bytes: &[u8]) -> Result<Term, AllocError>
 
 impl Process {
     /// Adds the event of an execution, and goes on at a place.
-    fn note(&mut self, outcome: Outcome, place: u32) -> Result<(), AllocError>
+    pub(crate) fn note(&mut self, outcome: Outcome, place: u32) -> Result<(), AllocError>
         requires stamp { self.old.state.stamp < 4611686018427387904 }
         requires turns { self.old.state.executed < self.old.turns }
         requires place { IsPlaceOf self.old.proc place }
@@ -55,6 +54,7 @@ impl Process {
         }) {
             Pushed::Memory { item: _ } => Err(AllocError),
             Pushed::Added => {
+                self.inner.forget();
                 self.place = place;
                 self.executed += 1;
                 self.stamp = stamp;
@@ -72,7 +72,7 @@ impl Process {
         let told = reason.copy(self.alloc)?;
         let place = self.place;
         self.note(Outcome::Ended { reason: told }, place)?;
-        self.messages = Vec::new(self.alloc);
+        self.inner.empty();
         self.end = Some(reason);
         Ok(())
     }
@@ -168,6 +168,7 @@ impl Process {
     {
         let told = value.copy(self.alloc)?;
         let place = self.place + 1;
+        self.inner.forget();
         self.env.set(var, value)?;
         self.note(Outcome::Set { value: told }, place)
     }
@@ -192,51 +193,11 @@ impl Process {
         self.note(Outcome::Done, place)
     }
 
-    /// Takes the message at this place of the list, and binds the pattern's variables.
-    fn take(
-        &mut self,
-        at: usize,
-        clause: u32,
-        pattern: &Pattern,
-        place: u32,
-    ) -> Result<(), AllocError>
-        requires stamp { self.old.state.stamp < 4611686018427387904 }
-        requires turns { self.old.state.executed < self.old.turns }
-        requires at { at < length self.old.state.messages }
-        requires clause { clause + 1 < 2 ^ 32 }
-        requires place { IsPlaceOf self.old.proc place }
-        requires matched { IfSome (slice_get self.old.state.messages at) (λ m. IsSome (match_of pattern.now self.old.state.env m.1)) }
-        ensures { OnOk result (option_map (made self.old) (taken_body self.old.state at clause pattern.now place) ≡ Some self.new) }
-    {
-        let (_, message) = self.messages.remove(at);
-        bind_match(self.alloc, pattern, &mut self.env, &message)?;
-        self.note(
-            Outcome::Took {
-                clause: clause + 1,
-                looked: at as u64 + 1,
-                message,
-            },
-            place,
-        )?;
-        Ok(())
-    }
-
-    /// Goes on with `after`.
-    fn pass_by(&mut self, place: u32) -> Result<(), AllocError>
-        requires stamp { self.old.state.stamp < 4611686018427387904 }
-        requires turns { self.old.state.executed < self.old.turns }
-        requires place { IsPlaceOf self.old.proc place }
-        ensures { OnOk result (self.new ≡ made self.old (going_on self.old.state place (Outcome.After (length self.old.state.messages)))) }
-    {
-        let looked = self.messages.len() as u64;
-        self.note(Outcome::After { looked }, place)
-    }
-
     /// Makes the step that the next instruction asks for.
     #[tactic(auto, using(crate::proofs::ExecLemmas::ready_stamp, crate::proofs::ExecLemmas::ready_turns, crate::proofs::ExecLemmas::stepping))]
-    fn make(&mut self, step: Step) -> Result<Exec, AllocError>
+    fn make<L: Ledger>(&mut self, step: Step, steps: &mut Steps<L>) -> Result<Exec, AllocError>
         requires ready { can_exec self.old ≡ true }
-        requires step { executing self.old.proc self.old.state ≡ step_body self.old.state step }
+        requires step { executing self.old.proc self.old.state ≡ step_body self.old.proc self.old.state step }
         requires fit { IsFit self.old step }
         ensures { IfOk result (IsExec self.old self.new) }
     {
@@ -261,20 +222,7 @@ impl Process {
                 self.go_to(place)?;
                 Ok(Exec::Stepped)
             }
-            Step::Take {
-                at,
-                clause,
-                pattern,
-                place,
-            } => {
-                self.take(at, clause, &pattern, place)?;
-                Ok(Exec::Stepped)
-            }
-            Step::PassBy { place } => {
-                self.pass_by(place)?;
-                Ok(Exec::Stepped)
-            }
-            Step::Wait => Ok(Exec::Waiting),
+            Step::Receive => self.receive(steps),
         }
     }
 
@@ -284,7 +232,7 @@ impl Process {
         requires { can_exec self.old ≡ true }
         ensures { IfOk result (IsExec self.old self.new) }
     {
-        let step = self.next_step(steps)?;
-        self.make(step)
+        let step = self.next_step()?;
+        self.make(step, steps)
     }
 }

@@ -4,6 +4,7 @@ ghost use Rattle.sig_model.specs.Running.{next_of, is_early, can_handle, handled
 ghost use Rattle.sig_process.specs.Handled.{handled_as, noted_handled};
 
 use crate::process::{Process, add};
+use sig_inner::Append;
 use sig_kinds::{Kind, Signal, Signals};
 use sig_lists::Pushed;
 use sig_model::{Did, Event, LAST_STAMP, Outcome};
@@ -90,11 +91,11 @@ impl Process {
         ensures { OnOk result (self.new ≡ handled_as self.old signal (appending self.old.state term)) }
     {
         let message = term.copy(self.alloc)?;
-        let arrival = self.next_arrival;
-        self.messages.push((arrival, term))?;
         self.note_handled(signal, Outcome::Kept { message })?;
-        self.next_arrival = arrival + 1;
-        Ok(())
+        match self.inner.append(term) {
+            Append::Memory { message: _ } => Err(AllocError),
+            Append::Added => Ok(()),
+        }
     }
 
     /// Handles this signal, which waits no more.

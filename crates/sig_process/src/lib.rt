@@ -6,7 +6,7 @@ mod executing;
 mod handling;
 mod parts;
 mod process;
-mod scanning;
+mod receiving;
 mod stepping;
 
 pub use crew::Crew;

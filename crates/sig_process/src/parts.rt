@@ -4,8 +4,8 @@ ghost use Rattle.sig_model.specs.PrintedState.{is_late_signal, is_late, state_of
 ghost use Rattle.sig_process.specs.PartsOf.{parts_of};
 
 use crate::process::Process;
+use sig_inner::Inner;
 use sig_kinds::{Signal, Signals};
-use sig_lists::Sequence;
 use sig_model::{Events, LAST_STAMP, State};
 use sig_terms::{Name, Pid, Term};
 
@@ -19,7 +19,7 @@ pub struct Parts {
     /// Its events, in their order.
     pub events: Events,
     /// The messages that no receive has taken, each with its arrival number, the oldest first.
-    pub left: Sequence<(u64, Term)>,
+    pub left: Inner,
     /// The signals to itself that it has not handled, the oldest first.
     pub own: Signals,
     /// The signals of others that it has not handled, the oldest first.
@@ -77,12 +77,14 @@ impl Process {
         ensures { result ≡ parts_of self }
     {
         let cut = self.is_cut() || self.has_late();
+        let mut left = self.inner;
+        left.forget();
         let proc = self.proc;
         Parts {
             pid: self.pid,
             name: proc.name,
             events: self.events,
-            left: Sequence::from_vec(self.messages),
+            left,
             own: self.own,
             taken_in: self.taken_in,
             state: state_of(self.end, cut),

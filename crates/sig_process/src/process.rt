@@ -4,6 +4,7 @@ ghost use Rattle.sig_model.specs.Running.{posted, opened, can_exec};
 ghost use Rattle.sig_model.specs.ProcessState.{is_cut};
 ghost use Rattle.sig_model.specs.OneWorker.{arrived};
 
+use sig_inner::Inner;
 use sig_kinds::{Push, Signal, Signals};
 use sig_lists::Sequence;
 use sig_model::{Events, LAST_STAMP};
@@ -25,8 +26,7 @@ pub struct Process {
     pub(crate) proc: Proc,
     pub(crate) place: u32,
     pub(crate) env: Env,
-    pub(crate) messages: Vec<(u64, Term)>,
-    pub(crate) next_arrival: u64,
+    pub(crate) inner: Inner,
     pub(crate) next_numbers: Vec<u64>,
     pub(crate) end: Option<Term>,
     pub(crate) executed: u32,
@@ -60,7 +60,7 @@ impl Model for Process {
       state = record {
         place = p.place;
         env = p.env;
-        messages = p.messages.items;
+        messages = p.inner.messages;
         active = set.empty;
         awaited = map.empty;
         held = map.empty;
@@ -69,7 +69,7 @@ impl Model for Process {
         traps = false;
         next_serial = 1;
         next_id = 1;
-        next_arrival = p.next_arrival;
+        next_arrival = p.inner.next_arrival;
         next_numbers = p.next_numbers.items;
         reserve = None;
         marks = [];
@@ -86,7 +86,7 @@ impl Model for Process {
 
     ghost use Rattle.sig_process.specs.Soundness.{IsSound};
 
-    ghost invariant = { λ p. IsSound p.place p.next_arrival p.stamp p.next_numbers.items p.proc };
+    ghost invariant = { λ p. IsSound p.pid.0 p.place p.stamp p.inner p.env p.next_numbers.items p.proc };
 }
 
 /// Draws the next number for this peer.
@@ -140,6 +140,7 @@ impl Process {
         ensures { IfOk result (λ p. p ≡ opened pid.0 count turns proc.now) }
     {
         let next_numbers = first_numbers(alloc, count)?;
+        let inner = Inner::open(alloc, pid)?;
         let proc = proc.copy(alloc)?;
         Ok(Process {
             alloc,
@@ -149,8 +150,7 @@ impl Process {
             proc,
             place: 1,
             env: Env::new(alloc),
-            messages: Vec::new(alloc),
-            next_arrival: 1,
+            inner,
             next_numbers,
             end: None,
             executed: 0,

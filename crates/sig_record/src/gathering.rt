@@ -4,22 +4,19 @@ ghost use Rattle.sig_process.specs.PartsOf.{parts_of};
 ghost use Rattle.sig_record.specs.RecordOf.{left_of, is_from, queued_below, report_of};
 
 use crate::report::{Left, Lefts, Report};
+use sig_inner::Inner;
 use sig_kinds::{Push, Signal, Signals};
 use sig_lists::Sequence;
 use sig_process::Process;
-use sig_terms::Term;
 use std::alloc::{AllocError, Global};
 
 /// What is left of the messages.
-fn lefts_of(alloc: Global, messages: Sequence<(u64, Term)>) -> Result<Lefts, AllocError>
-    ensures { IfOk result (λ lefts. lefts ≡ map left_of messages) }
+fn lefts_of(alloc: Global, mut inner: Inner) -> Result<Lefts, AllocError>
+    ensures { IfOk result (λ lefts. lefts ≡ map left_of inner.messages) }
 {
     let mut lefts = Vec::new(alloc);
-    for message in messages.into_vec() {
-        lefts.push(Left {
-            arrival: message.0,
-            message: message.1,
-        })?;
+    while let Some((arrival, message)) = inner.pop_front() {
+        lefts.push(Left { arrival, message })?;
     }
     Ok(Sequence::from_vec(lefts))
 }

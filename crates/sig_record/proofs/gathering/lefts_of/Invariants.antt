@@ -1,6 +1,10 @@
-use Rattle.std.proofs.Common.{◌≡◌, map}
+use Rattle.std.proofs.Common.{◌≡◌, ◌++◌, map, length}
 use Rattle.sig_record.specs.RecordOf.{left_of}
 use Rattle.sig_record.proofs.gathering.lefts_of.Given as goal
 
-abbrev pub invariant-loop-message : goal.invariant-loop-message
-invariant-loop-message l = l.lefts.items ≡ map left_of l.yielded
+-- those so far, and what is left of the others, are all
+abbrev pub invariant-loop-arrival : goal.invariant-loop-arrival
+invariant-loop-arrival l = l.lefts.items ++ map left_of l.inner.messages ≡ map left_of l.fn.inner.messages
+
+abbrev pub decreases-loop-arrival : goal.decreases-loop-arrival
+decreases-loop-arrival l = length l.inner.messages
