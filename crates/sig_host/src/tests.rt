@@ -1,22 +1,40 @@
 //! Worked examples, through the top call.
 
+ghost use Rattle.std.specs.Prelude.{◌<◌};
+
 use super::*;
+use itoa::Buffer;
 use sig_base::{FailingSink, FailingSource, MemorySink, MemorySource, OpenGate, Sink, Source};
 use sig_script::FaultKind;
 use std::alloc::{AllocError, Global};
 use std::test::Fail;
+
+/// More bytes than any record of these tests has.
+const ROOM: usize = 500000;
 
 const ONE_MESSAGE: &[u8] = b"sigscript 1\nprocess a\nsend @b hi\nprocess b\nreceive\non X\nend\n";
 
 const ONE_MESSAGE_RECORD: &[u8] =
     b"sigrecord 1\nprocess 0 a\n1 exec 1 sent <1> hi\n2 exec 2 ended normal\nstate ended normal\nprocess 1 b\n2 from 0 1 kept hi\n3 exec 1 took 1 1 hi\n4 exec 2 ended normal\nstate ended normal\n";
 
-const REFUSED: Status = Status::BadScript {
-    line: 0,
+const NO_HEADER: Status = Status::BadScript {
+    line: 1,
+    kind: FaultKind::Header,
+};
+
+const TOLD_NO_HEADER: &[u8] = b"sigrun: line 1: header\n";
+
+const OPEN_RECEIVE: Status = Status::BadScript {
+    line: 5,
     kind: FaultKind::Syntax,
 };
 
-const TOLD_REFUSED: &[u8] = b"sigrun: line 0: syntax\n";
+const TOLD_OPEN_RECEIVE: &[u8] = b"sigrun: line 5: syntax\n";
+
+const TOO_LONG: Status = Status::BadScript {
+    line: 0,
+    kind: FaultKind::TooLong,
+};
 
 /// Runs with no words, and an `err` that never fails.
 fn run_with<S: Source, O: Sink>(
@@ -38,13 +56,13 @@ fn texts_give_their_records(rt: HostRuntime) -> Result<(), Fail> {
         (ONE_MESSAGE, 7, Status::Done, ONE_MESSAGE_RECORD, b""),
         (ONE_MESSAGE, 10, Status::Done, ONE_MESSAGE_RECORD, b""),
         (b"sigscript 1", 7, Status::Done, b"sigrecord 1\n", b""),
-        (b"", 7, REFUSED, b"", TOLD_REFUSED),
+        (b"", 7, NO_HEADER, b"", TOLD_NO_HEADER),
         (
             b"sigscript 1\nprocess a\nreceive\non x\n",
             7,
-            REFUSED,
+            OPEN_RECEIVE,
             b"",
-            TOLD_REFUSED,
+            TOLD_OPEN_RECEIVE,
         ),
         (
             b"sigscript 01 % a comment\n\t process a\r\nsend @a x\nsend @b y\nprocess b % 'x\nreceive\non z\nend",
@@ -78,7 +96,7 @@ fn the_largest_text_is_read(rt: HostRuntime) -> Result<(), Fail> {
     let head = b"sigscript 1\n%".as_slice();
     let rows: [(usize, Status, &[u8]); 2] = [
         (1048576, Status::Done, b"sigrecord 1\n"),
-        (1048577, REFUSED, b""),
+        (1048577, TOO_LONG, b""),
     ];
     for (size, status, record) in rows {
         let mut text = Vec::from_slice(alloc, head)?;
@@ -149,7 +167,572 @@ fn words_and_faults_of_err(rt: HostRuntime) -> Result<(), Fail> {
         &mut err,
         &OpenGate,
     );
-    assert!(rt; answer == REFUSED);
+    assert!(rt; answer == NO_HEADER);
     assert!(rt; err.held() == b"usage".as_slice());
+    Ok(())
+}
+
+/// Runs the script of these lines behind the header line.
+fn run_lines(alloc: Global, lines: &[u8]) -> Result<(Status, MemorySink, MemorySink), AllocError> {
+    let mut text = Vec::from_slice(alloc, b"sigscript 1\n")?;
+    text.extend_from_slice(lines)?;
+    let mut source = MemorySource::new(text, 100000);
+    let mut out = MemorySink::with_room(alloc, ROOM)?;
+    let (status, err) = run_with(alloc, &mut source, &mut out)?;
+    Ok((status, out, err))
+}
+
+/// Whether the record of the script of these lines is the first line of a record and these lines.
+fn gives(alloc: Global, lines: &[u8], record: &[u8]) -> Result<bool, AllocError> {
+    let (status, out, err) = run_lines(alloc, lines)?;
+    let told = out.held().strip_prefix(b"sigrecord 1\n".as_slice());
+    Ok(status == Status::Done && told == Some(record) && err.held().is_empty())
+}
+
+/// A line that begins with a number.
+fn push_line(text: &mut Vec<u8>, number: u64, rest: &[u8]) -> Result<(), AllocError> {
+    let mut digits = Buffer::new();
+    text.extend_from_slice(digits.format(number).as_bytes())?;
+    text.extend_from_slice(rest)?;
+    text.push(b'\n')?;
+    Ok(())
+}
+
+/// The same with a number in the middle.
+fn push_signal(
+    text: &mut Vec<u8>,
+    stamp: u64,
+    middle: &[u8],
+    number: u64,
+    rest: &[u8],
+) -> Result<(), AllocError> {
+    let mut digits = Buffer::new();
+    text.extend_from_slice(digits.format(stamp).as_bytes())?;
+    text.extend_from_slice(middle)?;
+    push_line(text, number, rest)
+}
+
+/// How often these bytes stand in the text.
+fn count_of(text: &[u8], piece: &[u8]) -> usize {
+    text.windows(piece.len().max(1))
+        .filter(|w| *w == piece)
+        .count()
+}
+
+/// Which message a receive takes, and where a run is cut.
+const RECEIVES: [(&[u8], &[u8]); 4] = [
+    // a receive takes the oldest message that matches, wherever it stands
+    (
+        b"process a\nsend @b x\nsend @b {ok,1}\nsend @b y\n\
+          process b\nreceive\non {ok,N}\nend\nreceive\non {ok,N}\nend\n",
+        b"process 0 a\n1 exec 1 sent <1> x\n2 exec 2 sent <1> {ok,1}\n\
+          3 exec 3 sent <1> y\n4 exec 4 ended normal\nstate ended normal\n\
+          process 1 b\n2 from 0 1 kept x\n3 from 0 2 kept {ok,1}\n\
+          4 exec 1 took 1 2 {ok,1}\n5 from 0 3 kept y\nleft 1 x\nleft 3 y\n\
+          state waiting\n",
+    ),
+    // the older message wins, not the first clause
+    (
+        b"process r\nsend @r a\nsend @r b\nreceive\non b\non a\nend\n",
+        b"process 0 r\n1 exec 1 sent <0> a\n2 from 0 1 kept a\n3 exec 2 sent <0> b\n\
+          4 from 0 2 kept b\n5 exec 3 took 2 1 a\n6 exec 4 ended normal\n\
+          state ended normal\n",
+    ),
+    // own signals come before the next instruction
+    (
+        b"process r\nsend @r m\nreceive\non m\nafter\nend\n",
+        b"process 0 r\n1 exec 1 sent <0> m\n2 from 0 1 kept m\n3 exec 2 took 1 1 m\n\
+          4 exec 3 ended normal\nstate ended normal\n",
+    ),
+    // a process is cut after its turns
+    (
+        b"turns 3\n\
+          process a\nlabel l\ngoto l\n\
+          process b\nsend @a x\nsend @a y\nsend @a z\n",
+        b"process 0 a\n1 exec 1 done\n2 from 1 1 kept x\n3 exec 1 done\n\
+          4 from 1 2 kept y\n5 exec 1 done\nleft 1 x\nleft 2 y\n\
+          queued 1 3 3 message z\nstate cut\n\
+          process 1 b\n1 exec 1 sent <0> x\n2 exec 2 sent <0> y\n3 exec 3 sent <0> z\n\
+          state cut\n",
+    ),
+];
+
+/// What expressions build.
+const VALUES: [(&[u8], &[u8]); 4] = [
+    // a message goes to pids alone
+    (
+        b"process a\nsend hi there\nset X never\n\
+          process b\nsend X there\n\
+          process c\nsend [@a] there\n\
+          process d\nset P @d\nsend P there\n",
+        b"process 0 a\n1 exec 1 ended badarg\nstate ended badarg\n\
+          process 1 b\n1 exec 1 ended badarg\nstate ended badarg\n\
+          process 2 c\n1 exec 1 ended badarg\nstate ended badarg\n\
+          process 3 d\n1 exec 1 set <3>\n2 exec 2 sent <3> there\n\
+          3 from 3 1 kept there\n4 exec 3 ended normal\nstate ended normal\n",
+    ),
+    // nested values, and a variable that has none
+    (
+        b"process a\nset X { a , [1,-2], @a,'b c',[] }\nset Y [X,Z]\nset X {}\n\
+          set Y X\n",
+        b"process 0 a\n1 exec 1 set {a,[1,-2],<0>,'b c',[]}\n\
+          2 exec 2 set [{a,[1,-2],<0>,'b c',[]},undefined]\n3 exec 3 set {}\n\
+          4 exec 4 set {}\n5 exec 5 ended normal\nstate ended normal\n",
+    ),
+    // integers up to their bounds
+    (
+        b"process a\nset X 9223372036854775807\nset X -9223372036854775808\n\
+          set X 007\nset X -0\n",
+        b"process 0 a\n1 exec 1 set 9223372036854775807\n\
+          2 exec 2 set -9223372036854775808\n3 exec 3 set 7\n4 exec 4 set 0\n\
+          5 exec 5 ended normal\nstate ended normal\n",
+    ),
+    // quoted atoms are the atoms of their bytes
+    (
+        b"process a\nsend @a 'hi'\nsend @a 'it is'\nreceive\non 'it is'\nend\n\
+          receive\non hi\nend\nset X ['','X','a','% no comment']\n",
+        b"process 0 a\n1 exec 1 sent <0> hi\n2 from 0 1 kept hi\n\
+          3 exec 2 sent <0> 'it is'\n4 from 0 2 kept 'it is'\n\
+          5 exec 3 took 1 2 'it is'\n6 exec 4 took 1 1 hi\n\
+          7 exec 5 set ['','X',a,'% no comment']\n8 exec 6 ended normal\n\
+          state ended normal\n",
+    ),
+];
+
+/// Where a process goes on.
+const GOING: [(&[u8], &[u8]); 6] = [
+    // labels, also one behind the last instruction, and of the name of a keyword
+    (
+        b"process a\nlabel one\ngoto two\nstop\nlabel two\nset X a\ngoto end\n\
+          set X b\nlabel end\n\
+          process b\nstop\nset X a\n",
+        b"process 0 a\n1 exec 1 done\n2 exec 3 set a\n3 exec 4 done\n\
+          4 exec 6 ended normal\nstate ended normal\n\
+          process 1 b\n1 exec 1 ended normal\nstate ended normal\n",
+    ),
+    // `after` with and without a label, and a clause's label
+    (
+        b"process a\nreceive\nafter\nend\nsend @a m\nreceive\non n\nafter -> done\n\
+          end\nstop\nlabel done\nreceive\non m -> last\nend\nstop\nlabel last\n",
+        b"process 0 a\n1 exec 1 after 0\n2 exec 2 sent <0> m\n3 from 0 1 kept m\n\
+          4 exec 3 after 1\n5 exec 5 took 1 1 m\n6 exec 7 ended normal\n\
+          state ended normal\n",
+    ),
+    // a clause that goes back, and one that goes on
+    (
+        b"process a\nsend @b @a\nsend @b {@a,1}\n\
+          process b\nlabel loop\nreceive\non @a -> loop\non {@a,N}\nend\nsend @a N\n",
+        b"process 0 a\n1 exec 1 sent <1> <0>\n2 exec 2 sent <1> {<0>,1}\n\
+          3 exec 3 ended normal\n7 from 1 1 dropped\nstate ended normal\n\
+          process 1 b\n2 from 0 1 kept <0>\n3 exec 1 took 1 1 <0>\n\
+          4 from 0 2 kept {<0>,1}\n5 exec 1 took 2 1 {<0>,1}\n6 exec 2 sent <0> 1\n\
+          7 exec 3 ended normal\nstate ended normal\n",
+    ),
+    // a receive without clauses waits
+    (
+        b"process a\nsend @a m\nreceive\nend\n",
+        b"process 0 a\n1 exec 1 sent <0> m\n2 from 0 1 kept m\nleft 1 m\n\
+          state waiting\n",
+    ),
+    // without turns a process is cut and handles nothing
+    (
+        b"turns -0\n\
+          process a\n\
+          process b\n",
+        b"process 0 a\nstate cut\n\
+          process 1 b\nstate cut\n",
+    ),
+    // a process that ends with its last turn is ended
+    (
+        b"turns 1\n\
+          process a\nstop\n\
+          process b\nsend @a x\n",
+        b"process 0 a\n1 exec 1 ended normal\n2 from 1 1 dropped\nstate ended normal\n\
+          process 1 b\n1 exec 1 sent <0> x\nstate cut\n",
+    ),
+];
+
+/// What patterns match and bind.
+const PATTERNS: [(&[u8], &[u8]); 5] = [
+    // `^X` asks for the value of X, which is `undefined` where it has none
+    (
+        b"process a\nsend @a undefined\nsend @a 1\nreceive\non ^X\nend\nset X 1\n\
+          receive\non ^X\nend\n",
+        b"process 0 a\n1 exec 1 sent <0> undefined\n2 from 0 1 kept undefined\n\
+          3 exec 2 sent <0> 1\n4 from 0 2 kept 1\n5 exec 3 took 1 1 undefined\n\
+          6 exec 4 set 1\n7 exec 5 took 1 1 1\n8 exec 6 ended normal\n\
+          state ended normal\n",
+    ),
+    // a variable binds anew, and `^X` asks for the value from before
+    (
+        b"process a\nset X 1\nsend @a {1,2}\nsend @a {2,1}\nreceive\non {X,^X}\nend\n\
+          set Y X\n",
+        b"process 0 a\n1 exec 1 set 1\n2 exec 2 sent <0> {1,2}\n\
+          3 from 0 1 kept {1,2}\n4 exec 3 sent <0> {2,1}\n5 from 0 2 kept {2,1}\n\
+          6 exec 4 took 1 2 {2,1}\n7 exec 5 set 2\n8 exec 6 ended normal\n\
+          state ended normal\n",
+    ),
+    // a variable that stands again asks for an equal term
+    (
+        b"process a\nsend @a {1,2}\nsend @a {3,3}\nreceive\non {X,X}\nend\nset Y X\n",
+        b"process 0 a\n1 exec 1 sent <0> {1,2}\n2 from 0 1 kept {1,2}\n\
+          3 exec 2 sent <0> {3,3}\n4 from 0 2 kept {3,3}\n5 exec 3 took 1 2 {3,3}\n\
+          6 exec 4 set 3\n7 exec 5 ended normal\nstate ended normal\n",
+    ),
+    // the first elements of a list, and the list of the others
+    (
+        b"process a\nsend @a []\nsend @a [1]\nsend @a [1,2,3]\nreceive\non [A,B|C]\n\
+          end\nset X {A,B,C}\nreceive\non [A|B]\nend\nset X {A,B}\n",
+        b"process 0 a\n1 exec 1 sent <0> []\n2 from 0 1 kept []\n\
+          3 exec 2 sent <0> [1]\n4 from 0 2 kept [1]\n5 exec 3 sent <0> [1,2,3]\n\
+          6 from 0 3 kept [1,2,3]\n7 exec 4 took 1 3 [1,2,3]\n8 exec 5 set {1,2,[3]}\n\
+          9 exec 6 took 1 2 [1]\n10 exec 7 set {1,[]}\n11 exec 8 ended normal\n\
+          state ended normal\n",
+    ),
+    // a pattern that doesn't match binds nothing
+    (
+        b"process a\nsend @a {2,3}\nreceive\non {X,1}\non {_,Y,_}\non [_|_]\nafter\n\
+          end\nset Z {X,Y}\n",
+        b"process 0 a\n1 exec 1 sent <0> {2,3}\n2 from 0 1 kept {2,3}\n\
+          3 exec 2 after 1\n4 exec 3 set {undefined,undefined}\n\
+          5 exec 4 ended normal\nstate ended normal\n",
+    ),
+];
+
+#[test]
+fn receives_take_the_oldest_match_and_cut_runs_stop(rt: HostRuntime) -> Result<(), Fail> {
+    let alloc = rt.alloc();
+    for (lines, record) in RECEIVES {
+        assert!(rt; gives(alloc, lines, record)?, "{lines:?}");
+    }
+    Ok(())
+}
+
+#[test]
+fn expressions_build_their_values(rt: HostRuntime) -> Result<(), Fail> {
+    let alloc = rt.alloc();
+    for (lines, record) in VALUES {
+        assert!(rt; gives(alloc, lines, record)?, "{lines:?}");
+    }
+    Ok(())
+}
+
+#[test]
+fn labels_targets_and_ends_lead_on(rt: HostRuntime) -> Result<(), Fail> {
+    let alloc = rt.alloc();
+    for (lines, record) in GOING {
+        assert!(rt; gives(alloc, lines, record)?, "{lines:?}");
+    }
+    Ok(())
+}
+
+#[test]
+fn patterns_match_and_bind(rt: HostRuntime) -> Result<(), Fail> {
+    let alloc = rt.alloc();
+    for (lines, record) in PATTERNS {
+        assert!(rt; gives(alloc, lines, record)?, "{lines:?}");
+    }
+    Ok(())
+}
+
+#[test]
+fn the_largest_count_of_turns_is_made(rt: HostRuntime) -> Result<(), Fail> {
+    let alloc = rt.alloc();
+    let mut record = Vec::from_slice(alloc, b"process 0 a\n")?;
+    for stamp in 1..20001 {
+        push_line(&mut record, stamp, b" exec 1 done")?;
+    }
+    record.extend_from_slice(b"state cut\n")?;
+    let lines = b"turns 20000\nprocess a\nlabel l\ngoto l\n";
+    assert!(rt; gives(alloc, lines, record.as_slice())?);
+    Ok(())
+}
+
+const PING_PONG: &[u8] = b"turns 1500\n\
+    process a\nlabel l\nsend @b ping\nreceive\non pong\nend\ngoto l\n\
+    process b\nlabel l\nreceive\non ping\nend\nsend @a pong\ngoto l\n";
+
+/// The events of process a in the round that begins behind this stamp, the round of this number.
+fn push_pinger(text: &mut Vec<u8>, stamp: u64, number: u64) -> Result<(), AllocError>
+    requires { stamp < 10000 }
+{
+    push_line(text, stamp + 1, b" exec 1 sent <1> ping")?;
+    push_signal(text, stamp + 5, b" from 1 ", number, b" kept pong")?;
+    push_line(text, stamp + 6, b" exec 2 took 1 1 pong")?;
+    push_line(text, stamp + 7, b" exec 3 done")
+}
+
+/// The same of process b.
+fn push_ponger(text: &mut Vec<u8>, stamp: u64, number: u64) -> Result<(), AllocError>
+    requires { stamp < 10000 }
+{
+    push_signal(text, stamp + 2, b" from 0 ", number, b" kept ping")?;
+    push_line(text, stamp + 3, b" exec 1 took 1 1 ping")?;
+    push_line(text, stamp + 4, b" exec 2 sent <0> pong")?;
+    push_line(text, stamp + 5, b" exec 3 done")
+}
+
+#[test]
+fn two_processes_play_until_both_are_cut(rt: HostRuntime) -> Result<(), Fail> {
+    let alloc = rt.alloc();
+    let mut pinger = Vec::from_slice(alloc, b"process 0 a\n")?;
+    let mut ponger = Vec::from_slice(alloc, b"process 1 b\n")?;
+    for round in 0..500 {
+        push_pinger(&mut pinger, 7 * round, round + 1)?;
+        push_ponger(&mut ponger, 7 * round, round + 1)?;
+    }
+    pinger.extend_from_slice(b"state cut\n")?;
+    ponger.extend_from_slice(b"state cut\n")?;
+    pinger.extend_from_slice(ponger.as_slice())?;
+    assert!(rt; gives(alloc, PING_PONG, pinger.as_slice())?);
+    Ok(())
+}
+
+#[test]
+fn a_record_of_two_players_has_so_many_lines(rt: HostRuntime) -> Result<(), Fail> {
+    let alloc = rt.alloc();
+    let (status, out, err) = run_lines(alloc, PING_PONG)?;
+    assert!(rt; status == Status::Done);
+    assert!(rt; err.held().is_empty());
+    let rows: [(&[u8], usize); 9] = [
+        (b"\n", 4005),
+        (b" took 1 1 pong\n", 500),
+        (b" took 1 1 ping\n", 500),
+        (b" kept pong\n", 500),
+        (b" kept ping\n", 500),
+        (b" took ", 1000),
+        (b"\nstate cut\n", 2),
+        (b"\nleft ", 0),
+        (b"\nqueued ", 0),
+    ];
+    for (piece, count) in rows {
+        assert!(rt; count_of(out.held(), piece) == count, "{piece:?}");
+    }
+    Ok(())
+}
+
+/// The text of a tuple of these elements.
+fn tuple_text(alloc: Global, elements: &[&[u8]]) -> Result<Vec<u8>, AllocError> {
+    let mut text = Vec::from_slice(alloc, b"{")?;
+    for (place, element) in elements.iter().enumerate() {
+        if place > 0 {
+            text.push(b',')?;
+        }
+        text.extend_from_slice(element)?;
+    }
+    text.push(b'}')?;
+    Ok(text)
+}
+
+/// An event that sets a value: its stamp is its place.
+fn push_set(alloc: Global, text: &mut Vec<u8>, place: u64, value: &[u8]) -> Result<(), AllocError> {
+    let mut rest = Vec::from_slice(alloc, b" set ")?;
+    rest.extend_from_slice(value)?;
+    push_signal(text, place, b" exec ", place, rest.as_slice())
+}
+
+const PAIRS: &[u8] = b"process a\nset X 0\n\
+    set X {X,X}\nset X {X,X}\nset X {X,X}\n\
+    set X {X,X}\nset X {X,X}\nset X {X,X}\n\
+    set X {X,X}\nset X {X,X}\nset X {X,X}\n";
+
+#[test]
+fn the_largest_term_is_set_and_the_next_ends_the_process(rt: HostRuntime) -> Result<(), Fail> {
+    let alloc = rt.alloc();
+    let mut lines = Vec::from_slice(alloc, PAIRS)?;
+    lines.extend_from_slice(b"set X {X}\nset X {X}\n")?;
+    let mut record = Vec::from_slice(alloc, b"process 0 a\n")?;
+    let mut value = Vec::from_slice(alloc, b"0")?;
+    push_set(alloc, &mut record, 1, value.as_slice())?;
+    for place in 2..11 {
+        value = tuple_text(alloc, &[value.as_slice(), value.as_slice()])?;
+        push_set(alloc, &mut record, place, value.as_slice())?;
+    }
+    // It has 1,023 nodes, and 1,024 in a tuple of its own.
+    value = tuple_text(alloc, &[value.as_slice()])?;
+    assert!(rt; value.len() == 2047);
+    push_set(alloc, &mut record, 11, value.as_slice())?;
+    record.extend_from_slice(b"12 exec 12 ended system_limit\nstate ended system_limit\n")?;
+    assert!(rt; gives(alloc, lines.as_slice(), record.as_slice())?);
+    Ok(())
+}
+
+#[test]
+fn size_is_looked_at_before_kind(rt: HostRuntime) -> Result<(), Fail> {
+    let alloc = rt.alloc();
+    let rows: [(&[u8], &[u8]); 4] = [
+        (
+            b"send hi {X,X}\n",
+            b"11 exec 11 ended system_limit\nstate ended system_limit\n",
+        ),
+        (
+            b"send {X,X} hi\n",
+            b"11 exec 11 ended system_limit\nstate ended system_limit\n",
+        ),
+        (
+            b"send @a {X,X}\n",
+            b"11 exec 11 ended system_limit\nstate ended system_limit\n",
+        ),
+        (
+            b"send X hi\n",
+            b"11 exec 11 ended badarg\nstate ended badarg\n",
+        ),
+    ];
+    for (line, end) in rows {
+        let mut lines = Vec::from_slice(alloc, PAIRS)?;
+        lines.extend_from_slice(line)?;
+        let (status, out, _) = run_lines(alloc, lines.as_slice())?;
+        assert!(rt; status == Status::Done);
+        assert!(rt; out.held().ends_with(end), "{line:?}");
+    }
+    Ok(())
+}
+
+#[test]
+fn a_value_of_depth_64_is_the_deepest(rt: HostRuntime) -> Result<(), Fail> {
+    let alloc = rt.alloc();
+    let mut lines = Vec::from_slice(alloc, b"process a\n")?;
+    let mut record = Vec::from_slice(alloc, b"process 0 a\n")?;
+    let mut value = Vec::from_slice(alloc, b"undefined")?;
+    for place in 1..64 {
+        lines.extend_from_slice(b"set X {X}\n")?;
+        value = tuple_text(alloc, &[value.as_slice()])?;
+        push_set(alloc, &mut record, place, value.as_slice())?;
+    }
+    lines.extend_from_slice(b"set X {X}\n")?;
+    record.extend_from_slice(b"64 exec 64 ended system_limit\nstate ended system_limit\n")?;
+    assert!(rt; gives(alloc, lines.as_slice(), record.as_slice())?);
+    Ok(())
+}
+
+/// Texts behind the header line that are refused, with the line and the kind, and what is told.
+const REFUSED: [(&[u8], u64, FaultKind, &[u8]); 13] = [
+    (
+        b"process a\nreceive\non x\n",
+        5,
+        FaultKind::Syntax,
+        b"sigrun: line 5: syntax\n",
+    ),
+    (
+        b"process a\ngoto z\n",
+        3,
+        FaultKind::UnknownLabel,
+        b"sigrun: line 3: unknown_label\n",
+    ),
+    (
+        b"\n% more\nstart a\n",
+        4,
+        FaultKind::Syntax,
+        b"sigrun: line 4: syntax\n",
+    ),
+    (
+        b"process a\nset X 9223372036854775808\n",
+        3,
+        FaultKind::IntRange,
+        b"sigrun: line 3: int_range\n",
+    ),
+    (
+        b"process a\nset X -9223372036854775809\n",
+        3,
+        FaultKind::IntRange,
+        b"sigrun: line 3: int_range\n",
+    ),
+    (
+        b"process a\nset X [[[[[[[[[[[[[[[[[[[[[[[[[[[[[[[[[[[[[[[[[[[[[[[[[[[[[[[[[[[[[[[[[\n",
+        3,
+        FaultKind::TermTooLarge,
+        b"sigrun: line 3: term_too_large\n",
+    ),
+    (
+        b"process a\nreceive\non [[[[[[[[[[[[[[[[[[[[[[[[[[[[[[[[[[[[[[[[[[[[[[[[[[[[[[[[[[[[[[[[[\n",
+        4,
+        FaultKind::TermTooLarge,
+        b"sigrun: line 4: term_too_large\n",
+    ),
+    (
+        b"process a\n\nprocess a\n",
+        4,
+        FaultKind::DuplicateName,
+        b"sigrun: line 4: duplicate_name\n",
+    ),
+    (
+        b"process a\nlabel l\nlabel l\n",
+        4,
+        FaultKind::DuplicateLabel,
+        b"sigrun: line 4: duplicate_label\n",
+    ),
+    (
+        b"turns 20001\n",
+        2,
+        FaultKind::TooManyTurns,
+        b"sigrun: line 2: too_many_turns\n",
+    ),
+    (
+        b"process a\nsend @b hi\n",
+        3,
+        FaultKind::UnknownProcess,
+        b"sigrun: line 3: unknown_process\n",
+    ),
+    (
+        b"process a\nsend @b hi\nprocess a\n",
+        4,
+        FaultKind::DuplicateName,
+        b"sigrun: line 4: duplicate_name\n",
+    ),
+    (
+        b"process a\nreceive\non x -> l\nend\nprocess b\nlabel l\n",
+        4,
+        FaultKind::UnknownLabel,
+        b"sigrun: line 4: unknown_label\n",
+    ),
+];
+
+#[test]
+fn refusals_are_told_with_line_and_kind(rt: HostRuntime) -> Result<(), Fail> {
+    let alloc = rt.alloc();
+    for (lines, line, kind, told) in REFUSED {
+        let (status, out, err) = run_lines(alloc, lines)?;
+        assert!(rt; status == Status::BadScript { line, kind }, "{lines:?}");
+        assert!(rt; status.number() == 1, "{lines:?}");
+        assert!(rt; out.held().is_empty(), "{lines:?}");
+        assert!(rt; err.held() == told, "{lines:?}");
+    }
+    Ok(())
+}
+
+#[test]
+fn a_text_of_blanks_that_is_too_long_has_no_line(rt: HostRuntime) -> Result<(), Fail> {
+    let alloc = rt.alloc();
+    let rows: [(usize, Status, &[u8]); 2] = [
+        (1048576, NO_HEADER, TOLD_NO_HEADER),
+        (1048577, TOO_LONG, b"sigrun: line 0: too_long\n"),
+    ];
+    for (size, status, told) in rows {
+        let mut source = MemorySource::new(vec![in alloc; b' '; size]?, 100000);
+        let mut out = MemorySink::with_room(alloc, 100)?;
+        let (answer, err) = run_with(alloc, &mut source, &mut out)?;
+        assert!(rt; answer == status, "{size}");
+        assert!(rt; out.held().is_empty(), "{size}");
+        assert!(rt; err.held() == told, "{size}");
+    }
+    Ok(())
+}
+
+#[test]
+fn the_sixty_fifth_process_is_refused(rt: HostRuntime) -> Result<(), Fail> {
+    let alloc = rt.alloc();
+    let mut lines = Vec::new(alloc);
+    for number in 1..65 {
+        lines.extend_from_slice(b"process p")?;
+        push_line(&mut lines, number, b"")?;
+    }
+    let (status, _, _) = run_lines(alloc, lines.as_slice())?;
+    assert!(rt; status == Status::Done);
+    lines.extend_from_slice(b"process p65\n")?;
+    let (status, out, err) = run_lines(alloc, lines.as_slice())?;
+    let kind = FaultKind::TooManyProcesses;
+    assert!(rt; status == Status::BadScript { line: 66, kind });
+    assert!(rt; out.held().is_empty());
+    assert!(rt; err.held() == b"sigrun: line 66: too_many_processes\n".as_slice());
     Ok(())
 }
