@@ -1,5 +1,5 @@
 -- Pieces that are told one after another.
-use Rattle.std.proofs.Common.{◌≡◌, ℕ, ◌+◌, ◌≤◌, List, [], ◌++◌, Option, Some, None, refl, sym, ◌∙◌, ap, arith, append_assoc, append-nil}
+use Rattle.std.proofs.Common.{◌≡◌, ℕ, ◌≤◌, List, [], ◌++◌, Option, Some, None, sym, ◌∙◌, ap, arith, append_assoc, append-nil}
 use Rattle.sig_base.specs.Flow.{Rose, Adds}
 
 -- nothing was told

@@ -1,4 +1,4 @@
-use Rattle.std.proofs.Common.{rules, ◌∷◌, [], ◌++◌}
+use Rattle.std.proofs.Common.{rules, ◌++◌}
 use Rattle.std.specs.Prelude.{codes, decimal}
 use Rattle.sig_base.specs.Flow.{Adds}
 use Rattle.sig_host.specs.Told.{word_of}
