@@ -3,6 +3,7 @@ pub mod SpellingLemmas
 pub mod CutLemmas
 pub mod LineLemmas
 pub mod BelowLemmas
+pub mod LabelLemmas
 pub mod FitLemmas
 pub mod OperandLemmas
 pub mod ReaderLemmas

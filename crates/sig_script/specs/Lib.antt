@@ -1,4 +1,5 @@
 pub mod Scripts
+pub mod LabelPlaces
 pub mod Faults
 pub mod Lines
 pub mod Numbers

@@ -1,7 +1,6 @@
 ghost use Rattle.std.specs.Prelude.{◌≡◌, ◌+◌, ◌<◌, ◌≤◌, ◌^◌, ◌++◌, [], ◌∷◌, length, OnOk, Ok};
 ghost use Rattle.std.specs.List.{list_any};
 ghost use Rattle.std.specs.Str.{bytes_eq};
-ghost use Rattle.sig_script.specs.declared.label.Label.{Label};
 ghost use Rattle.sig_script.specs.Faults.{Gives};
 ghost use Rattle.sig_script.specs.Scripts.{Declared, Program};
 ghost use Rattle.sig_script.specs.Drafts.{open_proc, all_procs, begun, labelled, with_instr, taken_at, taken};
@@ -15,6 +14,7 @@ use crate::form::{Form, read_line};
 use crate::instruction::{After, Instr};
 use crate::known::Known;
 use crate::label::Label;
+use crate::label_table::LabelTable;
 use crate::reader::ScriptError;
 use sig_lists::{Pushed, Sequence};
 use sig_patterns::{Clause, Clauses, Pattern};
@@ -81,15 +81,6 @@ fn is_proc_among(procs: &[DraftProc], name: &[u8]) -> bool
         .any(|proc| equal_bytes(proc.name.bytes(), name))
 }
 
-/// Whether a label has the name.
-fn is_label_among(labels: &[Label], name: &[u8]) -> bool
-    ensures { result ≡ list_any (λ (l : Label). bytes_eq l.name name.now) labels.now }
-{
-    labels
-        .iter()
-        .any(|label| equal_bytes(label.name.bytes(), name))
-}
-
 /// A process line.
 fn begin(
     alloc: Global,
@@ -109,7 +100,7 @@ fn begin(
     }
     let proc = DraftProc {
         name,
-        labels: Sequence::new(alloc),
+        labels: LabelTable::new(alloc),
         instrs: Sequence::new(alloc),
     };
     Ok(Draft {
@@ -120,17 +111,22 @@ fn begin(
 }
 
 /// A label line.
+#[tactic(auto, using(crate::proofs::LabelLemmas::any_place))]
 fn add_label(proc: DraftProc, name: Name) -> Result<DraftProc, Stop>
-    requires { length proc.instrs + 1 < 2 ^ 32 }
+    requires instrs { length proc.instrs + 1 < 2 ^ 32 }
+    requires labels { length proc.labels < 2 ^ 32 }
     ensures { Gives (λ p. p) result (labelled proc name) }
 {
-    if is_label_among(proc.labels.as_slice(), name.bytes()) {
+    if proc.labels.place_of(name.bytes()).is_some() {
         return Err(Stop::Fault(FaultKind::DuplicateLabel));
     }
     let place = proc.instrs.len() as u32 + 1;
-    let mut proc = proc;
-    add(&mut proc.labels, Label { name, place })?;
-    Ok(proc)
+    let labels = proc.labels.with(Label { name, place })?;
+    Ok(DraftProc {
+        name: proc.name,
+        labels,
+        instrs: proc.instrs,
+    })
 }
 
 /// An instruction.
@@ -186,7 +182,8 @@ fn take_outside(
     proc: DraftProc,
     form: Form,
 ) -> Result<Draft, Stop>
-    requires { length proc.instrs + 1 < 2 ^ 32 }
+    requires instrs { length proc.instrs + 1 < 2 ^ 32 }
+    requires labels { length proc.labels < 2 ^ 32 }
     ensures { Gives (λ d. d) result (taken (record { turns = turns; procs = procs; place = Place.Outside proc }) form) }
 {
     let place = match form {
@@ -248,7 +245,7 @@ fn take_inside(
 }
 
 /// A form behind what was read so far.
-#[tactic(auto, using(crate::proofs::FitLemmas::open_small))]
+#[tactic(auto, using(crate::proofs::FitLemmas::open_small, crate::proofs::FitLemmas::open_few))]
 fn take_form(alloc: Global, draft: Draft, n: u64, form: Form) -> Result<Draft, Stop>
     requires few { n < 2 ^ 31 }
     requires fit { IsFit n draft }

@@ -1,12 +1,11 @@
-ghost use Rattle.std.specs.Prelude.{◌≡◌, ◌≤◌, ◌<◌, ◌^◌, length, position, IfSome, All};
+ghost use Rattle.std.specs.Prelude.{◌≡◌, ◌≤◌, ◌<◌, ◌^◌, length, position, IfSome};
 ghost use Rattle.std.specs.Str.{bytes_eq};
 ghost use Rattle.sig_script.specs.declared.label.Label.{Label};
 ghost use Rattle.sig_script.specs.Scripts.{Declared};
 ghost use Rattle.sig_script.specs.Names.{labels_at};
-ghost use Rattle.sig_script.specs.Fitting.{IsSmall};
 
 use crate::instruction::Instrs;
-use crate::label::{Label, Labels};
+use crate::label_table::LabelTable;
 use sig_lists::Sequence;
 use sig_terms::Name;
 use sig_terms::bytes::equal_bytes;
@@ -16,7 +15,7 @@ use std::marker::Model;
 #[derive(Drop)]
 pub struct DraftProc {
     pub name: Name,
-    pub labels: Labels,
+    pub labels: LabelTable,
     pub instrs: Instrs,
 }
 
@@ -56,14 +55,6 @@ impl Model for DraftScript {
     ghost view = { λ s. record { turns = s.turns; procs = s.procs } };
 }
 
-impl DraftProc {
-    fn labels(&self) -> &[Label]
-        ensures { result.now ≡ self.now.labels }
-    {
-        self.labels.as_slice()
-    }
-}
-
 fn place_of_proc(procs: &[DraftProc], name: &[u8]) -> Option<usize>
     ensures place { result ≡ position (λ (p : Declared). bytes_eq p.name name.now) procs.now }
     ensures within { IfSome result (λ n. n < length procs.now) }
@@ -73,21 +64,13 @@ fn place_of_proc(procs: &[DraftProc], name: &[u8]) -> Option<usize>
         .position(|proc| equal_bytes(proc.name.bytes(), name))
 }
 
-fn place_of_label(labels: &[Label], name: &[u8]) -> Option<usize>
-    ensures place { result ≡ position (λ (l : Label). bytes_eq l.name name.now) labels.now }
-    ensures within { IfSome result (λ n. n < length labels.now) }
-{
-    labels
-        .iter()
-        .position(|label| equal_bytes(label.name.bytes(), name))
-}
-
-fn labels_of(procs: &[DraftProc], here: usize) -> &[Label]
-    ensures { result.now ≡ labels_at here procs.now }
+/// The place of the label of this name among those of the process at this place.
+fn label_among(procs: &[DraftProc], here: usize, name: &[u8]) -> Option<u32>
+    ensures { result ≡ position (λ (l : Label). bytes_eq l.name name.now) (labels_at here procs.now) }
 {
     match procs.get(here) {
-        Some(proc) => proc.labels(),
-        None => &[],
+        Some(proc) => proc.labels.place_of(name),
+        None => None,
     }
 }
 
@@ -105,14 +88,9 @@ impl DraftScript {
 
     /// The place of the label of this name among those of the process with this place among the
     /// processes. `None` exactly where it has no such label.
-    #[tactic(auto, using(crate::proofs::FitLemmas::few_labels))]
     pub fn label_of(&self, here: usize, name: &[u8]) -> Option<u32>
-        requires { All (IsSmall (2 ^ 31)) self.now.procs }
         ensures { result ≡ position (λ (l : Label). bytes_eq l.name name.now) (labels_at here self.now.procs) }
     {
-        match place_of_label(labels_of(self.procs.as_slice(), here), name) {
-            Some(place) => Some(place as u32),
-            None => None,
-        }
+        label_among(self.procs.as_slice(), here, name)
     }
 }

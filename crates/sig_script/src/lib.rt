@@ -10,6 +10,7 @@ mod instruction;
 mod keyword;
 mod known;
 mod label;
+mod label_table;
 mod line;
 mod names;
 mod number;

@@ -127,7 +127,7 @@ fn seal_procs(alloc: Global, drafts: DraftProcs) -> Result<Procs, AllocError>
     for draft in drafts.into_vec() {
         procs.push(Proc {
             name: draft.name,
-            labels: draft.labels,
+            labels: draft.labels.into_labels(),
             instrs: draft.instrs,
         })?;
     }

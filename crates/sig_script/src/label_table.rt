@@ -1,0 +1,82 @@
+ghost use Rattle.std.specs.Prelude.{◌≡◌, ◌<◌, ◌^◌, ◌++◌, [], ◌∷◌, length, position, None, IfOk};
+ghost use Rattle.std.specs.Str.{bytes_eq};
+ghost use Rattle.sig_script.specs.declared.label.Label.{Label};
+
+use crate::label::{Label, Labels};
+use sig_lists::{Pushed, Sequence};
+use sig_terms::Name;
+use std::alloc::{AllocError, Global};
+use std::collections::BTreeMap;
+use std::marker::Model;
+
+/// The labels of a process while it is read, each with a name of its own. A name is looked up in
+/// time in the logarithm of their count. Contracts see the labels alone.
+#[derive(Drop)]
+pub struct LabelTable {
+    alloc: Global,
+    labels: Labels,
+    places: BTreeMap<Vec<u8>, u32>,
+}
+
+impl Model for LabelTable {
+    ghost use Rattle.std.specs.Prelude.{List};
+    ghost use Rattle.sig_script.specs.declared.label.Label.{Label};
+    ghost use Rattle.sig_script.specs.LabelPlaces.{IsIndexed};
+
+    ghost Value = { List Label };
+
+    ghost view = { λ t. t.labels };
+
+    ghost invariant = { λ t. IsIndexed t.labels t.places.entries };
+}
+
+impl LabelTable {
+    /// No labels. It takes no memory.
+    pub fn new(alloc: Global) -> LabelTable
+        ensures { result ≡ [] }
+    {
+        LabelTable {
+            alloc,
+            labels: Sequence::new(alloc),
+            places: BTreeMap::new(alloc),
+        }
+    }
+
+    /// The place of the label of this name among the labels, from 0. `None` exactly where there is
+    /// no such label.
+    pub fn place_of(&self, name: &[u8]) -> Option<u32>
+        ensures { result ≡ position (λ (l : Label). bytes_eq l.name name.now) self.now }
+    {
+        self.places.get(name).copied()
+    }
+
+    /// The labels, with a further one at the end.
+    pub fn with(self, label: Label) -> Result<LabelTable, AllocError>
+        requires new { position (λ (l : Label). bytes_eq l.name label.name) self ≡ None }
+        requires few { length self < 2 ^ 32 }
+        ensures { IfOk result (λ t. t ≡ self ++ label ∷ []) }
+    {
+        let LabelTable {
+            alloc,
+            mut labels,
+            mut places,
+        } = self;
+        let key = Vec::from_slice(alloc, label.name.bytes())?;
+        places.insert(key, labels.len() as u32)?;
+        match labels.push(label) {
+            Pushed::Added => Ok(LabelTable {
+                alloc,
+                labels,
+                places,
+            }),
+            Pushed::Memory { item: _ } => Err(AllocError),
+        }
+    }
+
+    /// The labels alone.
+    pub fn into_labels(self) -> Labels
+        ensures { result ≡ self }
+    {
+        self.labels
+    }
+}
