@@ -143,5 +143,5 @@ indexed_more labels label k es key free index = λ q.
     ∙ ap (λ (name : List ℕ). cond (bytes_eq q name) (Some (length labels)) (lookup (is_at (λ x. slice_cmp nat_cmp q x.items)) es)) key
     ∙ ap (cond (bytes_eq q label.name) (Some (length labels))) (index q)
     ∙ same-name q label.name (position (λ (l : Label). bytes_eq l.name q) labels) (length labels) (bytes_eq q label.name) refl
-      (λ same. ap (λ (name : List ℕ). position (λ (l : Label). bytes_eq l.name name) labels) same ∙ free)
+    (λ same. ap (λ (name : List ℕ). position (λ (l : Label). bytes_eq l.name name) labels) same ∙ free)
     ∙ sym (position-last (λ (l : Label). bytes_eq l.name q) labels label)
