@@ -145,12 +145,7 @@ fn read_exit(alloc: Global, known: &Known, line: &[u8], tokens: &[Token]) -> Res
     Ok(Instr::Exit { reason })
 }
 
-fn read_exit_to(
-    alloc: Global,
-    known: &Known,
-    line: &[u8],
-    tokens: &[Token],
-) -> Result<Instr, Stop>
+fn read_exit_to(alloc: Global, known: &Known, line: &[u8], tokens: &[Token]) -> Result<Instr, Stop>
     requires known { IsFewKnown known.now }
     requires whole { AreWhole line.now tokens.now }
     ensures { Gives (λ i. i) result (exit_to_of known.now line.now tokens.now) }
@@ -161,7 +156,7 @@ fn read_exit_to(
     Ok(Instr::ExitTo { target, reason })
 }
 
-/// Whether the word is `on`; it is `off` otherwise.
+/// Whether the word is `on`. A word that isn't `off` either is refused.
 fn read_switch(word: &[u8]) -> Result<bool, Stop>
     ensures { Gives (λ on. on) result (switch_of word.now) }
 {
