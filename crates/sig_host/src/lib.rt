@@ -9,4 +9,6 @@ pub use host::run;
 pub use status::Status;
 
 #[cfg(test)]
+mod exit_tests;
+#[cfg(test)]
 mod tests;

@@ -183,7 +183,7 @@ fn run_lines(alloc: Global, lines: &[u8]) -> Result<(Status, MemorySink, MemoryS
 }
 
 /// Whether the record of the script of these lines is the first line of a record and these lines.
-fn gives(alloc: Global, lines: &[u8], record: &[u8]) -> Result<bool, AllocError> {
+pub(crate) fn gives(alloc: Global, lines: &[u8], record: &[u8]) -> Result<bool, AllocError> {
     let (status, out, err) = run_lines(alloc, lines)?;
     let told = out.held().strip_prefix(b"sigrecord 1\n".as_slice());
     Ok(status == Status::Done && told == Some(record) && err.held().is_empty())

@@ -246,6 +246,12 @@ form-counted known here keyword.Send line ts =
     holds-on_ok (λ _. Unit {0}) (SaysAs keyword.Send) form.Do (instr_of known here keyword.Send line ts) (anything (instr_of known here keyword.Send line ts)) (λ i _ cs. refl)
 form-counted known here keyword.Set line ts =
     holds-on_ok (λ _. Unit {0}) (SaysAs keyword.Set) form.Do (instr_of known here keyword.Set line ts) (anything (instr_of known here keyword.Set line ts)) (λ i _ cs. refl)
+form-counted known here keyword.Exit line ts =
+    holds-on_ok (λ _. Unit {0}) (SaysAs keyword.Exit) form.Do (instr_of known here keyword.Exit line ts) (anything (instr_of known here keyword.Exit line ts)) (λ i _ cs. refl)
+form-counted known here keyword.ExitTo line ts =
+    holds-on_ok (λ _. Unit {0}) (SaysAs keyword.ExitTo) form.Do (instr_of known here keyword.ExitTo line ts) (anything (instr_of known here keyword.ExitTo line ts)) (λ i _ cs. refl)
+form-counted known here keyword.Trap line ts =
+    holds-on_ok (λ _. Unit {0}) (SaysAs keyword.Trap) form.Do (instr_of known here keyword.Trap line ts) (anything (instr_of known here keyword.Trap line ts)) (λ i _ cs. refl)
 form-counted known here keyword.Goto line ts =
     holds-on_ok (λ _. Unit {0}) (SaysAs keyword.Goto) form.Do (instr_of known here keyword.Goto line ts) (anything (instr_of known here keyword.Goto line ts)) (λ i _ cs. refl)
 form-counted known here keyword.Stop line ts =

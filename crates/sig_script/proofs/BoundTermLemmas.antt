@@ -25,12 +25,12 @@ use Rattle.sig_script.specs.Scripts.{Declared, Program, IsTarget, IsLawful, IsEx
 use Rattle.sig_script.specs.Faults.{◌>>=◌, on_ok}
 use Rattle.sig_script.specs.Tokens.{text, unquoted}
 use Rattle.sig_script.specs.Numbers.{int_of}
-use Rattle.sig_script.specs.Names.{pid_of, labels_at, label_of, name_at, variable_at}
+use Rattle.sig_script.specs.Names.{pid_of, labels_at, label_of, name_of, name_at, variable_at}
 use Rattle.sig_script.specs.Signs.{is_open_brace, is_open_bracket, is_arrow, is_comma, is_bar, is_caret, is_underscore, closes}
 use Rattle.sig_script.specs.Operands.{Read, behind, elements, closed, enclosed}
 use Rattle.sig_script.specs.Expressions.{expr_leaf, expr_by, expr_front, expr_at, expr_of}
 use Rattle.sig_script.specs.PatternTexts.{pattern_leaf, list_end, pin_at, pattern_by, pattern_front, pattern_at, pattern_of}
-use Rattle.sig_script.specs.Forms.{tokens_of, keyword_of, may_stand, ends, target_at, arrow_of, count_from, turns_of, send_of, set_of, goto_of, whole_name, on_of, instr_of, form_of, form_behind, said_by, said}
+use Rattle.sig_script.specs.Forms.{tokens_of, keyword_of, may_stand, ends, target_at, arrow_of, count_from, turns_of, send_of, set_of, exit_of, exit_to_of, switch_of, trap_of, goto_of, whole_name, on_of, instr_of, form_of, form_behind, said_by, said}
 use Rattle.sig_script.proofs.BelowLemmas.{int_below, atom_below, var_below, pid_below, tuple_below, list_below, any_pattern_below, bind_pattern_below, pin_pattern_below, int_pattern_below, atom_pattern_below, pid_pattern_below, tuple_pattern_below, list_pattern_below, cons_pattern_below}
 
 -- what holds of a result that isn't a refusal
@@ -264,6 +264,24 @@ module _ (s : Program) (here : ℕ) (line : List ℕ) where
       (λ var _. holds-then IsBelow IsMeantInstr (λ value. ends (instr.Set (record { 0 = var.0 }) value.0) value.1) (expr_of (Among s) line var.1) (expr_of-below s line var.1)
       (λ value k. holds-ends IsMeantInstr (instr.Set (record { 0 = var.0 }) value.0) value.1 (tt, k)))
 
+  exit-meant : (ts : List Token) → Holds IsMeantInstr (exit_of (Among s) line ts)
+  exit-meant ts =
+      holds-then IsBelow IsMeantInstr (λ reason. ends (instr.Exit reason.0) reason.1) (expr_of (Among s) line ts) (expr_of-below s line ts)
+      (λ reason h. holds-ends IsMeantInstr (instr.Exit reason.0) reason.1 (tt, h))
+
+  exit_to-meant : (ts : List Token) → Holds IsMeantInstr (exit_to_of (Among s) line ts)
+  exit_to-meant ts =
+      holds-then IsBelow IsMeantInstr (λ target. expr_of (Among s) line target.1 >>= λ reason. ends (instr.ExitTo target.0 reason.0) reason.1) (expr_of (Among s) line ts) (expr_of-below s line ts)
+      (λ target h. holds-then IsBelow IsMeantInstr (λ reason. ends (instr.ExitTo target.0 reason.0) reason.1) (expr_of (Among s) line target.1) (expr_of-below s line target.1)
+      (λ reason k. holds-ends IsMeantInstr (instr.ExitTo target.0 reason.0) reason.1 (tt, (h, k))))
+
+  trap-meant : (ts : List Token) → Holds IsMeantInstr (trap_of line ts)
+  trap-meant [] = tt
+  trap-meant (t ∷ ts) =
+      holds-then (λ _. Unit {0}) IsMeantInstr (λ word. switch_of word >>= λ on. ends (instr.Trap on) ts) (name_of t.kind (text line t)) (anything (name_of t.kind (text line t)))
+      (λ word _. holds-then (λ _. Unit {0}) IsMeantInstr (λ on. ends (instr.Trap on) ts) (switch_of word) (anything (switch_of word))
+      (λ on _. holds-ends IsMeantInstr (instr.Trap on) ts (tt, tt)))
+
   goto-meant : (ts : List Token) → Holds IsMeantInstr (goto_of (Among s) here line ts)
   goto-meant ts =
       holds-then (λ (x : ℕ × List Token). x.0 < length (labels_at here s.procs)) IsMeantInstr (λ x. ends (instr.Goto x.0) x.1) (target_at (Among s) here line ts) (target-below ts)
@@ -273,6 +291,9 @@ module _ (s : Program) (here : ℕ) (line : List ℕ) where
   unfolding instr_of
   instr-meant keyword.Send ts = send-meant ts
   instr-meant keyword.Set ts = set-meant ts
+  instr-meant keyword.Exit ts = exit-meant ts
+  instr-meant keyword.ExitTo ts = exit_to-meant ts
+  instr-meant keyword.Trap ts = trap-meant ts
   instr-meant keyword.Goto ts = goto-meant ts
   instr-meant keyword.Stop ts = holds-ends IsMeantInstr instr.Stop ts (tt, tt)
   instr-meant _ ts = tt
@@ -306,6 +327,9 @@ module _ (s : Program) (here : ℕ) (line : List ℕ) where
   form-meant keyword.End ts = holds-ends IsMeantHere form.End ts tt
   form-meant keyword.Send ts = do-meant keyword.Send ts
   form-meant keyword.Set ts = do-meant keyword.Set ts
+  form-meant keyword.Exit ts = do-meant keyword.Exit ts
+  form-meant keyword.ExitTo ts = do-meant keyword.ExitTo ts
+  form-meant keyword.Trap ts = do-meant keyword.Trap ts
   form-meant keyword.Goto ts = do-meant keyword.Goto ts
   form-meant keyword.Stop ts = do-meant keyword.Stop ts
 

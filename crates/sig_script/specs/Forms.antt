@@ -22,7 +22,7 @@ use Rattle.sig_script.specs.Faults.{◌>>=◌, on_ok}
 use Rattle.sig_script.specs.Numbers.{count_of}
 use Rattle.sig_script.specs.Tokens.{text, cut_of, is_token_in_range}
 use Rattle.sig_script.specs.Signs.{is_arrow}
-use Rattle.sig_script.specs.Names.{label_of, name_at, variable_at}
+use Rattle.sig_script.specs.Names.{label_of, name_of, name_at, variable_at}
 use Rattle.sig_script.specs.Expressions.{expr_of}
 use Rattle.sig_script.specs.PatternTexts.{pattern_of}
 
@@ -43,6 +43,9 @@ keyword_of word =
     else if bytes_eq word (codes "label") then Some keyword.Label
     else if bytes_eq word (codes "send") then Some keyword.Send
     else if bytes_eq word (codes "set") then Some keyword.Set
+    else if bytes_eq word (codes "exit") then Some keyword.Exit
+    else if bytes_eq word (codes "exit_to") then Some keyword.ExitTo
+    else if bytes_eq word (codes "trap") then Some keyword.Trap
     else if bytes_eq word (codes "goto") then Some keyword.Goto
     else if bytes_eq word (codes "stop") then Some keyword.Stop
     else if bytes_eq word (codes "receive") then Some keyword.Receive
@@ -115,6 +118,32 @@ set_of known line ts = do
   value ← expr_of known line var.1
   ends (instr.Set (record { 0 = var.0 }) value.0) value.1
 
+-- `exit E`
+abbrev pub exit_of : Known → List ℕ → List Token → Result Instr FaultKind
+exit_of known line ts = expr_of known line ts >>= λ reason. ends (instr.Exit reason.0) reason.1
+
+-- `exit_to E E`
+abbrev pub exit_to_of : Known → List ℕ → List Token → Result Instr FaultKind
+exit_to_of known line ts = do
+  target ← expr_of known line ts
+  reason ← expr_of known line target.1
+  ends (instr.ExitTo target.0 reason.0) reason.1
+
+-- `on` or `off`
+abbrev pub switch_of : List ℕ → Result Bool FaultKind
+switch_of word =
+    if bytes_eq word (codes "on") then Ok true
+    else if bytes_eq word (codes "off") then Ok false
+    else Err Syntax
+
+-- `trap on`, `trap off`
+abbrev pub trap_of : List ℕ → List Token → Result Instr FaultKind
+trap_of line [] = Err Syntax
+trap_of line (t ∷ ts) = do
+  word ← name_of t.kind (text line t)
+  on ← switch_of word
+  ends (instr.Trap on) ts
+
 -- `goto L`
 abbrev pub goto_of : Known → ℕ → List ℕ → List Token → Result Instr FaultKind
 goto_of known here line ts = target_at known here line ts >>= λ x. ends (instr.Goto x.0) x.1
@@ -122,6 +151,9 @@ goto_of known here line ts = target_at known here line ts >>= λ x. ends (instr.
 unfoldable pub instr_of : Known → ℕ → Keyword → List ℕ → List Token → Result Instr FaultKind
 instr_of known here keyword.Send line ts = send_of known line ts
 instr_of known here keyword.Set line ts = set_of known line ts
+instr_of known here keyword.Exit line ts = exit_of known line ts
+instr_of known here keyword.ExitTo line ts = exit_to_of known line ts
+instr_of known here keyword.Trap line ts = trap_of line ts
 instr_of known here keyword.Goto line ts = goto_of known here line ts
 instr_of known here keyword.Stop line ts = ends instr.Stop ts
 instr_of known here _ line ts = Err Syntax

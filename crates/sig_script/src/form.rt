@@ -9,6 +9,10 @@ ghost use Rattle.sig_script.specs.Forms.{
   turns_of,
   send_of,
   set_of,
+  exit_of,
+  exit_to_of,
+  switch_of,
+  trap_of,
   goto_of,
   whole_name,
   on_of,
@@ -33,6 +37,7 @@ use crate::patterns::take_pattern;
 use crate::token::{Token, TokenKind};
 use sig_patterns::Pattern;
 use sig_terms::Name;
+use sig_terms::bytes::equal_bytes;
 use std::alloc::Global;
 
 /// What a line says.
@@ -130,6 +135,54 @@ fn read_set(alloc: Global, known: &Known, line: &[u8], tokens: &[Token]) -> Resu
     Ok(Instr::Set { var, value })
 }
 
+fn read_exit(alloc: Global, known: &Known, line: &[u8], tokens: &[Token]) -> Result<Instr, Stop>
+    requires known { IsFewKnown known.now }
+    requires whole { AreWhole line.now tokens.now }
+    ensures { Gives (λ i. i) result (exit_of known.now line.now tokens.now) }
+{
+    let (reason, rest) = take_expr(alloc, known, line, tokens)?;
+    end(rest)?;
+    Ok(Instr::Exit { reason })
+}
+
+fn read_exit_to(alloc: Global, known: &Known, line: &[u8], tokens: &[Token]) -> Result<Instr, Stop>
+    requires known { IsFewKnown known.now }
+    requires whole { AreWhole line.now tokens.now }
+    ensures { Gives (λ i. i) result (exit_to_of known.now line.now tokens.now) }
+{
+    let (target, rest) = take_expr(alloc, known, line, tokens)?;
+    let (reason, rest) = take_expr(alloc, known, line, rest)?;
+    end(rest)?;
+    Ok(Instr::ExitTo { target, reason })
+}
+
+/// Whether the word is `on`. A word that isn't `off` either is refused.
+fn read_switch(word: &[u8]) -> Result<bool, Stop>
+    ensures { Gives (λ on. on) result (switch_of word.now) }
+{
+    if equal_bytes(word, b"on") {
+        Ok(true)
+    } else if equal_bytes(word, b"off") {
+        Ok(false)
+    } else {
+        Err(Stop::Fault(FaultKind::Syntax))
+    }
+}
+
+fn read_trap(line: &[u8], tokens: &[Token]) -> Result<Instr, Stop>
+    requires { AreWhole line.now tokens.now }
+    ensures { Gives (λ i. i) result (trap_of line.now tokens.now) }
+{
+    match tokens {
+        [token, rest @ ..] if token.kind == TokenKind::Name => {
+            let on = read_switch(text_of(line, *token))?;
+            end(rest)?;
+            Ok(Instr::Trap { on })
+        }
+        _ => Err(Stop::Fault(FaultKind::Syntax)),
+    }
+}
+
 fn read_goto(
     alloc: Global,
     known: &Known,
@@ -171,8 +224,38 @@ fn read_on(
     Ok(Form::On(pattern, target))
 }
 
+/// The instruction behind the word, which is no receive, of the process with this place among the
+/// processes.
+#[tactic(auto, unfolding(crate::specs::Forms::instr_of))]
+fn read_instr(
+    alloc: Global,
+    known: &Known,
+    here: usize,
+    word: Keyword,
+    line: &[u8],
+    tokens: &[Token],
+) -> Result<Instr, Stop>
+    requires known { IsFewKnown known.now }
+    requires whole { AreWhole line.now tokens.now }
+    ensures { Gives (λ i. i) result (instr_of known.now here word line.now tokens.now) }
+{
+    match word {
+        Keyword::Send => read_send(alloc, known, line, tokens),
+        Keyword::Set => read_set(alloc, known, line, tokens),
+        Keyword::Exit => read_exit(alloc, known, line, tokens),
+        Keyword::ExitTo => read_exit_to(alloc, known, line, tokens),
+        Keyword::Trap => read_trap(line, tokens),
+        Keyword::Goto => read_goto(alloc, known, here, line, tokens),
+        Keyword::Stop => {
+            end(tokens)?;
+            Ok(Instr::Stop)
+        }
+        _ => Err(Stop::Fault(FaultKind::Syntax)),
+    }
+}
+
 /// What stands behind the word, for the process with this place among the processes.
-#[tactic(auto, unfolding(crate::specs::Forms::form_of, crate::specs::Forms::instr_of))]
+#[tactic(auto, unfolding(crate::specs::Forms::form_of))]
 fn read_form(
     alloc: Global,
     known: &Known,
@@ -189,13 +272,6 @@ fn read_form(
         Keyword::Turns => read_turns(line, tokens),
         Keyword::Process => Ok(Form::Process(read_name(alloc, line, tokens)?)),
         Keyword::Label => Ok(Form::Label(read_name(alloc, line, tokens)?)),
-        Keyword::Send => Ok(Form::Do(read_send(alloc, known, line, tokens)?)),
-        Keyword::Set => Ok(Form::Do(read_set(alloc, known, line, tokens)?)),
-        Keyword::Goto => Ok(Form::Do(read_goto(alloc, known, here, line, tokens)?)),
-        Keyword::Stop => {
-            end(tokens)?;
-            Ok(Form::Do(Instr::Stop))
-        }
         Keyword::Receive => {
             end(tokens)?;
             Ok(Form::Receive)
@@ -209,6 +285,7 @@ fn read_form(
             end(tokens)?;
             Ok(Form::End)
         }
+        _ => Ok(Form::Do(read_instr(alloc, known, here, word, line, tokens)?)),
     }
 }
 

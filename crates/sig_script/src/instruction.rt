@@ -30,6 +30,20 @@ pub enum Instr {
         clauses: Clauses,
         after: Option<After>,
     },
+    /// Ends the process with the reason. (Erlang Reference Manual, Processes, Process Termination.)
+    Exit {
+        reason: Expr,
+    },
+    /// Sends an exit signal. (Erlang Reference Manual, Processes, Sending Exit Signals.)
+    ExitTo {
+        target: Expr,
+        reason: Expr,
+    },
+    /// Makes the process trap exits, or trap them no more. (Erlang Reference Manual, Processes,
+    /// Receiving Exit Signals.)
+    Trap {
+        on: bool,
+    },
     /// Goes on at a label: its place among those of the process, from 0.
     Goto {
         label: u32,
@@ -91,6 +105,16 @@ impl Instr {
                 let value = value.copy(alloc)?;
                 Ok(Instr::Set { var, value })
             }
+            Instr::Exit { reason } => {
+                let reason = reason.copy(alloc)?;
+                Ok(Instr::Exit { reason })
+            }
+            Instr::ExitTo { target, reason } => {
+                let target = target.copy(alloc)?;
+                let reason = reason.copy(alloc)?;
+                Ok(Instr::ExitTo { target, reason })
+            }
+            Instr::Trap { on } => Ok(Instr::Trap { on: *on }),
             Instr::Receive { clauses, after } => {
                 let clauses = copy_clauses(alloc, clauses)?;
                 let after = copy_after(after);

@@ -11,6 +11,9 @@ pub enum Keyword {
     Label,
     Send,
     Set,
+    Exit,
+    ExitTo,
+    Trap,
     Goto,
     Stop,
     Receive,
@@ -33,6 +36,12 @@ pub fn read_keyword(word: &[u8]) -> Option<Keyword>
         Some(Keyword::Send)
     } else if equal_bytes(word, b"set") {
         Some(Keyword::Set)
+    } else if equal_bytes(word, b"exit") {
+        Some(Keyword::Exit)
+    } else if equal_bytes(word, b"exit_to") {
+        Some(Keyword::ExitTo)
+    } else if equal_bytes(word, b"trap") {
+        Some(Keyword::Trap)
     } else if equal_bytes(word, b"goto") {
         Some(Keyword::Goto)
     } else if equal_bytes(word, b"stop") {
@@ -61,6 +70,9 @@ impl Keyword {
             Keyword::Label => false,
             Keyword::Send => false,
             Keyword::Set => false,
+            Keyword::Exit => false,
+            Keyword::ExitTo => false,
+            Keyword::Trap => false,
             Keyword::Goto => false,
             Keyword::Stop => false,
             Keyword::Receive => false,
@@ -80,6 +92,9 @@ impl Keyword {
             Keyword::Label => true,
             Keyword::Send => true,
             Keyword::Set => true,
+            Keyword::Exit => true,
+            Keyword::ExitTo => true,
+            Keyword::Trap => true,
             Keyword::Goto => true,
             Keyword::Stop => true,
             Keyword::Receive => true,
@@ -99,6 +114,9 @@ impl Keyword {
             Keyword::Label => false,
             Keyword::Send => false,
             Keyword::Set => false,
+            Keyword::Exit => false,
+            Keyword::ExitTo => false,
+            Keyword::Trap => false,
             Keyword::Goto => false,
             Keyword::Stop => false,
             Keyword::Receive => false,

@@ -11,7 +11,7 @@ use std::test::Fail;
 #[test]
 fn texts_are_read(rt: HostRuntime) -> Result<(), Fail> {
     let alloc = rt.alloc();
-    let rows: [(&[u8], u32); 9] = [
+    let rows: [(&[u8], u32); 11] = [
         (b"sigscript 1", 0),
         (b"sigscript 1\n", 0),
         (
@@ -32,6 +32,14 @@ fn texts_are_read(rt: HostRuntime) -> Result<(), Fail> {
         ),
         (
             b"sigscript 1\r\nprocess process\r\nsend @process end%\r\n",
+            1,
+        ),
+        (
+            b"sigscript 1\nprocess exit\nlabel trap\ntrap on\nexit_to @exit exit_to\ngoto trap",
+            1,
+        ),
+        (
+            b"sigscript 1\nprocess a\nexit_to X [trap,{on}]\nexit {'EXIT',@a,-1}",
             1,
         ),
         (b"sigscript 1\nprocess a@B_9\nsend @a@B_9 @a@B_9", 1),
@@ -96,6 +104,53 @@ fn a_message_is_read(rt: HostRuntime) -> Result<(), Fail> {
     assert!(rt; script.proc(2).is_none());
     assert!(rt; script.pid_of(b"b") == Some(1));
     assert!(rt; script.pid_of(b"c").is_none());
+    Ok(())
+}
+
+/// Whether the instruction makes the trap flag this.
+fn traps(instr: Option<&Instr>, flag: bool) -> bool {
+    match instr {
+        Some(Instr::Trap { on }) => *on == flag,
+        _ => false,
+    }
+}
+
+/// Whether the instruction ends the process with this atom.
+fn exits(instr: Option<&Instr>, bytes: &[u8]) -> bool {
+    match instr {
+        Some(
+            Instr::Exit {
+                reason: Expr::Atom(reason),
+            },
+        ) => reason.bytes() == bytes,
+        _ => false,
+    }
+}
+
+/// Whether the instruction sends this process an exit signal with this atom.
+fn exits_to(instr: Option<&Instr>, pid: Pid, bytes: &[u8]) -> bool {
+    match instr {
+        Some(
+            Instr::ExitTo {
+                target: Expr::Pid(target),
+                reason: Expr::Atom(reason),
+            },
+        ) => *target == pid && reason.bytes() == bytes,
+        _ => false,
+    }
+}
+
+#[test]
+fn exits_and_traps_are_read(rt: HostRuntime) -> Result<(), Fail> {
+    let alloc = rt.alloc();
+    let text = b"sigscript 1\nprocess a\ntrap on\ntrap off\nexit_to @b kill\nexit done\nprocess b";
+    let script = read_script(alloc, text).map_err(|_| "refused")?;
+    let proc = script.proc(0).ok_or("no process")?;
+    assert!(rt; proc.count() == 4);
+    assert!(rt; traps(proc.instr(1), true));
+    assert!(rt; traps(proc.instr(2), false));
+    assert!(rt; exits_to(proc.instr(3), Pid(1), b"kill"));
+    assert!(rt; exits(proc.instr(4), b"done"));
     Ok(())
 }
 
@@ -169,7 +224,7 @@ fn bounds_are_kept(rt: HostRuntime) -> Result<(), Fail> {
 }
 
 /// The texts behind the header line that are refused, each with the line and the kind.
-const REFUSED: [(&[u8], u64, FaultKind); 60] = [
+const REFUSED: [(&[u8], u64, FaultKind); 72] = [
     (b"send @a hi", 2, FaultKind::Syntax),
     (b"foo", 2, FaultKind::Syntax),
     (b"foo 99999999999999999999", 2, FaultKind::IntRange),
@@ -276,6 +331,18 @@ const REFUSED: [(&[u8], u64, FaultKind); 60] = [
     ),
     (b"process a\nreceive\nsend @a x\nend", 4, FaultKind::Syntax),
     (b"process a\nreceive\nreceive\nend", 4, FaultKind::Syntax),
+    (b"exit a", 2, FaultKind::Syntax),
+    (b"process a\nexit", 3, FaultKind::Syntax),
+    (b"process a\nexit a b", 3, FaultKind::Syntax),
+    (b"process a\nreceive\nexit a\nend", 4, FaultKind::Syntax),
+    (b"process a\nexit_to @a", 3, FaultKind::Syntax),
+    (b"process a\nexit_to @a b c", 3, FaultKind::Syntax),
+    (b"process a\nexit_to @b kill", 3, FaultKind::UnknownProcess),
+    (b"process a\ntrap", 3, FaultKind::Syntax),
+    (b"process a\ntrap yes", 3, FaultKind::Syntax),
+    (b"process a\ntrap 'on'", 3, FaultKind::Syntax),
+    (b"process a\ntrap on off", 3, FaultKind::Syntax),
+    (b"process a\nreceive\ntrap on\nend", 4, FaultKind::Syntax),
     (b"process a\nreceive\non x", 5, FaultKind::Syntax),
     (b"process a\nreceive\n%\n\n", 6, FaultKind::Syntax),
 ];
