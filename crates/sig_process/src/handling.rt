@@ -53,7 +53,11 @@ impl Process {
     }
 
     /// Adds the event of a handling, and the signal to those that were handled.
-    pub(crate) fn note_handled(&mut self, signal: Signal, outcome: Outcome) -> Result<(), AllocError>
+    pub(crate) fn note_handled(
+        &mut self,
+        signal: Signal,
+        outcome: Outcome,
+    ) -> Result<(), AllocError>
         requires stamp { self.old.state.stamp < 4611686018427387904 }
         requires early { signal.stamp < 4611686018427387904 }
         ensures { OnOk result (self.new ≡ noted_handled self.old signal outcome) }
@@ -107,7 +111,13 @@ impl Process {
         ensures { OnOk result (self.new ≡ handled_one self.old signal) }
     {
         if self.end.is_some() {
-            return self.pass_over(signal);
+            return match &signal.kind {
+                Kind::Message { term: _ } => self.pass_over(signal),
+                Kind::Exit {
+                    reason: _,
+                    linked: _,
+                } => self.pass_over(signal),
+            };
         }
         match &signal.kind {
             Kind::Message { term } => {
