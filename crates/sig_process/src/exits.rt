@@ -63,12 +63,13 @@ impl Process {
         self.exit_by(signal, reason)
     }
 
-    /// An exit signal of a link. No link is active.
+    /// An exit signal of a link. No link is ever active.
     pub(crate) fn exit_linked(&mut self, signal: Signal, reason: Term) -> Result<(), AllocError>
         requires stamp { self.old.state.stamp < 4611686018427387904 }
         requires early { signal.stamp < 4611686018427387904 }
         ensures { OnOk result (self.new ≡ handled_as self.old signal (linked_exit self.old.pid self.old.state signal.from.0 reason)) }
     {
+        let _ = &self.alloc;
         self.pass_over(signal)
     }
 }
