@@ -53,7 +53,7 @@ unfolding rules_of
 handled script pid s x = record {
   event = refl;
   last = refl;
-  sends = numbered_stamps pid (max s.stamp x.stamp + 1) s.next_numbers (handling s x).posts;
+  sends = numbered_stamps pid (max s.stamp x.stamp + 1) s.next_numbers (handling pid s x).posts;
   told = refl;
 }
 

@@ -1,5 +1,5 @@
 -- What one event does, before its stamp and the numbers of its signals are put in.
-use Rattle.std.specs.Prelude.{ℕ, ◌+◌, List, [], Option, Some, None, slice_get, codes}
+use Rattle.std.specs.Prelude.{ℕ, ◌+◌, List, [], ◌∷◌, ◌++◌, Option, Some, None, slice_get, codes}
 use Rattle.std.specs.Option.{option_map_or}
 use Rattle.std.specs.FinSet as set
 use Rattle.std.specs.FinMap as map
@@ -31,6 +31,18 @@ place_after labels (Some label) place = option_map_or (λ l. l.place) (slice_get
 abbrev pub going_on : ProcessState → ℕ → Outcome → Body
 going_on s place how = record { state = record s { place = place }; outcome = how; posts = [] }
 
+-- the message comes to the end of the list
+abbrev pub appending : ProcessState → Term → Body
+appending s message = record {
+  state = record s { messages = s.messages ++ (s.next_arrival, message) ∷ []; next_arrival = s.next_arrival + 1 };
+  outcome = outcome.Kept message;
+  posts = [];
+}
+
+-- the signal has no effect
+abbrev pub dropping : ProcessState → Body
+dropping s = record { state = s; outcome = outcome.Dropped; posts = [] }
+
 -- The process ends with this reason (Processes, Process Termination). Its messages, links, monitors, aliases and markers
 -- are gone.
 abbrev pub ending : ProcessState → Term → Body
@@ -59,3 +71,9 @@ badarg = term.Atom (codes "badarg")
 
 abbrev pub system_limit : Term
 system_limit = term.Atom (codes "system_limit")
+
+abbrev pub kill : Term
+kill = term.Atom (codes "kill")
+
+abbrev pub killed : Term
+killed = term.Atom (codes "killed")

@@ -1,6 +1,6 @@
 -- Executing one instruction: one equation for each row of the table of instructions (Erlang Reference Manual,
--- Expressions, Send, Match and Receive; Processes, Process Termination).
-use Rattle.std.specs.Prelude.{ℕ, ◌+◌, ◌-◌, List, [], ◌∷◌, map, remove, slice_get, Option, Some, None, option_and_then, if◌then◌else◌}
+-- Expressions, Send, Match and Receive; Processes, Process Termination, Sending Exit Signals and Receiving Exit Signals).
+use Rattle.std.specs.Prelude.{ℕ, ◌+◌, ◌-◌, Bool, false, List, [], ◌∷◌, map, remove, slice_get, Option, Some, None, option_and_then, if◌then◌else◌}
 use Rattle.std.specs.Option.{option_map, option_map_or}
 use Rattle.std.specs.FinMap.{insert}
 use Rattle.sig_terms.specs.declared.term.Term.{Term}
@@ -46,6 +46,19 @@ setting s var value = record {
   posts = [];
 }
 
+-- an exit signal of no link to a process; the value of another kind ends the sender with `badarg`
+abbrev pub sending_exit : ProcessState → Term → Term → Body
+sending_exit s (term.Pid p) reason = record {
+  state = record s { place = s.place + 1 };
+  outcome = outcome.Done;
+  posts = record { to = p.0; kind = kind.Exit reason false } ∷ [];
+}
+sending_exit s _ reason = ending s badarg
+
+-- the process traps exits from now on, or does no more
+abbrev pub trapping : ProcessState → Bool → Body
+trapping s on = record { state = record s { place = s.place + 1; traps = on }; outcome = outcome.Done; posts = [] }
+
 abbrev pub terms_of : List (ℕ × Term) → List Term
 terms_of messages = map (λ m. m.1) messages
 
@@ -74,6 +87,9 @@ abbrev pub exec_body : Declared → ProcessState → Option Instr → Option Bod
 exec_body p s None = Some (ending s normal)
 exec_body p s (Some (instr.Send to message)) = Some (with_value s to (λ t. with_value s message (λ m. sending s t m)))
 exec_body p s (Some (instr.Set var value)) = Some (with_value s value (λ v. setting s var.0 v))
+exec_body p s (Some (instr.Exit reason)) = Some (with_value s reason (λ r. ending s r))
+exec_body p s (Some (instr.ExitTo target reason)) = Some (with_value s target (λ t. with_value s reason (λ r. sending_exit s t r)))
+exec_body p s (Some (instr.Trap on)) = Some (trapping s on)
 exec_body p s (Some (instr.Goto label)) = Some (going_on s (place_after p.labels (Some label) s.place) outcome.Done)
 exec_body p s (Some instr.Stop) = Some (ending s normal)
 exec_body p s (Some (instr.Receive clauses after)) = receiving p s clauses after (scan clauses s.env (terms_of s.messages))

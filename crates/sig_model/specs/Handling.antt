@@ -1,31 +1,24 @@
 -- Handling one signal: one equation for each cell of the table of handling, a live and an ended receiver for each kind
--- (Erlang Reference Manual, Processes, Signals and Delivery of Signals).
-use Rattle.std.specs.Prelude.{◌+◌, [], ◌∷◌, ◌++◌, is_some, if◌then◌else◌}
-use Rattle.sig_terms.specs.declared.term.Term.{Term}
+-- (Erlang Reference Manual, Processes, Signals, Delivery of Signals and Receiving Exit Signals).
+use Rattle.std.specs.Prelude.{ℕ, true, false, is_some, if◌then◌else◌}
 use Rattle.sig_kinds.specs.declared.signal.Kind.{Kind}
-use Rattle.sig_kinds.specs.declared.signal.Kind.TheVariants.{Message}
+use Rattle.sig_kinds.specs.declared.signal.Kind.TheVariants.{Message, Exit}
 use Rattle.sig_kinds.specs.declared.signal.Signal.{Signal}
-use Rattle.sig_model.specs.declared.event.Outcome.TheVariants as outcome
 use Rattle.sig_model.specs.ProcessState.{ProcessState}
-use Rattle.sig_model.specs.Bodies.{Body}
+use Rattle.sig_model.specs.Bodies.{Body, appending, dropping}
+use Rattle.sig_model.specs.ExitRule.{plain_exit, linked_exit}
 
--- the message comes to the end of the list
-abbrev pub appending : ProcessState → Term → Body
-appending s message = record {
-  state = record s { messages = s.messages ++ (s.next_arrival, message) ∷ []; next_arrival = s.next_arrival + 1 };
-  outcome = outcome.Kept message;
-  posts = [];
-}
+-- at the live process pid, a signal of this sender
+abbrev pub live_body : ℕ → ProcessState → ℕ → Kind → Body
+live_body pid s sender (Message term) = appending s term
+live_body pid s sender (Exit reason true) = linked_exit pid s sender reason
+live_body pid s sender (Exit reason false) = plain_exit pid s sender reason
 
--- the signal has no effect
-abbrev pub dropping : ProcessState → Body
-dropping s = record { state = s; outcome = outcome.Dropped; posts = [] }
-
-abbrev pub live_body : ProcessState → Kind → Body
-live_body s (Message term) = appending s term
-
+-- at a process that has ended
 abbrev pub ended_body : ProcessState → Kind → Body
 ended_body s (Message term) = dropping s
+ended_body s (Exit reason linked) = dropping s
 
-unfoldable pub handling : ProcessState → Signal → Body
-handling s signal = if is_some s.end then ended_body s signal.kind else live_body s signal.kind
+-- what the process pid does with this signal
+unfoldable pub handling : ℕ → ProcessState → Signal → Body
+handling pid s signal = if is_some s.end then ended_body s signal.kind else live_body pid s signal.from.0 signal.kind

@@ -1,6 +1,7 @@
 pub mod ProcessState
 pub mod Bodies
 pub mod Executing
+pub mod ExitRule
 pub mod Handling
 pub mod Finishing
 pub mod Machine

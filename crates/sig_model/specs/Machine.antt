@@ -25,7 +25,7 @@ execution_of pid (Some p) s = execution pid p s
 
 -- what the process pid does with this signal
 abbrev pub handling_of : ℕ → ProcessState → Signal → Effect ProcessState Signal Event
-handling_of pid s signal = finished_handle pid s signal (handling s signal)
+handling_of pid s signal = finished_handle pid s signal (handling pid s signal)
 
 -- what an event tells that the process did
 abbrev pub acted_at : Did → Acted

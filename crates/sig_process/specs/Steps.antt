@@ -5,22 +5,23 @@ use Rattle.sig_model.specs.declared.event.Did.TheVariants as did
 use Rattle.sig_model.specs.declared.event.Outcome.{Outcome}
 use Rattle.sig_model.specs.declared.event.Outcome.TheVariants as outcome
 use Rattle.sig_model.specs.ProcessState.{ProcessState}
-use Rattle.sig_model.specs.Bodies.{Body, going_on, ending, normal, system_limit}
-use Rattle.sig_model.specs.Executing.{sending, setting, executing}
+use Rattle.sig_model.specs.Bodies.{Body, going_on, ending}
+use Rattle.sig_model.specs.Executing.{sending, sending_exit, setting, trapping, executing}
 use Rattle.sig_model.specs.Finishing.{finished_exec}
 use Rattle.sig_model.specs.Running.{Running, advanced, exec_next}
 use Rattle.sig_process.specs.declared.executing.Exec.{Exec}
 use Rattle.sig_process.specs.declared.executing.Exec.TheVariants.{Stepped, Waiting}
 use Rattle.sig_process.specs.declared.stepping.Step.{Step}
-use Rattle.sig_process.specs.declared.stepping.Step.TheVariants.{Stop, TooLarge, Send, Set, Goto, Receive}
+use Rattle.sig_process.specs.declared.stepping.Step.TheVariants.{End, Send, Exit, Set, Trap, Goto, Receive}
 use Rattle.sig_process.specs.Received.{IsReceive}
 
 -- what a step does in this state; a receive is as its definition says
 abbrev pub step_body : Declared → ProcessState → Step → Option Body
-step_body p s Stop = Some (ending s normal)
-step_body p s TooLarge = Some (ending s system_limit)
+step_body p s (End reason) = Some (ending s reason)
 step_body p s (Send to message) = Some (sending s to message)
+step_body p s (Exit to reason) = Some (sending_exit s to reason)
 step_body p s (Set var value) = Some (setting s var.0 value)
+step_body p s (Trap on) = Some (trapping s on)
 step_body p s (Goto place) = Some (going_on s place outcome.Done)
 step_body p s Receive = executing p s
 
@@ -30,10 +31,11 @@ IsPlaceOf p place = (1 ≤ place) × (place ≤ length p.instrs + 1)
 
 -- the numbers of a step are those of this process
 abbrev pub IsFit : Running → Step → Type 0
-IsFit r Stop = Unit {0}
+IsFit r (End reason) = Unit {0}
 IsFit r (Send to message) = (r.state.place ≤ length r.proc.instrs) × (length r.proc.instrs + 1 < 2 ^ 32)
-IsFit r TooLarge = Unit {0}
+IsFit r (Exit to reason) = (r.state.place ≤ length r.proc.instrs) × (length r.proc.instrs + 1 < 2 ^ 32)
 IsFit r (Set var value) = (r.state.place ≤ length r.proc.instrs) × (length r.proc.instrs + 1 < 2 ^ 32)
+IsFit r (Trap on) = (r.state.place ≤ length r.proc.instrs) × (length r.proc.instrs + 1 < 2 ^ 32)
 IsFit r (Goto place) = IsPlaceOf r.proc place
 IsFit r Receive = IsReceive (slice_get r.proc.instrs (r.state.place - 1))
 

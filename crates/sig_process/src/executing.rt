@@ -1,11 +1,11 @@
-ghost use Rattle.std.specs.Prelude.{◌≡◌, ◌+◌, ◌<◌, ◌≤◌, ◌^◌, length, true, Some, OnOk, IfOk, slice_index};
-ghost use Rattle.sig_terms.specs.Words.{is_atom};
-ghost use Rattle.sig_model.specs.Bodies.{going_on, ending, normal, badarg, system_limit};
-ghost use Rattle.sig_model.specs.Executing.{sending, setting, executing};
+ghost use Rattle.std.specs.Prelude.{◌≡◌, ◌+◌, ◌<◌, ◌≤◌, ◌^◌, length, true, OnOk, IfOk, slice_index};
+ghost use Rattle.sig_model.specs.Bodies.{going_on, ending, badarg};
+ghost use Rattle.sig_model.specs.Executing.{sending, sending_exit, setting, trapping, executing};
 ghost use Rattle.sig_model.specs.Finishing.{drawn};
 ghost use Rattle.sig_model.specs.Running.{can_exec};
 ghost use Rattle.sig_process.specs.Steps.{step_body, IsPlaceOf, IsFit, noted, made, IsExec};
 
+use crate::atoms::plain_atom;
 use crate::process::{Process, draw};
 use crate::stepping::Step;
 use sig_base::Steps;
@@ -13,8 +13,8 @@ use sig_kinds::{Kind, Signal};
 use sig_lists::Pushed;
 use sig_model::{Did, Event, Outcome};
 use sig_patterns::Var;
-use sig_terms::{Atom, Pid, Term};
-use std::alloc::{AllocError, Global};
+use sig_terms::{Pid, Term};
+use std::alloc::AllocError;
 use std::sync::ledger::Ledger;
 
 /// How the execution of an instruction went.
@@ -24,17 +24,6 @@ pub enum Exec {
     Stepped,
     /// It is a receive without `after`, and no message matches.
     Waiting,
-}
-
-/// The atom of these bytes.
-fn plain_atom(alloc: Global, bytes: &[u8]) -> Result<Term, AllocError>
-    requires { is_atom bytes.now ≡ true }
-    ensures { IfOk result (λ term. term ≡ Term.Atom bytes.now) }
-{
-    match Atom::new(alloc, bytes)? {
-        Some(atom) => Ok(Term::Atom(atom)),
-        None => unreachable!(),
-    }
 }
 
 impl Process {
@@ -75,16 +64,6 @@ impl Process {
         self.inner.empty();
         self.end = Some(reason);
         Ok(())
-    }
-
-    /// The place after the last instruction.
-    fn stop(&mut self) -> Result<(), AllocError>
-        requires stamp { self.old.state.stamp < 4611686018427387904 }
-        requires turns { self.old.state.executed < self.old.turns }
-        ensures { OnOk result (self.new ≡ made self.old (ending self.old.state normal)) }
-    {
-        let reason = plain_atom(self.alloc, b"normal")?;
-        self.finish(reason)
     }
 
     /// A value is of the wrong kind.
@@ -158,6 +137,58 @@ impl Process {
         }
     }
 
+    /// An exit signal to a process.
+    fn send_exit_to(&mut self, to: Pid, reason: Term) -> Result<(), AllocError>
+        requires stamp { self.old.state.stamp < 4611686018427387904 }
+        requires turns { self.old.state.executed < self.old.turns }
+        requires within { self.old.state.place ≤ length self.old.proc.instrs }
+        requires few { length self.old.proc.instrs + 1 < 2 ^ 32 }
+        ensures { OnOk result (self.new ≡ made self.old (sending_exit self.old.state (Term.Pid to) reason)) }
+    {
+        let place = self.place + 1;
+        self.note(Outcome::Done, place)?;
+        let signal = self.next_signal(
+            to,
+            Kind::Exit {
+                reason,
+                linked: false,
+            },
+        );
+        self.post(signal)
+    }
+
+    /// An exit signal to the target.
+    fn send_exit(&mut self, to: Term, reason: Term) -> Result<(), AllocError>
+        requires stamp { self.old.state.stamp < 4611686018427387904 }
+        requires turns { self.old.state.executed < self.old.turns }
+        requires within { self.old.state.place ≤ length self.old.proc.instrs }
+        requires few { length self.old.proc.instrs + 1 < 2 ^ 32 }
+        ensures { OnOk result (self.new ≡ made self.old (sending_exit self.old.state to reason)) }
+    {
+        match to {
+            Term::Pid(to) => self.send_exit_to(to, reason),
+            Term::Int(_) => self.refuse(),
+            Term::Atom(_) => self.refuse(),
+            Term::Ref(_) => self.refuse(),
+            Term::Tuple(_) => self.refuse(),
+            Term::List(_) => self.refuse(),
+        }
+    }
+
+    /// The process traps exits, or traps them no more.
+    fn trap(&mut self, on: bool) -> Result<(), AllocError>
+        requires stamp { self.old.state.stamp < 4611686018427387904 }
+        requires turns { self.old.state.executed < self.old.turns }
+        requires within { self.old.state.place ≤ length self.old.proc.instrs }
+        requires few { length self.old.proc.instrs + 1 < 2 ^ 32 }
+        ensures { OnOk result (self.new ≡ made self.old (trapping self.old.state on)) }
+    {
+        let place = self.place + 1;
+        self.note(Outcome::Done, place)?;
+        self.traps = on;
+        Ok(())
+    }
+
     /// The variable gets the value.
     fn set(&mut self, var: &Var, value: Term) -> Result<(), AllocError>
         requires stamp { self.old.state.stamp < 4611686018427387904 }
@@ -171,16 +202,6 @@ impl Process {
         self.inner.forget();
         self.env.set(var, value)?;
         self.note(Outcome::Set { value: told }, place)
-    }
-
-    /// A value is too large.
-    fn limit(&mut self) -> Result<(), AllocError>
-        requires stamp { self.old.state.stamp < 4611686018427387904 }
-        requires turns { self.old.state.executed < self.old.turns }
-        ensures { OnOk result (self.new ≡ made self.old (ending self.old.state system_limit)) }
-    {
-        let reason = plain_atom(self.alloc, b"system_limit")?;
-        self.finish(reason)
     }
 
     /// Goes on at a place.
@@ -202,16 +223,20 @@ impl Process {
         ensures { IfOk result (IsExec self.old self.new) }
     {
         match step {
-            Step::Stop => {
-                self.stop()?;
+            Step::End { reason } => {
+                self.finish(reason)?;
                 Ok(Exec::Stepped)
             }
             Step::Send { to, message } => {
                 self.send(to, message)?;
                 Ok(Exec::Stepped)
             }
-            Step::TooLarge => {
-                self.limit()?;
+            Step::Exit { to, reason } => {
+                self.send_exit(to, reason)?;
+                Ok(Exec::Stepped)
+            }
+            Step::Trap { on } => {
+                self.trap(on)?;
                 Ok(Exec::Stepped)
             }
             Step::Set { var, value } => {

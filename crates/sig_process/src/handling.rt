@@ -1,5 +1,6 @@
 ghost use Rattle.std.specs.Prelude.{◌≡◌, ◌+◌, ◌<◌, ◌≤◌, ◌++◌, [], ◌∷◌, max, true, Some, None, OnOk, MatchOption, option_copied, option_map};
-ghost use Rattle.sig_model.specs.Handling.{handling, dropping, appending};
+ghost use Rattle.sig_model.specs.Bodies.{dropping, appending};
+ghost use Rattle.sig_model.specs.Handling.{handling};
 ghost use Rattle.sig_model.specs.Running.{next_of, is_early, can_handle, handled_first, handled_one, handle_next};
 ghost use Rattle.sig_process.specs.Handled.{handled_as, noted_handled};
 
@@ -52,7 +53,11 @@ impl Process {
     }
 
     /// Adds the event of a handling, and the signal to those that were handled.
-    fn note_handled(&mut self, signal: Signal, outcome: Outcome) -> Result<(), AllocError>
+    pub(crate) fn note_handled(
+        &mut self,
+        signal: Signal,
+        outcome: Outcome,
+    ) -> Result<(), AllocError>
         requires stamp { self.old.state.stamp < 4611686018427387904 }
         requires early { signal.stamp < 4611686018427387904 }
         ensures { OnOk result (self.new ≡ noted_handled self.old signal outcome) }
@@ -76,7 +81,7 @@ impl Process {
     }
 
     /// The signal has no effect.
-    fn pass_over(&mut self, signal: Signal) -> Result<(), AllocError>
+    pub(crate) fn pass_over(&mut self, signal: Signal) -> Result<(), AllocError>
         requires stamp { self.old.state.stamp < 4611686018427387904 }
         requires early { signal.stamp < 4611686018427387904 }
         ensures { OnOk result (self.new ≡ handled_as self.old signal (dropping self.old.state)) }
@@ -85,7 +90,7 @@ impl Process {
     }
 
     /// Appends a message to the list.
-    fn append(&mut self, signal: Signal, term: Term) -> Result<(), AllocError>
+    pub(crate) fn append(&mut self, signal: Signal, term: Term) -> Result<(), AllocError>
         requires stamp { self.old.state.stamp < 4611686018427387904 }
         requires early { signal.stamp < 4611686018427387904 }
         ensures { OnOk result (self.new ≡ handled_as self.old signal (appending self.old.state term)) }
@@ -108,12 +113,24 @@ impl Process {
         if self.end.is_some() {
             return match &signal.kind {
                 Kind::Message { term: _ } => self.pass_over(signal),
+                Kind::Exit {
+                    reason: _,
+                    linked: _,
+                } => self.pass_over(signal),
             };
         }
         match &signal.kind {
             Kind::Message { term } => {
                 let term = term.copy(self.alloc)?;
                 self.append(signal, term)
+            }
+            Kind::Exit { reason, linked } => {
+                let reason = reason.copy(self.alloc)?;
+                if *linked {
+                    self.exit_linked(signal, reason)
+                } else {
+                    self.exit_plain(signal, reason)
+                }
             }
         }
     }

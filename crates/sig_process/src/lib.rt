@@ -1,8 +1,10 @@
 //! One process that runs: it executes its instructions and handles the signals that come to it.
 #![tactic(auto)]
 
+mod atoms;
 mod crew;
 mod executing;
+mod exits;
 mod handling;
 mod parts;
 mod process;

@@ -27,6 +27,7 @@ pub struct Process {
     pub(crate) place: u32,
     pub(crate) env: Env,
     pub(crate) inner: Inner,
+    pub(crate) traps: bool,
     pub(crate) next_numbers: Vec<u64>,
     pub(crate) end: Option<Term>,
     pub(crate) executed: u32,
@@ -42,7 +43,7 @@ impl Model for Process {
     ghost use Rattle.std.specs.Coded.{codes};
     ghost use Rattle.std.specs.FinMap as map;
     ghost use Rattle.std.specs.FinSet as set;
-    ghost use Rattle.std.specs.Prelude.{[], None, false};
+    ghost use Rattle.std.specs.Prelude.{[], None};
     ghost use Rattle.sig_terms.specs.contracts.term.Term as term;
     ghost use Rattle.sig_patterns.specs.contracts.expression.Expr as expr;
     ghost use Rattle.sig_patterns.specs.contracts.pattern.Pattern as pattern;
@@ -66,7 +67,7 @@ impl Model for Process {
         held = map.empty;
         borne = [];
         aliases = map.empty;
-        traps = false;
+        traps = p.traps;
         next_serial = 1;
         next_id = 1;
         next_arrival = p.inner.next_arrival;
@@ -151,6 +152,7 @@ impl Process {
             place: 1,
             env: Env::new(alloc),
             inner,
+            traps: false,
             next_numbers,
             end: None,
             executed: 0,

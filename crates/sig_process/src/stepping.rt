@@ -1,8 +1,9 @@
 ghost use Rattle.std.specs.Prelude.{◌≡◌, ◌+◌, ◌<◌, ◌≤◌, ◌^◌, length, Some, IfOk};
-ghost use Rattle.sig_model.specs.Bodies.{place_after};
-ghost use Rattle.sig_model.specs.Executing.{built, with_value, sending, setting, executing};
+ghost use Rattle.sig_model.specs.Bodies.{place_after, ending, normal, system_limit};
+ghost use Rattle.sig_model.specs.Executing.{built, with_value, sending, sending_exit, setting, executing};
 ghost use Rattle.sig_process.specs.Steps.{step_body, IsPlaceOf, IsFit};
 
+use crate::atoms::plain_atom;
 use crate::process::Process;
 use sig_patterns::{BuildFault, Env, Expr, Var, build};
 use sig_script::Instr;
@@ -13,13 +14,15 @@ use std::alloc::{AllocError, Global};
 #[derive(Drop)]
 pub(crate) enum Step {
     /// The process ends.
-    Stop,
-    /// The value of an expression is too large.
-    TooLarge,
+    End { reason: Term },
     /// It sends a message.
     Send { to: Term, message: Term },
+    /// It sends an exit signal.
+    Exit { to: Term, reason: Term },
     /// A variable gets a value.
     Set { var: Var, value: Term },
+    /// It traps exits, or traps them no more.
+    Trap { on: bool },
     /// It goes on at a place.
     Goto { place: u32 },
     /// It is a receive.
@@ -35,6 +38,22 @@ fn value_of(alloc: Global, expression: &Expr, env: &Env) -> Result<Option<Term>,
         Err(BuildFault::TooLarge { nodes: _, depth: _ }) => Ok(None),
         Err(BuildFault::Memory) => Err(AllocError),
     }
+}
+
+/// The value of an expression is too large.
+fn too_large(alloc: Global) -> Result<Step, AllocError>
+    ensures { IfOk result (λ step. step ≡ Step.End system_limit) }
+{
+    let reason = plain_atom(alloc, b"system_limit")?;
+    Ok(Step::End { reason })
+}
+
+/// The end of the instructions.
+fn stop(alloc: Global) -> Result<Step, AllocError>
+    ensures { IfOk result (λ step. step ≡ Step.End normal) }
+{
+    let reason = plain_atom(alloc, b"normal")?;
+    Ok(Step::End { reason })
 }
 
 impl Process {
@@ -62,10 +81,37 @@ impl Process {
         ensures fit { IfOk result (IsFit self.now) }
     {
         match value_of(self.alloc, to, &self.env)? {
-            None => Ok(Step::TooLarge),
+            None => too_large(self.alloc),
             Some(to) => match value_of(self.alloc, message, &self.env)? {
-                None => Ok(Step::TooLarge),
+                None => too_large(self.alloc),
                 Some(message) => Ok(Step::Send { to, message }),
+            },
+        }
+    }
+
+    /// What an exit does.
+    fn exit_step(&self, reason: &Expr) -> Result<Step, AllocError>
+        ensures step { IfOk result (λ step. Some (with_value self.now.state reason.now (λ r. ending self.now.state r)) ≡ step_body self.now.proc self.now.state step) }
+        ensures fit { IfOk result (IsFit self.now) }
+    {
+        match value_of(self.alloc, reason, &self.env)? {
+            None => too_large(self.alloc),
+            Some(reason) => Ok(Step::End { reason }),
+        }
+    }
+
+    /// What an exit signal to a process does.
+    fn exit_to_step(&self, to: &Expr, reason: &Expr) -> Result<Step, AllocError>
+        requires within { self.now.state.place ≤ length self.now.proc.instrs }
+        requires few { length self.now.proc.instrs + 1 < 2 ^ 32 }
+        ensures step { IfOk result (λ step. Some (with_value self.now.state to.now (λ t. with_value self.now.state reason.now (λ r. sending_exit self.now.state t r))) ≡ step_body self.now.proc self.now.state step) }
+        ensures fit { IfOk result (IsFit self.now) }
+    {
+        match value_of(self.alloc, to, &self.env)? {
+            None => too_large(self.alloc),
+            Some(to) => match value_of(self.alloc, reason, &self.env)? {
+                None => too_large(self.alloc),
+                Some(reason) => Ok(Step::Exit { to, reason }),
             },
         }
     }
@@ -78,7 +124,7 @@ impl Process {
         ensures fit { IfOk result (IsFit self.now) }
     {
         match value_of(self.alloc, value, &self.env)? {
-            None => Ok(Step::TooLarge),
+            None => too_large(self.alloc),
             Some(value) => {
                 let var = var.copy(self.alloc)?;
                 Ok(Step::Set { var, value })
@@ -93,13 +139,16 @@ impl Process {
         ensures fit { IfOk result (IsFit self.now) }
     {
         match self.proc.instr(self.place) {
-            None => Ok(Step::Stop),
+            None => stop(self.alloc),
             Some(Instr::Send { to, message }) => self.send_step(to, message),
             Some(Instr::Set { var, value }) => self.set_step(var, value),
+            Some(Instr::Exit { reason }) => self.exit_step(reason),
+            Some(Instr::ExitTo { target, reason }) => self.exit_to_step(target, reason),
+            Some(Instr::Trap { on }) => Ok(Step::Trap { on: *on }),
             Some(Instr::Goto { label }) => Ok(Step::Goto {
                 place: self.place_after(Some(*label)),
             }),
-            Some(Instr::Stop) => Ok(Step::Stop),
+            Some(Instr::Stop) => stop(self.alloc),
             Some(
                 Instr::Receive {
                     clauses: _,

@@ -1,9 +1,9 @@
 -- The text of a record: one line for each fact. A record has one text.
-use Rattle.std.specs.Prelude.{ℕ, List, ◌++◌, codes, decimal}
+use Rattle.std.specs.Prelude.{ℕ, Bool, true, false, List, ◌++◌, codes, decimal}
 use Rattle.std.specs.List.{flat_map}
 use Rattle.sig_terms.specs.TermText.{term_text}
 use Rattle.sig_kinds.specs.declared.signal.Kind.{Kind}
-use Rattle.sig_kinds.specs.declared.signal.Kind.TheVariants.{Message}
+use Rattle.sig_kinds.specs.declared.signal.Kind.TheVariants.{Message, Exit}
 use Rattle.sig_kinds.specs.declared.signal.Signal.{Signal}
 use Rattle.sig_model.specs.declared.event.Did.{Did}
 use Rattle.sig_model.specs.declared.event.Did.TheVariants.{Exec, From}
@@ -35,8 +35,14 @@ event_text e = decimal e.stamp ++ did_text e.did ++ outcome_text e.outcome ++ co
 unfoldable pub left_text : Left → List ℕ
 left_text l = codes "left " ++ decimal l.arrival ++ codes " " ++ term_text l.message ++ codes "\n"
 
+-- of a link, or of none
+abbrev pub link_text : Bool → List ℕ
+link_text true = codes "linked "
+link_text false = codes "plain "
+
 abbrev pub kind_text : Kind → List ℕ
 kind_text (Message term) = codes "message " ++ term_text term
+kind_text (Exit reason linked) = codes "exit " ++ link_text linked ++ term_text reason
 
 unfoldable pub queued_text : Signal → List ℕ
 queued_text s = codes "queued " ++ decimal s.from.0 ++ codes " " ++ decimal s.number ++ codes " " ++ decimal s.stamp ++ codes " " ++ kind_text s.kind ++ codes "\n"

@@ -5,6 +5,7 @@ ghost use Rattle.sig_record.specs.RecordText.{
   outcome_text,
   event_text,
   left_text,
+  link_text,
   kind_text,
   queued_text,
   state_text,
@@ -135,6 +136,12 @@ fn put_lefts(into: &mut Vec<u8>, lefts: &[Left]) -> Result<(), AllocError>
     Ok(())
 }
 
+fn link_word(linked: bool) -> &'static [u8]
+    ensures { result.now ≡ link_text linked }
+{
+    if linked { b"linked " } else { b"plain " }
+}
+
 fn put_kind(into: &mut Vec<u8>, kind: &Kind) -> Result<(), AllocError>
     ensures { OnOk result (into.new.items ≡ into.old.items ++ kind_text kind.now) }
 {
@@ -142,6 +149,11 @@ fn put_kind(into: &mut Vec<u8>, kind: &Kind) -> Result<(), AllocError>
         Kind::Message { term } => {
             put(into, b"message ")?;
             term.print(into)
+        }
+        Kind::Exit { reason, linked } => {
+            put(into, b"exit ")?;
+            put(into, link_word(*linked))?;
+            reason.print(into)
         }
     }
 }

@@ -1,0 +1,11 @@
+use Rattle.std.proofs.Common.{sym, ◌∙◌, ap, Some}
+use Rattle.sig_model.specs.Bodies.{ending}
+use Rattle.sig_model.specs.Executing.{built}
+use Rattle.sig_model.specs.Running.{Running}
+use Rattle.sig_process.proofs.ValueLemmas.{value_given}
+use Rattle.sig_process.proofs.process.Process.exit_step.Goals as goal
+
+pub returns-in-Some-clause-step : goal.returns-in-Some-clause-step
+returns-in-Some-clause-step c =
+    let s = c.args.self.now.state in
+    ap Some (value_given s c.args.reason.now (λ r. ending s r) c.in-Some.reason (ap (λ (r : Running). built r.state.env c.args.reason.now) (sym c.self.view_is) ∙ sym c.in_ok-value_of.ensures ∙ c.in-Some.is))
