@@ -10,7 +10,7 @@ use Rattle.sig_runs.specs.Crew.{opening_machine}
 use Rattle.sig_runs.specs.OnTheWay.{own_part, taken_in_part, on_way}
 use Rattle.sig_script.specs.Scripts.{Declared, Program}
 use Rattle.sig_model.specs.ProcessState.{opening_state}
-use Rattle.sig_model.specs.Machine.{rules_of, opening_of}
+use Rattle.sig_model.specs.Machine.{rules_of, opening_from, opening_of}
 use Rattle.sig_model.specs.Running.{Running, opened}
 use Rattle.sig_model.specs.OneWorker.{opened_from, opened_crew, IsClear}
 use Rattle.sig_model.specs.SettledRun.{events_of}
@@ -25,9 +25,9 @@ opened_at pid count turns (p ∷ ps) zero = ap (λ n. Some (opened n count turns
 opened_at pid count turns (p ∷ ps) (suc q) =
     opened_at (pid + 1) count turns ps q ∙ ap (λ n. option_map (opened n count turns) (slice_get ps q)) (let e : pid + 1 + q ≡ pid + suc q = omega arith in e)
 
-states_from : (pid count turns : ℕ) (ps : List Declared) → map (λ (p : Declared). opening_state count) ps ≡ map (λ (n : Mate). n.local.state) (members (opened_from pid count turns ps))
+states_from : (pid count turns : ℕ) (ps : List Declared) → opening_from pid count ps ≡ map (λ (n : Mate). n.local.state) (members (opened_from pid count turns ps))
 states_from pid count turns [] = refl
-states_from pid count turns (p ∷ ps) = ap (λ z. opening_state count ∷ z) (states_from (pid + 1) count turns ps)
+states_from pid count turns (p ∷ ps) = ap (λ z. opening_state pid count ∷ z) (states_from (pid + 1) count turns ps)
 
 clear_from : (pid count turns : ℕ) (ps : List Declared) → IsClear (opened_from pid count turns ps)
 clear_from pid count turns [] = All-nil (λ (r : Running). r.outbox ≡ [])

@@ -1,11 +1,13 @@
 -- What one event does, before its stamp and the numbers of its signals are put in.
-use Rattle.std.specs.Prelude.{ℕ, ◌+◌, List, [], ◌∷◌, ◌++◌, Option, Some, None, slice_get, codes}
+use Rattle.std.specs.Prelude.{ℕ, ◌+◌, List, [], ◌∷◌, ◌++◌, map, Bool, true, Option, Some, None, slice_get, codes, if◌then◌else◌}
 use Rattle.std.specs.Option.{option_map_or}
-use Rattle.std.specs.FinSet as set
-use Rattle.std.specs.FinMap as map
+use Rattle.std.specs.FinMap as maps
 use Rattle.sig_terms.specs.declared.term.Term.{Term}
 use Rattle.sig_terms.specs.declared.term.Term.TheVariants as term
 use Rattle.sig_kinds.specs.declared.signal.Kind.{Kind}
+use Rattle.sig_kinds.specs.declared.signal.Kind.TheVariants as kind
+use Rattle.sig_kinds.specs.LinkRules.{LinkState, active_after}
+use Rattle.sig_kinds.specs.LinkRules.{ending as links_ending}
 use Rattle.sig_script.specs.declared.label.Label.{Label}
 use Rattle.sig_model.specs.declared.event.Outcome.{Outcome}
 use Rattle.sig_model.specs.declared.event.Outcome.TheVariants as outcome
@@ -43,23 +45,26 @@ appending s message = record {
 abbrev pub dropping : ProcessState → Body
 dropping s = record { state = s; outcome = outcome.Dropped; posts = [] }
 
--- The process ends with this reason (Processes, Process Termination). Its messages, links, monitors, aliases and markers
--- are gone.
+-- an exit signal with this reason, of the link to each of these peers
+abbrev pub exits_to : List ℕ → Term → List Post
+exits_to peers reason = map (λ peer. record { to = peer; kind = kind.Exit reason true }) peers
+
+-- The process ends with this reason (Processes, Process Termination), and the peers of its active links are told, by ascending
+-- pid. Its messages, links, monitors, aliases and markers are gone.
 abbrev pub ending : ProcessState → Term → Body
 ending s reason = record {
   state = record s {
     messages = [];
-    active = set.empty;
-    awaited = map.empty;
-    held = map.empty;
+    links = links_ending s.links;
+    held = maps.empty;
     borne = [];
-    aliases = map.empty;
+    aliases = maps.empty;
     reserve = None;
     marks = [];
     end = Some reason;
   };
   outcome = outcome.Ended reason;
-  posts = [];
+  posts = exits_to (active_after s.links None) reason;
 }
 
 -- the atoms that the machine names
@@ -77,3 +82,6 @@ kill = term.Atom (codes "kill")
 
 abbrev pub killed : Term
 killed = term.Atom (codes "killed")
+
+abbrev pub noproc : Term
+noproc = term.Atom (codes "noproc")

@@ -1,11 +1,12 @@
 -- Executing one instruction: one equation for each row of the table of instructions (Erlang Reference Manual,
--- Expressions, Send, Match and Receive; Processes, Process Termination, Sending Exit Signals and Receiving Exit Signals).
+-- Expressions, Send, Match and Receive; Processes, Links, Process Termination, Sending Exit Signals and Receiving Exit Signals).
 use Rattle.std.specs.Prelude.{ℕ, ◌+◌, ◌-◌, Bool, false, List, [], ◌∷◌, map, remove, slice_get, Option, Some, None, option_and_then, if◌then◌else◌}
 use Rattle.std.specs.Option.{option_map, option_map_or}
 use Rattle.std.specs.FinMap.{insert}
 use Rattle.sig_terms.specs.declared.term.Term.{Term}
 use Rattle.sig_terms.specs.declared.term.Term.TheVariants as term
 use Rattle.sig_kinds.specs.declared.signal.Kind.TheVariants as kind
+use Rattle.sig_kinds.specs.LinkRules.{LinkState, link, unlink}
 use Rattle.sig_patterns.specs.declared.clause.Clause.{Clause}
 use Rattle.sig_patterns.specs.declared.expression.Expr.{Expr}
 use Rattle.sig_patterns.specs.declared.found.Found.{Found}
@@ -19,7 +20,7 @@ use Rattle.sig_script.specs.declared.instruction.After.{After}
 use Rattle.sig_script.specs.Scripts.{Declared}
 use Rattle.sig_model.specs.declared.event.Outcome.TheVariants as outcome
 use Rattle.sig_model.specs.ProcessState.{ProcessState}
-use Rattle.sig_model.specs.Bodies.{Body, place_after, going_on, ending, normal, badarg, system_limit}
+use Rattle.sig_model.specs.Bodies.{Post, Body, place_after, going_on, ending, normal, badarg, system_limit}
 
 -- the value of the expression, where it is small enough to be built
 abbrev pub built : Environment → Expr → Option Term
@@ -55,6 +56,37 @@ sending_exit s (term.Pid p) reason = record {
 }
 sending_exit s _ reason = ending s badarg
 
+-- by the rule for the call `link`, a link to this peer
+abbrev pub linked_by : ProcessState → ℕ → Bool × LinkState → Body
+linked_by s peer (sends, links) = record {
+  state = record s { place = s.place + 1; links = links };
+  outcome = outcome.Done;
+  posts = if sends then record { to = peer; kind = kind.Link } ∷ [] else [];
+}
+
+-- a link to a process; the value of another kind ends the caller with `badarg`
+abbrev pub linking : ProcessState → Term → Body
+linking s (term.Pid p) = linked_by s p.0 (link s.links p.0)
+linking s _ = ending s badarg
+
+-- the unlink signal, where the rule for the call `unlink` gives an id
+abbrev pub unlink_posts : ℕ → Option ℕ → List Post
+unlink_posts peer None = []
+unlink_posts peer (Some id) = record { to = peer; kind = kind.Unlink id } ∷ []
+
+-- by the rule for the call `unlink`, the end of the link to this peer
+abbrev pub unlinked_by : ProcessState → ℕ → Option ℕ × LinkState → Body
+unlinked_by s peer (id, links) = record {
+  state = record s { place = s.place + 1; links = links };
+  outcome = outcome.Done;
+  posts = unlink_posts peer id;
+}
+
+-- the end of the link to a process; the value of another kind ends the caller with `badarg`
+abbrev pub unlinking : ProcessState → Term → Body
+unlinking s (term.Pid p) = unlinked_by s p.0 (unlink s.links p.0)
+unlinking s _ = ending s badarg
+
 -- the process traps exits from now on, or does no more
 abbrev pub trapping : ProcessState → Bool → Body
 trapping s on = record { state = record s { place = s.place + 1; traps = on }; outcome = outcome.Done; posts = [] }
@@ -87,6 +119,8 @@ abbrev pub exec_body : Declared → ProcessState → Option Instr → Option Bod
 exec_body p s None = Some (ending s normal)
 exec_body p s (Some (instr.Send to message)) = Some (with_value s to (λ t. with_value s message (λ m. sending s t m)))
 exec_body p s (Some (instr.Set var value)) = Some (with_value s value (λ v. setting s var.0 v))
+exec_body p s (Some (instr.Link peer)) = Some (with_value s peer (λ t. linking s t))
+exec_body p s (Some (instr.Unlink peer)) = Some (with_value s peer (λ t. unlinking s t))
 exec_body p s (Some (instr.Exit reason)) = Some (with_value s reason (λ r. ending s r))
 exec_body p s (Some (instr.ExitTo target reason)) = Some (with_value s target (λ t. with_value s reason (λ r. sending_exit s t r)))
 exec_body p s (Some (instr.Trap on)) = Some (trapping s on)

@@ -1,10 +1,10 @@
 -- What an exit signal does to a live process (Erlang Reference Manual, Processes, Receiving Exit Signals). Processes are told by
 -- their pids.
 use Rattle.std.specs.Prelude.{ℕ, [], ◌∷◌, ◌&&◌, not, ◌==◌, if◌then◌else◌, codes}
-use Rattle.std.specs.FinSet as set
 use Rattle.sig_terms.specs.declared.term.Term.{Term}
 use Rattle.sig_terms.specs.declared.term.Term.TheVariants as term
 use Rattle.sig_terms.specs.TermTest.{same_term}
+use Rattle.sig_kinds.specs.LinkRules.{is_active, deactivated}
 use Rattle.sig_model.specs.ProcessState.{ProcessState}
 use Rattle.sig_model.specs.Bodies.{Body, appending, dropping, ending, normal, kill, killed}
 
@@ -29,5 +29,5 @@ plain_exit pid s sender reason = if same_term reason kill then ending s killed e
 -- Else the signal has no effect.
 abbrev pub linked_exit : ℕ → ProcessState → ℕ → Term → Body
 linked_exit pid s sender reason =
-    if set.contains s.active sender then exit_rule pid (record s { active = set.remove s.active sender }) sender reason
+    if is_active s.links sender then exit_rule pid (record s { links = deactivated s.links sender }) sender reason
     else dropping s

@@ -1,24 +1,63 @@
 -- Handling one signal: one equation for each cell of the table of handling, a live and an ended receiver for each kind
--- (Erlang Reference Manual, Processes, Signals, Delivery of Signals and Receiving Exit Signals).
-use Rattle.std.specs.Prelude.{ℕ, true, false, is_some, if◌then◌else◌}
+-- (Erlang Reference Manual, Processes, Signals, Delivery of Signals, Links and Receiving Exit Signals). Monitors and aliases
+-- aren't part of the machine yet: no instruction sends their signals, and they have no effect.
+use Rattle.std.specs.Prelude.{ℕ, Bool, true, false, [], ◌∷◌, is_some, if◌then◌else◌}
 use Rattle.sig_kinds.specs.declared.signal.Kind.{Kind}
-use Rattle.sig_kinds.specs.declared.signal.Kind.TheVariants.{Message, Exit}
+use Rattle.sig_kinds.specs.declared.signal.Kind.TheVariants.{Message, AliasMessage, Link, Unlink, UnlinkAck, Monitor, Demonitor, Exit, Down}
 use Rattle.sig_kinds.specs.declared.signal.Signal.{Signal}
+use Rattle.sig_kinds.specs.LinkRules.{LinkState, on_link, on_unlink, on_ack}
+use Rattle.sig_model.specs.declared.event.Outcome.TheVariants as outcome
 use Rattle.sig_model.specs.ProcessState.{ProcessState}
-use Rattle.sig_model.specs.Bodies.{Body, appending, dropping}
+use Rattle.sig_model.specs.Bodies.{Body, appending, dropping, noproc}
 use Rattle.sig_model.specs.ExitRule.{plain_exit, linked_exit}
+
+-- by the rule for a link signal; its answer is whether the link is set up
+abbrev pub linking_up : ProcessState → Bool × LinkState → Body
+linking_up s (linked, links) = record {
+  state = record s { links = links };
+  outcome = if linked then outcome.Linked else outcome.Dropped;
+  posts = [];
+}
+
+-- by the rule for an unlink signal of this sender, which gets its id back
+abbrev pub unlinking_from : ProcessState → ℕ → ℕ → Bool × LinkState → Body
+unlinking_from s sender id (ended, links) = record {
+  state = record s { links = links };
+  outcome = outcome.Unlinked;
+  posts = record { to = sender; kind = UnlinkAck id } ∷ [];
+}
+
+-- by the rule for an acknowledgement; its answer is whether its id is the awaited one
+abbrev pub acknowledging : ProcessState → Bool × LinkState → Body
+acknowledging s (awaited, links) = record {
+  state = record s { links = links };
+  outcome = if awaited then outcome.Acked else outcome.Dropped;
+  posts = [];
+}
 
 -- at the live process pid, a signal of this sender
 abbrev pub live_body : ℕ → ProcessState → ℕ → Kind → Body
 live_body pid s sender (Message term) = appending s term
+live_body pid s sender Link = linking_up s (on_link s.links sender)
+live_body pid s sender (Unlink id) = unlinking_from s sender id (on_unlink s.links sender)
+live_body pid s sender (UnlinkAck id) = acknowledging s (on_ack s.links sender id)
 live_body pid s sender (Exit reason true) = linked_exit pid s sender reason
 live_body pid s sender (Exit reason false) = plain_exit pid s sender reason
+live_body pid s sender (AliasMessage reference term) = dropping s
+live_body pid s sender (Monitor reference) = dropping s
+live_body pid s sender (Demonitor reference) = dropping s
+live_body pid s sender (Down reference reason) = dropping s
 
--- at a process that has ended
-abbrev pub ended_body : ProcessState → Kind → Body
-ended_body s (Message term) = dropping s
-ended_body s (Exit reason linked) = dropping s
+-- there is no such process any more: the sender of a link signal gets an exit signal of the link
+abbrev pub answering_noproc : ProcessState → ℕ → Body
+answering_noproc s sender = record { state = s; outcome = outcome.NoProc; posts = record { to = sender; kind = Exit noproc true } ∷ [] }
+
+-- at a process that has ended, a signal of this sender
+abbrev pub ended_body : ProcessState → ℕ → Kind → Body
+ended_body s sender Link = answering_noproc s sender
+ended_body s sender _ = dropping s
 
 -- what the process pid does with this signal
 unfoldable pub handling : ℕ → ProcessState → Signal → Body
-handling pid s signal = if is_some s.end then ended_body s signal.kind else live_body pid s signal.from.0 signal.kind
+handling pid s signal =
+    if is_some s.end then ended_body s signal.from.0 signal.kind else live_body pid s signal.from.0 signal.kind

@@ -1,5 +1,5 @@
 -- The machine of a script, as rules: what an execution and a handling of each of its processes are.
-use Rattle.std.specs.Prelude.{ℕ, List, map, length, Option, Some, None, is_some, slice_get}
+use Rattle.std.specs.Prelude.{ℕ, ◌+◌, List, [], ◌∷◌, length, Option, Some, None, is_some, slice_get}
 use Rattle.std.specs.Option.{option_map}
 use Rattle.sig_kinds.specs.declared.signal.Signal.{Signal}
 use Rattle.sig_script.specs.Scripts.{Declared}
@@ -46,6 +46,11 @@ rules_of script = record {
   handle = λ pid s x. handling_of pid s x;
 }
 
+-- the opening states of these processes of so many, the first of which has this pid
+abbrev pub opening_from : ℕ → ℕ → List Declared → List ProcessState
+opening_from pid count [] = []
+opening_from pid count (p ∷ ps) = opening_state pid count ∷ opening_from (pid + 1) count ps
+
 -- the opening of a script: each process in its opening state
 abbrev pub opening_of : Program → List ProcessState
-opening_of script = map (λ p. opening_state (length script.procs)) script.procs
+opening_of script = opening_from 0 (length script.procs) script.procs

@@ -1,12 +1,11 @@
 -- The state of one process (Erlang Reference Manual, Processes). Stamps, turns, and being cut are this project's own.
 use Rattle.std.specs.Prelude.{ℕ, List, [], Bool, false, ◌&&◌, ◌||◌, nat_le, Option, None, is_none, replicate}
-use Rattle.std.specs.Ordering.{nat_cmp}
-use Rattle.std.specs.FinSet as set
 use Rattle.std.specs.FinMap as map
 use Rattle.sig_terms.specs.declared.term.Term.{Term}
 use Rattle.sig_terms.specs.declared.reference.Ref.{Ref}
 use Rattle.sig_terms.specs.References.{ref_cmp}
 use Rattle.sig_kinds.specs.declared.alias_mode.AliasMode.{AliasMode}
+use Rattle.sig_kinds.specs.LinkRules.{LinkState, unlinked}
 use Rattle.sig_patterns.specs.Environment.{Environment}
 
 -- a place in the message list, told by the arrival number of the first message behind it, and the next serial there
@@ -26,18 +25,16 @@ pub record ProcessState : Type 0 where
   pub env : Environment
   -- the messages that no receive has taken, each with its arrival number, the oldest first
   pub messages : List (ℕ × Term)
-  -- the peers of active links, and the ids of the unlinks that they have not acknowledged
-  pub active : set.FinSet nat_cmp
-  pub awaited : map.FinMap nat_cmp ℕ
+  -- the active links, and the ids of the unlinks that their peers have not acknowledged
+  pub links : LinkState
   -- the monitors held, with their targets; and those borne, with their watchers, in the order of their arrival
   pub held : map.FinMap ref_cmp ℕ
   pub borne : List (Ref × ℕ)
   -- the active aliases
   pub aliases : map.FinMap ref_cmp AliasMode
   pub traps : Bool
-  -- the next serial of a reference, id of an unlink, and arrival number; and the next number for each peer, by pid
+  -- the next serial of a reference, and arrival number; and the next number for each peer, by pid
   pub next_serial : ℕ
-  pub next_id : ℕ
   pub next_arrival : ℕ
   pub next_numbers : List ℕ
   -- the receive markers
@@ -49,20 +46,18 @@ pub record ProcessState : Type 0 where
   pub executed : ℕ
   pub stamp : ℕ
 
--- at place 1, with all else empty; every count begins at 1
-abbrev pub opening_state : ℕ → ProcessState
-opening_state count = record {
+-- the process of this pid, one of so many: at place 1, with all else empty; every count begins at 1
+abbrev pub opening_state : ℕ → ℕ → ProcessState
+opening_state pid count = record {
   place = 1;
   env = map.empty;
   messages = [];
-  active = set.empty;
-  awaited = map.empty;
+  links = unlinked pid;
   held = map.empty;
   borne = [];
   aliases = map.empty;
   traps = false;
   next_serial = 1;
-  next_id = 1;
   next_arrival = 1;
   next_numbers = replicate count 1;
   reserve = None;

@@ -49,6 +49,14 @@ pub enum Outcome {
     },
     /// The signal had no effect.
     Dropped,
+    /// A link signal set up the link.
+    Linked,
+    /// An unlink signal ended the link, where there was one, and was acknowledged.
+    Unlinked,
+    /// An acknowledgement had the awaited id.
+    Acked,
+    /// The process has ended, and the sender of a link signal was told so.
+    NoProc,
 }
 
 /// An event of a process.

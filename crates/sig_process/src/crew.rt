@@ -2,7 +2,7 @@ ghost use Rattle.std.specs.Prelude.{◌≡◌, ◌<◌, ◌≤◌, IfOk, IfSome,
 ghost use Rattle.sig_model.specs.Running.{opened};
 ghost use Rattle.sig_model.specs.OneWorker.{opened_crew, IsClear};
 
-use crate::process::Process;
+use crate::raw_process::RawProcess;
 use sig_script::Script;
 use sig_terms::Pid;
 use std::alloc::{AllocError, Global};
@@ -12,7 +12,7 @@ use std::marker::Model;
 #[derive(Drop)]
 pub struct Crew {
     /// The process at place p, from 0, has the pid p.
-    pub procs: Vec<Process>,
+    pub procs: Vec<RawProcess>,
 }
 
 impl Model for Crew {
@@ -31,16 +31,16 @@ impl Model for Crew {
     ghost view = { λ c. c.procs.items };
 }
 
-impl Process {
+impl RawProcess {
     /// The process of this pid, as the script opens it: at its first instruction, with all else
     /// empty.
-    pub fn open(alloc: Global, script: &Script, pid: Pid) -> Result<Process, AllocError>
+    pub fn open(alloc: Global, script: &Script, pid: Pid) -> Result<RawProcess, AllocError>
         requires { pid.0 < length script.now.procs }
         ensures { IfOk result (λ p. IfSome (slice_get script.now.procs pid.0) (λ d.
             p ≡ opened pid.0 (length script.now.procs) script.now.turns d)) }
     {
         match script.proc(pid.0) {
-            Some(proc) => Process::start(alloc, pid, script.count(), script.turns(), proc),
+            Some(proc) => RawProcess::start(alloc, pid, script.count(), script.turns(), proc),
             None => unreachable!(),
         }
     }
@@ -54,7 +54,7 @@ impl Crew {
     {
         let mut procs = Vec::new(alloc);
         for pid in 0..script.count() {
-            let process = Process::open(alloc, script, Pid(pid))?;
+            let process = RawProcess::open(alloc, script, Pid(pid))?;
             procs.push(process)?;
         }
         Ok(Crew { procs })

@@ -6,7 +6,7 @@ ghost use Rattle.sig_model.specs.Running.{can_exec};
 ghost use Rattle.sig_process.specs.Steps.{step_body, IsPlaceOf, IsFit, noted, made, IsExec};
 
 use crate::atoms::plain_atom;
-use crate::process::{Process, draw};
+use crate::raw_process::{RawProcess, draw};
 use crate::stepping::Step;
 use sig_base::Steps;
 use sig_kinds::{Kind, Signal};
@@ -26,7 +26,7 @@ pub enum Exec {
     Waiting,
 }
 
-impl Process {
+impl RawProcess {
     /// Adds the event of an execution, and goes on at a place.
     pub(crate) fn note(&mut self, outcome: Outcome, place: u32) -> Result<(), AllocError>
         requires stamp { self.old.state.stamp < 4611686018427387904 }

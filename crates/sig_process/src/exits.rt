@@ -4,7 +4,7 @@ ghost use Rattle.sig_model.specs.ExitRule.{exit_message, exit_rule, plain_exit, 
 ghost use Rattle.sig_process.specs.Handled.{handled_as};
 
 use crate::atoms::{is_atom_of, plain_atom};
-use crate::process::Process;
+use crate::raw_process::RawProcess;
 use sig_kinds::Signal;
 use sig_lists::Sequence;
 use sig_model::Outcome;
@@ -20,7 +20,7 @@ fn exit_message(alloc: Global, sender: Pid, reason: Term) -> Result<Term, AllocE
     Ok(Term::Tuple(Sequence::from_vec(parts)))
 }
 
-impl Process {
+impl RawProcess {
     /// A signal ends the process with this reason.
     fn end_by(&mut self, signal: Signal, reason: Term) -> Result<(), AllocError>
         requires stamp { self.old.state.stamp < 4611686018427387904 }

@@ -4,7 +4,7 @@ ghost use Rattle.sig_model.specs.Handling.{handling};
 ghost use Rattle.sig_model.specs.Running.{next_of, is_early, can_handle, handled_first, handled_one, handle_next};
 ghost use Rattle.sig_process.specs.Handled.{handled_as, noted_handled};
 
-use crate::process::{Process, add};
+use crate::raw_process::{RawProcess, add};
 use sig_inner::Append;
 use sig_kinds::{Kind, Signal, Signals};
 use sig_lists::Pushed;
@@ -30,7 +30,7 @@ fn next_signal<'a>(own: &'a Signals, taken_in: &'a Signals) -> Option<&'a Signal
     }
 }
 
-impl Process {
+impl RawProcess {
     /// Whether the next signal may be handled: the process isn't cut, and its oldest own signal, or
     /// where there is none its oldest signal of another, has a stamp below 2^62.
     #[tactic(auto, unfolding(sig_model::specs::Running::can_handle))]

@@ -7,11 +7,11 @@ mod executing;
 mod exits;
 mod handling;
 mod parts;
-mod process;
+mod raw_process;
 mod receiving;
 mod stepping;
 
 pub use crew::Crew;
 pub use executing::Exec;
 pub use parts::Parts;
-pub use process::Process;
+pub use raw_process::RawProcess as Process;

@@ -3,7 +3,7 @@ ghost use Rattle.std.specs.List.{list_any};
 ghost use Rattle.sig_model.specs.PrintedState.{is_late_signal, is_late, state_of, printed_state};
 ghost use Rattle.sig_process.specs.PartsOf.{parts_of};
 
-use crate::process::Process;
+use crate::raw_process::RawProcess;
 use sig_inner::Inner;
 use sig_kinds::{Signal, Signals};
 use sig_model::{Events, LAST_STAMP, State};
@@ -64,7 +64,7 @@ fn state_of(end: Option<Term>, cut: bool) -> State
     }
 }
 
-impl Process {
+impl RawProcess {
     fn has_late(&self) -> bool
         ensures { result ≡ is_late self.now }
     {

@@ -5,7 +5,7 @@ ghost use Rattle.sig_process.specs.Received.{IsReceive, IsReceived, IsSameQueue}
 ghost use Rattle.sig_process.specs.Steps.{IsExec};
 
 use crate::executing::Exec;
-use crate::process::Process;
+use crate::raw_process::RawProcess;
 use sig_base::Steps;
 use sig_inner::{Inner, Scan};
 use sig_model::Outcome;
@@ -90,7 +90,7 @@ fn receive_from<L: Ledger>(
     }
 }
 
-impl Process {
+impl RawProcess {
     /// Executes a receive.
     #[tactic(auto, using(crate::proofs::ExecLemmas::ready_stamp, crate::proofs::ExecLemmas::ready_turns))]
     pub(crate) fn receive<L: Ledger>(&mut self, steps: &mut Steps<L>) -> Result<Exec, AllocError>

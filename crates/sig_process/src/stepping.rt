@@ -4,7 +4,7 @@ ghost use Rattle.sig_model.specs.Executing.{built, with_value, sending, sending_
 ghost use Rattle.sig_process.specs.Steps.{step_body, IsPlaceOf, IsFit};
 
 use crate::atoms::plain_atom;
-use crate::process::Process;
+use crate::raw_process::RawProcess;
 use sig_patterns::{BuildFault, Env, Expr, Var, build};
 use sig_script::Instr;
 use sig_terms::Term;
@@ -56,7 +56,7 @@ fn stop(alloc: Global) -> Result<Step, AllocError>
     Ok(Step::End { reason })
 }
 
-impl Process {
+impl RawProcess {
     /// Where the process goes on: at the label of the target, or at the next place.
     pub(crate) fn place_after(&self, target: Option<u32>) -> u32
         requires within { self.now.state.place ≤ length self.now.proc.instrs }

@@ -1,14 +1,14 @@
 -- The text of a record: one line for each fact. A record has one text.
 use Rattle.std.specs.Prelude.{ℕ, Bool, true, false, List, ◌++◌, codes, decimal}
 use Rattle.std.specs.List.{flat_map}
-use Rattle.sig_terms.specs.TermText.{term_text}
+use Rattle.sig_terms.specs.TermText.{term_text, reference_text}
 use Rattle.sig_kinds.specs.declared.signal.Kind.{Kind}
-use Rattle.sig_kinds.specs.declared.signal.Kind.TheVariants.{Message, Exit}
+use Rattle.sig_kinds.specs.declared.signal.Kind.TheVariants.{Message, AliasMessage, Link, Unlink, UnlinkAck, Monitor, Demonitor, Exit, Down}
 use Rattle.sig_kinds.specs.declared.signal.Signal.{Signal}
 use Rattle.sig_model.specs.declared.event.Did.{Did}
 use Rattle.sig_model.specs.declared.event.Did.TheVariants.{Exec, From}
 use Rattle.sig_model.specs.declared.event.Outcome.{Outcome}
-use Rattle.sig_model.specs.declared.event.Outcome.TheVariants.{Sent, Set, Done, Took, After, Ended, Kept, Dropped}
+use Rattle.sig_model.specs.declared.event.Outcome.TheVariants.{Sent, Set, Done, Took, After, Ended, Kept, Dropped, Linked, Unlinked, Acked, NoProc}
 use Rattle.sig_model.specs.declared.event.Event.{Event}
 use Rattle.sig_model.specs.declared.state.State.{State}
 use Rattle.sig_model.specs.declared.state.State.TheVariants as state
@@ -28,6 +28,10 @@ outcome_text (After looked) = codes "after " ++ decimal looked
 outcome_text (Ended reason) = codes "ended " ++ term_text reason
 outcome_text (Kept message) = codes "kept " ++ term_text message
 outcome_text Dropped = codes "dropped"
+outcome_text Linked = codes "linked"
+outcome_text Unlinked = codes "unlinked"
+outcome_text Acked = codes "acked"
+outcome_text NoProc = codes "noproc"
 
 unfoldable pub event_text : Event → List ℕ
 event_text e = decimal e.stamp ++ did_text e.did ++ outcome_text e.outcome ++ codes "\n"
@@ -42,7 +46,14 @@ link_text false = codes "plain "
 
 abbrev pub kind_text : Kind → List ℕ
 kind_text (Message term) = codes "message " ++ term_text term
+kind_text (AliasMessage reference term) = codes "alias " ++ reference_text reference ++ codes " " ++ term_text term
+kind_text Link = codes "link"
+kind_text (Unlink id) = codes "unlink " ++ decimal id
+kind_text (UnlinkAck id) = codes "unlink_ack " ++ decimal id
+kind_text (Monitor reference) = codes "monitor " ++ reference_text reference
+kind_text (Demonitor reference) = codes "demonitor " ++ reference_text reference
 kind_text (Exit reason linked) = codes "exit " ++ link_text linked ++ term_text reason
+kind_text (Down reference reason) = codes "down " ++ reference_text reference ++ codes " " ++ term_text reason
 
 unfoldable pub queued_text : Signal → List ℕ
 queued_text s = codes "queued " ++ decimal s.from.0 ++ codes " " ++ decimal s.number ++ codes " " ++ decimal s.stamp ++ codes " " ++ kind_text s.kind ++ codes "\n"

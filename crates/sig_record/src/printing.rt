@@ -94,6 +94,10 @@ fn put_outcome(into: &mut Vec<u8>, outcome: &Outcome) -> Result<(), AllocError>
             message.print(into)
         }
         Outcome::Dropped => put(into, b"dropped"),
+        Outcome::Linked => put(into, b"linked"),
+        Outcome::Unlinked => put(into, b"unlinked"),
+        Outcome::Acked => put(into, b"acked"),
+        Outcome::NoProc => put(into, b"noproc"),
     }
 }
 
@@ -149,6 +153,35 @@ fn put_kind(into: &mut Vec<u8>, kind: &Kind) -> Result<(), AllocError>
         Kind::Message { term } => {
             put(into, b"message ")?;
             term.print(into)
+        }
+        Kind::AliasMessage { reference, term } => {
+            put(into, b"alias ")?;
+            reference.print(into)?;
+            put(into, b" ")?;
+            term.print(into)
+        }
+        Kind::Link => put(into, b"link"),
+        Kind::Unlink { id } => {
+            put(into, b"unlink ")?;
+            put_number(into, *id)
+        }
+        Kind::UnlinkAck { id } => {
+            put(into, b"unlink_ack ")?;
+            put_number(into, *id)
+        }
+        Kind::Monitor { reference } => {
+            put(into, b"monitor ")?;
+            reference.print(into)
+        }
+        Kind::Demonitor { reference } => {
+            put(into, b"demonitor ")?;
+            reference.print(into)
+        }
+        Kind::Down { reference, reason } => {
+            put(into, b"down ")?;
+            reference.print(into)?;
+            put(into, b" ")?;
+            reason.print(into)
         }
         Kind::Exit { reason, linked } => {
             put(into, b"exit ")?;

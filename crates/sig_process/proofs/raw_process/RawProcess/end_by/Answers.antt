@@ -1,5 +1,5 @@
 use Rattle.sig_process.proofs.SoundLemmas.{emptied_sound}
-use Rattle.sig_process.proofs.process.Process.finish.Goals as goal
+use Rattle.sig_process.proofs.raw_process.RawProcess.end_by.Goals as goal
 
 pub invariant_of-self : goal.invariant_of-self
 invariant_of-self c =

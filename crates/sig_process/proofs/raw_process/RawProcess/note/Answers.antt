@@ -1,7 +1,7 @@
 use Rattle.std.proofs.Common.{◌≡◌, ◌+◌, arith, length, ap}
 use Rattle.sig_model.specs.Running.{Running}
 use Rattle.sig_process.proofs.SoundLemmas.{forgotten_sound}
-use Rattle.sig_process.proofs.process.Process.note.Goals as goal
+use Rattle.sig_process.proofs.raw_process.RawProcess.note.Goals as goal
 
 pub invariant_of-self-in-Added : goal.invariant_of-self-in-Added
 invariant_of-self-in-Added c =

@@ -3,7 +3,7 @@ use Rattle.sig_patterns.specs.declared.var.Var.{Var}
 use Rattle.sig_model.specs.Executing.{built, setting}
 use Rattle.sig_model.specs.Running.{Running}
 use Rattle.sig_process.proofs.ValueLemmas.{value_given}
-use Rattle.sig_process.proofs.process.Process.set_step.Goals as goal
+use Rattle.sig_process.proofs.raw_process.RawProcess.set_step.Goals as goal
 
 pub returns-in_ok-var-in-Some-clause-step : goal.returns-in_ok-var-in-Some-clause-step
 returns-in_ok-var-in-Some-clause-step c =

@@ -18,7 +18,7 @@ use std::mem;
 /// A process: its state, its events, and the signals that wait for it or that it has sent.
 /// (Erlang Reference Manual, Processes.)
 #[derive(Drop)]
-pub struct Process {
+pub struct RawProcess {
     pub(crate) alloc: Global,
     pub(crate) pid: Pid,
     pub(crate) count: u32,
@@ -39,7 +39,7 @@ pub struct Process {
     pub(crate) outbox: Signals,
 }
 
-impl Model for Process {
+impl Model for RawProcess {
     ghost use Rattle.std.specs.Coded.{codes};
     ghost use Rattle.std.specs.FinMap as map;
     ghost use Rattle.std.specs.FinSet as set;
@@ -129,7 +129,7 @@ fn has_none(signals: &Signals) -> bool
     signals.len() == 0
 }
 
-impl Process {
+impl RawProcess {
     /// A process of the script, as the script opens it.
     pub(crate) fn start(
         alloc: Global,
@@ -137,13 +137,13 @@ impl Process {
         count: u32,
         turns: u32,
         proc: &Proc,
-    ) -> Result<Process, AllocError>
+    ) -> Result<RawProcess, AllocError>
         ensures { IfOk result (λ p. p ≡ opened pid.0 count turns proc.now) }
     {
         let next_numbers = first_numbers(alloc, count)?;
         let inner = Inner::open(alloc, pid)?;
         let proc = proc.copy(alloc)?;
-        Ok(Process {
+        Ok(RawProcess {
             alloc,
             pid,
             count,

@@ -1,5 +1,5 @@
 use Rattle.sig_process.proofs.SoundLemmas.{opened_sound}
-use Rattle.sig_process.proofs.process.Process.start.Goals as goal
+use Rattle.sig_process.proofs.raw_process.RawProcess.start.Goals as goal
 
 pub invariant_of-result : goal.invariant_of-result
 invariant_of-result c =

@@ -3,7 +3,7 @@ use Rattle.sig_model.specs.Bodies.{ending}
 use Rattle.sig_model.specs.Executing.{built}
 use Rattle.sig_model.specs.Running.{Running}
 use Rattle.sig_process.proofs.ValueLemmas.{value_given}
-use Rattle.sig_process.proofs.process.Process.exit_step.Goals as goal
+use Rattle.sig_process.proofs.raw_process.RawProcess.exit_step.Goals as goal
 
 pub returns-in-Some-clause-step : goal.returns-in-Some-clause-step
 returns-in-Some-clause-step c =

@@ -2,10 +2,10 @@ use Rattle.std.proofs.Common.{◌-◌, ◌<◌, length, arith, sym, ◌∙◌, a
 use Rattle.std.proofs.lemmas.Option.{slice_get_within}
 use Rattle.sig_model.specs.Running.{exec_next, can_exec}
 use Rattle.sig_process.specs.declared.receiving.Received.{Received}
-use Rattle.sig_process.specs.contracts.process.Process as process
+use Rattle.sig_process.specs.contracts.raw_process.RawProcess as process
 use Rattle.sig_process.specs.Received.{IsReceived}
 use Rattle.sig_process.proofs.ReceiveLemmas.{took, passed_by, stays}
-use Rattle.sig_process.proofs.process.Process.receive.Goals as goal
+use Rattle.sig_process.proofs.raw_process.RawProcess.receive.Goals as goal
 
 pub place_after-place-requires-in-Some-clause-within : goal.place_after-place-requires-in-Some-clause-within
 place_after-place-requires-in-Some-clause-within g c =

@@ -2,7 +2,7 @@ use Rattle.std.proofs.Common.{sym, ◌∙◌, ap, Some}
 use Rattle.sig_model.specs.Executing.{built, with_value, sending}
 use Rattle.sig_model.specs.Running.{Running}
 use Rattle.sig_process.proofs.ValueLemmas.{value_too_large, value_given, limited}
-use Rattle.sig_process.proofs.process.Process.send_step.Goals as goal
+use Rattle.sig_process.proofs.raw_process.RawProcess.send_step.Goals as goal
 
 pub returns-in-None-2-clause-step : goal.returns-in-None-2-clause-step
 returns-in-None-2-clause-step c =

@@ -4,7 +4,7 @@ use Rattle.sig_model.specs.Bodies.{Body}
 use Rattle.sig_model.specs.Running.{Running}
 use Rattle.sig_process.specs.Handled.{handled_as}
 use Rattle.sig_process.proofs.HandleLemmas.{unlinked_drops}
-use Rattle.sig_process.proofs.process.Process.exit_linked.Goals as goal
+use Rattle.sig_process.proofs.raw_process.RawProcess.exit_linked.Goals as goal
 
 pub returns : goal.returns
 returns c =

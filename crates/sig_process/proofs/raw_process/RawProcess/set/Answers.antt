@@ -1,6 +1,6 @@
 use Rattle.std.proofs.Common.{arith}
 use Rattle.sig_process.proofs.SoundLemmas.{forgotten_sound}
-use Rattle.sig_process.proofs.process.Process.set.Goals as goal
+use Rattle.sig_process.proofs.raw_process.RawProcess.set.Goals as goal
 
 pub invariant_of-self : goal.invariant_of-self
 invariant_of-self c =
