@@ -47,8 +47,8 @@ state_posted r t [] = refl
 state_posted r t (x ∷ xs) =
     elim (x.to.0 == r.pid) as
     (λ own.
-        all_posted (if own then record r { state = t; own = r.own ++ x ∷ [] } else record r { state = t; outbox = r.outbox ++ x ∷ [] }) xs
-        ≡ record (all_posted (if own then record r { own = r.own ++ x ∷ [] } else record r { outbox = r.outbox ++ x ∷ [] }) xs) { state = t }) [
+    all_posted (if own then record r { state = t; own = r.own ++ x ∷ [] } else record r { state = t; outbox = r.outbox ++ x ∷ [] }) xs
+    ≡ record (all_posted (if own then record r { own = r.own ++ x ∷ [] } else record r { outbox = r.outbox ++ x ∷ [] }) xs) { state = t }) [
       | true ↦ state_posted (record r { own = r.own ++ x ∷ [] }) t xs
       | false ↦ state_posted (record r { outbox = r.outbox ++ x ∷ [] }) t xs
     ]

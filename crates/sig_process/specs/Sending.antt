@@ -1,5 +1,5 @@
 -- What a process sends at an event (Erlang Reference Manual, Processes, Signals).
-use Rattle.std.specs.Prelude.{List}
+use Rattle.std.specs.Prelude.{ℕ, List}
 use Rattle.sig_terms.specs.declared.term.Term.{Term}
 use Rattle.sig_model.specs.Bodies.{Post, ending}
 use Rattle.sig_model.specs.Finishing.{numbers_after, numbered}

@@ -1,4 +1,4 @@
-ghost use Rattle.std.specs.Prelude.{◌≡◌, ◌+◌, ◌<◌, ◌≤◌, ◌∷◌, [], None, OnOk, length, slice_index};
+ghost use Rattle.std.specs.Prelude.{ℕ, ◌≡◌, ◌+◌, ◌<◌, ◌≤◌, ◌∷◌, [], None, OnOk, length, slice_index};
 ghost use Rattle.sig_kinds.specs.LinkRules.{active_after};
 ghost use Rattle.sig_model.specs.Bodies.{exits_to};
 ghost use Rattle.sig_model.specs.Finishing.{drawn};
