@@ -27,17 +27,17 @@ module _ (count : ℕ) where
   pub one_post : (p : Post) → IsPostBelow count p → All (IsPostBelow count) (p ∷ [])
   one_post p h = All-cons (IsPostBelow count) p [] h no_posts
 
-  exits_below : (peers : List ℕ) (reason : Term) → All (λ peer. peer < count) peers → IsTermBelow count reason → All (IsPostBelow count) (exits_to peers reason)
+  exits_below : (peers : List ℕ) (reason : Term) → All (λ (peer : ℕ). peer < count) peers → IsTermBelow count reason → All (IsPostBelow count) (exits_to peers reason)
   exits_below peers reason h k =
-      All-map (IsPostBelow count) (λ peer. record { to = peer; kind = kind.Exit reason true }) peers
-      (All-weaker (λ peer. peer < count) (λ peer. IsPostBelow count (record { to = peer; kind = kind.Exit reason true })) (λ peer lt. record { to = lt; kind = k }) peers h)
+      All-map (IsPostBelow count) (λ (peer : ℕ). record { to = peer; kind = kind.Exit reason true }) peers
+      (All-weaker (λ (peer : ℕ). peer < count) (λ (peer : ℕ). IsPostBelow count (record { to = peer; kind = kind.Exit reason true })) (λ peer lt. record { to = lt; kind = k }) peers h)
 
   -- without monitors and aliases
   pub none_held : (reference : Ref) → IfSome (get (empty {X = ℕ} {R = ref_cmp}) reference) (λ target. IsRefBelow count reference × (target < count))
   none_held reference = subst (λ (o : Option ℕ). IfSome o (λ target. IsRefBelow count reference × (target < count))) (sym (get-empty {X = ℕ} ref_cmp reference)) tt
 
   pub no_alias : (reference : Ref) → contains_key (empty {X = AliasMode} {R = ref_cmp}) reference ≡ true → IsRefBelow count reference
-  no_alias reference e = absurd (no_key {X = AliasMode} ref_cmp reference e)
+  no_alias reference e = absurd (no_key AliasMode ref_cmp reference e)
 
   module _ (s : ProcessState) (k : IsStateBelow count s) where
     -- links that are below, in place of those of the state

@@ -1,8 +1,9 @@
 -- The pids in what an instruction does: one lemma for each row of the table of instructions.
-use Rattle.std.proofs.Common.{ℕ, zero, suc, ◌+◌, ◌-◌, ◌<◌, List, [], ◌∷◌, Bool, true, false, cond, All, IfSome, Option, Some, None, option_and_then, slice_get, codes}
+use Rattle.std.proofs.Common.{◌≡◌, ℕ, zero, suc, ◌+◌, ◌-◌, ◌<◌, List, [], ◌∷◌, Bool, true, false, cond, All, IfSome, Option, Some, None, option_and_then, slice_get, codes}
 use Rattle.std.specs.Prelude.{remove}
 use Rattle.std.specs.Option.{option_map_or}
 use Rattle.std.proofs.lemmas.List.Elements.{All-head, All-tail, All-append, All-take, All-drop}
+use Rattle.std.proofs.lemmas.Option.{MatchOption-at_some}
 use Rattle.sig_terms.specs.declared.term.Term.{Term}
 use Rattle.sig_terms.specs.declared.term.Term.TheVariants as term
 use Rattle.sig_kinds.specs.declared.signal.Kind.TheVariants as kind
@@ -39,21 +40,21 @@ module _ (count : ℕ) (s : ProcessState) (k : IsStateBelow count s) where
   ending_atom : (a : List ℕ) → IsBodyBelow count (ending s (term.Atom a))
   ending_atom a = ending_below count s k (term.Atom a) (atom_below count a)
 
-  with_value_below : (e : Expr) (go : Term → Body) → IsExprBelow count e → ((t : Term) → IsTermBelow count t → IsBodyBelow count (go t)) → IsBodyBelow count (with_value s e go)
+  pub with_value_below : (e : Expr) (go : Term → Body) → IsExprBelow count e → ((t : Term) → IsTermBelow count t → IsBodyBelow count (go t)) → IsBodyBelow count (with_value s e go)
   with_value_below e go h goes =
       elim (is_small (value_of s.env e)) as (λ b. IsBodyBelow count (option_map_or go (cond b (Some (value_of s.env e)) None) (ending s system_limit))) [
         | true ↦ goes (value_of s.env e) (value_below count s.env k.env e h)
         | false ↦ ending_atom (codes "system_limit")
       ]
 
-  sending_below : (t message : Term) → IsTermBelow count t → IsTermBelow count message → IsBodyBelow count (sending s t message)
+  pub sending_below : (t message : Term) → IsTermBelow count t → IsTermBelow count message → IsBodyBelow count (sending s t message)
   sending_below (term.Pid p) message h g = record {
     state = placed_below count s k (s.place + 1);
     posts = one_post count (record { to = p.0; kind = kind.Message message }) (record { to = pid_tells count p h; kind = g });
   }
   sending_below _ message h g = ending_atom (codes "badarg")
 
-  setting_below : (var : List ℕ) (value : Term) → IsTermBelow count value → IsBodyBelow count (setting s var value)
+  pub setting_below : (var : List ℕ) (value : Term) → IsTermBelow count value → IsBodyBelow count (setting s var value)
   setting_below var value h = record {
     state = record {
       env = insert_below count s.env var value k.env h;
@@ -68,7 +69,7 @@ module _ (count : ℕ) (s : ProcessState) (k : IsStateBelow count s) where
     posts = no_posts count;
   }
 
-  sending_exit_below : (t reason : Term) → IsTermBelow count t → IsTermBelow count reason → IsBodyBelow count (sending_exit s t reason)
+  pub sending_exit_below : (t reason : Term) → IsTermBelow count t → IsTermBelow count reason → IsBodyBelow count (sending_exit s t reason)
   sending_exit_below (term.Pid p) reason h g = record {
     state = placed_below count s k (s.place + 1);
     posts = one_post count (record { to = p.0; kind = kind.Exit reason false }) (record { to = pid_tells count p h; kind = g });
@@ -95,7 +96,7 @@ module _ (count : ℕ) (s : ProcessState) (k : IsStateBelow count s) where
   linked_by_below : (peer : ℕ) (answer : Bool × LinkState) → peer < count → AreLinksBelow count answer.1 → IsBodyBelow count (linked_by s peer answer)
   linked_by_below peer (sends, links) lt h = record { state = relinked_below links h; posts = link_posts_below sends peer lt }
 
-  linking_below : (t : Term) → IsTermBelow count t → IsBodyBelow count (linking s t)
+  pub linking_below : (t : Term) → IsTermBelow count t → IsBodyBelow count (linking s t)
   linking_below (term.Pid p) h =
       let lt : p.0 < count = pid_tells count p h in
       linked_by_below p.0 (link s.links p.0) lt (link_below count s.links k.links p.0 lt)
@@ -108,13 +109,13 @@ module _ (count : ℕ) (s : ProcessState) (k : IsStateBelow count s) where
   unlinked_by_below : (peer : ℕ) (answer : Option ℕ × LinkState) → peer < count → AreLinksBelow count answer.1 → IsBodyBelow count (unlinked_by s peer answer)
   unlinked_by_below peer (id, links) lt h = record { state = relinked_below links h; posts = unlink_posts_below peer id lt }
 
-  unlinking_below : (t : Term) → IsTermBelow count t → IsBodyBelow count (unlinking s t)
+  pub unlinking_below : (t : Term) → IsTermBelow count t → IsBodyBelow count (unlinking s t)
   unlinking_below (term.Pid p) h =
       let lt : p.0 < count = pid_tells count p h in
       unlinked_by_below p.0 (unlink s.links p.0) lt (unlink_below count s.links k.links p.0 lt)
   unlinking_below _ h = ending_atom (codes "badarg")
 
-  trapping_below : (on : Bool) → IsBodyBelow count (trapping s on)
+  pub trapping_below : (on : Bool) → IsBodyBelow count (trapping s on)
   trapping_below on = record {
     state = record {
       env = k.env;
@@ -154,13 +155,13 @@ module _ (count : ℕ) (s : ProcessState) (k : IsStateBelow count s) where
         some_mapped (IsEnvironmentBelow count) (IsBodyBelow count) (taken found m c) (match_of c.pattern s.env m.1) (match_below count s.env c.pattern m.1 k.env h)
         (λ env g. record { state = taken_state_below (place_after p.labels c.target s.place) found.at env g; posts = no_posts count })
 
-    taking_below : (clauses : List Clause) (found : Found) → IfSome (taking p s clauses found) (IsBodyBelow count)
+    pub taking_below : (clauses : List Clause) (found : Found) → IfSome (taking p s clauses found) (IsBodyBelow count)
     taking_below clauses found =
         some_then (λ (m : ℕ × Term). IsTermBelow count m.1) (IsBodyBelow count) (λ m. option_and_then (λ c. taken_by p s found m c) (slice_get clauses found.clause)) (slice_get s.messages found.at)
         (at_place (λ (m : ℕ × Term). IsTermBelow count m.1) s.messages found.at k.messages)
         (λ m h. some_then (λ (c : Clause). Unit {0}) (IsBodyBelow count) (λ c. taken_by p s found m c) (slice_get clauses found.clause) (at_place (λ (c : Clause). Unit {0}) clauses found.clause (λ i d lt. tt)) (λ c _. taken_by_below found m c h))
 
-    receiving_below : (clauses : List Clause) (after : Option After) (found : Option Found) → IfSome (receiving p s clauses after found) (IsBodyBelow count)
+    pub receiving_below : (clauses : List Clause) (after : Option After) (found : Option Found) → IfSome (receiving p s clauses after found) (IsBodyBelow count)
     receiving_below clauses after (Some found) = taking_below clauses found
     receiving_below clauses (Some after) None = going_on_below count s k (place_after p.labels after.target s.place) (outcome.After (looked (terms_of s.messages) None))
     receiving_below clauses None None = tt
@@ -184,3 +185,6 @@ module _ (count : ℕ) (s : ProcessState) (k : IsStateBelow count s) where
     pub executing_below : IsProcBelow count p → IfSome (executing p s) (IsBodyBelow count)
     unfolding executing
     executing_below h = exec_body_below (slice_get p.instrs (s.place - 1)) (at_place (IsInstrBelow count) p.instrs (s.place - 1) h)
+
+    pub executed_below : IsProcBelow count p → (body : Body) → executing p s ≡ Some body → IsBodyBelow count body
+    executed_below h body e = MatchOption-at_some (Unit {0}) (IsBodyBelow count) body e (executing_below h)

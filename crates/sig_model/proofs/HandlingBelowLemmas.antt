@@ -31,38 +31,38 @@ module _ (count : ℕ) where
 
   module _ (pid sender : ℕ) (lt : sender < count) where
     -- the exit rule
-    exit_rule_below : (s : ProcessState) (reason : Term) → IsStateBelow count s → IsTermBelow count reason → IsBodyBelow count (exit_rule pid s sender reason)
+    pub exit_rule_below : (s : ProcessState) (reason : Term) → IsStateBelow count s → IsTermBelow count reason → IsBodyBelow count (exit_rule pid s sender reason)
     exit_rule_below s reason k h =
         either_below s.traps (appending s (exit_message sender reason)) (cond (same_term reason normal && not (sender == pid)) (dropping s) (ending s reason))
         (appending_below count s k (exit_message sender reason) (exit_message_below sender reason lt h))
         (either_below (same_term reason normal && not (sender == pid)) (dropping s) (ending s reason) (dropping_below count s k) (ending_below count s k reason h))
 
-    plain_exit_below : (s : ProcessState) (reason : Term) → IsStateBelow count s → IsTermBelow count reason → IsBodyBelow count (plain_exit pid s sender reason)
+    pub plain_exit_below : (s : ProcessState) (reason : Term) → IsStateBelow count s → IsTermBelow count reason → IsBodyBelow count (plain_exit pid s sender reason)
     plain_exit_below s reason k h =
         either_below (same_term reason kill) (ending s killed) (exit_rule pid s sender reason)
         (ending_below count s k killed (atom_below count (codes "killed"))) (exit_rule_below s reason k h)
 
-    linked_exit_below : (s : ProcessState) (reason : Term) → IsStateBelow count s → IsTermBelow count reason → IsBodyBelow count (linked_exit pid s sender reason)
+    pub linked_exit_below : (s : ProcessState) (reason : Term) → IsStateBelow count s → IsTermBelow count reason → IsBodyBelow count (linked_exit pid s sender reason)
     linked_exit_below s reason k h =
         either_below (is_active s.links sender) (exit_rule pid (record s { links = deactivated s.links sender }) sender reason) (dropping s)
         (exit_rule_below (record s { links = deactivated s.links sender }) reason (linked_below count s k (deactivated s.links sender) (deactivated_below count s.links k.links sender)) h)
         (dropping_below count s k)
 
     module _ (s : ProcessState) (k : IsStateBelow count s) where
-      linking_up_below : (answer : Bool × LinkState) → AreLinksBelow count answer.1 → IsBodyBelow count (linking_up s answer)
+      pub linking_up_below : (answer : Bool × LinkState) → AreLinksBelow count answer.1 → IsBodyBelow count (linking_up s answer)
       linking_up_below (linked, links) h = record { state = linked_below count s k links h; posts = no_posts count }
 
-      unlinking_from_below : (id : ℕ) (answer : Bool × LinkState) → AreLinksBelow count answer.1 → IsBodyBelow count (unlinking_from s sender id answer)
+      pub unlinking_from_below : (id : ℕ) (answer : Bool × LinkState) → AreLinksBelow count answer.1 → IsBodyBelow count (unlinking_from s sender id answer)
       unlinking_from_below id (ended, links) h = record {
         state = linked_below count s k links h;
         posts = one_post count (record { to = sender; kind = UnlinkAck id }) (record { to = lt; kind = tt });
       }
 
-      acknowledging_below : (answer : Bool × LinkState) → AreLinksBelow count answer.1 → IsBodyBelow count (acknowledging s answer)
+      pub acknowledging_below : (answer : Bool × LinkState) → AreLinksBelow count answer.1 → IsBodyBelow count (acknowledging s answer)
       acknowledging_below (awaited, links) h = record { state = linked_below count s k links h; posts = no_posts count }
 
       -- at a live process
-      live_below : (what : Kind) → IsKindBelow count what → IsBodyBelow count (live_body pid s sender what)
+      pub live_below : (what : Kind) → IsKindBelow count what → IsBodyBelow count (live_body pid s sender what)
       live_below (Message term) h = appending_below count s k term h
       live_below Link h = linking_up_below (on_link s.links sender) (on_link_below count s.links k.links sender lt)
       live_below (Unlink id) h = unlinking_from_below id (on_unlink s.links sender) (on_unlink_below count s.links k.links sender)
@@ -74,14 +74,14 @@ module _ (count : ℕ) where
       live_below (Demonitor reference) h = dropping_below count s k
       live_below (Down reference reason) h = dropping_below count s k
 
-      answering_noproc_below : IsBodyBelow count (answering_noproc s sender)
+      pub answering_noproc_below : IsBodyBelow count (answering_noproc s sender)
       answering_noproc_below = record {
         state = k;
         posts = one_post count (record { to = sender; kind = Exit noproc true }) (record { to = lt; kind = atom_below count (codes "noproc") });
       }
 
       -- at a process that has ended
-      ended_below : (what : Kind) → IsBodyBelow count (ended_body s sender what)
+      pub ended_below : (what : Kind) → IsBodyBelow count (ended_body s sender what)
       ended_below Link = answering_noproc_below
       ended_below _ = dropping_below count s k
 

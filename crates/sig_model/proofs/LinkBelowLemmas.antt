@@ -13,16 +13,16 @@ use Rattle.sig_kinds.specs.LinkRules.{ending as links_ending}
 use Rattle.sig_model.specs.PidsBelow.{AreLinksBelow}
 
 -- an empty map has no key
-pub no_key : {K X : Type 0} (R : K → K → Ordering) (key : K) → contains_key (empty {X = X} {R = R}) key ≡ true → ⊥
-no_key {K} {X} R key h = both_ways (contains_key (empty {X = X} {R = R}) key) (ap (λ o. is_some o) (get-empty {X = X} R key)) h
+pub no_key : {K : Type 0} (X : Type 0) (R : K → K → Ordering) (key : K) → contains_key (empty {X = X} {R = R}) key ≡ true → ⊥
+no_key X R key h = both_ways (contains_key (empty {X = X} {R = R}) key) (ap (λ o. is_some o) (get-empty {X = X} R key)) h
 
 module _ (count : ℕ) where
   -- each key of the map is below
   abbrev AreKeysBelow : {X : Type 0} → FinMap nat_cmp X → Type 0
   AreKeysBelow m = (key : ℕ) → contains_key m key ≡ true → key < count
 
-  no_keys : {X : Type 0} → AreKeysBelow (empty {X = X} {R = nat_cmp})
-  no_keys {X} key h = absurd (no_key {X = X} nat_cmp key h)
+  no_keys : (X : Type 0) → AreKeysBelow (empty {X = X} {R = nat_cmp})
+  no_keys X key h = absurd (no_key X nat_cmp key h)
 
   one_more : {X : Type 0} (b : Bool) (key new : ℕ) (x : X) (o : Option X) → eq_by_cmp nat_cmp key new ≡ b → new < count → (is_some o ≡ true → key < count) → is_some (cond b (Some x) o) ≡ true → key < count
   one_more true key new x o e lt old h = subst (λ n. n < count) (sym (eqb-true key new (sym (unsigned_tied key new) ∙ e))) lt
@@ -40,21 +40,21 @@ module _ (count : ℕ) where
   removed_keys m gone old key h =
       old key (one_less (eq_by_cmp nat_cmp key gone) (get m key) (ap (λ o. is_some o) (sym (get-remove nat_cmp_total m gone key)) ∙ h))
 
-  listed_keys : (ks : List ℕ) → ((key : ℕ) → list_any (eq_by_cmp nat_cmp key) ks ≡ true → key < count) → All (λ key. key < count) ks
-  listed_keys [] h = All-nil (λ key. key < count)
+  listed_keys : (ks : List ℕ) → ((key : ℕ) → list_any (eq_by_cmp nat_cmp key) ks ≡ true → key < count) → All (λ (key : ℕ). key < count) ks
+  listed_keys [] h = All-nil (λ (key : ℕ). key < count)
   listed_keys (k ∷ ks) h =
-      All-cons (λ key. key < count) k ks (h k (or_left (eq_by_cmp nat_cmp k k) (list_any (eq_by_cmp nat_cmp k) ks) (ap (λ o. is_eq o) (tied_itself nat_cmp_total k))))
+      All-cons (λ (key : ℕ). key < count) k ks (h k (or_left (eq_by_cmp nat_cmp k k) (list_any (eq_by_cmp nat_cmp k) ks) (ap (λ o. is_eq o) (tied_itself nat_cmp_total k))))
       (listed_keys ks (λ key e. h key (or_right (eq_by_cmp nat_cmp key k) (list_any (eq_by_cmp nat_cmp key) ks) e)))
 
-  all_keys : {X : Type 0} (m : FinMap nat_cmp X) → AreKeysBelow m → All (λ key. key < count) (keys m)
+  all_keys : {X : Type 0} (m : FinMap nat_cmp X) → AreKeysBelow m → All (λ (key : ℕ). key < count) (keys m)
   all_keys m h = listed_keys (keys m) (λ key e. h key (contains_key-keys m key ∙ e))
 
   pub unlinked_below : (owner : ℕ) → owner < count → AreLinksBelow count (unlinked owner)
-  unlinked_below owner lt = record { owner = lt; active = no_keys; awaited = no_keys }
+  unlinked_below owner lt = record { owner = lt; active = no_keys (Unit {0}); awaited = no_keys ℕ }
 
   module _ (links : LinkState) (k : AreLinksBelow count links) where
     -- the peers of active links
-    pub peers_below : All (λ peer. peer < count) (active_after links None)
+    pub peers_below : All (λ (peer : ℕ). peer < count) (active_after links None)
     peers_below = all_keys links.active k.active
 
     pub activated_below : (peer : ℕ) → peer < count → AreLinksBelow count (activated links peer)
@@ -64,7 +64,7 @@ module _ (count : ℕ) where
     deactivated_below peer = record { owner = k.owner; active = removed_keys links.active peer k.active; awaited = k.awaited }
 
     pub ending_below : AreLinksBelow count (links_ending links)
-    ending_below = record { owner = k.owner; active = no_keys; awaited = no_keys }
+    ending_below = record { owner = k.owner; active = no_keys (Unit {0}); awaited = no_keys ℕ }
 
     -- the links after the one or the other
     either_below : {A : Type 0} (b : Bool) (x y : A × LinkState) → AreLinksBelow count x.1 → AreLinksBelow count y.1 → AreLinksBelow count (cond b x y).1

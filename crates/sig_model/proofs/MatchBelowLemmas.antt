@@ -28,7 +28,7 @@ some_mapped P Q f (Some x) h g = g x h
 
 module _ (count : ℕ) where
   pub empty_below : IsEnvironmentBelow count empty
-  empty_below var = subst (λ o. IfSome o (IsTermBelow count)) (sym (get-empty (slice_cmp nat_cmp) var)) tt
+  empty_below var = subst (λ o. IfSome o (IsTermBelow count)) (sym (get-empty {X = Term} (slice_cmp nat_cmp) var)) tt
 
   inserted : (b : Bool) (t : Term) (o : Option Term) → IsTermBelow count t → IfSome o (IsTermBelow count) → IfSome (cond b (Some t) o) (IsTermBelow count)
   inserted true t o h k = h

@@ -32,14 +32,14 @@ pub record IsEffectBelow (count : ℕ) (e : Effect ProcessState Signal Event) : 
   pub sends : All (IsSignalBelow count) e.sends
 
 module _ (count pid : ℕ) (lt : pid < count) where
-  numbered_below : (stamp : ℕ) (numbers : List ℕ) (posts : List Post) → All (IsPostBelow count) posts → All (IsSignalBelow count) (numbered pid stamp numbers posts)
+  pub numbered_below : (stamp : ℕ) (numbers : List ℕ) (posts : List Post) → All (IsPostBelow count) posts → All (IsSignalBelow count) (numbered pid stamp numbers posts)
   numbered_below stamp numbers [] h = All-nil (IsSignalBelow count)
   numbered_below stamp numbers (p ∷ ps) h =
       let k : IsPostBelow count p = All-head (IsPostBelow count) p ps h in
       All-cons (IsSignalBelow count) _ _ (record { from = lt; to = k.to; kind = k.kind }) (numbered_below stamp (drawn numbers p.to) ps (All-tail (IsPostBelow count) p ps h))
 
   module _ (s : ProcessState) where
-    finished_below : (executed stamp : ℕ) (what : Did) (body : Body) → IsBodyBelow count body → IsEffectBelow count (finished pid s executed stamp what body)
+    pub finished_below : (executed stamp : ℕ) (what : Did) (body : Body) → IsBodyBelow count body → IsEffectBelow count (finished pid s executed stamp what body)
     finished_below executed stamp what body h =
         let k : IsStateBelow count body.state = h.state in
         record {
@@ -70,7 +70,7 @@ module _ (count pid : ℕ) (lt : pid < count) where
     handling_of_below x k h = finished_handle_below x (handling pid s x) (handling_below count pid s x k h)
 
 -- the process as the script opens it
-opening_below : (pid count : ℕ) → pid < count → IsStateBelow count (opening_state pid count)
+pub opening_below : (pid count : ℕ) → pid < count → IsStateBelow count (opening_state pid count)
 opening_below pid count lt = record {
   env = empty_below count;
   messages = All-nil (λ (m : ℕ × Term). IsTermBelow count m.1);
@@ -129,7 +129,7 @@ module _ (r : Running) (k : IsRunningBelow r) (x : Signal) (h : IsSignalBelow r.
     outbox = All-push (IsSignalBelow r.count) r.outbox x k.outbox h;
   }
 
-all_posted_below : (r : Running) (signals : List Signal) → IsRunningBelow r → All (IsSignalBelow r.count) signals → IsRunningBelow (all_posted r signals)
+pub all_posted_below : (r : Running) (signals : List Signal) → IsRunningBelow r → All (IsSignalBelow r.count) signals → IsRunningBelow (all_posted r signals)
 all_posted_below r [] k h = k
 all_posted_below r (x ∷ xs) k h =
     let first : IsSignalBelow r.count x = All-head (IsSignalBelow r.count) x xs h in
@@ -139,7 +139,7 @@ all_posted_below r (x ∷ xs) k h =
       | false ↦ all_posted_below (record r { outbox = r.outbox ++ x ∷ [] }) xs (to_box_below r k x first) later
     ]
 
-advanced_below : (r : Running) (e : Effect ProcessState Signal Event) → IsRunningBelow r → IsEffectBelow r.count e → IsRunningBelow (advanced r e)
+pub advanced_below : (r : Running) (e : Effect ProcessState Signal Event) → IsRunningBelow r → IsEffectBelow r.count e → IsRunningBelow (advanced r e)
 advanced_below r e k h =
     all_posted_below (record r { state = e.state; events = r.events ++ e.event ∷ [] }) e.sends
     (record {
