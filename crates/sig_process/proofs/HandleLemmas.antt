@@ -1,14 +1,9 @@
 -- What it means that a signal may be handled, and what its handling leads to.
 use Rattle.std.proofs.Common.{◌≡◌, ℕ, ◌<◌, Bool, true, false, not, ◌&&◌, ◌||◌, Some, None, is_none, refl, ◌∙◌, sym, ap, arith}
-use Rattle.std.specs.Prelude.{nat_le, nat_lt, if◌then◌else◌}
-use Rattle.std.specs.Ordering.{nat_cmp}
+use Rattle.std.specs.Prelude.{nat_le, nat_lt}
 use Rattle.std.proofs.lemmas.Bool.Decides.{nat_tests}
-use Rattle.std.specs.FinSet as set
-use Rattle.sig_terms.specs.declared.term.Term.{Term}
 use Rattle.sig_kinds.specs.declared.signal.Signal.{Signal}
-use Rattle.sig_model.specs.ProcessState.{ProcessState, is_cut}
-use Rattle.sig_model.specs.Bodies.{dropping}
-use Rattle.sig_model.specs.ExitRule.{exit_rule, linked_exit}
+use Rattle.sig_model.specs.ProcessState.{is_cut}
 use Rattle.sig_model.specs.Running.{Running, next_of, is_early, can_handle, handled_first, handle_next}
 
 not_above : (a b : ℕ) → nat_le b a ≡ false → a < b
@@ -50,9 +45,3 @@ due_some r h e = let no : false ≡ true = sym (ap is_early e) ∙ early r h in 
 pub handling_next : (r : Running) → can_handle r ≡ true → handle_next r ≡ handled_first r r.own r.taken_in
 unfolding handle_next
 handling_next r h = rw h refl
-
--- where no link is active, an exit signal of a link has no effect
-pub unlinked_drops : (pid : ℕ) (s : ProcessState) (sender : ℕ) (reason : Term) → s.active ≡ set.empty → linked_exit pid s sender reason ≡ dropping s
-unlinked_drops pid s sender reason none =
-    let no : set.contains s.active sender ≡ false = ap (λ (peers : set.FinSet nat_cmp). set.contains peers sender) none ∙ set.contains-empty nat_cmp sender in
-    ap (λ (b : Bool). if b then exit_rule pid (record s { active = set.remove s.active sender }) sender reason else dropping s) no

@@ -6,4 +6,7 @@ pub mod ExecLemmas
 pub mod TakeLemmas
 pub mod ReceiveLemmas
 pub mod HandleLemmas
+pub mod NumberLemmas
+pub mod SendingLemmas
+pub mod TellingLemmas
 pub mod Lists

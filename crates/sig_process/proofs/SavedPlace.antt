@@ -21,6 +21,8 @@ pub unsaved_passes : (i : Option Instr) (q : InnerQueue) (env : Environment) →
 unsaved_passes None q env e = tt
 unsaved_passes (Some (instr.Send to message)) q env e = tt
 unsaved_passes (Some (instr.Set var value)) q env e = tt
+unsaved_passes (Some (instr.Link peer)) q env e = tt
+unsaved_passes (Some (instr.Unlink peer)) q env e = tt
 unsaved_passes (Some (instr.Exit reason)) q env e = tt
 unsaved_passes (Some (instr.ExitTo target reason)) q env e = tt
 unsaved_passes (Some (instr.Trap on)) q env e = tt

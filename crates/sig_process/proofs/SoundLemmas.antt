@@ -8,30 +8,32 @@ use Rattle.sig_script.specs.Scripts.{Declared}
 use Rattle.sig_process.specs.Soundness.{IsSound}
 use Rattle.sig_process.proofs.SavedPlace.{unsaved_passes}
 
-module _ (pid place stamp : ℕ) (before after : InnerQueue) (env : Environment) (numbers : List ℕ) (p : Declared) (sound : IsSound pid place stamp before env numbers p) where
+module _ (pid place stamp next_id : ℕ) (before after : InnerQueue) (env : Environment) (numbers : List ℕ) (p : Declared) (sound : IsSound pid place stamp next_id before env numbers p) where
   -- at another place, with other values of the variables
   pub forgotten_sound : (to later : ℕ) (bound : Environment) → after ≡ forgotten before → 1 ≤ to → to ≤ length p.instrs + 1 → stamp ≤ later → later ≤ 4611686018427387904 →
-      IsSound pid to later after bound numbers p
+      IsSound pid to later next_id after bound numbers p
   forgotten_sound to later bound is first within rises stamps =
-      subst (λ (q : InnerQueue). IsSound pid to later q bound numbers p) (sym is)
+      subst (λ (q : InnerQueue). IsSound pid to later next_id q bound numbers p) (sym is)
       (record {
         first = first;
         within = within;
         arrivals = omega (arith, sound.arrivals);
+        ids = omega (arith, sound.ids);
         numbers = λ peer. omega (arith, sound.numbers peer);
         stamps = stamps;
         own = sound.own;
         passed = unsaved_passes (slice_get p.instrs (to - 1)) (forgotten before) bound refl;
       })
 
-  -- at the end of the process
-  pub emptied_sound : after ≡ emptied before → IsSound pid place stamp after env numbers p
-  emptied_sound is =
-      subst (λ (q : InnerQueue). IsSound pid place stamp q env numbers p) (sym is)
+  -- at the end of the process, where no id is drawn
+  pub emptied_sound : (id : ℕ) → id ≡ next_id → after ≡ emptied before → IsSound pid place stamp id after env numbers p
+  emptied_sound id same is =
+      subst (λ (q : InnerQueue). IsSound pid place stamp id q env numbers p) (sym is)
       (record {
         first = sound.first;
         within = sound.within;
         arrivals = sound.arrivals;
+        ids = omega (arith, sound.ids, same);
         numbers = sound.numbers;
         stamps = sound.stamps;
         own = (sound.own.0, refl, refl);
@@ -44,13 +46,14 @@ first_below (suc count) zero = omega arith
 first_below (suc count) (suc peer) = first_below count peer
 
 -- of a process that is opened
-pub opened_sound : (pid count : ℕ) (queue : InnerQueue) (env : Environment) (numbers : List ℕ) (p : Declared) → queue ≡ opened pid → numbers ≡ replicate count 1 → IsSound pid 1 0 queue env numbers p
-opened_sound pid count queue env numbers p is ones =
-    subst (λ (q : InnerQueue). IsSound pid 1 0 q env numbers p) (sym is)
+pub opened_sound : (pid count : ℕ) (next_id : ℕ) (queue : InnerQueue) (env : Environment) (numbers : List ℕ) (p : Declared) → next_id ≡ 1 → queue ≡ opened pid → numbers ≡ replicate count 1 → IsSound pid 1 0 next_id queue env numbers p
+opened_sound pid count next_id queue env numbers p id is ones =
+    subst (λ (q : InnerQueue). IsSound pid 1 0 next_id q env numbers p) (sym is)
     (record {
       first = omega arith;
       within = omega arith;
       arrivals = omega arith;
+      ids = omega (arith, id);
       numbers = λ peer. subst (λ (ns : List ℕ). slice_index ns peer ≤ 1) (sym ones) (first_below count peer);
       stamps = omega arith;
       own = (refl, refl, refl);

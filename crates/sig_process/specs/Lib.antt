@@ -1,5 +1,6 @@
 pub mod Soundness
 pub mod Received
 pub mod Steps
+pub mod Sending
 pub mod Handled
 pub mod PartsOf

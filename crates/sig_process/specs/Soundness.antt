@@ -17,12 +17,13 @@ abbrev pub HasPassedAt : Option Instr → InnerQueue → Environment → Type 0
 HasPassedAt (Some (instr.Receive clauses after)) queue env = HasPassed queue clauses env
 HasPassedAt _ queue env = Unit {0}
 
-pub record IsSound (pid place stamp : ℕ) (queue : InnerQueue) (env : Environment) (next_numbers : List ℕ) (p : Declared) : Type 0 where
+pub record IsSound (pid place stamp next_id : ℕ) (queue : InnerQueue) (env : Environment) (next_numbers : List ℕ) (p : Declared) : Type 0 where
   -- the place is that of an instruction, or the one after the last
   pub first : 1 ≤ place
   pub within : place ≤ length p.instrs + 1
-  -- an event draws at most one number for a message or for a peer, and no stamp is above 2^62
+  -- an event draws at most one number for a message, for an unlink or for a peer, and no stamp is above 2^62
   pub arrivals : queue.next_arrival ≤ stamp + 1
+  pub ids : next_id ≤ stamp + 1
   pub numbers : (peer : ℕ) → slice_index next_numbers peer ≤ stamp + 1
   pub stamps : stamp ≤ 4611686018427387904
   pub own : IsQueueOf pid queue

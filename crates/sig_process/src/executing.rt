@@ -1,15 +1,14 @@
 ghost use Rattle.std.specs.Prelude.{◌≡◌, ◌+◌, ◌<◌, ◌≤◌, ◌^◌, length, true, OnOk, IfOk, slice_index};
 ghost use Rattle.sig_model.specs.Bodies.{going_on, ending, badarg};
 ghost use Rattle.sig_model.specs.Executing.{sending, sending_exit, setting, trapping, executing};
-ghost use Rattle.sig_model.specs.Finishing.{drawn};
 ghost use Rattle.sig_model.specs.Running.{can_exec};
 ghost use Rattle.sig_process.specs.Steps.{step_body, IsPlaceOf, IsFit, noted, made, IsExec};
 
 use crate::atoms::plain_atom;
-use crate::raw_process::{RawProcess, draw};
+use crate::raw_process::RawProcess;
 use crate::stepping::Step;
 use sig_base::Steps;
-use sig_kinds::{Kind, Signal};
+use sig_kinds::Kind;
 use sig_lists::Pushed;
 use sig_model::{Did, Event, Outcome};
 use sig_patterns::Var;
@@ -61,13 +60,11 @@ impl RawProcess {
         let told = reason.copy(self.alloc)?;
         let place = self.place;
         self.note(Outcome::Ended { reason: told }, place)?;
-        self.inner.empty();
-        self.end = Some(reason);
-        Ok(())
+        self.close(reason)
     }
 
     /// A value is of the wrong kind.
-    fn refuse(&mut self) -> Result<(), AllocError>
+    pub(crate) fn refuse(&mut self) -> Result<(), AllocError>
         requires stamp { self.old.state.stamp < 4611686018427387904 }
         requires turns { self.old.state.executed < self.old.turns }
         ensures { OnOk result (self.new ≡ made self.old (ending self.old.state badarg)) }
@@ -93,30 +90,7 @@ impl RawProcess {
             },
             place,
         )?;
-        let signal = self.next_signal(to, Kind::Message { term: message });
-        self.post(signal)
-    }
-
-    /// A signal to this process, with its stamp and the next number.
-    fn next_signal(&mut self, to: Pid, kind: Kind) -> Signal
-        requires { slice_index self.old.state.next_numbers to.0 ≤ self.old.state.stamp }
-        ensures signal { result ≡ record {
-          from = record { 0 = self.old.pid };
-          to = to;
-          number = slice_index self.old.state.next_numbers to.0;
-          stamp = self.old.state.stamp;
-          kind = kind;
-        } }
-        ensures drawn { self.new ≡ record self.old { state = record self.old.state { next_numbers = drawn self.old.state.next_numbers to.0 } } }
-    {
-        let number = draw(&mut self.next_numbers, to);
-        Signal {
-            from: self.pid,
-            to,
-            number,
-            stamp: self.stamp,
-            kind,
-        }
+        self.send_signal(to, Kind::Message { term: message })
     }
 
     /// A message to the target.
@@ -147,14 +121,13 @@ impl RawProcess {
     {
         let place = self.place + 1;
         self.note(Outcome::Done, place)?;
-        let signal = self.next_signal(
+        self.send_signal(
             to,
             Kind::Exit {
                 reason,
                 linked: false,
             },
-        );
-        self.post(signal)
+        )
     }
 
     /// An exit signal to the target.
@@ -229,6 +202,14 @@ impl RawProcess {
             }
             Step::Send { to, message } => {
                 self.send(to, message)?;
+                Ok(Exec::Stepped)
+            }
+            Step::Link { peer } => {
+                self.link(peer)?;
+                Ok(Exec::Stepped)
+            }
+            Step::Unlink { peer } => {
+                self.unlink(peer)?;
                 Ok(Exec::Stepped)
             }
             Step::Exit { to, reason } => {

@@ -29,9 +29,7 @@ impl RawProcess {
     {
         let told = reason.copy(self.alloc)?;
         self.note_handled(signal, Outcome::Ended { reason: told })?;
-        self.inner.empty();
-        self.end = Some(reason);
-        Ok(())
+        self.close(reason)
     }
 
     /// The exit rule. (Erlang Reference Manual, Processes, Receiving Exit Signals.)
@@ -63,13 +61,16 @@ impl RawProcess {
         self.exit_by(signal, reason)
     }
 
-    /// An exit signal of a link. No link is ever active.
+    /// An exit signal of a link. Where the link isn't active, it has no effect.
     pub(crate) fn exit_linked(&mut self, signal: Signal, reason: Term) -> Result<(), AllocError>
         requires stamp { self.old.state.stamp < 4611686018427387904 }
         requires early { signal.stamp < 4611686018427387904 }
         ensures { OnOk result (self.new ≡ handled_as self.old signal (linked_exit self.old.pid self.old.state signal.from.0 reason)) }
     {
-        let _ = &self.alloc;
-        self.pass_over(signal)
+        if !self.links.active(signal.from) {
+            return self.pass_over(signal);
+        }
+        self.links.on_exit(signal.from);
+        self.exit_by(signal, reason)
     }
 }

@@ -1,6 +1,6 @@
 ghost use Rattle.std.specs.Prelude.{◌≡◌, ◌+◌, ◌<◌, ◌≤◌, ◌++◌, [], ◌∷◌, max, true, Some, None, OnOk, MatchOption, option_copied, option_map};
 ghost use Rattle.sig_model.specs.Bodies.{dropping, appending};
-ghost use Rattle.sig_model.specs.Handling.{handling};
+ghost use Rattle.sig_model.specs.Handling.{live_body, ended_body, handling};
 ghost use Rattle.sig_model.specs.Running.{next_of, is_early, can_handle, handled_first, handled_one, handle_next};
 ghost use Rattle.sig_process.specs.Handled.{handled_as, noted_handled};
 
@@ -103,26 +103,53 @@ impl RawProcess {
         }
     }
 
-    /// Handles this signal, which waits no more.
-    #[tactic(auto, unfolding(sig_model::specs::Handling::handling))]
-    fn handle_signal(&mut self, signal: Signal) -> Result<(), AllocError>
+    /// Handles a signal after the end.
+    fn handle_ended(&mut self, signal: Signal) -> Result<(), AllocError>
         requires stamp { self.old.state.stamp < 4611686018427387904 }
         requires early { signal.stamp < 4611686018427387904 }
-        ensures { OnOk result (self.new ≡ handled_one self.old signal) }
+        ensures { OnOk result (self.new ≡ handled_as self.old signal (ended_body self.old.state signal.from.0 signal.kind)) }
     {
-        if self.end.is_some() {
-            return match &signal.kind {
-                Kind::Message { term: _ } => self.pass_over(signal),
-                Kind::Exit {
-                    reason: _,
-                    linked: _,
-                } => self.pass_over(signal),
-            };
+        match &signal.kind {
+            Kind::Link => self.answer_noproc(signal),
+            Kind::Message { term: _ } => self.pass_over(signal),
+            Kind::AliasMessage {
+                reference: _,
+                term: _,
+            } => self.pass_over(signal),
+            Kind::Unlink { id: _ } => self.pass_over(signal),
+            Kind::UnlinkAck { id: _ } => self.pass_over(signal),
+            Kind::Monitor { reference: _ } => self.pass_over(signal),
+            Kind::Demonitor { reference: _ } => self.pass_over(signal),
+            Kind::Exit {
+                reason: _,
+                linked: _,
+            } => self.pass_over(signal),
+            Kind::Down {
+                reference: _,
+                reason: _,
+            } => self.pass_over(signal),
         }
+    }
+
+    /// Handles a signal before the end.
+    fn handle_live(&mut self, signal: Signal) -> Result<(), AllocError>
+        requires stamp { self.old.state.stamp < 4611686018427387904 }
+        requires early { signal.stamp < 4611686018427387904 }
+        ensures { OnOk result (self.new ≡ handled_as self.old signal (live_body self.old.pid self.old.state signal.from.0 signal.kind)) }
+    {
         match &signal.kind {
             Kind::Message { term } => {
                 let term = term.copy(self.alloc)?;
                 self.append(signal, term)
+            }
+            Kind::Link => self.link_up(signal),
+            Kind::Unlink { id } => {
+                let id = *id;
+                self.unlink_by(signal, id)
+            }
+            Kind::UnlinkAck { id } => {
+                let id = *id;
+                self.acknowledge(signal, id)
             }
             Kind::Exit { reason, linked } => {
                 let reason = reason.copy(self.alloc)?;
@@ -132,6 +159,30 @@ impl RawProcess {
                     self.exit_plain(signal, reason)
                 }
             }
+            Kind::AliasMessage {
+                reference: _,
+                term: _,
+            } => self.pass_over(signal),
+            Kind::Monitor { reference: _ } => self.pass_over(signal),
+            Kind::Demonitor { reference: _ } => self.pass_over(signal),
+            Kind::Down {
+                reference: _,
+                reason: _,
+            } => self.pass_over(signal),
+        }
+    }
+
+    /// Handles this signal, which waits no more.
+    #[tactic(auto, unfolding(sig_model::specs::Handling::handling))]
+    fn handle_signal(&mut self, signal: Signal) -> Result<(), AllocError>
+        requires stamp { self.old.state.stamp < 4611686018427387904 }
+        requires early { signal.stamp < 4611686018427387904 }
+        ensures { OnOk result (self.new ≡ handled_one self.old signal) }
+    {
+        if self.end.is_some() {
+            self.handle_ended(signal)
+        } else {
+            self.handle_live(signal)
         }
     }
 

@@ -6,12 +6,17 @@ mod crew;
 mod executing;
 mod exits;
 mod handling;
+mod linking;
 mod parts;
 mod raw_process;
 mod receiving;
+mod sending;
 mod stepping;
 
 pub use crew::Crew;
 pub use executing::Exec;
 pub use parts::Parts;
 pub use raw_process::RawProcess as Process;
+
+#[cfg(test)]
+mod tests;

@@ -1,11 +1,11 @@
-ghost use Rattle.std.specs.Prelude.{◌≡◌, ◌+◌, ◌<◌, ◌≤◌, ◌++◌, [], ◌∷◌, length, OnOk, IfOk, slice_index, replicate, ◌==◌};
-ghost use Rattle.sig_model.specs.Finishing.{drawn};
-ghost use Rattle.sig_model.specs.Running.{posted, opened, can_exec};
+ghost use Rattle.std.specs.Prelude.{◌≡◌, ◌+◌, ◌<◌, ◌≤◌, ◌++◌, [], ◌∷◌, length, OnOk, IfOk, replicate, ◌==◌};
+ghost use Rattle.sig_model.specs.Running.{opened, can_exec};
 ghost use Rattle.sig_model.specs.ProcessState.{is_cut};
 ghost use Rattle.sig_model.specs.OneWorker.{arrived};
 
 use sig_inner::Inner;
 use sig_kinds::{Push, Signal, Signals};
+use sig_links::Links;
 use sig_lists::Sequence;
 use sig_model::{Events, LAST_STAMP};
 use sig_patterns::Env;
@@ -27,6 +27,7 @@ pub struct RawProcess {
     pub(crate) place: u32,
     pub(crate) env: Env,
     pub(crate) inner: Inner,
+    pub(crate) links: Links,
     pub(crate) traps: bool,
     pub(crate) next_numbers: Vec<u64>,
     pub(crate) end: Option<Term>,
@@ -42,7 +43,6 @@ pub struct RawProcess {
 impl Model for RawProcess {
     ghost use Rattle.std.specs.Coded.{codes};
     ghost use Rattle.std.specs.FinMap as map;
-    ghost use Rattle.std.specs.FinSet as set;
     ghost use Rattle.std.specs.Prelude.{[], None};
     ghost use Rattle.sig_terms.specs.contracts.term.Term as term;
     ghost use Rattle.sig_patterns.specs.contracts.expression.Expr as expr;
@@ -62,14 +62,12 @@ impl Model for RawProcess {
         place = p.place;
         env = p.env;
         messages = p.inner.messages;
-        active = set.empty;
-        awaited = map.empty;
+        links = p.links;
         held = map.empty;
         borne = [];
         aliases = map.empty;
         traps = p.traps;
         next_serial = 1;
-        next_id = 1;
         next_arrival = p.inner.next_arrival;
         next_numbers = p.next_numbers.items;
         reserve = None;
@@ -87,23 +85,7 @@ impl Model for RawProcess {
 
     ghost use Rattle.sig_process.specs.Soundness.{IsSound};
 
-    ghost invariant = { λ p. IsSound p.pid.0 p.place p.stamp p.inner p.env p.next_numbers.items p.proc };
-}
-
-/// Draws the next number for this peer.
-pub(crate) fn draw(numbers: &mut Vec<u64>, peer: Pid) -> u64
-    requires { slice_index numbers.old.items peer.0 < 18446744073709551615 }
-    ensures number { result ≡ slice_index numbers.old.items peer.0 }
-    ensures drawn { numbers.new.items ≡ drawn numbers.old.items peer.0 }
-{
-    match numbers.get_mut(peer.0 as usize) {
-        None => 0,
-        Some(next) => {
-            let number = *next;
-            *next = number + 1;
-            number
-        }
-    }
+    ghost invariant = { λ p. IsSound p.pid.0 p.place p.stamp p.links.next_id p.inner p.env p.next_numbers.items p.proc };
 }
 
 /// Adds a signal at the end of a list.
@@ -152,6 +134,7 @@ impl RawProcess {
             place: 1,
             env: Env::new(alloc),
             inner,
+            links: Links::open(alloc, pid),
             traps: false,
             next_numbers,
             end: None,
@@ -201,17 +184,6 @@ impl RawProcess {
         ensures { result ≡ can_exec self.now }
     {
         self.end.is_none() && !self.is_cut() && has_none(&self.own)
-    }
-
-    /// A signal that the process sends.
-    pub(crate) fn post(&mut self, signal: Signal) -> Result<(), AllocError>
-        ensures { OnOk result (self.new ≡ posted self.old signal) }
-    {
-        if signal.to.0 == self.pid.0 {
-            add(&mut self.own, signal)
-        } else {
-            add(&mut self.outbox, signal)
-        }
     }
 
     /// A signal of another process joins those that wait for this one.

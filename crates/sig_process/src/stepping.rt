@@ -1,6 +1,6 @@
 ghost use Rattle.std.specs.Prelude.{◌≡◌, ◌+◌, ◌<◌, ◌≤◌, ◌^◌, length, Some, IfOk};
 ghost use Rattle.sig_model.specs.Bodies.{place_after, ending, normal, system_limit};
-ghost use Rattle.sig_model.specs.Executing.{built, with_value, sending, sending_exit, setting, executing};
+ghost use Rattle.sig_model.specs.Executing.{built, with_value, sending, sending_exit, linking, unlinking, setting, executing};
 ghost use Rattle.sig_process.specs.Steps.{step_body, IsPlaceOf, IsFit};
 
 use crate::atoms::plain_atom;
@@ -17,6 +17,10 @@ pub(crate) enum Step {
     End { reason: Term },
     /// It sends a message.
     Send { to: Term, message: Term },
+    /// It links itself to a process.
+    Link { peer: Term },
+    /// It ends the link to a process.
+    Unlink { peer: Term },
     /// It sends an exit signal.
     Exit { to: Term, reason: Term },
     /// A variable gets a value.
@@ -89,6 +93,32 @@ impl RawProcess {
         }
     }
 
+    /// What a link does.
+    fn link_step(&self, peer: &Expr) -> Result<Step, AllocError>
+        requires within { self.now.state.place ≤ length self.now.proc.instrs }
+        requires few { length self.now.proc.instrs + 1 < 2 ^ 32 }
+        ensures step { IfOk result (λ step. Some (with_value self.now.state peer.now (λ t. linking self.now.state t)) ≡ step_body self.now.proc self.now.state step) }
+        ensures fit { IfOk result (IsFit self.now) }
+    {
+        match value_of(self.alloc, peer, &self.env)? {
+            None => too_large(self.alloc),
+            Some(peer) => Ok(Step::Link { peer }),
+        }
+    }
+
+    /// What an unlink does.
+    fn unlink_step(&self, peer: &Expr) -> Result<Step, AllocError>
+        requires within { self.now.state.place ≤ length self.now.proc.instrs }
+        requires few { length self.now.proc.instrs + 1 < 2 ^ 32 }
+        ensures step { IfOk result (λ step. Some (with_value self.now.state peer.now (λ t. unlinking self.now.state t)) ≡ step_body self.now.proc self.now.state step) }
+        ensures fit { IfOk result (IsFit self.now) }
+    {
+        match value_of(self.alloc, peer, &self.env)? {
+            None => too_large(self.alloc),
+            Some(peer) => Ok(Step::Unlink { peer }),
+        }
+    }
+
     /// What an exit does.
     fn exit_step(&self, reason: &Expr) -> Result<Step, AllocError>
         ensures step { IfOk result (λ step. Some (with_value self.now.state reason.now (λ r. ending self.now.state r)) ≡ step_body self.now.proc self.now.state step) }
@@ -142,6 +172,8 @@ impl RawProcess {
             None => stop(self.alloc),
             Some(Instr::Send { to, message }) => self.send_step(to, message),
             Some(Instr::Set { var, value }) => self.set_step(var, value),
+            Some(Instr::Link { peer }) => self.link_step(peer),
+            Some(Instr::Unlink { peer }) => self.unlink_step(peer),
             Some(Instr::Exit { reason }) => self.exit_step(reason),
             Some(Instr::ExitTo { target, reason }) => self.exit_to_step(target, reason),
             Some(Instr::Trap { on }) => Ok(Step::Trap { on: *on }),

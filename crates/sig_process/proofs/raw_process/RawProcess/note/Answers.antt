@@ -8,5 +8,5 @@ invariant_of-self-in-Added c =
     let s = c.self.inside in
     let same : length s.proc.instrs ≡ length c.args.self.now.proc.instrs = ap (λ (r : Running). length r.proc.instrs) c.self.view_is in
     let stamp : s.stamp ≡ c.args.self.now.state.stamp = ap (λ (r : Running). r.state.stamp) c.self.view_is in
-    forgotten_sound s.pid.0 s.place s.stamp s.inner c.forget.new.self s.env s.next_numbers.items s.proc c.self.invariant c.args.place (s.stamp + 1) s.env
+    forgotten_sound s.pid.0 s.place s.stamp s.links.next_id s.inner c.forget.new.self s.env s.next_numbers.items s.proc c.self.invariant c.args.place (s.stamp + 1) s.env
     c.forget.ensures c.requires.place.0 (omega arith) (omega arith) (omega arith)
