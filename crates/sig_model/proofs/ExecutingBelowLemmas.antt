@@ -21,7 +21,7 @@ use Rattle.sig_script.specs.declared.instruction.After.{After}
 use Rattle.sig_script.specs.Scripts.{Declared, IsExprBelow, IsInstrBelow, IsProcBelow}
 use Rattle.sig_model.specs.declared.event.Outcome.TheVariants as outcome
 use Rattle.sig_model.specs.ProcessState.{ProcessState}
-use Rattle.sig_model.specs.Bodies.{Body, place_after, ending, normal, badarg, system_limit}
+use Rattle.sig_model.specs.Bodies.{Body, place_after, ending, system_limit}
 use Rattle.sig_model.specs.Executing.{with_value, sending, setting, sending_exit, linked_by, linking, unlink_posts, unlinked_by, unlinking, trapping, terms_of, taken_by, taking, receiving, exec_body, executing}
 use Rattle.sig_model.specs.PidsBelow.{IsTermBelow, IsEnvironmentBelow, IsPostBelow, AreLinksBelow, IsStateBelow}
 use Rattle.sig_model.proofs.TermBelowLemmas.{atom_below, pid_tells, value_below}

@@ -24,10 +24,11 @@ module _ (count : ℕ) where
 
   exit_message_below : (sender : ℕ) (reason : Term) → sender < count → IsTermBelow count reason → IsTermBelow count (exit_message sender reason)
   exit_message_below sender reason lt h =
-      tuple_below count (term.Atom (codes "EXIT") ∷ term.Pid (record { 0 = sender }) ∷ reason ∷ [])
-      (All-cons (IsTermBelow count) _ _ (atom_below count (codes "EXIT"))
-      (All-cons (IsTermBelow count) _ _ (pid_below count (record { 0 = sender }) lt)
-      (All-cons (IsTermBelow count) _ _ h (All-nil (IsTermBelow count)))))
+      let named : Term = term.Pid (record { 0 = sender }) in
+      tuple_below count (term.Atom (codes "EXIT") ∷ named ∷ reason ∷ [])
+      (All-cons (IsTermBelow count) (term.Atom (codes "EXIT")) (named ∷ reason ∷ []) (atom_below count (codes "EXIT"))
+      (All-cons (IsTermBelow count) named (reason ∷ []) (pid_below count (record { 0 = sender }) lt)
+      (All-cons (IsTermBelow count) reason [] h (All-nil (IsTermBelow count)))))
 
   module _ (pid sender : ℕ) (lt : sender < count) where
     -- the exit rule
