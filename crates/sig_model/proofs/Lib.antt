@@ -9,3 +9,10 @@ pub mod CountLemmas
 pub mod StillLemmas
 pub mod OpeningLemmas
 pub mod SettledLemmas
+pub mod TermBelowLemmas
+pub mod MatchBelowLemmas
+pub mod LinkBelowLemmas
+pub mod BodyBelowLemmas
+pub mod ExecutingBelowLemmas
+pub mod HandlingBelowLemmas
+pub mod RunningBelowLemmas

@@ -10,3 +10,4 @@ pub mod OneWorker
 pub mod PrintedState
 pub mod SettledRun
 pub mod MadeEvents
+pub mod PidsBelow
