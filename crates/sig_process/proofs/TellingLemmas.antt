@@ -1,5 +1,5 @@
 -- The peers of the active links are told one after another.
-use Rattle.std.proofs.Common.{◌≡◌, ℕ, ◌<◌, ◌≤◌, List, [], ◌∷◌, length, refl, sym, ◌∙◌, ap, subst, arith, Option, Some, None}
+use Rattle.std.proofs.Common.{◌≡◌, ℕ, ◌<◌, ◌≤◌, List, [], ◌∷◌, length, refl, sym, ◌∙◌, ap, subst, arith, Option, Some, None, true}
 use Rattle.std.specs.Prelude.{slice_index}
 use Rattle.sig_terms.specs.declared.pid.Pid.{Pid}
 use Rattle.sig_terms.specs.declared.term.Term.{Term}
