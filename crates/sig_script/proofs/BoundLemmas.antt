@@ -246,6 +246,10 @@ form-counted known here keyword.Send line ts =
     holds-on_ok (λ _. Unit {0}) (SaysAs keyword.Send) form.Do (instr_of known here keyword.Send line ts) (anything (instr_of known here keyword.Send line ts)) (λ i _ cs. refl)
 form-counted known here keyword.Set line ts =
     holds-on_ok (λ _. Unit {0}) (SaysAs keyword.Set) form.Do (instr_of known here keyword.Set line ts) (anything (instr_of known here keyword.Set line ts)) (λ i _ cs. refl)
+form-counted known here keyword.Link line ts =
+    holds-on_ok (λ _. Unit {0}) (SaysAs keyword.Link) form.Do (instr_of known here keyword.Link line ts) (anything (instr_of known here keyword.Link line ts)) (λ i _ cs. refl)
+form-counted known here keyword.Unlink line ts =
+    holds-on_ok (λ _. Unit {0}) (SaysAs keyword.Unlink) form.Do (instr_of known here keyword.Unlink line ts) (anything (instr_of known here keyword.Unlink line ts)) (λ i _ cs. refl)
 form-counted known here keyword.Exit line ts =
     holds-on_ok (λ _. Unit {0}) (SaysAs keyword.Exit) form.Do (instr_of known here keyword.Exit line ts) (anything (instr_of known here keyword.Exit line ts)) (λ i _ cs. refl)
 form-counted known here keyword.ExitTo line ts =

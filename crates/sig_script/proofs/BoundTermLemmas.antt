@@ -30,7 +30,7 @@ use Rattle.sig_script.specs.Signs.{is_open_brace, is_open_bracket, is_arrow, is_
 use Rattle.sig_script.specs.Operands.{Read, behind, elements, closed, enclosed}
 use Rattle.sig_script.specs.Expressions.{expr_leaf, expr_by, expr_front, expr_at, expr_of}
 use Rattle.sig_script.specs.PatternTexts.{pattern_leaf, list_end, pin_at, pattern_by, pattern_front, pattern_at, pattern_of}
-use Rattle.sig_script.specs.Forms.{tokens_of, keyword_of, may_stand, ends, target_at, arrow_of, count_from, turns_of, send_of, set_of, exit_of, exit_to_of, switch_of, trap_of, goto_of, whole_name, on_of, instr_of, form_of, form_behind, said_by, said}
+use Rattle.sig_script.specs.Forms.{tokens_of, keyword_of, may_stand, ends, target_at, arrow_of, count_from, turns_of, send_of, set_of, link_of, unlink_of, exit_of, exit_to_of, switch_of, trap_of, goto_of, whole_name, on_of, instr_of, form_of, form_behind, said_by, said}
 use Rattle.sig_script.proofs.BelowLemmas.{int_below, atom_below, var_below, pid_below, tuple_below, list_below, any_pattern_below, bind_pattern_below, pin_pattern_below, int_pattern_below, atom_pattern_below, pid_pattern_below, tuple_pattern_below, list_pattern_below, cons_pattern_below}
 
 -- what holds of a result that isn't a refusal
@@ -264,6 +264,16 @@ module _ (s : Program) (here : ℕ) (line : List ℕ) where
       (λ var _. holds-then IsBelow IsMeantInstr (λ value. ends (instr.Set (record { 0 = var.0 }) value.0) value.1) (expr_of (Among s) line var.1) (expr_of-below s line var.1)
       (λ value k. holds-ends IsMeantInstr (instr.Set (record { 0 = var.0 }) value.0) value.1 (tt, k)))
 
+  link-meant : (ts : List Token) → Holds IsMeantInstr (link_of (Among s) line ts)
+  link-meant ts =
+      holds-then IsBelow IsMeantInstr (λ peer. ends (instr.Link peer.0) peer.1) (expr_of (Among s) line ts) (expr_of-below s line ts)
+      (λ peer h. holds-ends IsMeantInstr (instr.Link peer.0) peer.1 (tt, h))
+
+  unlink-meant : (ts : List Token) → Holds IsMeantInstr (unlink_of (Among s) line ts)
+  unlink-meant ts =
+      holds-then IsBelow IsMeantInstr (λ peer. ends (instr.Unlink peer.0) peer.1) (expr_of (Among s) line ts) (expr_of-below s line ts)
+      (λ peer h. holds-ends IsMeantInstr (instr.Unlink peer.0) peer.1 (tt, h))
+
   exit-meant : (ts : List Token) → Holds IsMeantInstr (exit_of (Among s) line ts)
   exit-meant ts =
       holds-then IsBelow IsMeantInstr (λ reason. ends (instr.Exit reason.0) reason.1) (expr_of (Among s) line ts) (expr_of-below s line ts)
@@ -291,6 +301,8 @@ module _ (s : Program) (here : ℕ) (line : List ℕ) where
   unfolding instr_of
   instr-meant keyword.Send ts = send-meant ts
   instr-meant keyword.Set ts = set-meant ts
+  instr-meant keyword.Link ts = link-meant ts
+  instr-meant keyword.Unlink ts = unlink-meant ts
   instr-meant keyword.Exit ts = exit-meant ts
   instr-meant keyword.ExitTo ts = exit_to-meant ts
   instr-meant keyword.Trap ts = trap-meant ts
@@ -327,6 +339,8 @@ module _ (s : Program) (here : ℕ) (line : List ℕ) where
   form-meant keyword.End ts = holds-ends IsMeantHere form.End ts tt
   form-meant keyword.Send ts = do-meant keyword.Send ts
   form-meant keyword.Set ts = do-meant keyword.Set ts
+  form-meant keyword.Link ts = do-meant keyword.Link ts
+  form-meant keyword.Unlink ts = do-meant keyword.Unlink ts
   form-meant keyword.Exit ts = do-meant keyword.Exit ts
   form-meant keyword.ExitTo ts = do-meant keyword.ExitTo ts
   form-meant keyword.Trap ts = do-meant keyword.Trap ts

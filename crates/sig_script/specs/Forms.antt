@@ -43,6 +43,8 @@ keyword_of word =
     else if bytes_eq word (codes "label") then Some keyword.Label
     else if bytes_eq word (codes "send") then Some keyword.Send
     else if bytes_eq word (codes "set") then Some keyword.Set
+    else if bytes_eq word (codes "link") then Some keyword.Link
+    else if bytes_eq word (codes "unlink") then Some keyword.Unlink
     else if bytes_eq word (codes "exit") then Some keyword.Exit
     else if bytes_eq word (codes "exit_to") then Some keyword.ExitTo
     else if bytes_eq word (codes "trap") then Some keyword.Trap
@@ -118,6 +120,14 @@ set_of known line ts = do
   value ← expr_of known line var.1
   ends (instr.Set (record { 0 = var.0 }) value.0) value.1
 
+-- `link E`
+abbrev pub link_of : Known → List ℕ → List Token → Result Instr FaultKind
+link_of known line ts = expr_of known line ts >>= λ peer. ends (instr.Link peer.0) peer.1
+
+-- `unlink E`
+abbrev pub unlink_of : Known → List ℕ → List Token → Result Instr FaultKind
+unlink_of known line ts = expr_of known line ts >>= λ peer. ends (instr.Unlink peer.0) peer.1
+
 -- `exit E`
 abbrev pub exit_of : Known → List ℕ → List Token → Result Instr FaultKind
 exit_of known line ts = expr_of known line ts >>= λ reason. ends (instr.Exit reason.0) reason.1
@@ -151,6 +161,8 @@ goto_of known here line ts = target_at known here line ts >>= λ x. ends (instr.
 unfoldable pub instr_of : Known → ℕ → Keyword → List ℕ → List Token → Result Instr FaultKind
 instr_of known here keyword.Send line ts = send_of known line ts
 instr_of known here keyword.Set line ts = set_of known line ts
+instr_of known here keyword.Link line ts = link_of known line ts
+instr_of known here keyword.Unlink line ts = unlink_of known line ts
 instr_of known here keyword.Exit line ts = exit_of known line ts
 instr_of known here keyword.ExitTo line ts = exit_to_of known line ts
 instr_of known here keyword.Trap line ts = trap_of line ts

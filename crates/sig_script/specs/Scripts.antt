@@ -13,7 +13,7 @@ use Rattle.sig_patterns.specs.declared.pattern.Pattern.TheFolds.{fold-Pattern}
 use Rattle.sig_script.specs.declared.label.Label.{Label}
 use Rattle.sig_script.specs.declared.instruction.After.{After}
 use Rattle.sig_script.specs.declared.instruction.Instr.{Instr}
-use Rattle.sig_script.specs.declared.instruction.Instr.TheVariants.{Send, Set, Exit, ExitTo, Trap, Receive, Goto, Stop}
+use Rattle.sig_script.specs.declared.instruction.Instr.TheVariants.{Send, Set, Link, Unlink, Exit, ExitTo, Trap, Receive, Goto, Stop}
 
 -- a process: its name, its labels and what it does
 pub record Declared : Type 0 where
@@ -34,6 +34,8 @@ IsTarget labels target = IfSome target (λ t. t < labels)
 abbrev pub IsLawful : ℕ → Instr → Type 0
 IsLawful labels (Send to message) = Unit {0}
 IsLawful labels (Set var value) = Unit {0}
+IsLawful labels (Link peer) = Unit {0}
+IsLawful labels (Unlink peer) = Unit {0}
 IsLawful labels (Exit reason) = Unit {0}
 IsLawful labels (ExitTo target reason) = Unit {0}
 IsLawful labels (Trap on) = Unit {0}
@@ -78,6 +80,8 @@ IsPatternBelow count p = fold-Pattern Bool (pattern_below_step count) p ≡ true
 abbrev pub IsInstrBelow : ℕ → Instr → Type 0
 IsInstrBelow count (Send to message) = IsExprBelow count to × IsExprBelow count message
 IsInstrBelow count (Set var value) = IsExprBelow count value
+IsInstrBelow count (Link peer) = IsExprBelow count peer
+IsInstrBelow count (Unlink peer) = IsExprBelow count peer
 IsInstrBelow count (Exit reason) = IsExprBelow count reason
 IsInstrBelow count (ExitTo target reason) = IsExprBelow count target × IsExprBelow count reason
 IsInstrBelow count (Trap on) = Unit {0}

@@ -9,6 +9,8 @@ ghost use Rattle.sig_script.specs.Forms.{
   turns_of,
   send_of,
   set_of,
+  link_of,
+  unlink_of,
   exit_of,
   exit_to_of,
   switch_of,
@@ -135,6 +137,26 @@ fn read_set(alloc: Global, known: &Known, line: &[u8], tokens: &[Token]) -> Resu
     Ok(Instr::Set { var, value })
 }
 
+fn read_link(alloc: Global, known: &Known, line: &[u8], tokens: &[Token]) -> Result<Instr, Stop>
+    requires known { IsFewKnown known.now }
+    requires whole { AreWhole line.now tokens.now }
+    ensures { Gives (λ i. i) result (link_of known.now line.now tokens.now) }
+{
+    let (peer, rest) = take_expr(alloc, known, line, tokens)?;
+    end(rest)?;
+    Ok(Instr::Link { peer })
+}
+
+fn read_unlink(alloc: Global, known: &Known, line: &[u8], tokens: &[Token]) -> Result<Instr, Stop>
+    requires known { IsFewKnown known.now }
+    requires whole { AreWhole line.now tokens.now }
+    ensures { Gives (λ i. i) result (unlink_of known.now line.now tokens.now) }
+{
+    let (peer, rest) = take_expr(alloc, known, line, tokens)?;
+    end(rest)?;
+    Ok(Instr::Unlink { peer })
+}
+
 fn read_exit(alloc: Global, known: &Known, line: &[u8], tokens: &[Token]) -> Result<Instr, Stop>
     requires known { IsFewKnown known.now }
     requires whole { AreWhole line.now tokens.now }
@@ -242,6 +264,8 @@ fn read_instr(
     match word {
         Keyword::Send => read_send(alloc, known, line, tokens),
         Keyword::Set => read_set(alloc, known, line, tokens),
+        Keyword::Link => read_link(alloc, known, line, tokens),
+        Keyword::Unlink => read_unlink(alloc, known, line, tokens),
         Keyword::Exit => read_exit(alloc, known, line, tokens),
         Keyword::ExitTo => read_exit_to(alloc, known, line, tokens),
         Keyword::Trap => read_trap(line, tokens),

@@ -30,6 +30,14 @@ pub enum Instr {
         clauses: Clauses,
         after: Option<After>,
     },
+    /// Sets up a link. (Erlang Reference Manual, Processes, Links; module `erlang`, `link/1`.)
+    Link {
+        peer: Expr,
+    },
+    /// Ends a link. (Erlang Reference Manual, Processes, Links; module `erlang`, `unlink/1`.)
+    Unlink {
+        peer: Expr,
+    },
     /// Ends the process with the reason. (Erlang Reference Manual, Processes, Process Termination.)
     Exit {
         reason: Expr,
@@ -104,6 +112,14 @@ impl Instr {
                 let var = var.copy(alloc)?;
                 let value = value.copy(alloc)?;
                 Ok(Instr::Set { var, value })
+            }
+            Instr::Link { peer } => {
+                let peer = peer.copy(alloc)?;
+                Ok(Instr::Link { peer })
+            }
+            Instr::Unlink { peer } => {
+                let peer = peer.copy(alloc)?;
+                Ok(Instr::Unlink { peer })
             }
             Instr::Exit { reason } => {
                 let reason = reason.copy(alloc)?;

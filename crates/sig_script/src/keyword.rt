@@ -11,6 +11,8 @@ pub enum Keyword {
     Label,
     Send,
     Set,
+    Link,
+    Unlink,
     Exit,
     ExitTo,
     Trap,
@@ -36,6 +38,10 @@ pub fn read_keyword(word: &[u8]) -> Option<Keyword>
         Some(Keyword::Send)
     } else if equal_bytes(word, b"set") {
         Some(Keyword::Set)
+    } else if equal_bytes(word, b"link") {
+        Some(Keyword::Link)
+    } else if equal_bytes(word, b"unlink") {
+        Some(Keyword::Unlink)
     } else if equal_bytes(word, b"exit") {
         Some(Keyword::Exit)
     } else if equal_bytes(word, b"exit_to") {
@@ -70,6 +76,8 @@ impl Keyword {
             Keyword::Label => false,
             Keyword::Send => false,
             Keyword::Set => false,
+            Keyword::Link => false,
+            Keyword::Unlink => false,
             Keyword::Exit => false,
             Keyword::ExitTo => false,
             Keyword::Trap => false,
@@ -92,6 +100,8 @@ impl Keyword {
             Keyword::Label => true,
             Keyword::Send => true,
             Keyword::Set => true,
+            Keyword::Link => true,
+            Keyword::Unlink => true,
             Keyword::Exit => true,
             Keyword::ExitTo => true,
             Keyword::Trap => true,
@@ -114,6 +124,8 @@ impl Keyword {
             Keyword::Label => false,
             Keyword::Send => false,
             Keyword::Set => false,
+            Keyword::Link => false,
+            Keyword::Unlink => false,
             Keyword::Exit => false,
             Keyword::ExitTo => false,
             Keyword::Trap => false,

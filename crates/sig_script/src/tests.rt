@@ -11,7 +11,7 @@ use std::test::Fail;
 #[test]
 fn texts_are_read(rt: HostRuntime) -> Result<(), Fail> {
     let alloc = rt.alloc();
-    let rows: [(&[u8], u32); 11] = [
+    let rows: [(&[u8], u32); 13] = [
         (b"sigscript 1", 0),
         (b"sigscript 1\n", 0),
         (
@@ -40,6 +40,14 @@ fn texts_are_read(rt: HostRuntime) -> Result<(), Fail> {
         ),
         (
             b"sigscript 1\nprocess a\nexit_to X [trap,{on}]\nexit {'EXIT',@a,-1}",
+            1,
+        ),
+        (
+            b"sigscript 1\nprocess link\nlabel unlink\nlink @unlink\ngoto unlink\nprocess unlink\nlabel link\nunlink @link",
+            2,
+        ),
+        (
+            b"sigscript 1\nprocess a\nlink X\nunlink [link,{@a,unlink}]",
             1,
         ),
         (b"sigscript 1\nprocess a@B_9\nsend @a@B_9 @a@B_9", 1),
@@ -154,6 +162,42 @@ fn exits_and_traps_are_read(rt: HostRuntime) -> Result<(), Fail> {
     Ok(())
 }
 
+/// Whether the instruction links the process to this one.
+fn links(instr: Option<&Instr>, pid: Pid) -> bool {
+    match instr {
+        Some(
+            Instr::Link {
+                peer: Expr::Pid(peer),
+            },
+        ) => *peer == pid,
+        _ => false,
+    }
+}
+
+/// Whether the instruction ends the link to this process.
+fn unlinks(instr: Option<&Instr>, pid: Pid) -> bool {
+    match instr {
+        Some(
+            Instr::Unlink {
+                peer: Expr::Pid(peer),
+            },
+        ) => *peer == pid,
+        _ => false,
+    }
+}
+
+#[test]
+fn links_are_read(rt: HostRuntime) -> Result<(), Fail> {
+    let alloc = rt.alloc();
+    let text = b"sigscript 1\nprocess a\nlink @b\nunlink @c\nprocess b\nprocess c";
+    let script = read_script(alloc, text).map_err(|_| "refused")?;
+    let proc = script.proc(0).ok_or("no process")?.copy(alloc)?;
+    assert!(rt; proc.count() == 2);
+    assert!(rt; links(proc.instr(1), Pid(1)));
+    assert!(rt; unlinks(proc.instr(2), Pid(2)));
+    Ok(())
+}
+
 /// The header, and so many lines made of a word and two letters that count up.
 fn many_lines(alloc: Global, word: &[u8], count: u8) -> Result<Vec<u8>, AllocError>
     requires { count < 200 }
@@ -224,7 +268,7 @@ fn bounds_are_kept(rt: HostRuntime) -> Result<(), Fail> {
 }
 
 /// The texts behind the header line that are refused, each with the line and the kind.
-const REFUSED: [(&[u8], u64, FaultKind); 72] = [
+const REFUSED: [(&[u8], u64, FaultKind); 82] = [
     (b"send @a hi", 2, FaultKind::Syntax),
     (b"foo", 2, FaultKind::Syntax),
     (b"foo 99999999999999999999", 2, FaultKind::IntRange),
@@ -331,6 +375,16 @@ const REFUSED: [(&[u8], u64, FaultKind); 72] = [
     ),
     (b"process a\nreceive\nsend @a x\nend", 4, FaultKind::Syntax),
     (b"process a\nreceive\nreceive\nend", 4, FaultKind::Syntax),
+    (b"link @a", 2, FaultKind::Syntax),
+    (b"process a\nlink", 3, FaultKind::Syntax),
+    (b"process a\nlink @a @a", 3, FaultKind::Syntax),
+    (b"process a\nlink @b", 3, FaultKind::UnknownProcess),
+    (b"process a\nreceive\nlink @a\nend", 4, FaultKind::Syntax),
+    (b"unlink @a", 2, FaultKind::Syntax),
+    (b"process a\nunlink", 3, FaultKind::Syntax),
+    (b"process a\nunlink a b", 3, FaultKind::Syntax),
+    (b"process a\nunlink @b", 3, FaultKind::UnknownProcess),
+    (b"process a\nreceive\nunlink @a\nend", 4, FaultKind::Syntax),
     (b"exit a", 2, FaultKind::Syntax),
     (b"process a\nexit", 3, FaultKind::Syntax),
     (b"process a\nexit a b", 3, FaultKind::Syntax),
