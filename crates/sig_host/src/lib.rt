@@ -11,4 +11,6 @@ pub use status::Status;
 #[cfg(test)]
 mod exit_tests;
 #[cfg(test)]
+mod link_tests;
+#[cfg(test)]
 mod tests;
