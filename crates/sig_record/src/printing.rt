@@ -1,5 +1,6 @@
 ghost use Rattle.std.specs.Prelude.{◌≡◌, ◌+◌, ◌++◌, ◌<◌, length, OnOk, IfOk, decimal, codes, drop};
 ghost use Rattle.std.specs.List.{flat_map};
+ghost use Rattle.sig_terms.specs.TermText.{reference_text};
 ghost use Rattle.sig_record.specs.RecordText.{
   did_text,
   outcome_text,
@@ -19,7 +20,7 @@ use crate::report::{Left, Report};
 use itoa::Buffer;
 use sig_kinds::{Kind, Signal, Signals};
 use sig_model::{Did, Event, Outcome, State};
-use sig_terms::Name;
+use sig_terms::{Name, Ref};
 use std::alloc::AllocError;
 
 fn put(into: &mut Vec<u8>, text: &[u8]) -> Result<(), AllocError>
@@ -146,6 +147,20 @@ fn link_word(linked: bool) -> &'static [u8]
     if linked { b"linked " } else { b"plain " }
 }
 
+fn put_id(into: &mut Vec<u8>, word: &[u8], id: u64) -> Result<(), AllocError>
+    ensures { OnOk result (into.new.items ≡ into.old.items ++ (word.now ++ decimal id)) }
+{
+    put(into, word)?;
+    put_number(into, id)
+}
+
+fn put_reference(into: &mut Vec<u8>, word: &[u8], reference: Ref) -> Result<(), AllocError>
+    ensures { OnOk result (into.new.items ≡ into.old.items ++ (word.now ++ reference_text reference)) }
+{
+    put(into, word)?;
+    reference.print(into)
+}
+
 fn put_kind(into: &mut Vec<u8>, kind: &Kind) -> Result<(), AllocError>
     ensures { OnOk result (into.new.items ≡ into.old.items ++ kind_text kind.now) }
 {
@@ -155,31 +170,17 @@ fn put_kind(into: &mut Vec<u8>, kind: &Kind) -> Result<(), AllocError>
             term.print(into)
         }
         Kind::AliasMessage { reference, term } => {
-            put(into, b"alias ")?;
-            reference.print(into)?;
+            put_reference(into, b"alias ", *reference)?;
             put(into, b" ")?;
             term.print(into)
         }
         Kind::Link => put(into, b"link"),
-        Kind::Unlink { id } => {
-            put(into, b"unlink ")?;
-            put_number(into, *id)
-        }
-        Kind::UnlinkAck { id } => {
-            put(into, b"unlink_ack ")?;
-            put_number(into, *id)
-        }
-        Kind::Monitor { reference } => {
-            put(into, b"monitor ")?;
-            reference.print(into)
-        }
-        Kind::Demonitor { reference } => {
-            put(into, b"demonitor ")?;
-            reference.print(into)
-        }
+        Kind::Unlink { id } => put_id(into, b"unlink ", *id),
+        Kind::UnlinkAck { id } => put_id(into, b"unlink_ack ", *id),
+        Kind::Monitor { reference } => put_reference(into, b"monitor ", *reference),
+        Kind::Demonitor { reference } => put_reference(into, b"demonitor ", *reference),
         Kind::Down { reference, reason } => {
-            put(into, b"down ")?;
-            reference.print(into)?;
+            put_reference(into, b"down ", *reference)?;
             put(into, b" ")?;
             reason.print(into)
         }
