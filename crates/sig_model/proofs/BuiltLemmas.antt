@@ -111,21 +111,23 @@ abbrev BuiltBody : Option Body → Type 0
 BuiltBody None = Unit {0}
 BuiltBody (Some body) = BuiltPosts body.posts
 
-bound_built : (p : Declared) (s : ProcessState) (found : Found) (m : ℕ × Term) (c : Clause) (o : Option Environment) → match_of c.pattern s.env m.1 ≡ o → BuiltBody (taken_by p s found m c)
-bound_built p s found m c None e = rw e tt
-bound_built p s found m c (Some env) e = rw e none
+mapped_built : (f : Environment → Body) → ((env : Environment) → BuiltPosts (f env).posts) → (o : Option Environment) → BuiltBody (option_map f o)
+mapped_built f h None = tt
+mapped_built f h (Some env) = h env
 
-chosen_built : (p : Declared) (s : ProcessState) (found : Found) (m : ℕ × Term) (o : Option Clause) → BuiltBody (option_and_then (λ c. taken_by p s found m c) o)
-chosen_built p s found m None = tt
-chosen_built p s found m (Some c) = bound_built p s found m c (match_of c.pattern s.env m.1) refl
+then_built : {A : Type 0} (f : A → Option Body) → ((a : A) → BuiltBody (f a)) → (o : Option A) → BuiltBody (option_and_then f o)
+then_built f h None = tt
+then_built f h (Some a) = h a
 
-taking_built : (p : Declared) (s : ProcessState) (clauses : List Clause) (found : Found) (o : Option (ℕ × Term)) →
-    BuiltBody (option_and_then (λ m. option_and_then (λ c. taken_by p s found m c) (slice_get clauses found.clause)) o)
-taking_built p s clauses found None = tt
-taking_built p s clauses found (Some m) = chosen_built p s found m (slice_get clauses found.clause)
+taken_built : (p : Declared) (s : ProcessState) (found : Found) (m : ℕ × Term) (c : Clause) → BuiltBody (taken_by p s found m c)
+taken_built p s found m c = mapped_built _ (λ env. none) (match_of c.pattern s.env m.1)
+
+taking_built : (p : Declared) (s : ProcessState) (clauses : List Clause) (found : Found) → BuiltBody (taking p s clauses found)
+taking_built p s clauses found =
+    then_built _ (λ m. then_built _ (λ c. taken_built p s found m c) (slice_get clauses found.clause)) (slice_get s.messages found.at)
 
 receiving_built : (p : Declared) (s : ProcessState) (clauses : List Clause) (after : Option After) (found : Option Found) → BuiltBody (receiving p s clauses after found)
-receiving_built p s clauses after (Some found) = taking_built p s clauses found (slice_get s.messages found.at)
+receiving_built p s clauses after (Some found) = taking_built p s clauses found
 receiving_built p s clauses (Some after) None = none
 receiving_built p s clauses None None = tt
 

@@ -64,7 +64,7 @@ step_same r t (inr e) = exec_case (can_exec r) r t e
 
 goes_same : (r t : Running) → Goes r t → IsSame r t
 goes_same r _ (stays _) = record { pid = refl; count = refl }
-goes_same r t (on _ u _ step later) =
+goes_same r _ (on _ u t step later) =
     let a : IsSame r u = step_same r u step in
     let b : IsSame u t = goes_same u t later in
     record { pid = b.pid ∙ a.pid; count = b.count ∙ a.count }
