@@ -1,5 +1,5 @@
 -- The signals that an event sends are of kinds that are built.
-use Rattle.std.proofs.Common.{◌≡◌, ℕ, List, [], ◌∷◌, Bool, true, false, not, ◌&&◌, ◌==◌, is_some, Option, Some, None, refl, sym, ap, ◌∙◌, subst}
+use Rattle.std.proofs.Common.{◌≡◌, ℕ, List, [], ◌∷◌, Bool, true, false, not, ◌&&◌, ◌==◌, is_some, Option, Some, None, subst}
 use Rattle.std.specs.Prelude.{All, slice_get, option_and_then, if◌then◌else◌}
 use Rattle.std.specs.Option.{option_map, option_map_or}
 use Rattle.std.proofs.lemmas.List.Elements.{All-nil, All-cons, All-head, All-tail}
@@ -26,7 +26,7 @@ use Rattle.sig_runs.specs.LocalRun.Input.{Execute, Handle}
 use Rattle.sig_model.specs.declared.event.Event.{Event}
 use Rattle.sig_model.specs.ProcessState.{ProcessState}
 use Rattle.sig_model.specs.Bodies.{Post, Body, exits_to, ending, badarg, system_limit}
-use Rattle.sig_model.specs.Executing.{built, with_value, sending, sending_exit, linked_by, linking, unlink_posts, unlinked_by, unlinking, terms_of, taken_by, taking, receiving, exec_body, executing}
+use Rattle.sig_model.specs.Executing.{built, with_value, sending, sending_exit, linked_by, linking, unlink_posts, unlinking, terms_of, taken_by, taking, receiving, exec_body, executing}
 use Rattle.sig_model.specs.ExitRule.{exit_rule, plain_exit, linked_exit}
 use Rattle.sig_model.specs.Handling.{live_body, ended_body, handling}
 use Rattle.sig_model.specs.Finishing.{drawn, numbered, finished_exec}
@@ -68,19 +68,11 @@ with_value_built s e go h = value_built s (built s.env e) go h
 
 sending_built : (s : ProcessState) (to message : Term) → BuiltPosts (sending s to message).posts
 sending_built s (term.Pid p) message = one _ tt
-sending_built s (term.Int n) message = ending_built s badarg
-sending_built s (term.Atom a) message = ending_built s badarg
-sending_built s (term.Ref r) message = ending_built s badarg
-sending_built s (term.Tuple xs) message = ending_built s badarg
-sending_built s (term.List xs) message = ending_built s badarg
+sending_built s _ message = ending_built s badarg
 
 sending_exit_built : (s : ProcessState) (to reason : Term) → BuiltPosts (sending_exit s to reason).posts
 sending_exit_built s (term.Pid p) reason = one _ tt
-sending_exit_built s (term.Int n) reason = ending_built s badarg
-sending_exit_built s (term.Atom a) reason = ending_built s badarg
-sending_exit_built s (term.Ref r) reason = ending_built s badarg
-sending_exit_built s (term.Tuple xs) reason = ending_built s badarg
-sending_exit_built s (term.List xs) reason = ending_built s badarg
+sending_exit_built s _ reason = ending_built s badarg
 
 linked_by_built : (s : ProcessState) (peer : ℕ) (sends : Bool) (links : LinkState) → BuiltPosts (linked_by s peer (sends, links)).posts
 linked_by_built s peer true links = one _ tt
@@ -88,11 +80,7 @@ linked_by_built s peer false links = none
 
 linking_built : (s : ProcessState) (to : Term) → BuiltPosts (linking s to).posts
 linking_built s (term.Pid p) = linked_by_built s p.0 (link s.links p.0).0 (link s.links p.0).1
-linking_built s (term.Int n) = ending_built s badarg
-linking_built s (term.Atom a) = ending_built s badarg
-linking_built s (term.Ref r) = ending_built s badarg
-linking_built s (term.Tuple xs) = ending_built s badarg
-linking_built s (term.List xs) = ending_built s badarg
+linking_built s _ = ending_built s badarg
 
 unlink_built : (peer : ℕ) (id : Option ℕ) → BuiltPosts (unlink_posts peer id)
 unlink_built peer None = none
@@ -100,11 +88,7 @@ unlink_built peer (Some id) = one _ tt
 
 unlinking_built : (s : ProcessState) (to : Term) → BuiltPosts (unlinking s to).posts
 unlinking_built s (term.Pid p) = unlink_built p.0 (unlink s.links p.0).0
-unlinking_built s (term.Int n) = ending_built s badarg
-unlinking_built s (term.Atom a) = ending_built s badarg
-unlinking_built s (term.Ref r) = ending_built s badarg
-unlinking_built s (term.Tuple xs) = ending_built s badarg
-unlinking_built s (term.List xs) = ending_built s badarg
+unlinking_built s _ = ending_built s badarg
 
 -- what is sent where something is done
 abbrev BuiltBody : Option Body → Type 0

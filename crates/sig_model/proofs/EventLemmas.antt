@@ -28,15 +28,15 @@ abbrev pub member_of : Running → Member ProcessState Signal Event
 member_of r = record { local = record { state = r.state; own = r.own }; taken_in = r.taken_in; acts = [] }
 
 -- the process with this pid runs its part, and has this bound on its turns
-pub record IsPartOf (turns : ℕ) (part : ℕ → Option Declared) (p : ℕ) (r : Running) : Type 0 where
+pub record IsPartOf (limit : ℕ) (part : ℕ → Option Declared) (p : ℕ) (r : Running) : Type 0 where
   pub pid : r.pid ≡ p
-  pub turns : r.turns ≡ turns
+  pub turns : r.turns ≡ limit
   pub proc : part p ≡ Some r.proc
 
 -- What a process keeps: it runs its part; its own signals come from it, and are not later than its last
 -- event; those that it has taken in come from others.
-pub record IsKept (turns : ℕ) (part : ℕ → Option Declared) (p : ℕ) (r : Running) : Type 0 where
-  pub process : IsPartOf turns part p r
+pub record IsKept (limit : ℕ) (part : ℕ → Option Declared) (p : ℕ) (r : Running) : Type 0 where
+  pub process : IsPartOf limit part p r
   pub own_from : AreFrom p r.own
   pub own_low : All (λ (x : Signal). x.stamp ≤ r.state.stamp) r.own
   pub others : All (λ (x : Signal). x.from.0 ≢ p) r.taken_in
@@ -47,11 +47,11 @@ pub record IsOutgoing (p : ℕ) (signals : List Signal) : Type 0 where
   pub to : All (λ (x : Signal). x.to.0 ≢ p) signals
 
 -- r has become t by one event
-pub record IsEvent (turns : ℕ) (part : ℕ → Option Declared) (p : ℕ) (r t : Running) : Type 0 where
+pub record IsEvent (limit : ℕ) (part : ℕ → Option Declared) (p : ℕ) (r t : Running) : Type 0 where
   pub input : Input Signal
   pub effect : Effect ProcessState Signal Event
-  pub can : CanDo (rules_with turns part) p (record { state = r.state; own = r.own }) input effect
-  pub next : IsHandledNext (rules_with turns part) p (member_of r) input
+  pub can : CanDo (rules_with limit part) p (record { state = r.state; own = r.own }) input effect
+  pub next : IsHandledNext (rules_with limit part) p (member_of r) input
   pub sent : AreFrom p effect.sends
   pub pid : t.pid ≡ r.pid
   pub count : t.count ≡ r.count
@@ -60,9 +60,9 @@ pub record IsEvent (turns : ℕ) (part : ℕ → Option Declared) (p : ℕ) (r t
   pub state : t.state ≡ effect.state
   pub events : t.events ≡ r.events ++ effect.event ∷ []
   pub handled : t.handled ≡ r.handled ++ handled_in input
-  pub own : t.own ≡ own_left (rules_with turns part) p input r.own ++ addressed (rules_with turns part) p effect.sends
-  pub taken_in : t.taken_in ≡ taken_in_left (rules_with turns part) p input r.taken_in
-  pub outbox : t.outbox ≡ r.outbox ++ outgoing (rules_with turns part) p effect.sends
+  pub own : t.own ≡ own_left (rules_with limit part) p input r.own ++ addressed (rules_with limit part) p effect.sends
+  pub taken_in : t.taken_in ≡ taken_in_left (rules_with limit part) p input r.taken_in
+  pub outbox : t.outbox ≡ r.outbox ++ outgoing (rules_with limit part) p effect.sends
 
 -- of the processes of a script
 abbrev pub IsKeptOf : Program → ℕ → Running → Type 0
@@ -102,12 +102,12 @@ early_at r own taken h o i =
     subst (λ ys. is_early (next_of own ys) ≡ true) i
     (subst (λ xs. is_early (next_of xs r.taken_in) ≡ true) o (both_right (not (is_cut r.turns r.state)) (is_early (next_of r.own r.taken_in)) h))
 
-module _ (turns : ℕ) (part : ℕ → Option Declared) (r : Running) (k : IsKept turns part r.pid r) where
-  uncut_at : is_cut r.turns r.state ≡ false → (rules_with turns part).is_cut r.state ≡ false
+module _ (limit : ℕ) (part : ℕ → Option Declared) (r : Running) (k : IsKept limit part r.pid r) where
+  uncut_at : is_cut r.turns r.state ≡ false → (rules_with limit part).is_cut r.state ≡ false
   unfolding rules_with
   uncut_at h = subst (λ n. is_cut n r.state ≡ false) k.process.turns h
 
-  handle_uncut : can_handle r ≡ true → (rules_with turns part).is_cut r.state ≡ false
+  handle_uncut : can_handle r ≡ true → (rules_with limit part).is_cut r.state ≡ false
   unfolding can_handle
   handle_uncut h = uncut_at (negated (is_cut r.turns r.state) (both_left (not (is_cut r.turns r.state)) (is_early (next_of r.own r.taken_in)) h))
 
@@ -116,7 +116,7 @@ module _ (turns : ℕ) (part : ℕ → Option Declared) (r : Running) (k : IsKep
     effect_of = handling_of r.pid r.state x
 
     -- the oldest of its own signals is handled
-    own_event : (own : List Signal) → r.own ≡ x ∷ own → IsEvent turns part r.pid r (handled_one (record r { own = own }) x)
+    own_event : (own : List Signal) → r.own ≡ x ∷ own → IsEvent limit part r.pid r (handled_one (record r { own = own }) x)
     unfolding rules_with
     own_event own o =
         let b : Running = record r { own = own; handled = r.handled ++ x ∷ []; state = effect_of.state; events = r.events ++ effect_of.event ∷ [] } in
@@ -146,7 +146,7 @@ module _ (turns : ℕ) (part : ℕ → Option Declared) (r : Running) (k : IsKep
         }
 
     -- the oldest of those that it has taken in is handled
-    other_event : (taken : List Signal) → r.own ≡ [] → r.taken_in ≡ x ∷ taken → IsEvent turns part r.pid r (handled_one (record r { taken_in = taken }) x)
+    other_event : (taken : List Signal) → r.own ≡ [] → r.taken_in ≡ x ∷ taken → IsEvent limit part r.pid r (handled_one (record r { taken_in = taken }) x)
     unfolding rules_with
     other_event taken o i =
         let b : Running = record r { taken_in = taken; handled = r.handled ++ x ∷ []; state = effect_of.state; events = r.events ++ effect_of.event ∷ [] } in
@@ -176,26 +176,26 @@ module _ (turns : ℕ) (part : ℕ → Option Declared) (r : Running) (k : IsKep
           outbox = w.outbox;
         }
 
-  first_event : (own taken : List Signal) (t : Running) → can_handle r ≡ true → r.own ≡ own → r.taken_in ≡ taken → handled_first r own taken ≡ Some t → IsEvent turns part r.pid r t
+  first_event : (own taken : List Signal) (t : Running) → can_handle r ≡ true → r.own ≡ own → r.taken_in ≡ taken → handled_first r own taken ≡ Some t → IsEvent limit part r.pid r t
   first_event [] [] t h o i e = cc
-  first_event (x ∷ own) taken t h o i e = subst (λ z. IsEvent turns part r.pid r z) (same_Some (handled_one (record r { own = own }) x) t e) (own_event x h own o)
-  first_event [] (x ∷ taken) t h o i e = subst (λ z. IsEvent turns part r.pid r z) (same_Some (handled_one (record r { taken_in = taken }) x) t e) (other_event x h taken o i)
+  first_event (x ∷ own) taken t h o i e = subst (λ z. IsEvent limit part r.pid r z) (same_Some (handled_one (record r { own = own }) x) t e) (own_event x h own o)
+  first_event [] (x ∷ taken) t h o i e = subst (λ z. IsEvent limit part r.pid r z) (same_Some (handled_one (record r { taken_in = taken }) x) t e) (other_event x h taken o i)
 
-  handle_case : (b : Bool) (t : Running) → can_handle r ≡ b → cond b (handled_first r r.own r.taken_in) None ≡ Some t → IsEvent turns part r.pid r t
+  handle_case : (b : Bool) (t : Running) → can_handle r ≡ b → cond b (handled_first r r.own r.taken_in) None ≡ Some t → IsEvent limit part r.pid r t
   handle_case true t h e = first_event r.own r.taken_in t h refl refl e
   handle_case false t h e = cc
 
-  handle_event : (t : Running) → handle_next r ≡ Some t → IsEvent turns part r.pid r t
+  handle_event : (t : Running) → handle_next r ≡ Some t → IsEvent limit part r.pid r t
   unfolding handle_next
   handle_event t e = handle_case (can_handle r) t refl e
 
   -- its next instruction is executed
   module _ (h : can_exec r ≡ true) where
-    exec_alive : (rules_with turns part).is_ended r.state ≡ false
+    exec_alive : (rules_with limit part).is_ended r.state ≡ false
     unfolding rules_with can_exec
     exec_alive = going r.state.end (both_left (is_none r.state.end) (not (is_cut r.turns r.state)) (both_left (is_none r.state.end && not (is_cut r.turns r.state)) (length r.own == 0) h))
 
-    exec_uncut : (rules_with turns part).is_cut r.state ≡ false
+    exec_uncut : (rules_with limit part).is_cut r.state ≡ false
     unfolding can_exec
     exec_uncut = uncut_at (negated (is_cut r.turns r.state) (both_right (is_none r.state.end) (not (is_cut r.turns r.state)) (both_left (is_none r.state.end && not (is_cut r.turns r.state)) (length r.own == 0) h)))
 
@@ -203,7 +203,7 @@ module _ (turns : ℕ) (part : ℕ → Option Declared) (r : Running) (k : IsKep
     unfolding can_exec
     exec_alone = nothing r.own (both_right (is_none r.state.end && not (is_cut r.turns r.state)) (length r.own == 0) h)
 
-    executed_event : (e : Effect ProcessState Signal Event) → execution r.pid r.proc r.state ≡ Some e → IsEvent turns part r.pid r (advanced r e)
+    executed_event : (e : Effect ProcessState Signal Event) → execution r.pid r.proc r.state ≡ Some e → IsEvent limit part r.pid r (advanced r e)
     unfolding rules_with
     executed_event e is =
         let b : Running = record r { state = e.state; events = r.events ++ e.event ∷ [] } in
@@ -226,15 +226,15 @@ module _ (turns : ℕ) (part : ℕ → Option Declared) (r : Running) (k : IsKep
           outbox = w.outbox;
         }
 
-    executed_case : (o : Option (Effect ProcessState Signal Event)) (t : Running) → execution r.pid r.proc r.state ≡ o → option_map (advanced r) o ≡ Some t → IsEvent turns part r.pid r t
+    executed_case : (o : Option (Effect ProcessState Signal Event)) (t : Running) → execution r.pid r.proc r.state ≡ o → option_map (advanced r) o ≡ Some t → IsEvent limit part r.pid r t
     executed_case None t is e = cc
-    executed_case (Some f) t is e = subst (λ z. IsEvent turns part r.pid r z) (same_Some (advanced r f) t e) (executed_event f is)
+    executed_case (Some f) t is e = subst (λ z. IsEvent limit part r.pid r z) (same_Some (advanced r f) t e) (executed_event f is)
 
-  exec_case : (b : Bool) (t : Running) → can_exec r ≡ b → cond b (option_map (advanced r) (execution r.pid r.proc r.state)) None ≡ Some t → IsEvent turns part r.pid r t
+  exec_case : (b : Bool) (t : Running) → can_exec r ≡ b → cond b (option_map (advanced r) (execution r.pid r.proc r.state)) None ≡ Some t → IsEvent limit part r.pid r t
   exec_case true t h e = executed_case h (execution r.pid r.proc r.state) t refl e
   exec_case false t h e = cc
 
-  exec_event : (t : Running) → exec_next r ≡ Some t → IsEvent turns part r.pid r t
+  exec_event : (t : Running) → exec_next r ≡ Some t → IsEvent limit part r.pid r t
   unfolding exec_next
   exec_event t e = exec_case (can_exec r) t refl e
 
@@ -242,22 +242,22 @@ module _ (turns : ℕ) (part : ℕ → Option Declared) (r : Running) (k : IsKep
 abbrev pub IsStep : Running → Running → Type 0
 IsStep r t = (handle_next r ≡ Some t) ⊎ (exec_next r ≡ Some t)
 
-step_here : (turns : ℕ) (part : ℕ → Option Declared) (r t : Running) → IsKept turns part r.pid r → IsStep r t → IsEvent turns part r.pid r t
-step_here turns part r t k (inl e) = handle_event turns part r k t e
-step_here turns part r t k (inr e) = exec_event turns part r k t e
+step_here : (limit : ℕ) (part : ℕ → Option Declared) (r t : Running) → IsKept limit part r.pid r → IsStep r t → IsEvent limit part r.pid r t
+step_here limit part r t k (inl e) = handle_event limit part r k t e
+step_here limit part r t k (inr e) = exec_event limit part r k t e
 
 -- a step is an event
-pub step_event : (turns : ℕ) (part : ℕ → Option Declared) (p : ℕ) (r t : Running) → IsKept turns part p r → IsStep r t → IsEvent turns part p r t
-step_event turns part p r t k e = subst (λ q. IsKept turns part q r → IsEvent turns part q r t) k.process.pid (λ j. step_here turns part r t j e) k
+pub step_event : (limit : ℕ) (part : ℕ → Option Declared) (p : ℕ) (r t : Running) → IsKept limit part p r → IsStep r t → IsEvent limit part p r t
+step_event limit part p r t k e = subst (λ q. IsKept limit part q r → IsEvent limit part q r t) k.process.pid (λ j. step_here limit part r t j e) k
 
-module _ (turns : ℕ) (part : ℕ → Option Declared) (p : ℕ) (r t : Running) (e : IsEvent turns part p r t) where
-  pub own_left_all : (P : Signal → Type 0) (i : Input Signal) (own : List Signal) → All P own → All P (own_left (rules_with turns part) p i own)
+module _ (limit : ℕ) (part : ℕ → Option Declared) (p : ℕ) (r t : Running) (e : IsEvent limit part p r t) where
+  pub own_left_all : (P : Signal → Type 0) (i : Input Signal) (own : List Signal) → All P own → All P (own_left (rules_with limit part) p i own)
   own_left_all P Execute own h = h
-  own_left_all P (Handle x) own h = elim ((rules_with turns part).from x == p) as (λ c. All P (cond c (drop 1 own) own)) [ true ↦ All-drop P 1 own h | false ↦ h ]
+  own_left_all P (Handle x) own h = elim ((rules_with limit part).from x == p) as (λ c. All P (cond c (drop 1 own) own)) [ true ↦ All-drop P 1 own h | false ↦ h ]
 
-  pub taken_in_all : (P : Signal → Type 0) (i : Input Signal) (xs : List Signal) → All P xs → All P (taken_in_left (rules_with turns part) p i xs)
+  pub taken_in_all : (P : Signal → Type 0) (i : Input Signal) (xs : List Signal) → All P xs → All P (taken_in_left (rules_with limit part) p i xs)
   taken_in_all P Execute xs h = h
-  taken_in_all P (Handle x) xs h = elim ((rules_with turns part).from x == p) as (λ c. All P (cond c xs (drop 1 xs))) [ true ↦ h | false ↦ All-drop P 1 xs h ]
+  taken_in_all P (Handle x) xs h = elim ((rules_with limit part).from x == p) as (λ c. All P (cond c xs (drop 1 xs))) [ true ↦ h | false ↦ All-drop P 1 xs h ]
 
   abbrev alone : Local ProcessState Signal
   alone = record { state = r.state; own = r.own }
@@ -267,7 +267,7 @@ module _ (turns : ℕ) (part : ℕ → Option Declared) (p : ℕ) (r t : Running
   unfolding rules_with
   stamps =
       let w : (e.effect.event.stamp ≡ e.effect.state.stamp) × (r.state.stamp < e.effect.event.stamp) =
-      act_stamp (rules_with turns part) (stamps_kept turns part) p alone e.input e.effect e.can in
+      act_stamp (rules_with limit part) (stamps_kept limit part) p alone e.input e.effect e.can in
       (w.0 ∙ ap (λ (s : ProcessState). s.stamp) (sym e.state), w.1)
 
   kept_low : All (λ (x : Signal). x.stamp ≤ r.state.stamp) r.own → All (λ (x : Signal). x.stamp ≤ t.state.stamp) t.own
@@ -275,7 +275,7 @@ module _ (turns : ℕ) (part : ℕ → Option Declared) (p : ℕ) (r t : Running
   kept_low h =
       let st : (e.effect.event.stamp ≡ t.state.stamp) × (r.state.stamp < e.effect.event.stamp) = stamps in
       let sends : All (λ (x : Signal). x.stamp ≤ t.state.stamp) e.effect.sends =
-      All-weaker (λ x. x.stamp ≡ e.effect.event.stamp) (λ x. x.stamp ≤ t.state.stamp) (λ x q. omega (arith, q, st.0)) e.effect.sends (act_sends (rules_with turns part) (stamps_kept turns part) p alone e.input e.effect e.can) in
+      All-weaker (λ x. x.stamp ≡ e.effect.event.stamp) (λ x. x.stamp ≤ t.state.stamp) (λ x q. omega (arith, q, st.0)) e.effect.sends (act_sends (rules_with limit part) (stamps_kept limit part) p alone e.input e.effect e.can) in
       let before : All (λ (x : Signal). x.stamp ≤ t.state.stamp) r.own =
       All-weaker (λ x. x.stamp ≤ r.state.stamp) (λ x. x.stamp ≤ t.state.stamp) (λ x q. omega (arith, q, st.0, st.1)) r.own h in
       subst (λ xs. All (λ (x : Signal). x.stamp ≤ t.state.stamp) xs) (sym e.own)
@@ -283,7 +283,7 @@ module _ (turns : ℕ) (part : ℕ → Option Declared) (p : ℕ) (r t : Running
       (All-filter (λ (x : Signal). x.to.0 == p) (λ x. x.stamp ≤ t.state.stamp) e.effect.sends sends))
 
   -- an event keeps what a process keeps
-  pub event_kept : IsKept turns part p r → IsKept turns part p t
+  pub event_kept : IsKept limit part p r → IsKept limit part p t
   unfolding rules_with
   event_kept k = record {
     process = record { pid = e.pid ∙ k.process.pid; turns = e.turns ∙ k.process.turns; proc = k.process.proc ∙ ap Some (sym e.proc) };

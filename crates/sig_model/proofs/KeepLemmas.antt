@@ -1,5 +1,5 @@
 -- What every running process keeps, from its opening on.
-use Rattle.std.proofs.Common.{◌≡◌, ◌≢◌, ℕ, ◌+◌, ◌<◌, ◌≤◌, max, nat_le, List, [], ◌∷◌, ◌++◌, Bool, true, false, not, ◌||◌, ◌&&◌, is_none, Option, Some, None, refl, sym, ap, ◌∙◌, subst, inl, inr, arith}
+use Rattle.std.proofs.Common.{◌≡◌, ◌≢◌, ℕ, ◌+◌, ◌<◌, ◌≤◌, max, nat_le, List, [], ◌∷◌, ◌++◌, Bool, true, false, not, ◌||◌, Option, Some, refl, sym, ap, ◌∙◌, subst, inl, inr, arith}
 use Rattle.std.specs.Prelude.{All, ◌==◌}
 use Rattle.std.specs.List.{filter}
 use Rattle.std.proofs.lemmas.Bool.{eqb-true}
@@ -9,18 +9,17 @@ use Rattle.sig_kinds.specs.declared.signal.Signal.{Signal}
 use Rattle.sig_script.specs.Scripts.{Declared}
 use Rattle.sig_runs.specs.Rules.{Effect, Rules, IsStamped, addressed}
 use Rattle.sig_runs.specs.Rules.Did.{Exec, From}
-use Rattle.sig_runs.specs.LocalRun.{Local, Input, CanDo, own_left, handled_in, after}
+use Rattle.sig_runs.specs.LocalRun.{Input, CanDo, own_left, handled_in}
 use Rattle.sig_runs.specs.LocalRun.Input.{Execute, Handle}
 use Rattle.sig_runs.specs.OnTheWay.{outgoing, taken_in_left}
-use Rattle.sig_runs.specs.Replay.{RanAlone, OneMore}
 use Rattle.sig_runs.proofs.Replay.{one_more}
 use Rattle.sig_runs.proofs.Steps.{act_sends, act_stamp}
 use Rattle.sig_model.specs.declared.event.Event.{Event}
-use Rattle.sig_model.specs.ProcessState.{ProcessState, is_cut}
+use Rattle.sig_model.specs.ProcessState.{ProcessState}
 use Rattle.sig_model.specs.Machine.{rules_with}
 use Rattle.sig_model.specs.Running.{Running, opened, exec_next, handle_next}
 use Rattle.sig_model.specs.OneWorker.{arrived}
-use Rattle.sig_model.specs.Keeping.{IsBuilt, IsToItself, IsLeaving, IsArriving, own_rules, opening_local, local_of, IsKeeping}
+use Rattle.sig_model.specs.Keeping.{IsBuilt, IsToItself, IsLeaving, IsArriving, opening_local, local_of, IsKeeping}
 use Rattle.sig_model.proofs.StampLemmas.{stamps_kept}
 use Rattle.sig_model.proofs.PostingLemmas.{AreFrom}
 use Rattle.sig_model.proofs.BuiltLemmas.{AreBuilt, act_built}

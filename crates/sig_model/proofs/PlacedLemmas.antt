@@ -1,5 +1,5 @@
 -- The processes of a crew stay at their places.
-use Rattle.std.proofs.Common.{◌≡◌, ◌≢◌, ℕ, ◌+◌, List, [], ◌∷◌, ◌++◌, length, Bool, true, false, cond, Option, Some, None, refl, sym, ap, ◌∙◌, subst, inl, inr, ◌⊎◌, arith}
+use Rattle.std.proofs.Common.{◌≡◌, ◌≢◌, ℕ, suc, ◌+◌, List, [], ◌∷◌, ◌++◌, length, Bool, true, false, cond, Option, Some, None, refl, sym, ap, ◌∙◌, subst, inl, inr, ◌⊎◌, arith}
 use Rattle.std.specs.Prelude.{◌==◌, slice_get, slice_set}
 use Rattle.std.specs.Option.{option_map}
 use Rattle.std.proofs.lemmas.Bool.Decides.{eqb_tells}
@@ -94,7 +94,7 @@ deliver_placed x (Some r) crew there placed = set_placed crew x.to.0 r (arrived 
 -- the processes of a script, as it opens them
 opened_length : (pid count turns : ℕ) (ps : List Declared) → length (opened_from pid count turns ps) ≡ length ps
 opened_length pid count turns [] = refl
-opened_length pid count turns (p ∷ ps) = ap (λ n. n + 1) (opened_length (pid + 1) count turns ps)
+opened_length pid count turns (p ∷ ps) = ap suc (opened_length (pid + 1) count turns ps)
 
 opened_at : (count turns : ℕ) (q : ℕ) (o : Option Declared) (r : Running) → option_map (opened (0 + q) count turns) o ≡ Some r → (r.pid ≡ q) × (r.count ≡ count)
 opened_at count turns q None r e = cc
