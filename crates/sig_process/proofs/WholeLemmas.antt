@@ -1,6 +1,6 @@
 -- What the calls of a process keep.
 use Rattle.std.proofs.Common.{◌≡◌, ℕ, zero, suc, ◌<◌, List, [], ◌∷◌, ◌++◌, length, Bool, true, false, Option, Some, None, refl, sym, ap, ◌∙◌, subst, arith}
-use Rattle.std.specs.Prelude.{All, IfSome, slice_get}
+use Rattle.std.specs.Prelude.{All, IfSome, MatchOption, slice_get}
 use Rattle.std.proofs.lemmas.List.Elements.{All-nil, All-head, All-tail, All-weaker}
 use Rattle.sig_kinds.specs.declared.signal.Signal.{Signal}
 use Rattle.sig_script.specs.Scripts.{Declared}
@@ -51,23 +51,35 @@ pub outbox_arrives : (failed : Bool) (r : Running) → IsWhole failed r → All 
 outbox_arrives false r w = All-weaker (IsLeaving r.pid r.state.stamp) (λ (x : Signal). IsArriving x.to.0 r.count x) (λ x h. leaving_arrives r x w h) r.outbox w.outbox
 outbox_arrives true r w = subst (All (λ (x : Signal). IsArriving x.to.0 r.count x)) (sym w) (All-nil (λ (x : Signal). IsArriving x.to.0 r.count x))
 
--- the oldest of it is taken
-module _ (failed : Bool) (r t : Running) (x : Signal) (e : r ≡ record t { outbox = x ∷ t.outbox }) (w : IsWhole failed r) where
+-- the oldest of it is taken, where there is one
+abbrev pub IsNextOut : Running → Running → Option Signal → Type 0
+IsNextOut r t o = MatchOption o ((r.outbox ≡ []) × (t ≡ r)) (λ first. r ≡ record t { outbox = first ∷ t.outbox })
+
+module _ (failed : Bool) (t : Running) (x : Signal) (w : IsWhole failed (record t { outbox = x ∷ t.outbox })) where
   abbrev before : Running
   before = record t { outbox = x ∷ t.outbox }
 
-  before_whole : IsWhole failed before
-  before_whole = subst (IsWhole failed) e w
-
-  pub rest_whole : IsWhole failed t
-  rest_whole = go failed before_whole
+  rest_whole : IsWhole failed t
+  rest_whole = go failed w
     where
       go : (b : Bool) → IsWhole b before → IsWhole b t
       go false k = outbox_keeps before t.outbox k (All-tail (IsLeaving t.pid t.state.stamp) x t.outbox k.outbox)
       go true h = cc
 
-  pub first_leaves : IsLeaving r.pid r.state.stamp x
-  first_leaves = subst (λ (z : Running). IsLeaving z.pid z.state.stamp x) (sym e) (All-head (IsLeaving t.pid t.state.stamp) x t.outbox (outbox_leaves failed before before_whole))
+  first_leaves : IsLeaving t.pid t.state.stamp x
+  first_leaves = All-head (IsLeaving t.pid t.state.stamp) x t.outbox (outbox_leaves failed before w)
 
-  pub first_arrives : IsArriving x.to.0 r.count x
-  first_arrives = subst (λ (z : Running). IsArriving x.to.0 z.count x) (sym e) (All-head (λ (y : Signal). IsArriving y.to.0 t.count y) x t.outbox (outbox_arrives failed before before_whole))
+  first_arrives : IsArriving x.to.0 t.count x
+  first_arrives = All-head (λ (y : Signal). IsArriving y.to.0 t.count y) x t.outbox (outbox_arrives failed before w)
+
+pub out_whole : (failed : Bool) (r t : Running) (o : Option Signal) → IsNextOut r t o → IsWhole failed r → IsWhole failed t
+out_whole failed r t None h w = subst (IsWhole failed) (sym h.1) w
+out_whole failed r t (Some x) h w = rest_whole failed t x (subst (IsWhole failed) h w)
+
+pub out_leaves : (failed : Bool) (r t : Running) (o : Option Signal) → IsNextOut r t o → IsWhole failed r → IfSome o (IsLeaving r.pid r.state.stamp)
+out_leaves failed r t None h w = tt
+out_leaves failed r t (Some x) h w = subst (λ (z : Running). IsLeaving z.pid z.state.stamp x) (sym h) (first_leaves failed t x (subst (IsWhole failed) h w))
+
+pub out_arrives : (failed : Bool) (r t : Running) (o : Option Signal) → IsNextOut r t o → IsWhole failed r → IfSome o (λ first. IsArriving first.to.0 r.count first)
+out_arrives failed r t None h w = tt
+out_arrives failed r t (Some x) h w = subst (λ (z : Running). IsArriving x.to.0 z.count x) (sym h) (first_arrives failed t x (subst (IsWhole failed) h w))
