@@ -57,7 +57,7 @@ exec_case : (b : Bool) (r t : Running) → cond b (option_map (advanced r) (exec
 exec_case true r t e = executed_same r t (execution r.pid r.proc r.state) e
 exec_case false r t e = cc
 
-step_same : (r t : Running) → IsStep r t → IsSame r t
+pub step_same : (r t : Running) → IsStep r t → IsSame r t
 unfolding exec_next handle_next
 step_same r t (inl e) = handle_case (can_handle r) r t e
 step_same r t (inr e) = exec_case (can_exec r) r t e
