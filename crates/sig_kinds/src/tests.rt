@@ -92,3 +92,19 @@ fn each_kind_is_copied(rt: HostRuntime) -> Result<(), Fail> {
     }
     Ok(())
 }
+
+#[test]
+fn signals_move_behind_the_others(rt: HostRuntime) -> Result<(), Fail> {
+    let alloc = rt.alloc();
+    let mut signals = Signals::new(alloc);
+    let mut others = Signals::new(alloc);
+    assert!(rt; matches!(signals.push(numbered(1)), Push::Added));
+    for number in [2u64, 3] {
+        assert!(rt; matches!(others.push(numbered(number)), Push::Added));
+    }
+    signals.append(&mut others)?;
+    assert!(rt; others.is_empty());
+    assert!(rt; signals.len() == 3);
+    assert!(rt; signals.get(2).is_some_and(|s| s.number == 3));
+    Ok(())
+}

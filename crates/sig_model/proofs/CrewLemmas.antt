@@ -19,11 +19,11 @@ use Rattle.sig_runs.proofs.OnTheWay.{next_is_oldest, way_step, delivery_keeps_wa
 use Rattle.sig_script.specs.Scripts.{Program}
 use Rattle.sig_model.specs.declared.event.Event.{Event}
 use Rattle.sig_model.specs.ProcessState.{ProcessState}
-use Rattle.sig_model.specs.Machine.{rules_of}
+use Rattle.sig_model.specs.Machine.{rules_of, rules_with}
 use Rattle.sig_model.specs.Running.{Running}
 use Rattle.sig_model.specs.OneWorker.{arrived, deliver_to}
 use Rattle.sig_model.proofs.StampLemmas.{stamps_kept}
-use Rattle.sig_model.proofs.EventLemmas.{member_of, IsEvent}
+use Rattle.sig_model.proofs.EventLemmas.{member_of, IsEventOf}
 
 abbrev pub Mate : Type 0
 Mate = Member ProcessState Signal Event
@@ -43,7 +43,7 @@ pub record IsAtWork (script : Program) (boxes : ℕ → List Signal) (mates : Li
 pub at_member : (crew : List Running) (p : ℕ) (r : Running) → slice_get crew p ≡ Some r → slice_get (members crew) p ≡ Some (member_of r)
 at_member crew p r there = slice_get-map member_of crew p ∙ ap (λ o. option_map member_of o) there
 
-module _ (script : Program) (p : ℕ) (r t : Running) (e : IsEvent script p r t) (crew : List Running) (there : slice_get crew p ≡ Some r) (m : Machine ProcessState Signal) (w : IsAtWork script (only p r.outbox) (members crew) m) where
+module _ (script : Program) (p : ℕ) (r t : Running) (e : IsEventOf script p r t) (crew : List Running) (there : slice_get crew p ≡ Some r) (m : Machine ProcessState Signal) (w : IsAtWork script (only p r.outbox) (members crew) m) where
   abbrev here : slice_get (members crew) p ≡ Some (member_of r)
   here = at_member crew p r there
 
@@ -77,7 +77,7 @@ module _ (script : Program) (p : ℕ) (r t : Running) (e : IsEvent script p r t)
 
   -- the event is a step of the machine
   pub event_applies : apply (rules_of script) m (choice p ((rules_of script).did e.effect.event)) ≡ Some (record { machine = after_event; event = e.effect.event })
-  event_applies = applies (rules_of script) (stamps_kept script) m p r.state e.input e.effect state_at can_here (oldest_of e.input e.next)
+  event_applies = applies (rules_of script) (stamps_kept script.turns (slice_get script.procs)) m p r.state e.input e.effect state_at can_here (oldest_of e.input e.next)
 
   boxes_now : boxes_after (rules_of script) p e.effect.sends (only p r.outbox) ≡ only p t.outbox
   boxes_now = fun_ext (λ q. elim (p == q) as (λ c. cond c (cond c r.outbox [] ++ outgoing (rules_of script) p e.effect.sends) (cond c r.outbox []) ≡ cond c t.outbox []) [ true ↦ sym e.outbox | false ↦ refl ])
@@ -114,7 +114,7 @@ module _ (script : Program) (p : ℕ) (x : Signal) (xs : List Signal) (crew : Li
   elsewhere none q lt e = absent crew q (subst (λ n. slice_get crew n ≡ None) e none) lt
 
   lost : slice_get crew x.to.0 ≡ None → IsAtWork script (only p xs) (members crew) m
-  unfolding rules_of
+  unfolding rules_with
   lost none = record {
     states = w.states;
     queued = λ s q lt.
@@ -130,7 +130,7 @@ module _ (script : Program) (p : ℕ) (x : Signal) (xs : List Signal) (crew : Li
   boxes_left = fun_ext (λ q. elim (p == q) as (λ c. cond c xs (cond c (x ∷ xs) []) ≡ cond c xs []) [ true ↦ refl | false ↦ refl ])
 
   given : (u : Running) → slice_get crew x.to.0 ≡ Some u → IsAtWork script (only p xs) (members (slice_set crew x.to.0 (arrived u x))) m
-  unfolding rules_of
+  unfolding rules_with
   given u there =
       let here : slice_get (members crew) x.to.0 ≡ Some (member_of u) = at_member crew x.to.0 u there in
       let n : Mate = member_of (arrived u x) in

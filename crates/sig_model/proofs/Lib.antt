@@ -16,3 +16,6 @@ pub mod BodyBelowLemmas
 pub mod ExecutingBelowLemmas
 pub mod HandlingBelowLemmas
 pub mod RunningBelowLemmas
+pub mod BuiltLemmas
+pub mod KeepLemmas
+pub mod PlacedLemmas

@@ -14,7 +14,7 @@ use Rattle.sig_model.specs.Machine.{rules_of, opening_from, opening_of}
 use Rattle.sig_model.specs.Running.{Running, opened}
 use Rattle.sig_model.specs.OneWorker.{opened_from, opened_crew, IsClear}
 use Rattle.sig_model.specs.SettledRun.{events_of}
-use Rattle.sig_model.proofs.EventLemmas.{member_of, IsKept}
+use Rattle.sig_model.proofs.EventLemmas.{member_of, IsKeptOf}
 use Rattle.sig_model.proofs.CrewLemmas.{Mate, members}
 use Rattle.sig_model.proofs.ReachLemmas.{IsResting}
 
@@ -40,17 +40,17 @@ module _ (script : Program) where
   abbrev of_place : ℕ → Option Declared → Option Running
   of_place q o = option_map (opened (0 + q) count script.turns) o
 
-  at_place : (q : ℕ) → slice_get (opened_crew script) q ≡ of_place q (slice_get script.procs q)
+  pub at_place : (q : ℕ) → slice_get (opened_crew script) q ≡ of_place q (slice_get script.procs q)
   at_place q = opened_at 0 count script.turns script.procs q
 
   no_events : (q : ℕ) (o : Option Declared) → [] ≡ events_of (of_place q o)
   no_events q None = refl
   no_events q (Some p) = refl
 
-  kept_opening : (q : ℕ) (o : Option Declared) (r : Running) → slice_get script.procs q ≡ o → of_place q o ≡ Some r → IsKept script q r
+  kept_opening : (q : ℕ) (o : Option Declared) (r : Running) → slice_get script.procs q ≡ o → of_place q o ≡ Some r → IsKeptOf script q r
   kept_opening q None r there e = cc
   kept_opening q (Some p) r there e =
-      subst (λ z. IsKept script q z) (same_Some (opened (0 + q) count script.turns p) r e)
+      subst (λ z. IsKeptOf script q z) (same_Some (opened (0 + q) count script.turns p) r e)
       (record {
         process = record { pid = (let f : 0 + q ≡ q = omega arith in f); turns = refl; proc = there };
         own_from = All-nil (λ (x : Signal). x.from.0 ≡ q);

@@ -19,10 +19,12 @@ use Rattle.sig_model.specs.Running.{Running, all_posted}
 -- r has become t by posting these signals
 pub record HasPosted (r : Running) (signals : List Signal) (t : Running) : Type 0 where
   pub pid : t.pid ≡ r.pid
+  pub count : t.count ≡ r.count
   pub turns : t.turns ≡ r.turns
   pub proc : t.proc ≡ r.proc
   pub state : t.state ≡ r.state
   pub events : t.events ≡ r.events
+  pub handled : t.handled ≡ r.handled
   pub taken_in : t.taken_in ≡ r.taken_in
   pub own : t.own ≡ r.own ++ filter (λ x. x.to.0 == r.pid) signals
   pub outbox : t.outbox ≡ r.outbox ++ filter (λ x. not (x.to.0 == r.pid)) signals
@@ -30,10 +32,12 @@ pub record HasPosted (r : Running) (signals : List Signal) (t : Running) : Type 
 posts_none : (r : Running) → HasPosted r [] r
 posts_none r = record {
   pid = refl;
+  count = refl;
   turns = refl;
   proc = refl;
   state = refl;
   events = refl;
+  handled = refl;
   taken_in = refl;
   own = sym (append-nil r.own);
   outbox = sym (append-nil r.outbox);
@@ -55,20 +59,24 @@ module _ (r : Running) (x : Signal) (xs : List Signal) where
   posts_more : (c : Bool) → (x.to.0 == r.pid) ≡ c → HasPosted to_own xs (all_posted to_own xs) → HasPosted to_box xs (all_posted to_box xs) → HasPosted r (x ∷ xs) (all_posted (cond c to_own to_box) xs)
   posts_more true e more _ = record {
     pid = more.pid;
+    count = more.count;
     turns = more.turns;
     proc = more.proc;
     state = more.state;
     events = more.events;
+    handled = more.handled;
     taken_in = more.taken_in;
     own = more.own ∙ append_assoc r.own (x ∷ []) here ∙ sym (ap (λ c. r.own ++ cond c (x ∷ here) here) e);
     outbox = more.outbox ∙ sym (ap (λ c. r.outbox ++ cond (not c) (x ∷ there) there) e);
   }
   posts_more false e _ more = record {
     pid = more.pid;
+    count = more.count;
     turns = more.turns;
     proc = more.proc;
     state = more.state;
     events = more.events;
+    handled = more.handled;
     taken_in = more.taken_in;
     own = more.own ∙ sym (ap (λ c. r.own ++ cond c (x ∷ here) here) e);
     outbox = more.outbox ∙ append_assoc r.outbox (x ∷ []) there ∙ sym (ap (λ c. r.outbox ++ cond (not c) (x ∷ there) there) e);

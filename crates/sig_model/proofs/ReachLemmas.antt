@@ -24,7 +24,7 @@ use Rattle.sig_model.specs.SettledRun.{events_of}
 use Rattle.sig_model.specs.MadeEvents.{made_by, made_in_visit, made_in_pass}
 use Rattle.sig_model.proofs.GoingLemmas.{Goes, stays, on, goes_visited}
 use Rattle.sig_model.proofs.ClearLemmas.{visit_clear}
-use Rattle.sig_model.proofs.EventLemmas.{member_of, IsKept, IsOutgoing, IsEvent, step_event, event_kept, event_outgoing}
+use Rattle.sig_model.proofs.EventLemmas.{member_of, IsKeptOf, IsOutgoing, IsEventOf, step_event, event_kept, event_outgoing}
 use Rattle.sig_model.proofs.CrewLemmas.{members, only, IsAtWork, after_event, event_applies, event_at_work, delivery_at_work}
 
 -- a run of the machine with these events has led to this crew, with these signals in the outboxes
@@ -33,7 +33,7 @@ pub record IsReached (script : Program) (boxes : ℕ → List Signal) (crew : Li
   pub run : IsRun (rules_of script) (opening_machine (opening_of script)) events machine
   pub at_work : IsAtWork script boxes (members crew) machine
   pub told : (q : ℕ) → events_by q events ≡ events_of (slice_get crew q)
-  pub kept : (q : ℕ) (r : Running) → slice_get crew q ≡ Some r → IsKept script q r
+  pub kept : (q : ℕ) (r : Running) → slice_get crew q ≡ Some r → IsKeptOf script q r
 
 -- a list that is changed at one place
 pub set_here : (xs : List Running) (i : ℕ) (x : Running) → slice_get xs i ≡ Some x → slice_set xs i x ≡ xs
@@ -59,14 +59,14 @@ clear_at crew i r e clear = subst (λ (z : Running). z.outbox ≡ []) (get_or_fr
 
 module _ (script : Program) where
   -- what holds of the new process and held of all holds of all
-  kept_set : (crew : List Running) (p : ℕ) (r t : Running) → slice_get crew p ≡ Some r → IsKept script p t → ((q : ℕ) (u : Running) → slice_get crew q ≡ Some u → IsKept script q u) →
-      (q : ℕ) (u : Running) → slice_get (slice_set crew p t) q ≡ Some u → IsKept script q u
+  kept_set : (crew : List Running) (p : ℕ) (r t : Running) → slice_get crew p ≡ Some r → IsKeptOf script p t → ((q : ℕ) (u : Running) → slice_get crew q ≡ Some u → IsKeptOf script q u) →
+      (q : ℕ) (u : Running) → slice_get (slice_set crew p t) q ≡ Some u → IsKeptOf script q u
   kept_set crew p r t there k all q u is = go (eqb_tells p q)
     where
-      go : (((p == q) ≡ true) × (p ≡ q)) ⊎ (((p == q) ≡ false) × (p ≢ q)) → IsKept script q u
+      go : (((p == q) ≡ true) × (p ≡ q)) ⊎ (((p == q) ≡ false) × (p ≢ q)) → IsKeptOf script q u
       go (inl e) =
-          subst (λ z. IsKept script z u) e.1
-          (subst (λ z. IsKept script p z) (same_Some t u (sym (slice_get-set_same crew p t r there) ∙ subst (λ z. slice_get (slice_set crew p t) z ≡ Some u) (sym e.1) is)) k)
+          subst (λ z. IsKeptOf script z u) e.1
+          (subst (λ z. IsKeptOf script p z) (same_Some t u (sym (slice_get-set_same crew p t r there) ∙ subst (λ z. slice_get (slice_set crew p t) z ≡ Some u) (sym e.1) is)) k)
       go (inr e) = all q u (sym (slice_get-set_other crew p q t e.1) ∙ is)
 
   told_set : (crew : List Running) (p : ℕ) (r t : Running) → slice_get crew p ≡ Some r → (before after : ℕ → List Event) → ((q : ℕ) → p ≢ q → after q ≡ before q) → after p ≡ t.events → ((q : ℕ) → before q ≡ events_of (slice_get crew q)) →
@@ -79,7 +79,7 @@ module _ (script : Program) where
 
   module _ (p : ℕ) where
     -- a step of the process that is visited
-    step_reached : (r t : Running) (crew : List Running) (es : List (At Event)) → slice_get crew p ≡ Some r → (e : IsEvent script p r t) → IsReached script (only p r.outbox) crew es →
+    step_reached : (r t : Running) (crew : List Running) (es : List (At Event)) → slice_get crew p ≡ Some r → (e : IsEventOf script p r t) → IsReached script (only p r.outbox) crew es →
         IsReached script (only p t.outbox) (slice_set crew p t) (es ++ made_by p (e.effect.event ∷ []))
     step_reached r t crew es there e g =
         let a : At Event = record { pid = p; event = e.effect.event } in
@@ -91,7 +91,7 @@ module _ (script : Program) where
               (λ q h. events_by-push q es a ∙ ap (λ c. events_by q es ++ cond c (a.event ∷ []) []) (ne_eqb p q h) ∙ append-nil (events_by q es))
               (events_by-push p es a ∙ ap (λ c. events_by p es ++ cond c (a.event ∷ []) []) (eq-eqb p p refl) ∙ ap (λ z. z ++ a.event ∷ []) (g.told p ∙ ap (λ o. events_of o) there) ∙ sym e.events)
               g.told;
-          kept = kept_set crew p r t there (event_kept script p r t e (g.kept p r there)) g.kept;
+          kept = kept_set crew p r t there (event_kept script.turns (slice_get script.procs) p r t e (g.kept p r there)) g.kept;
         }
 
     -- steps of the process that is visited add these events to its own and to those of the run
@@ -109,10 +109,10 @@ module _ (script : Program) where
       outgoing = o;
     }
     went_on r _ (on _ u t step later) crew es there o g =
-        let e : IsEvent script p r u = step_event script p r u (g.kept p r there) step in
+        let e : IsEventOf script p r u = step_event script.turns (slice_get script.procs) p r u (g.kept p r there) step in
         let a : List Event = e.effect.event ∷ [] in
         let rest : WentOn u t (slice_set crew p u) (es ++ made_by p a) =
-        went_on u t later (slice_set crew p u) (es ++ made_by p a) (slice_get-set_same crew p u r there) (event_outgoing script p r u e o) (step_reached r u crew es there e g) in
+        went_on u t later (slice_set crew p u) (es ++ made_by p a) (slice_get-set_same crew p u r there) (event_outgoing script.turns (slice_get script.procs) p r u e o) (step_reached r u crew es there e g) in
         record {
           more = a ++ rest.more;
           grown = rest.grown ∙ ap (λ z. z ++ rest.more) e.events ∙ append_assoc r.events a rest.more;
@@ -126,7 +126,7 @@ module _ (script : Program) where
     emptied : (boxes : ℕ → List Signal) (v : Running) (crew : List Running) (es : List (At Event)) → slice_get crew p ≡ Some v → IsReached script boxes crew es → IsReached script boxes (slice_set crew p (record v { outbox = [] })) es
     emptied boxes v crew es there g =
         let w : Running = record v { outbox = [] } in
-        let k : IsKept script p v = g.kept p v there in
+        let k : IsKeptOf script p v = g.kept p v there in
         record {
           machine = g.machine;
           run = g.run;
@@ -145,7 +145,7 @@ module _ (script : Program) where
       told_after None e = g.told
       told_after (Some u) e = told_set crew x.to.0 u (arrived u x) e (λ q. events_by q es) (λ q. events_by q es) (λ q h. refl) (g.told x.to.0 ∙ ap (λ o. events_of o) e) g.told
 
-      kept_arrived : (u : Running) → IsKept script x.to.0 u → IsKept script x.to.0 (arrived u x)
+      kept_arrived : (u : Running) → IsKeptOf script x.to.0 u → IsKeptOf script x.to.0 (arrived u x)
       kept_arrived u k = record {
         process = record { pid = k.process.pid; turns = k.process.turns; proc = k.process.proc };
         own_from = k.own_from;
@@ -153,7 +153,7 @@ module _ (script : Program) where
         others = All-append (λ (y : Signal). y.from.0 ≢ x.to.0) u.taken_in (x ∷ []) k.others (All-cons (λ (y : Signal). y.from.0 ≢ x.to.0) x [] (λ e. to (sym e ∙ from)) (All-nil (λ (y : Signal). y.from.0 ≢ x.to.0)));
       }
 
-      kept_after : (o : Option Running) → slice_get crew x.to.0 ≡ o → (q : ℕ) (u : Running) → slice_get (deliver_to o x crew) q ≡ Some u → IsKept script q u
+      kept_after : (o : Option Running) → slice_get crew x.to.0 ≡ o → (q : ℕ) (u : Running) → slice_get (deliver_to o x crew) q ≡ Some u → IsKeptOf script q u
       kept_after None e = g.kept
       kept_after (Some u) e = kept_set crew x.to.0 u (arrived u x) e (kept_arrived u (g.kept x.to.0 u e)) g.kept
 

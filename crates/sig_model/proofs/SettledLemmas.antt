@@ -18,14 +18,14 @@ use Rattle.sig_runs.proofs.Quiet.{quiet_at_rest}
 use Rattle.sig_script.specs.Scripts.{Program}
 use Rattle.sig_model.specs.declared.event.Event.{Event}
 use Rattle.sig_model.specs.ProcessState.{ProcessState, is_cut}
-use Rattle.sig_model.specs.Machine.{rules_of, execution, execution_of}
+use Rattle.sig_model.specs.Machine.{rules_of, rules_with, execution, execution_of}
 use Rattle.sig_model.specs.Running.{Running, advanced, next_of, is_early, can_handle, can_exec, exec_next}
 use Rattle.sig_model.specs.OneWorker.{RunsTo, rests, goes, pass, opened_crew}
 use Rattle.sig_model.specs.SettledRun.{IsMachineOf, IsSettledRun}
 use Rattle.sig_model.specs.MadeEvents.{made_in_pass, Makes}
 use Rattle.sig_model.specs.MadeEvents.{none, passes}
 use Rattle.sig_model.proofs.StampLemmas.{stamps_kept}
-use Rattle.sig_model.proofs.EventLemmas.{member_of, IsKept}
+use Rattle.sig_model.proofs.EventLemmas.{member_of, IsPartOf, IsKeptOf}
 use Rattle.sig_model.proofs.CrewLemmas.{Mate, members, at_member}
 use Rattle.sig_model.proofs.ReachLemmas.{IsReached, IsResting, rest_pass}
 use Rattle.sig_model.proofs.StillLemmas.{IsStill, still_pass}
@@ -43,11 +43,11 @@ is_high turns s h = or_high (is_none s.end && nat_le turns s.executed) (nat_le 4
 
 module _ (script : Program) where
   cuts_high : CutsHigh (rules_of script)
-  unfolding rules_of
+  unfolding rules_with
   cuts_high s h = is_high script.turns s h
 
   same_next : (own taken : List Signal) → is_low (rules_of script) (next_signal own taken) ≡ is_early (next_of own taken)
-  unfolding rules_of
+  unfolding rules_with
   same_next (x ∷ own) taken = refl
   same_next [] (x ∷ taken) = refl
   same_next [] [] = refl
@@ -64,9 +64,9 @@ module _ (script : Program) where
   and_assoc true b c = refl
   and_assoc false b c = refl
 
-  module _ (p : ℕ) (r : Running) (k : IsKept script p r) (s : IsStill r) where
+  module _ (p : ℕ) (r : Running) (k : IsKeptOf script p r) (s : IsStill r) where
     same_cut : (rules_of script).is_cut r.state ≡ is_cut r.turns r.state
-    unfolding rules_of
+    unfolding rules_with
     same_cut = ap (λ n. is_cut n r.state) (sym k.process.turns)
 
     no_handle : may_handle (rules_of script) (member_of r) ≡ false
@@ -74,7 +74,7 @@ module _ (script : Program) where
     no_handle = ap (λ c. not c && is_low (rules_of script) (next_signal r.own r.taken_in)) same_cut ∙ ap (λ b. not (is_cut r.turns r.state) && b) (same_next r.own r.taken_in) ∙ s.handle
 
     same_exec : may_exec (rules_of script) (member_of r) ≡ can_exec r
-    unfolding rules_of can_exec
+    unfolding rules_with can_exec
     same_exec =
         ap (λ c. not (is_some r.state.end) && (not c && is_empty r.own)) same_cut
         ∙ ap (λ b. not (is_some r.state.end) && (not (is_cut r.turns r.state) && b)) (same_empty r.own)
@@ -86,7 +86,7 @@ module _ (script : Program) where
     no_effect (Some e) h = cc
 
     executes : (rules_of script).exec p r.state ≡ execution r.pid r.proc r.state
-    unfolding rules_of
+    unfolding rules_with
     executes = ap (λ o. execution_of p o r.state) k.process.proc ∙ ap (λ q. execution q r.proc r.state) (sym k.process.pid)
 
     exec_case : (b : Bool) → can_exec r ≡ b → cond b (option_map (advanced r) (execution r.pid r.proc r.state)) None ≡ None →
@@ -100,11 +100,11 @@ module _ (script : Program) where
 
     -- it can do nothing as the machine's process either
     quiet : IsQuiet (rules_of script) p (member_of r)
-    unfolding rules_of
+    unfolding rules_with
     quiet = record { no_handle = no_handle; no_exec = no_exec; from_others = k.others }
 
-  low : (p : ℕ) (r : Running) → IsKept script p r → All (λ (x : Signal). (rules_of script).stamp x ≤ (rules_of script).last r.state) r.own
-  unfolding rules_of
+  low : (p : ℕ) (r : Running) → IsKeptOf script p r → All (λ (x : Signal). (rules_of script).stamp x ≤ (rules_of script).last r.state) r.own
+  unfolding rules_with
   low p r k = k.own_low
 
   same_states : (crew : List Running) → map (λ (n : Mate). n.local.state) (members crew) ≡ map (λ (r : Running). r.state) crew
@@ -121,14 +121,14 @@ module _ (script : Program) where
         ∙ ap (λ o. queued_at (rules_of script) s p o) here
 
     shown : IsMachineOf crew g.machine
-    unfolding rules_of
+    unfolding rules_with
     shown = record { states = g.at_work.states ∙ same_states crew; queued = waiting }
 
     state_of : (p : ℕ) (o : Option Running) (s : ProcessState) → slice_get crew p ≡ o → option_map (λ (r : Running). r.state) o ≡ Some s → ((q : ℕ) (r : Running) → slice_get crew q ≡ Some r → IsStill r) → IsAtRest (rules_of script) g.machine p s
     state_of p None s there e still = cc
     state_of p (Some r) s there e still =
         subst (λ z. IsAtRest (rules_of script) g.machine p z) (same_Some r.state s e)
-        (quiet_at_rest (rules_of script) (stamps_kept script) cuts_high g.machine p (member_of r) (λ f. waiting f p r there) (low p r (g.kept p r there)) (quiet p r (g.kept p r there) (still p r there)))
+        (quiet_at_rest (rules_of script) (stamps_kept script.turns (slice_get script.procs)) cuts_high g.machine p (member_of r) (λ f. waiting f p r there) (low p r (g.kept p r there)) (quiet p r (g.kept p r there) (still p r there)))
 
     settled : ((q : ℕ) (r : Running) → slice_get crew q ≡ Some r → IsStill r) → IsSettled (rules_of script) g.machine
     settled still p s at = state_of p (slice_get crew p) s refl (sym (slice_get-map (λ (r : Running). r.state) crew p) ∙ ap (λ xs. slice_get xs p) (sym shown.states) ∙ at) still
@@ -166,7 +166,9 @@ module _ (script : Program) where
       machine = e.reached.machine;
       run = e.reached.run;
       shown = shown last e.later e.reached;
-      processes = λ p r there. (e.reached.kept p r there).process;
+      processes = λ p r there.
+          let k : IsPartOf script.turns (slice_get script.procs) p r = (e.reached.kept p r there).process in
+          record { pid = k.pid; turns = k.turns; proc = k.proc };
       told = e.reached.told;
       settled = settled last e.later e.reached e.still;
     }

@@ -12,7 +12,7 @@ use Rattle.sig_model.specs.ProcessState.{is_cut}
 use Rattle.sig_model.specs.Running.{Running, can_handle, next_of, is_early, handled_one, handled_first, handle_next, exec_next}
 use Rattle.sig_model.specs.OneWorker.{or_stay, handle_all, exec_or_stay, visited, deliver_all, settled_visit, visit_at, visit, events_at, has_moved, pass_from}
 use Rattle.sig_model.proofs.CountLemmas.{events_get, delivered_events}
-use Rattle.sig_model.proofs.EventLemmas.{IsKept, IsEvent, IsStep, step_event, event_kept}
+use Rattle.sig_model.proofs.EventLemmas.{IsKeptOf, IsEventOf, IsStep, step_event, event_kept}
 use Rattle.sig_model.proofs.GoingLemmas.{Goes, stays, on, goes_trans, goes_handle, goes_exec}
 use Rattle.sig_model.proofs.ReachLemmas.{set_here, clear_at, IsResting}
 
@@ -84,24 +84,24 @@ visited_still : (r : Running) → IsStill r → visited r ≡ r
 visited_still r s = visited_exec r (handles_not r s.handle) ∙ ap (λ o. unwrap_or o r) s.exec
 
 module _ (script : Program) (p : ℕ) where
-  step_more : (r t : Running) → IsKept script p r → IsStep r t → length t.events ≡ length r.events + 1
+  step_more : (r t : Running) → IsKeptOf script p r → IsStep r t → length t.events ≡ length r.events + 1
   step_more r t k step =
-      let e : IsEvent script p r t = step_event script p r t k step in
+      let e : IsEventOf script p r t = step_event script.turns (slice_get script.procs) p r t k step in
       ap (λ (es : List Event). length es) e.events ∙ length-append r.events (e.effect.event ∷ [])
 
-  goes_more : (r t : Running) → IsKept script p r → Goes r t → length r.events ≤ length t.events
+  goes_more : (r t : Running) → IsKeptOf script p r → Goes r t → length r.events ≤ length t.events
   goes_more r _ k (stays _) = omega arith
   goes_more r _ k (on _ u t step later) =
-      let more : length u.events ≤ length t.events = goes_more u t (event_kept script p r u (step_event script p r u k step) k) later in
+      let more : length u.events ≤ length t.events = goes_more u t (event_kept script.turns (slice_get script.procs) p r u (step_event script.turns (slice_get script.procs) p r u k step) k) later in
       omega (arith, step_more r u k step, more)
 
-  step_first : (r u t : Running) → IsKept script p r → IsStep r u → Goes u t → length r.events < length t.events
+  step_first : (r u t : Running) → IsKeptOf script p r → IsStep r u → Goes u t → length r.events < length t.events
   step_first r u t k step later =
-      let more : length u.events ≤ length t.events = goes_more u t (event_kept script p r u (step_event script p r u k step) k) later in
+      let more : length u.events ≤ length t.events = goes_more u t (event_kept script.turns (slice_get script.procs) p r u (step_event script.turns (slice_get script.procs) p r u k step) k) later in
       omega (arith, step_more r u k step, more)
 
   -- a process that a visit finds is still, or it has an event
-  module _ (r : Running) (k : IsKept script p r) where
+  module _ (r : Running) (k : IsKeptOf script p r) where
     exec_or_still : (o : Option Running) → can_handle r ≡ false → exec_next r ≡ o → IsStill r ⊎ (length r.events < length (visited r).events)
     exec_or_still None h e = inl (record { handle = h; exec = e })
     exec_or_still (Some u) h e =

@@ -6,6 +6,7 @@ pub mod Handling
 pub mod Finishing
 pub mod Machine
 pub mod Running
+pub mod Keeping
 pub mod OneWorker
 pub mod PrintedState
 pub mod SettledRun

@@ -32,8 +32,9 @@ abbrev pub acted_at : Did → Acted
 acted_at (Exec place) = Executed
 acted_at (From sender number) = Handled sender.0
 
-unfoldable pub rules_of : Program → Rules ProcessState Signal Event
-rules_of script = record {
+-- the rules of processes that have these parts of a script, and may each execute so many instructions
+unfoldable pub rules_with : ℕ → (ℕ → Option Declared) → Rules ProcessState Signal Event
+rules_with turns part = record {
   from = λ x. x.from.0;
   to = λ x. x.to.0;
   stamp = λ x. x.stamp;
@@ -41,10 +42,13 @@ rules_of script = record {
   did = λ e. acted_at e.did;
   last = λ s. s.stamp;
   is_ended = λ s. is_some s.end;
-  is_cut = λ s. is_cut script.turns s;
-  exec = λ pid s. execution_of pid (slice_get script.procs pid) s;
+  is_cut = λ s. is_cut turns s;
+  exec = λ pid s. execution_of pid (part pid) s;
   handle = λ pid s x. handling_of pid s x;
 }
+
+abbrev pub rules_of : Program → Rules ProcessState Signal Event
+rules_of script = rules_with script.turns (slice_get script.procs)
 
 -- the opening states of these processes of so many, the first of which has this pid
 abbrev pub opening_from : ℕ → ℕ → List Declared → List ProcessState

@@ -10,3 +10,4 @@ pub mod NumberLemmas
 pub mod SendingLemmas
 pub mod TellingLemmas
 pub mod Lists
+pub mod WholeLemmas

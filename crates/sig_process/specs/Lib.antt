@@ -4,3 +4,5 @@ pub mod Steps
 pub mod Sending
 pub mod Handled
 pub mod PartsOf
+pub mod Whole
+pub mod Lending

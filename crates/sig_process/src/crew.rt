@@ -1,7 +1,11 @@
-ghost use Rattle.std.specs.Prelude.{◌≡◌, ◌<◌, ◌≤◌, IfOk, IfSome, slice_get, option_copied, length};
+ghost use Rattle.std.specs.Prelude.{◌≡◌, ◌<◌, ◌≤◌, Some, IfOk, IfSome, MatchOption, slice_get, option_copied, length};
+ghost use Rattle.std.specs.Borrow.{sem};
+ghost use Rattle.sig_process.specs.Lending.{LendsProcess};
 ghost use Rattle.sig_model.specs.Running.{opened};
 ghost use Rattle.sig_model.specs.OneWorker.{opened_crew, IsClear};
+ghost use Rattle.sig_model.specs.Keeping.{IsPlaced};
 
+use crate::process::Process;
 use crate::raw_process::RawProcess;
 use sig_script::Script;
 use sig_terms::Pid;
@@ -12,7 +16,7 @@ use std::marker::Model;
 #[derive(Drop)]
 pub struct Crew {
     /// The process at place p, from 0, has the pid p.
-    pub procs: Vec<RawProcess>,
+    pub procs: Vec<Process>,
 }
 
 impl Model for Crew {
@@ -34,7 +38,7 @@ impl Model for Crew {
 impl RawProcess {
     /// The process of this pid, as the script opens it: at its first instruction, with all else
     /// empty.
-    pub fn open(alloc: Global, script: &Script, pid: Pid) -> Result<RawProcess, AllocError>
+    pub(crate) fn open(alloc: Global, script: &Script, pid: Pid) -> Result<RawProcess, AllocError>
         requires { pid.0 < length script.now.procs }
         ensures { IfOk result (λ p. IfSome (slice_get script.now.procs pid.0) (λ d.
             p ≡ opened pid.0 (length script.now.procs) script.now.turns d)) }
@@ -51,12 +55,21 @@ impl Crew {
     pub fn open(alloc: Global, script: &Script) -> Result<Crew, AllocError>
         ensures opened { IfOk result (λ c. c ≡ opened_crew script.now) }
         ensures clear { IfOk result IsClear }
+        ensures placed { IfOk result IsPlaced }
     {
         let mut procs = Vec::new(alloc);
         for pid in 0..script.count() {
-            let process = RawProcess::open(alloc, script, Pid(pid))?;
+            let process = Process::open(alloc, script, Pid(pid))?;
             procs.push(process)?;
         }
         Ok(Crew { procs })
+    }
+
+    /// The process of this pid. `None` exactly where there is none.
+    pub fn get_mut(&mut self, pid: Pid) -> Option<&mut Process>
+        ensures* lends { sem 𝓛 (LendsProcess self.entry pid.0 result) }
+        ensures process { MatchOption result (length self.old ≤ pid.0) (λ p. slice_get self.old pid.0 ≡ Some p.now) }
+    {
+        self.procs.get_mut(pid.0 as usize)
     }
 }

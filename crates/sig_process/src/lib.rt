@@ -8,6 +8,8 @@ mod exits;
 mod handling;
 mod linking;
 mod parts;
+mod passing;
+mod process;
 mod raw_process;
 mod receiving;
 mod sending;
@@ -16,7 +18,7 @@ mod stepping;
 pub use crew::Crew;
 pub use executing::Exec;
 pub use parts::Parts;
-pub use raw_process::RawProcess as Process;
+pub use process::Process;
 
 #[cfg(test)]
 mod tests;

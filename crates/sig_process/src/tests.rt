@@ -7,7 +7,7 @@
 
 ghost use Rattle.std.specs.Prelude.{◌≡◌, ◌<◌};
 
-use super::*;
+use crate::raw_process::RawProcess as Process;
 use sig_base::Steps;
 use sig_kinds::Signals;
 use sig_model::{Event, Outcome};

@@ -1,4 +1,5 @@
 ghost use Rattle.std.specs.Prelude.{◌≡◌, ◌<◌, IfOk, OnOk, true, vec_len};
+ghost use Rattle.sig_model.specs.Keeping.{IsPlaced};
 ghost use Rattle.sig_model.specs.OneWorker.{pass, RunsTo, IsClear};
 ghost use Rattle.sig_workers.specs.Room.{room};
 
@@ -11,7 +12,9 @@ use std::sync::ledger::{Blank, Ledger};
 
 /// A pass over all processes, by ascending pid. Tells whether it had an event.
 fn pass_all<L: Ledger>(procs: &mut Vec<Process>, steps: &mut Steps<L>) -> Result<bool, AllocError>
+    requires { IsPlaced procs.old.items }
     ensures pass { IfOk result (λ moved. (procs.new.items, moved) ≡ pass procs.old.items) }
+    ensures placed { OnOk result (IsPlaced procs.new.items) }
     ensures clear { IsClear procs.old.items → OnOk result (IsClear procs.new.items) }
     ensures falls { IfOk result (λ moved. moved ≡ true → room procs.new.items < room procs.old.items) }
     ensures len { vec_len procs.new ≡ vec_len procs.old }
@@ -30,6 +33,7 @@ fn run_passes<L: Ledger>(blank: Blank, crew: Crew) -> Result<Crew, AllocError>
     requires parts { blank.parts ≡ L.parts }
     requires some { 0 < blank.parts }
     requires clear { IsClear crew }
+    requires placed { IsPlaced crew }
     ensures run { IfOk result (RunsTo crew) }
     ensures clear { IfOk result IsClear }
 {
@@ -45,7 +49,8 @@ fn run_passes<L: Ledger>(blank: Blank, crew: Crew) -> Result<Crew, AllocError>
 /// The run of one worker: passes over the processes until one has no event. It ends, since each
 /// pass but the last raises the sum of the processes' stamps, and no stamp is above 2^62.
 pub fn run_one(crew: Crew) -> Result<Crew, AllocError>
-    requires { IsClear crew }
+    requires clear { IsClear crew }
+    requires placed { IsPlaced crew }
     ensures run { IfOk result (RunsTo crew) }
     ensures clear { IfOk result IsClear }
 {

@@ -1,4 +1,5 @@
-ghost use Rattle.std.specs.Prelude.{◌≡◌, ◌<◌, ◌+◌, [], length, OnOk, IfOk, IfSome, slice_get, slice_set, Some, vec_len};
+ghost use Rattle.std.specs.Prelude.{◌≡◌, ◌<◌, ◌+◌, [], length, All, OnOk, IfOk, IfSome, slice_get, slice_set, Some, vec_len};
+ghost use Rattle.sig_model.specs.Keeping.{IsArriving, IsPlaced};
 ghost use Rattle.sig_model.specs.OneWorker.{handle_all, exec_or_stay, visited, deliver_all, deliver_to, settled_visit, visit, events_at, has_moved};
 
 use sig_base::Steps;
@@ -44,7 +45,10 @@ fn visit_process<L: Ledger>(process: &mut Process, steps: &mut Steps<L>) -> Resu
 
 /// The signal joins those that wait for its receiver.
 fn deliver_one(procs: &mut Vec<Process>, signal: Signal) -> Result<(), AllocError>
+    requires placed { IsPlaced procs.old.items }
+    requires arriving { IsArriving signal.to.0 (length procs.old.items) signal }
     ensures procs { OnOk result (procs.new.items ≡ deliver_to (slice_get procs.old.items signal.to.0) signal procs.old.items) }
+    ensures placed { OnOk result (IsPlaced procs.new.items) }
     ensures len { vec_len procs.new ≡ vec_len procs.old }
 {
     let to = signal.to.0 as usize;
@@ -57,7 +61,10 @@ fn deliver_one(procs: &mut Vec<Process>, signal: Signal) -> Result<(), AllocErro
 /// Each of the signals joins those that wait for its receiver.
 #[tactic(auto, unfolding(sig_model::specs::OneWorker::deliver_all))]
 fn deliver_each(procs: &mut Vec<Process>, mut signals: Signals) -> Result<(), AllocError>
+    requires placed { IsPlaced procs.old.items }
+    requires arriving { All (λ x. IsArriving x.to.0 (length procs.old.items) x) signals }
     ensures procs { OnOk result (procs.new.items ≡ deliver_all signals procs.old.items) }
+    ensures placed { OnOk result (IsPlaced procs.new.items) }
     ensures len { vec_len procs.new ≡ vec_len procs.old }
 {
     while let Some(signal) = signals.pop_front() {
@@ -73,6 +80,7 @@ fn visit_and_take<L: Ledger>(
 ) -> Result<Signals, AllocError>
     ensures process { OnOk result (process.new ≡ record (visited process.old) { outbox = [] }) }
     ensures signals { IfOk result (λ signals. signals ≡ (visited process.old).outbox) }
+    ensures arriving { IfOk result (All (λ x. IsArriving x.to.0 process.old.count x)) }
 {
     visit_process(process, steps)?;
     Ok(process.take_outbox())
@@ -84,9 +92,12 @@ fn visit_at<L: Ledger>(
     at: usize,
     steps: &mut Steps<L>,
 ) -> Result<Signals, AllocError>
-    requires { at < vec_len procs.old }
+    requires within { at < vec_len procs.old }
+    requires placed { IsPlaced procs.old.items }
     ensures visit { IfOk result (λ signals. IfSome (slice_get procs.old.items at) (λ r.
         (procs.new.items ≡ slice_set procs.old.items at (record (visited r) { outbox = [] })) × (signals ≡ (visited r).outbox))) }
+    ensures placed { OnOk result (IsPlaced procs.new.items) }
+    ensures arriving { IfOk result (All (λ x. IsArriving x.to.0 (length procs.old.items) x)) }
     ensures len { vec_len procs.new ≡ vec_len procs.old }
 {
     visit_and_take(&mut procs[at], steps)
@@ -99,8 +110,10 @@ fn visit_one<L: Ledger>(
     at: usize,
     steps: &mut Steps<L>,
 ) -> Result<(), AllocError>
-    requires { at < vec_len procs.old }
+    requires within { at < vec_len procs.old }
+    requires placed { IsPlaced procs.old.items }
     ensures visit { OnOk result (procs.new.items ≡ visit at procs.old.items) }
+    ensures placed { OnOk result (IsPlaced procs.new.items) }
     ensures len { vec_len procs.new ≡ vec_len procs.old }
 {
     let signals = visit_at(procs, at, steps)?;
@@ -122,8 +135,10 @@ pub(crate) fn visit_counted<L: Ledger>(
     at: usize,
     steps: &mut Steps<L>,
 ) -> Result<bool, AllocError>
-    requires { at < vec_len procs.old }
+    requires within { at < vec_len procs.old }
+    requires placed { IsPlaced procs.old.items }
     ensures visit { OnOk result (procs.new.items ≡ visit at procs.old.items) }
+    ensures placed { OnOk result (IsPlaced procs.new.items) }
     ensures moved { IfOk result (λ moved. moved ≡ has_moved at procs.old.items procs.new.items) }
     ensures len { vec_len procs.new ≡ vec_len procs.old }
 {

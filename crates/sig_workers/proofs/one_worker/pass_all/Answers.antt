@@ -15,6 +15,7 @@ loop-at-preserved g c =
       len = c.in_ok-here.ensures.len ∙ c.loop-at.invariant.len;
       rest = pass_goes (length c.args.procs.now.items) c.loop-at.at c.loop-at.moved c.in_ok-here.here c.loop-at.procs.items c.visit_counted.new.procs.items lt
           c.in_ok-here.ensures.visit c.in_ok-here.ensures.moved ∙ c.loop-at.invariant.rest;
+      placed = c.in_ok-here.ensures.placed;
       clear = λ h. one_visit_clear c.loop-at.at c.loop-at.procs.items c.visit_counted.new.procs.items c.in_ok-here.ensures.visit (c.loop-at.invariant.clear h);
       most = f.0;
       falls = f.1;

@@ -9,5 +9,6 @@ pub loop-procs-preserved : goal.loop-procs-preserved
 loop-procs-preserved g c = record {
   leads = λ last r.
       c.loop-procs.invariant.leads last (run_goes c.loop-procs.procs.items c.pass_all.new.procs.items last c.in_ok-pass_all.field-0 c.in_ok-pass_all.ensures.pass c.if-not-branch.false r);
+  placed = c.in_ok-pass_all.ensures.placed;
   clear = c.in_ok-pass_all.ensures.clear c.loop-procs.invariant.clear;
 }

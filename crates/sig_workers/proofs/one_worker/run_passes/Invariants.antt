@@ -1,5 +1,6 @@
 use Rattle.std.proofs.Common.{List}
 use Rattle.sig_model.specs.Running.{Running}
+use Rattle.sig_model.specs.Keeping.{IsPlaced}
 use Rattle.sig_model.specs.OneWorker.{RunsTo, IsClear}
 use Rattle.sig_workers.specs.Room.{room}
 use Rattle.sig_workers.proofs.one_worker.run_passes.Given as goal
@@ -9,6 +10,7 @@ abbrev pub invariant-loop-procs : goal.invariant-loop-procs
 invariant-loop-procs g l = record {
   leads : (last : List Running) → RunsTo l.procs.items last → RunsTo l.fn.crew last;
   clear : IsClear l.procs.items;
+  placed : IsPlaced l.procs.items;
 }
 
 abbrev pub decreases-loop-procs : goal.decreases-loop-procs

@@ -1,4 +1,6 @@
 use Rattle.std.proofs.Common.{◌≡◌, length, vec_len}
+use Rattle.std.specs.Prelude.{All}
+use Rattle.sig_model.specs.Keeping.{IsArriving, IsPlaced}
 use Rattle.sig_model.specs.OneWorker.{deliver_all}
 use Rattle.sig_workers.proofs.visiting.deliver_each.Given as goal
 
@@ -6,6 +8,8 @@ use Rattle.sig_workers.proofs.visiting.deliver_each.Given as goal
 abbrev pub invariant-loop-signal : goal.invariant-loop-signal
 invariant-loop-signal l = record {
   rest : deliver_all l.signals l.procs.items ≡ deliver_all l.fn.signals l.fn.procs.items;
+  placed : IsPlaced l.procs.items;
+  arriving : All (λ x. IsArriving x.to.0 (length l.procs.items) x) l.signals;
   len : vec_len l.procs ≡ vec_len l.fn.procs;
 }
 
