@@ -6,7 +6,7 @@ use Rattle.std.proofs.lemmas.Bool.{eqb-true}
 use Rattle.std.proofs.lemmas.Bool.Decides.{nat_tests}
 use Rattle.std.proofs.lemmas.List.Elements.{All-nil, All-cons, All-append, All-filter, All-weaker, filter_passes}
 use Rattle.sig_kinds.specs.declared.signal.Signal.{Signal}
-use Rattle.sig_script.specs.Scripts.{Declared}
+use Rattle.sig_script.specs.Scripts.{Declared, IsProcBelow}
 use Rattle.sig_runs.specs.Rules.{Effect, Rules, IsStamped, addressed}
 use Rattle.sig_runs.specs.Rules.Did.{Exec, From}
 use Rattle.sig_runs.specs.LocalRun.{Input, CanDo, own_left, handled_in}
@@ -19,16 +19,18 @@ use Rattle.sig_model.specs.ProcessState.{ProcessState}
 use Rattle.sig_model.specs.Machine.{rules_with}
 use Rattle.sig_model.specs.Running.{Running, opened, exec_next, handle_next}
 use Rattle.sig_model.specs.OneWorker.{arrived}
+use Rattle.sig_model.specs.PidsBelow.{IsSignalBelow, IsRunningBelow}
 use Rattle.sig_model.specs.Keeping.{IsBuilt, IsToItself, IsLeaving, IsArriving, opening_local, local_of, IsKeeping}
 use Rattle.sig_model.proofs.StampLemmas.{stamps_kept}
 use Rattle.sig_model.proofs.PostingLemmas.{AreFrom}
+use Rattle.sig_model.proofs.RunningBelowLemmas.{opened_below, exec_next_below, handle_next_below}
 use Rattle.sig_model.proofs.BuiltLemmas.{AreBuilt, act_built}
 use Rattle.sig_model.proofs.EventLemmas.{IsKept, IsEvent, IsStep, step_event, own_left_all, taken_in_all, other_than}
 
 -- the process as the script opens it
-pub opened_keeps : (pid count turns : ℕ) (p : Declared) → pid < count → IsKeeping (opened pid count turns p)
-opened_keeps pid count turns p lt = record {
-  placed = lt;
+pub opened_keeps : (pid count turns : ℕ) (p : Declared) → pid < count → IsProcBelow count p → IsKeeping (opened pid count turns p)
+opened_keeps pid count turns p lt h = record {
+  below = opened_below pid count turns p lt h;
   ran = record { runs = refl; events_told = refl; handled_told = refl };
   low = omega arith;
   own = All-nil (IsToItself pid 0);
@@ -39,7 +41,15 @@ opened_keeps pid count turns p lt = record {
 -- signals of others that come to it
 pub arrivals_keep : (r : Running) (xs : List Signal) → IsKeeping r → All (IsArriving r.pid r.count) xs → IsKeeping (record r { taken_in = r.taken_in ++ xs })
 arrivals_keep r xs k h = record {
-  placed = k.placed;
+  below = record {
+    pid = k.below.pid;
+    proc = k.below.proc;
+    state = k.below.state;
+    handled = k.below.handled;
+    own = k.below.own;
+    taken_in = All-append (IsSignalBelow r.count) r.taken_in xs k.below.taken_in (All-weaker (IsArriving r.pid r.count) (IsSignalBelow r.count) (λ x a. a.below) xs h);
+    outbox = k.below.outbox;
+  };
   ran = k.ran;
   low = k.low;
   own = k.own;
@@ -51,9 +61,17 @@ pub arrived_keeps : (r : Running) (x : Signal) → IsKeeping r → IsArriving r.
 arrived_keeps r x k h = arrivals_keep r (x ∷ []) k (All-cons (IsArriving r.pid r.count) x [] h (All-nil (IsArriving r.pid r.count)))
 
 -- its outbox is emptied, or has some of what it had
-pub outbox_keeps : (r : Running) (left : List Signal) → IsKeeping r → All (IsLeaving r.pid r.state.stamp) left → IsKeeping (record r { outbox = left })
-outbox_keeps r left k h = record {
-  placed = k.placed;
+pub outbox_keeps : (r : Running) (left : List Signal) → IsKeeping r → All (IsLeaving r.pid r.state.stamp) left → All (IsSignalBelow r.count) left → IsKeeping (record r { outbox = left })
+outbox_keeps r left k h below = record {
+  below = record {
+    pid = k.below.pid;
+    proc = k.below.proc;
+    state = k.below.state;
+    handled = k.below.handled;
+    own = k.below.own;
+    taken_in = k.below.taken_in;
+    outbox = below;
+  };
   ran = k.ran;
   low = k.low;
   own = k.own;
@@ -62,14 +80,14 @@ outbox_keeps r left k h = record {
 }
 
 pub emptied_keeps : (r : Running) → IsKeeping r → IsKeeping (record r { outbox = [] })
-emptied_keeps r k = outbox_keeps r [] k (All-nil (IsLeaving r.pid r.state.stamp))
+emptied_keeps r k = outbox_keeps r [] k (All-nil (IsLeaving r.pid r.state.stamp)) (All-nil (IsSignalBelow r.count))
 
 -- a signal that leaves a process may arrive at its receiver
-pub leaving_arrives : (r : Running) (x : Signal) → IsKeeping r → IsLeaving r.pid r.state.stamp x → IsArriving x.to.0 r.count x
-leaving_arrives r x k h = record {
+pub leaving_arrives : (r : Running) (x : Signal) → IsKeeping r → IsLeaving r.pid r.state.stamp x → IsSignalBelow r.count x → IsArriving x.to.0 r.count x
+leaving_arrives r x k h below = record {
   from = λ e. h.to (sym e ∙ h.from);
-  sender = subst (λ n. n < r.count) (sym h.from) k.placed;
   to = refl;
+  below = below;
   stamp = omega (arith, h.stamp, k.low);
   built = h.built;
 }
@@ -163,9 +181,9 @@ module _ (r : Running) where
         All-append (IsLeaving r.pid e.effect.state.stamp) r.outbox _ old
         (λ i d lt. record { from = from i d lt; to = other_than _ r.pid (to i d lt); stamp = stamp i d lt; built = built i d lt })
 
-    next_keeps : IsKeeping next
-    next_keeps = record {
-      placed = k.placed;
+    next_keeps : IsRunningBelow next → IsKeeping next
+    next_keeps below = record {
+      below = below;
       ran = (one_more rules (stamps_kept r.turns part) r.pid (opening_local r) (local_of r) r.events r.handled (record { input = e.input; effect = e.effect }) k.ran e.can).ran;
       low = act_low e.input e.effect e.can;
       own = own_kept;
@@ -186,16 +204,16 @@ module _ (r : Running) where
         ∙ ap (λ z. record next { taken_in = z; outbox = t.outbox }) e.taken_in
         ∙ ap (λ z. record next { outbox = z }) e.outbox
 
-    event_keeps : IsKeeping t
-    event_keeps = subst IsKeeping (sym is_next) next_keeps
+    event_keeps : IsRunningBelow t → IsKeeping t
+    event_keeps below = subst IsKeeping (sym is_next) (next_keeps (subst IsRunningBelow is_next below))
 
-step_keeps : (r t : Running) → IsKeeping r → IsStep r t → IsKeeping t
-step_keeps r t k step = event_keeps r t (step_event r.turns (part r) r.pid r t (is_kept r k) step) k
+step_keeps : (r t : Running) → IsKeeping r → IsStep r t → IsRunningBelow t → IsKeeping t
+step_keeps r t k step below = event_keeps r t (step_event r.turns (part r) r.pid r t (is_kept r k) step) k below
 
 -- the next instruction is executed
 pub exec_keeps : (r t : Running) → IsKeeping r → exec_next r ≡ Some t → IsKeeping t
-exec_keeps r t k e = step_keeps r t k (inr e)
+exec_keeps r t k e = step_keeps r t k (inr e) (exec_next_below r k.below t e)
 
 -- the next signal is handled
 pub handle_keeps : (r t : Running) → IsKeeping r → handle_next r ≡ Some t → IsKeeping t
-handle_keeps r t k e = step_keeps r t k (inl e)
+handle_keeps r t k e = step_keeps r t k (inl e) (handle_next_below r k.below t e)

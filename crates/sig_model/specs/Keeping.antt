@@ -10,6 +10,7 @@ use Rattle.sig_model.specs.declared.event.Event.{Event}
 use Rattle.sig_model.specs.ProcessState.{ProcessState, opening_state}
 use Rattle.sig_model.specs.Machine.{rules_with}
 use Rattle.sig_model.specs.Running.{Running}
+use Rattle.sig_model.specs.PidsBelow.{IsSignalBelow, IsRunningBelow}
 
 -- The kinds of signals that processes send (Erlang Reference Manual, Processes, Signals). Monitors and aliases aren't part of
 -- the machine yet.
@@ -38,11 +39,11 @@ pub record IsLeaving (pid last : ℕ) (x : Signal) : Type 0 where
   pub stamp : x.stamp ≤ last
   pub built : IsBuilt x.kind
 
--- a signal to the process pid of another one, of so many; no stamp is above 2^62
+-- a signal to the process pid of another one, of so many, which names none but these; no stamp is above 2^62
 pub record IsArriving (pid count : ℕ) (x : Signal) : Type 0 where
   pub from : x.from.0 ≢ pid
-  pub sender : x.from.0 < count
   pub to : x.to.0 ≡ pid
+  pub below : IsSignalBelow count x
   pub stamp : x.stamp ≤ 4611686018427387904
   pub built : IsBuilt x.kind
 
@@ -59,8 +60,8 @@ abbrev pub local_of : Running → Local ProcessState Signal
 local_of r = record { state = r.state; own = r.own }
 
 pub record IsKeeping (r : Running) : Type 0 where
-  -- it is one of the script's processes
-  pub placed : r.pid < r.count
+  -- it is one of the script's processes, and names none but these
+  pub below : IsRunningBelow r
   -- from its opening it has executed an instruction or handled a signal at each of its events, and these signals are the ones
   -- that it handled (Erlang Reference Manual, Processes, Receiving Signals)
   pub ran : RanAlone (own_rules r) r.pid (opening_local r) r.events r.handled (local_of r)

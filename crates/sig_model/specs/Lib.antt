@@ -6,9 +6,9 @@ pub mod Handling
 pub mod Finishing
 pub mod Machine
 pub mod Running
+pub mod PidsBelow
 pub mod Keeping
 pub mod OneWorker
 pub mod PrintedState
 pub mod SettledRun
 pub mod MadeEvents
-pub mod PidsBelow

@@ -1,11 +1,13 @@
 -- What the calls of a process keep.
-use Rattle.std.proofs.Common.{◌≡◌, ℕ, zero, suc, ◌<◌, List, [], ◌∷◌, ◌++◌, length, Bool, true, false, Option, Some, None, refl, sym, ap, ◌∙◌, subst, arith}
-use Rattle.std.specs.Prelude.{All, IfSome, MatchOption, slice_get}
-use Rattle.std.proofs.lemmas.List.Elements.{All-nil, All-head, All-tail, All-weaker}
+use Rattle.std.proofs.Common.{◌≡◌, ℕ, ◌<◌, List, [], ◌∷◌, ◌++◌, length, Bool, true, false, Option, Some, None, refl, sym, ap, ◌∙◌, subst, arith}
+use Rattle.std.specs.Prelude.{All, IfSome, MatchOption, MatchResult, Result, Ok, Err, slice_get}
+use Rattle.std.proofs.lemmas.List.Elements.{All-nil, All-head, All-tail}
+use Rattle.std.proofs.lemmas.Option.{slice_get_within, get_or_from_slice_get}
 use Rattle.sig_kinds.specs.declared.signal.Signal.{Signal}
-use Rattle.sig_script.specs.Scripts.{Declared}
+use Rattle.sig_script.specs.Scripts.{Declared, Program, IsProcBelow, IsSound}
 use Rattle.sig_model.specs.Running.{Running, opened, handle_next}
 use Rattle.sig_model.specs.OneWorker.{arrived}
+use Rattle.sig_model.specs.PidsBelow.{IsSignalBelow}
 use Rattle.sig_model.specs.Keeping.{IsArriving, IsLeaving, IsKeeping}
 use Rattle.sig_model.proofs.KeepLemmas.{opened_keeps, arrivals_keep, arrived_keeps, outbox_keeps, emptied_keeps, leaving_arrives, exec_keeps, handle_keeps}
 use Rattle.sig_process.specs.declared.executing.Exec.{Exec}
@@ -13,18 +15,14 @@ use Rattle.sig_process.specs.declared.executing.Exec.TheVariants.{Stepped, Waiti
 use Rattle.sig_process.specs.Steps.{IsExec}
 use Rattle.sig_process.specs.Whole.{IsWhole}
 
-absent : (procs : List Declared) (pid : ℕ) → slice_get procs pid ≡ None → pid < length procs → ⊥
-absent [] pid h lt = (let f : ⊥ = omega (arith, lt) in f)
-absent (p ∷ ps) zero h lt = cc
-absent (p ∷ ps) (suc pid) h lt = absent ps pid h (omega (arith, lt))
-
-opened_case : (procs : List Declared) (pid turns : ℕ) (r : Running) (o : Option Declared) → slice_get procs pid ≡ o → pid < length procs →
-    IfSome o (λ d. r ≡ opened pid (length procs) turns d) → IsKeeping r
-opened_case procs pid turns r None e lt h = absurd (absent procs pid e lt)
-opened_case procs pid turns r (Some d) e lt h = subst IsKeeping (sym h) (opened_keeps pid (length procs) turns d lt)
-
-pub opened_whole : (procs : List Declared) (pid turns : ℕ) (r : Running) → pid < length procs → IfSome (slice_get procs pid) (λ d. r ≡ opened pid (length procs) turns d) → IsKeeping r
-opened_whole procs pid turns r lt h = opened_case procs pid turns r (slice_get procs pid) refl lt h
+-- the process that a script opens
+pub opened_whole : (script : Program) (pid count turns : ℕ) (d : Declared) (r : Running) → IsSound script → pid < length script.procs → count ≡ length script.procs →
+    slice_get script.procs pid ≡ Some d → r ≡ opened pid count turns d → IsKeeping r
+opened_whole script pid count turns d r sound lt same there is =
+    let procs : List Declared = script.procs in
+    let below : IsProcBelow (length procs) d =
+    subst (IsProcBelow (length procs)) (get_or_from_slice_get procs pid d d there) (sound.pids pid d (slice_get_within procs pid d there)) in
+    subst IsKeeping (sym (is ∙ ap (λ n. opened pid n turns d) same)) (opened_keeps pid (length procs) turns d lt below)
 
 pub exec_whole : (r t : Running) (how : Exec) → IsKeeping r → IsExec r t how → IsKeeping t
 exec_whole r t Stepped k e = exec_keeps r t k e
@@ -33,6 +31,12 @@ exec_whole r t Waiting k e = subst IsKeeping (sym e.1) k
 pub arrivals_whole : (failed : Bool) (r : Running) (xs : List Signal) → IsWhole failed r → All (IsArriving r.pid r.count) xs → IsWhole failed (record r { taken_in = r.taken_in ++ xs })
 arrivals_whole false r xs w h = arrivals_keep r xs w h
 arrivals_whole true r xs w h = w
+
+pub taken_in_whole : {T E : Type 0} (failed : Bool) (r t : Running) (xs left : List Signal) (o : Result T E) →
+    MatchResult o (λ _. (t ≡ record r { taken_in = r.taken_in ++ xs }) × (left ≡ [])) (λ _. (t ≡ r) × (left ≡ xs)) →
+    All (IsArriving r.pid r.count) xs → IsWhole failed r → IsWhole failed t
+taken_in_whole failed r t xs left (Ok _) e h w = subst (IsWhole failed) (sym e.0) (arrivals_whole failed r xs w h)
+taken_in_whole failed r t xs left (Err _) e h w = subst (IsWhole failed) (sym e.0) w
 
 pub arrived_whole : (failed : Bool) (r : Running) (x : Signal) → IsWhole failed r → IsArriving r.pid r.count x → IsWhole failed (arrived r x)
 arrived_whole false r x w h = arrived_keeps r x w h
@@ -48,7 +52,7 @@ outbox_leaves false r w = w.outbox
 outbox_leaves true r w = subst (All (IsLeaving r.pid r.state.stamp)) (sym w) (All-nil (IsLeaving r.pid r.state.stamp))
 
 pub outbox_arrives : (failed : Bool) (r : Running) → IsWhole failed r → All (λ (x : Signal). IsArriving x.to.0 r.count x) r.outbox
-outbox_arrives false r w = All-weaker (IsLeaving r.pid r.state.stamp) (λ (x : Signal). IsArriving x.to.0 r.count x) (λ x h. leaving_arrives r x w h) r.outbox w.outbox
+outbox_arrives false r w = λ i d lt. leaving_arrives r _ w (w.outbox i d lt) (w.below.outbox i d lt)
 outbox_arrives true r w = subst (All (λ (x : Signal). IsArriving x.to.0 r.count x)) (sym w) (All-nil (λ (x : Signal). IsArriving x.to.0 r.count x))
 
 -- the oldest of it is taken, where there is one
@@ -63,7 +67,9 @@ module _ (failed : Bool) (t : Running) (x : Signal) (w : IsWhole failed (record 
   rest_whole = go failed w
     where
       go : (b : Bool) → IsWhole b before → IsWhole b t
-      go false k = outbox_keeps before t.outbox k (All-tail (IsLeaving t.pid t.state.stamp) x t.outbox k.outbox)
+      go false k =
+          outbox_keeps before t.outbox k (All-tail (IsLeaving t.pid t.state.stamp) x t.outbox k.outbox)
+          (All-tail (IsSignalBelow t.count) x t.outbox k.below.outbox)
       go true h = cc
 
   first_leaves : IsLeaving t.pid t.state.stamp x

@@ -6,7 +6,6 @@ ghost use Rattle.sig_model.specs.OneWorker.{opened_crew, IsClear};
 ghost use Rattle.sig_model.specs.Keeping.{IsPlaced};
 
 use crate::process::Process;
-use crate::raw_process::RawProcess;
 use sig_script::Script;
 use sig_terms::Pid;
 use std::alloc::{AllocError, Global};
@@ -33,21 +32,6 @@ impl Model for Crew {
     ghost coded = { Prim.hlevel (codes, term.the_row.coded, expr.the_row.coded, pattern.the_row.coded, map.code) };
 
     ghost view = { λ c. c.procs.items };
-}
-
-impl RawProcess {
-    /// The process of this pid, as the script opens it: at its first instruction, with all else
-    /// empty.
-    pub(crate) fn open(alloc: Global, script: &Script, pid: Pid) -> Result<RawProcess, AllocError>
-        requires { pid.0 < length script.now.procs }
-        ensures { IfOk result (λ p. IfSome (slice_get script.now.procs pid.0) (λ d.
-            p ≡ opened pid.0 (length script.now.procs) script.now.turns d)) }
-    {
-        match script.proc(pid.0) {
-            Some(proc) => RawProcess::start(alloc, pid, script.count(), script.turns(), proc),
-            None => unreachable!(),
-        }
-    }
 }
 
 impl Crew {

@@ -56,13 +56,15 @@ fn drop_outbox(raw: &mut RawProcess)
 impl Process {
     /// The process of this pid, as the script opens it: at its first instruction, with all else
     /// empty.
-    #[tactic(auto, using(crate::proofs::WholeLemmas::opened_whole))]
     pub fn open(alloc: Global, script: &Script, pid: Pid) -> Result<Process, AllocError>
         requires { pid.0 < length script.now.procs }
         ensures { IfOk result (λ p. IfSome (slice_get script.now.procs pid.0) (λ d.
             p ≡ opened pid.0 (length script.now.procs) script.now.turns d)) }
     {
-        let raw = RawProcess::open(alloc, script, pid)?;
+        let Some(proc) = script.proc(pid.0) else {
+            unreachable!()
+        };
+        let raw = RawProcess::start(alloc, pid, script.count(), script.turns(), proc)?;
         Ok(Process { raw, failed: false })
     }
 
@@ -72,6 +74,20 @@ impl Process {
         ensures { result ≡ true → IsKeeping self.now }
     {
         !self.failed
+    }
+
+    /// Its pid.
+    pub fn pid(&self) -> Pid
+        ensures { result ≡ record { 0 = self.now.pid } }
+    {
+        self.raw.pid()
+    }
+
+    /// How many processes its script has.
+    pub fn count(&self) -> u32
+        ensures { result ≡ self.now.count }
+    {
+        self.raw.count()
     }
 
     /// The events, in their order.

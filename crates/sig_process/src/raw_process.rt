@@ -148,6 +148,20 @@ impl RawProcess {
         })
     }
 
+    /// Its pid.
+    pub(crate) fn pid(&self) -> Pid
+        ensures { result ≡ record { 0 = self.now.pid } }
+    {
+        self.pid
+    }
+
+    /// How many processes its script has.
+    pub(crate) fn count(&self) -> u32
+        ensures { result ≡ self.now.count }
+    {
+        self.count
+    }
+
     /// The events, in their order.
     pub fn events(&self) -> &Events
         ensures { result.now ≡ self.now.events }

@@ -7,9 +7,8 @@
 
 ghost use Rattle.std.specs.Prelude.{◌≡◌, ◌<◌};
 
-use crate::raw_process::RawProcess as Process;
+use super::*;
 use sig_base::Steps;
-use sig_kinds::Signals;
 use sig_model::{Event, Outcome};
 use sig_script::read_script;
 use sig_terms::Pid;
@@ -56,13 +55,17 @@ fn handle(process: &mut Process) -> Result<(), Fail> {
     Ok(())
 }
 
-fn deliver(mut signals: Signals, to: &mut Process) -> Result<(), Fail> {
-    for _ in 0..signals.len() {
-        if let Some(signal) = signals.pop_front() {
-            to.arrive(signal)?;
+fn deliver(from: &mut Process, to: &mut Process) -> Result<(), Fail> {
+    for _ in 0..100 {
+        let Some(signal) = from.next_out() else {
+            return Ok(());
+        };
+        if signal.to != to.pid() || from.count() != to.count() {
+            return Err("not a signal to the other process".into());
         }
+        to.arrive(signal)?;
     }
-    Ok(())
+    Err("too many signals".into())
 }
 
 fn moved<L: Ledger>(
@@ -76,8 +79,8 @@ fn moved<L: Ledger>(
         b'b' => execute(second, steps),
         b'A' => handle(first),
         b'B' => handle(second),
-        b'>' => deliver(first.take_outbox(), second),
-        _ => deliver(second.take_outbox(), first),
+        b'>' => deliver(first, second),
+        _ => deliver(second, first),
     }
 }
 
