@@ -108,63 +108,59 @@ fn played<L: Ledger>(
     Ok((outcomes(alloc, &first)?, outcomes(alloc, &second)?))
 }
 
-/// What signals of links do that cross each other: a script without its first line, the moves, and
-/// the outcomes of both processes.
-const CROSSINGS: [(&[u8], &[u8], &[u8], &[u8]); 6] = [
-    // a link while an id is awaited
-    (
-        b"process a\nlink @b\nunlink @b\nprocess b\nunlink @a\nlink @a\n",
-        b"a>Babb<AA>BB<A",
-        b"ddu-k",
-        b"ldduk",
-    ),
-    // the acknowledgement of another id
-    (
-        b"process a\nlink @b\nunlink @b\nlink @b\nunlink @b\nprocess b\n",
-        b"aaaa>BBBB<AA",
-        b"dddd-k",
-        b"lulu",
-    ),
-    // an unlink of an inactive link, from both sides
-    (
-        b"process a\nlink @b\nunlink @b\nprocess b\nunlink @a\n",
-        b"a>Bab><AB<>AB",
-        b"dduk",
-        b"lduk",
-    ),
-    // an exit of an inactive link
-    (
-        b"process a\nlink @b\nunlink @b\nstop\nprocess b\nexit boom\n",
-        b"a>Bab<Aa",
-        b"dd-e",
-        b"le",
-    ),
-    // an exit of an active link
-    (
-        b"process a\nlink @b\nstop\nprocess b\nexit boom\n",
-        b"a>Bb<A",
-        b"de",
-        b"le",
-    ),
-    // the signals of links to an ended process
-    (
-        b"process a\nlink @b\nunlink @b\nprocess b\n",
-        b"baa>BB<A",
-        b"dd-",
-        b"en-",
-    ),
-];
+/// Whether the script, without its first line, gives both processes these outcomes after the moves.
+fn plays(
+    alloc: Global,
+    lines: &[u8],
+    moves: &[u8],
+    first: &[u8],
+    second: &[u8],
+) -> Result<bool, Fail> {
+    let mut text = Vec::new(alloc);
+    text.extend_from_slice(b"sigscript 1\n")?;
+    text.extend_from_slice(lines)?;
+    let got = played::<Brand>(alloc, Blank::new(1), text.as_slice(), moves)?;
+    Ok(got.0.as_slice() == first && got.1.as_slice() == second)
+}
 
 #[test]
-fn signals_of_links_cross(rt: HostRuntime) -> Result<(), Fail> {
-    let alloc = rt.alloc();
-    for (lines, moves, first, second) in CROSSINGS {
-        let mut text = Vec::new(alloc);
-        text.extend_from_slice(b"sigscript 1\n")?;
-        text.extend_from_slice(lines)?;
-        let got = played::<Brand>(alloc, Blank::new(1), text.as_slice(), moves)?;
-        assert_eq!(rt; got.0.as_slice(), first, "{lines:?}");
-        assert_eq!(rt; got.1.as_slice(), second, "{lines:?}");
-    }
+fn a_link_while_an_id_is_awaited_is_dropped(rt: HostRuntime) -> Result<(), Fail> {
+    let lines = b"process a\nlink @b\nunlink @b\nprocess b\nunlink @a\nlink @a\n";
+    assert!(rt; plays(rt.alloc(), lines, b"a>Babb<AA>BB<A", b"ddu-k", b"ldduk")?);
+    Ok(())
+}
+
+#[test]
+fn an_acknowledgement_of_another_id_is_dropped(rt: HostRuntime) -> Result<(), Fail> {
+    let lines = b"process a\nlink @b\nunlink @b\nlink @b\nunlink @b\nprocess b\n";
+    assert!(rt; plays(rt.alloc(), lines, b"aaaa>BBBB<AA", b"dddd-k", b"lulu")?);
+    Ok(())
+}
+
+#[test]
+fn an_unlink_of_an_inactive_link_is_acknowledged(rt: HostRuntime) -> Result<(), Fail> {
+    let lines = b"process a\nlink @b\nunlink @b\nprocess b\nunlink @a\n";
+    assert!(rt; plays(rt.alloc(), lines, b"a>Bab><AB<>AB", b"dduk", b"lduk")?);
+    Ok(())
+}
+
+#[test]
+fn an_exit_of_an_inactive_link_is_dropped(rt: HostRuntime) -> Result<(), Fail> {
+    let lines = b"process a\nlink @b\nunlink @b\nstop\nprocess b\nexit boom\n";
+    assert!(rt; plays(rt.alloc(), lines, b"a>Bab<Aa", b"dd-e", b"le")?);
+    Ok(())
+}
+
+#[test]
+fn an_exit_of_an_active_link_is_obeyed(rt: HostRuntime) -> Result<(), Fail> {
+    let lines = b"process a\nlink @b\nstop\nprocess b\nexit boom\n";
+    assert!(rt; plays(rt.alloc(), lines, b"a>Bb<A", b"de", b"le")?);
+    Ok(())
+}
+
+#[test]
+fn links_to_an_ended_process_come_back(rt: HostRuntime) -> Result<(), Fail> {
+    let lines = b"process a\nlink @b\nunlink @b\nprocess b\n";
+    assert!(rt; plays(rt.alloc(), lines, b"baa>BB<A", b"dd-", b"en-")?);
     Ok(())
 }
