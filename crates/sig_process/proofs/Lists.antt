@@ -1,8 +1,8 @@
 -- Lists from a place on.
-use Rattle.std.proofs.Common.{◌≡◌, ℕ, ◌+◌, ◌<◌, List, [], ◌∷◌, ◌++◌, length, drop, Option, Some, refl, sym, ◌∙◌, ap, append_assoc, Bool, ◌||◌}
+use Rattle.std.proofs.Common.{◌≡◌, ℕ, ◌+◌, ◌<◌, ◌≤◌, List, [], ◌∷◌, ◌++◌, length, drop, Option, Some, refl, sym, ◌∙◌, ap, append_assoc, Bool, ◌||◌}
 use Rattle.std.specs.Prelude.{slice_get, IfSome}
 use Rattle.std.specs.List.{list_any}
-use Rattle.std.proofs.lemmas.List.{drop_more}
+use Rattle.std.proofs.lemmas.List.{append-nil, drop_more, drop_all}
 use Rattle.std.proofs.lemmas.List.Elements.{All-nil, All-cons}
 use Rattle.std.proofs.lemmas.Option.{slice_get_within, get_or_from_slice_get, slice_get-get_or}
 use Rattle.sig_script.specs.Scripts.{Declared}
@@ -32,6 +32,12 @@ pub opened_more : (procs : List Declared) (pid count turns : ℕ) (d : Declared)
     (before ++ p ∷ []) ++ opened_from (pid + 1) count turns (drop (pid + 1) procs) ≡ before ++ opened_from pid count turns (drop pid procs)
 opened_more procs pid count turns d p before lt is =
     opened_at procs pid count turns (slice_get procs pid) _ p before (slice_get-get_or procs pid d lt) refl is
+
+-- all processes are opened
+pub all_opened : (procs : List Declared) (pid turns : ℕ) (so_far : List Running) → length procs ≤ pid →
+    so_far ++ opened_from pid (length procs) turns (drop pid procs) ≡ opened_from 0 (length procs) turns procs → so_far ≡ opened_from 0 (length procs) turns procs
+all_opened procs pid turns so_far le e =
+    sym (append-nil so_far) ∙ ap (λ (ds : List Declared). so_far ++ opened_from pid (length procs) turns ds) (sym (drop_all pid procs le)) ∙ e
 
 -- no process of a script that is opened has sent a signal
 pub opened_clear : (pid count turns : ℕ) (procs : List Declared) → IsClear (opened_from pid count turns procs)

@@ -1,6 +1,6 @@
 -- What the calls of a process keep.
 use Rattle.std.proofs.Common.{◌≡◌, ℕ, zero, suc, ◌<◌, List, [], ◌∷◌, ◌++◌, length, Bool, true, false, Option, Some, None, refl, sym, ap, ◌∙◌, subst, arith}
-use Rattle.std.specs.Prelude.{All, IfSome, MatchOption, slice_get}
+use Rattle.std.specs.Prelude.{All, IfSome, MatchOption, MatchResult, Result, Ok, Err, slice_get}
 use Rattle.std.proofs.lemmas.List.Elements.{All-nil, All-head, All-tail, All-weaker}
 use Rattle.sig_kinds.specs.declared.signal.Signal.{Signal}
 use Rattle.sig_script.specs.Scripts.{Declared}
@@ -33,6 +33,12 @@ exec_whole r t Waiting k e = subst IsKeeping (sym e.1) k
 pub arrivals_whole : (failed : Bool) (r : Running) (xs : List Signal) → IsWhole failed r → All (IsArriving r.pid r.count) xs → IsWhole failed (record r { taken_in = r.taken_in ++ xs })
 arrivals_whole false r xs w h = arrivals_keep r xs w h
 arrivals_whole true r xs w h = w
+
+pub taken_in_whole : {T E : Type 0} (failed : Bool) (r t : Running) (xs left : List Signal) (o : Result T E) →
+    MatchResult o (λ _. (t ≡ record r { taken_in = r.taken_in ++ xs }) × (left ≡ [])) (λ _. (t ≡ r) × (left ≡ xs)) →
+    All (IsArriving r.pid r.count) xs → IsWhole failed r → IsWhole failed t
+taken_in_whole failed r t xs left (Ok _) e h w = subst (IsWhole failed) (sym e.0) (arrivals_whole failed r xs w h)
+taken_in_whole failed r t xs left (Err _) e h w = subst (IsWhole failed) (sym e.0) w
 
 pub arrived_whole : (failed : Bool) (r : Running) (x : Signal) → IsWhole failed r → IsArriving r.pid r.count x → IsWhole failed (arrived r x)
 arrived_whole false r x w h = arrived_keeps r x w h

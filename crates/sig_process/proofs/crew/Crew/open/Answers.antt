@@ -1,9 +1,9 @@
-use Rattle.std.proofs.Common.{◌≡◌, ◌++◌, sym, ◌∙◌, ap, subst, arith, List, length, ◌<◌}
+use Rattle.std.proofs.Common.{◌≡◌, ◌++◌, sym, ◌∙◌, subst, arith, List, length, ◌<◌, ◌≤◌}
 use Rattle.sig_model.specs.OneWorker.{opened_from, IsClear}
-use Rattle.std.proofs.lemmas.List.{drop_all}
-use Rattle.std.proofs.Common.{append-nil, ◌≤◌}
+use Rattle.sig_model.specs.Keeping.{IsPlaced}
+use Rattle.sig_model.proofs.PlacedLemmas.{opened_placed}
 use Rattle.sig_script.specs.Scripts.{Declared}
-use Rattle.sig_process.proofs.Lists.{opened_more, opened_clear}
+use Rattle.sig_process.proofs.Lists.{opened_more, all_opened, opened_clear}
 use Rattle.sig_process.proofs.crew.Crew.open.Goals as goal
 
 pub loop-pid-preserved : goal.loop-pid-preserved
@@ -19,8 +19,11 @@ returns-clause-clear c =
     let procs : List Declared = c.args.script.now.procs in
     let turns = c.args.script.now.turns in
     let le : length procs ≤ c.loop-pid.pid = omega arith in
-    let all : c.loop-pid.procs.items ≡ opened_from 0 (length procs) turns procs =
-    sym (append-nil c.loop-pid.procs.items)
-    ∙ ap (λ (ds : List Declared). c.loop-pid.procs.items ++ opened_from c.loop-pid.pid (length procs) turns ds) (sym (drop_all c.loop-pid.pid procs le))
-    ∙ c.loop-pid.invariant in
-    subst IsClear (sym all) (opened_clear 0 (length procs) turns procs)
+    subst IsClear (sym (all_opened procs c.loop-pid.pid turns c.loop-pid.procs.items le c.loop-pid.invariant)) (opened_clear 0 (length procs) turns procs)
+
+pub returns-clause-placed : goal.returns-clause-placed
+returns-clause-placed c =
+    let procs : List Declared = c.args.script.now.procs in
+    let turns = c.args.script.now.turns in
+    let le : length procs ≤ c.loop-pid.pid = omega arith in
+    subst IsPlaced (sym (all_opened procs c.loop-pid.pid turns c.loop-pid.procs.items le c.loop-pid.invariant)) (opened_placed c.args.script.now)
