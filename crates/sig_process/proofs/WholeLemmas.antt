@@ -1,13 +1,13 @@
 -- What the calls of a process keep.
-use Rattle.std.proofs.Common.{◌≡◌, ℕ, zero, suc, ◌<◌, List, [], ◌∷◌, ◌++◌, length, Bool, true, false, Option, Some, None, refl, sym, ap, ◌∙◌, subst, arith}
+use Rattle.std.proofs.Common.{◌≡◌, ℕ, zero, suc, ◌<◌, List, [], ◌∷◌, ◌++◌, length, Bool, true, false, Option, Some, None, refl, sym, subst, arith}
 use Rattle.std.specs.Prelude.{All, IfSome, MatchOption, MatchResult, Result, Ok, Err, slice_get}
 use Rattle.std.proofs.lemmas.List.Elements.{All-nil, All-head, All-tail, All-weaker}
 use Rattle.sig_kinds.specs.declared.signal.Signal.{Signal}
 use Rattle.sig_script.specs.Scripts.{Declared}
-use Rattle.sig_model.specs.Running.{Running, opened, handle_next}
+use Rattle.sig_model.specs.Running.{Running, opened}
 use Rattle.sig_model.specs.OneWorker.{arrived}
 use Rattle.sig_model.specs.Keeping.{IsArriving, IsLeaving, IsKeeping}
-use Rattle.sig_model.proofs.KeepLemmas.{opened_keeps, arrivals_keep, arrived_keeps, outbox_keeps, emptied_keeps, leaving_arrives, exec_keeps, handle_keeps}
+use Rattle.sig_model.proofs.KeepLemmas.{opened_keeps, arrivals_keep, arrived_keeps, outbox_keeps, emptied_keeps, leaving_arrives, exec_keeps}
 use Rattle.sig_process.specs.declared.executing.Exec.{Exec}
 use Rattle.sig_process.specs.declared.executing.Exec.TheVariants.{Stepped, Waiting}
 use Rattle.sig_process.specs.Steps.{IsExec}
