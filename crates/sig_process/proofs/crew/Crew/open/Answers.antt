@@ -1,5 +1,5 @@
-use Rattle.std.proofs.Common.{◌≡◌, ◌++◌, sym, ◌∙◌, subst, arith, List, length, ◌<◌, ◌≤◌}
-use Rattle.sig_model.specs.OneWorker.{opened_from, IsClear}
+use Rattle.std.proofs.Common.{sym, ◌∙◌, subst, arith, List, length, ◌<◌, ◌≤◌}
+use Rattle.sig_model.specs.OneWorker.{IsClear}
 use Rattle.sig_model.specs.Keeping.{IsPlaced}
 use Rattle.sig_model.proofs.PlacedLemmas.{opened_placed}
 use Rattle.sig_script.specs.Scripts.{Declared}
