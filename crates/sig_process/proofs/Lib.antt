@@ -3,6 +3,7 @@ pub mod SavedPlace
 pub mod SoundLemmas
 pub mod ValueLemmas
 pub mod ExecLemmas
+pub mod TestLemmas
 pub mod TakeLemmas
 pub mod ReceiveLemmas
 pub mod HandleLemmas

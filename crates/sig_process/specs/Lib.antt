@@ -1,6 +1,7 @@
 pub mod Soundness
 pub mod Received
 pub mod Steps
+pub mod Tests
 pub mod Sending
 pub mod Handled
 pub mod PartsOf

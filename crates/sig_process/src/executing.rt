@@ -3,6 +3,7 @@ ghost use Rattle.sig_model.specs.Bodies.{going_on, ending, badarg};
 ghost use Rattle.sig_model.specs.Executing.{sending, sending_exit, setting, trapping, executing};
 ghost use Rattle.sig_model.specs.Running.{can_exec};
 ghost use Rattle.sig_process.specs.Steps.{step_body, IsPlaceOf, IsFit, noted, made, IsExec};
+ghost use Rattle.sig_process.specs.Tests.{most_tests};
 
 use crate::atoms::plain_atom;
 use crate::raw_process::RawProcess;
@@ -193,7 +194,8 @@ impl RawProcess {
         requires ready { can_exec self.old ≡ true }
         requires step { executing self.old.proc self.old.state ≡ step_body self.old.proc self.old.state step }
         requires fit { IsFit self.old step }
-        ensures { IfOk result (IsExec self.old self.new) }
+        ensures exec { IfOk result (IsExec self.old self.new) }
+        ensures ticks { steps.new ≤ steps.old + most_tests self.old }
     {
         match step {
             Step::End { reason } => {
@@ -233,10 +235,13 @@ impl RawProcess {
     }
 
     /// Executes the next instruction. `Waiting` exactly where it is a receive without `after` and
-    /// no message matches; then the process is as before. (Erlang Reference Manual, Expressions.)
+    /// no message matches; then the process is as before. A receive makes at most as many tests of
+    /// a message as it has clauses, for each message that it looks at. (Erlang Reference Manual,
+    /// Expressions.)
     pub fn exec<L: Ledger>(&mut self, steps: &mut Steps<L>) -> Result<Exec, AllocError>
         requires { can_exec self.old ≡ true }
-        ensures { IfOk result (IsExec self.old self.new) }
+        ensures exec { IfOk result (IsExec self.old self.new) }
+        ensures ticks { steps.new ≤ steps.old + most_tests self.old }
     {
         let step = self.next_step()?;
         self.make(step, steps)

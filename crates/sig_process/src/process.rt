@@ -1,9 +1,10 @@
-ghost use Rattle.std.specs.Prelude.{◌≡◌, ◌<◌, ◌++◌, [], ◌∷◌, true, Some, length, All, OnOk, IfOk, IfSome, MatchOption, MatchResult, slice_get, slice_index};
+ghost use Rattle.std.specs.Prelude.{◌≡◌, ◌+◌, ◌<◌, ◌≤◌, ◌++◌, [], ◌∷◌, true, Some, length, All, OnOk, IfOk, IfSome, MatchOption, MatchResult, slice_get, slice_index};
 ghost use Rattle.sig_model.specs.Running.{opened, can_exec, can_handle, handle_next};
 ghost use Rattle.sig_model.specs.OneWorker.{arrived};
 ghost use Rattle.sig_model.specs.Keeping.{IsArriving, IsLeaving, IsKeeping};
 ghost use Rattle.sig_process.specs.PartsOf.{parts_of};
 ghost use Rattle.sig_process.specs.Steps.{IsExec};
+ghost use Rattle.sig_process.specs.Tests.{most_tests};
 
 use crate::executing::Exec;
 use crate::parts::Parts;
@@ -127,10 +128,13 @@ impl Process {
     }
 
     /// Executes the next instruction. `Waiting` exactly where it is a receive without `after` and
-    /// no message matches; then the process is as before. (Erlang Reference Manual, Expressions.)
+    /// no message matches; then the process is as before. A receive makes at most as many tests of
+    /// a message as it has clauses, for each message that it looks at. (Erlang Reference Manual,
+    /// Expressions.)
     pub fn exec<L: Ledger>(&mut self, steps: &mut Steps<L>) -> Result<Exec, AllocError>
         requires { can_exec self.old ≡ true }
-        ensures { IfOk result (IsExec self.old self.new) }
+        ensures exec { IfOk result (IsExec self.old self.new) }
+        ensures ticks { steps.new ≤ steps.old + most_tests self.old }
     {
         if self.failed {
             return Err(AllocError);

@@ -3,6 +3,7 @@ ghost use Rattle.sig_inner.specs.Receiving.{scanned, looked_in, answer_to, after
 ghost use Rattle.sig_model.specs.Running.{can_exec};
 ghost use Rattle.sig_process.specs.Received.{IsReceive, IsReceived, IsSameQueue};
 ghost use Rattle.sig_process.specs.Steps.{IsExec};
+ghost use Rattle.sig_process.specs.Tests.{most_tests};
 
 use crate::executing::Exec;
 use crate::raw_process::RawProcess;
@@ -36,7 +37,7 @@ pub(crate) enum Received {
 }
 
 /// Scans the messages: behind the saved place, where there is one.
-#[tactic(auto, using(crate::proofs::SavedPlace::unsaved_none))]
+#[tactic(auto, using(crate::proofs::SavedPlace::unsaved_none, crate::proofs::TestLemmas::fewer_tests))]
 fn scan_messages<L: Ledger>(
     inner: &mut Inner,
     clauses: &Clauses,
@@ -50,6 +51,7 @@ fn scan_messages<L: Ledger>(
     ensures within { IsScanWithin (length clauses.now) (length inner.old.messages) result }
     ensures passed { HasPassed inner.new clauses.now env.now }
     ensures ticks { steps.new ≤ steps.old + length clauses.now * (looked_in inner.old (scanned inner.old clauses.now env.now) - passed inner.old.last) }
+    ensures most { steps.new ≤ steps.old + length clauses.now * looked_in inner.old (scanned inner.old clauses.now env.now) }
 {
     if inner.is_saved() {
         inner.resume(clauses, env, None, steps)
@@ -71,6 +73,7 @@ fn receive_from<L: Ledger>(
     ensures received { IfOk result (IsReceived clauses.now inner.old inner.new env.old env.new) }
     ensures passed { HasPassed inner.new clauses.now env.new }
     ensures same { IsSameQueue inner.old inner.new }
+    ensures ticks { steps.new ≤ steps.old + length clauses.now * looked_in inner.old (scanned inner.old clauses.now env.old) }
 {
     match scan_messages(inner, clauses, env, steps) {
         Scan::None { looked } => Ok(Received::Nothing { looked }),
@@ -96,7 +99,8 @@ impl RawProcess {
     pub(crate) fn receive<L: Ledger>(&mut self, steps: &mut Steps<L>) -> Result<Exec, AllocError>
         requires ready { can_exec self.old ≡ true }
         requires receive { IsReceive (slice_get self.old.proc.instrs (self.old.state.place - 1)) }
-        ensures { IfOk result (IsExec self.old self.new) }
+        ensures exec { IfOk result (IsExec self.old self.new) }
+        ensures ticks { steps.new ≤ steps.old + most_tests self.old }
     {
         let Some(Instr::Receive { clauses, after }) = self.proc.instr(self.place) else {
             unreachable!()

@@ -13,8 +13,8 @@ place_after-place-requires-in-Some-clause-within g c =
     let lt : s.place - 1 < length s.proc.instrs = slice_get_within s.proc.instrs (s.place - 1) c.in-Some-Receive.field-0.now (sym c.in-Some-Receive.ensures.value) in
     omega (arith, c.self.invariant.first)
 
-pub returns-in_ok-note-in-Took : goal.returns-in_ok-note-in-Took
-returns-in_ok-note-in-Took g c =
+pub returns-in_ok-note-in-Took-clause-exec : goal.returns-in_ok-note-in-Took-clause-exec
+returns-in_ok-note-in-Took-clause-exec g c =
     let s = c.self.inside in
     let r = process.the_view s in
     let at = c.in-Some-Receive in
@@ -26,8 +26,8 @@ returns-in_ok-note-in-Took g c =
     (subst (λ (d : Received). IsReceived at.clauses s.inner queue s.env env d) c.in-Took.is c.in_ok-clause.ensures.received)
     c.place_after-place.ensures.place c.in_ok-note-in-Took.ensures
 
-pub returns-in-None : goal.returns-in-None
-returns-in-None g c =
+pub returns-in-None-clause-exec : goal.returns-in-None-clause-exec
+returns-in-None-clause-exec g c =
     let s = c.self.inside in
     let r = process.the_view s in
     let at = c.in-Some-Receive in
@@ -38,8 +38,8 @@ returns-in-None g c =
     c.in-Nothing.looked (subst (λ (d : Received). IsReceived at.clauses s.inner queue s.env env d) c.in-Nothing.is c.in_ok-clause.ensures.received) c.in-None.is in
     (ap exec_next (sym c.self.view_is) ∙ stayed.0, stayed.1 ∙ c.self.view_is)
 
-pub returns-in_ok-note-in-Some : goal.returns-in_ok-note-in-Some
-returns-in_ok-note-in-Some g c =
+pub returns-in_ok-note-in-Some-clause-exec : goal.returns-in_ok-note-in-Some-clause-exec
+returns-in_ok-note-in-Some-clause-exec g c =
     let s = c.self.inside in
     let r = process.the_view s in
     let at = c.in-Some-Receive in
