@@ -6,9 +6,11 @@
 //! `n` noproc, `?` any other.
 
 ghost use Rattle.std.specs.Prelude.{◌≡◌, ◌<◌};
+ghost use Rattle.sig_model.specs.Keeping.{IsArriving};
 
 use super::*;
 use sig_base::Steps;
+use sig_kinds::{Push, Signal, Signals};
 use sig_model::{Event, Outcome};
 use sig_script::read_script;
 use sig_terms::Pid;
@@ -55,7 +57,19 @@ fn handle(process: &mut Process) -> Result<(), Fail> {
     Ok(())
 }
 
-fn deliver(from: &mut Process, to: &mut Process) -> Result<(), Fail> {
+/// The process takes in a list of one signal.
+fn take_one(alloc: Global, signal: Signal, to: &mut Process) -> Result<(), Fail>
+    requires { IsArriving to.old.pid to.old.count signal }
+{
+    let mut signals = Signals::new(alloc);
+    if let Push::Memory { signal: _ } = signals.push(signal) {
+        return Err("no memory".into());
+    }
+    to.take_in(&mut signals)?;
+    Ok(())
+}
+
+fn deliver(alloc: Global, from: &mut Process, to: &mut Process) -> Result<(), Fail> {
     for _ in 0..100 {
         let Some(signal) = from.next_out() else {
             return Ok(());
@@ -63,12 +77,13 @@ fn deliver(from: &mut Process, to: &mut Process) -> Result<(), Fail> {
         if signal.to != to.pid() || from.count() != to.count() {
             return Err("not a signal to the other process".into());
         }
-        to.arrive(signal)?;
+        take_one(alloc, signal, to)?;
     }
     Err("too many signals".into())
 }
 
 fn moved<L: Ledger>(
+    alloc: Global,
     sign: u8,
     first: &mut Process,
     second: &mut Process,
@@ -79,9 +94,32 @@ fn moved<L: Ledger>(
         b'b' => execute(second, steps),
         b'A' => handle(first),
         b'B' => handle(second),
-        b'>' => deliver(first, second),
-        _ => deliver(second, first),
+        b'>' => deliver(alloc, first, second),
+        _ => deliver(alloc, second, first),
     }
+}
+
+/// The two processes of the script.
+fn opened(alloc: Global, text: &[u8]) -> Result<(Process, Process), Fail> {
+    let script = read_script(alloc, text).map_err(|_| "refused")?;
+    let mut procs = Crew::open(alloc, &script)?.procs;
+    let second = procs.pop().ok_or("no process")?;
+    let first = procs.pop().ok_or("only one process")?;
+    Ok((first, second))
+}
+
+/// The outcomes of both processes after these moves.
+fn play<L: Ledger>(
+    alloc: Global,
+    moves: &[u8],
+    first: &mut Process,
+    second: &mut Process,
+    steps: &mut Steps<L>,
+) -> Result<(Vec<u8>, Vec<u8>), Fail> {
+    for sign in moves {
+        moved(alloc, *sign, first, second, steps)?;
+    }
+    Ok((outcomes(alloc, first)?, outcomes(alloc, second)?))
 }
 
 /// The outcomes of both processes of the script after these moves.
@@ -95,17 +133,9 @@ fn played<L: Ledger>(
     requires parts { blank.parts ≡ L.parts }
     requires some { 0 < blank.parts }
 {
+    let (mut first, mut second) = opened(alloc, text)?;
     let mut steps: Steps<L> = Steps::open(blank);
-    let script = read_script(alloc, text).map_err(|_| "refused")?;
-    if script.count() != 2 {
-        return Err("not two processes".into());
-    }
-    let mut first = Process::open(alloc, &script, Pid(0))?;
-    let mut second = Process::open(alloc, &script, Pid(1))?;
-    for sign in moves {
-        moved(*sign, &mut first, &mut second, &mut steps)?;
-    }
-    Ok((outcomes(alloc, &first)?, outcomes(alloc, &second)?))
+    play(alloc, moves, &mut first, &mut second, &mut steps)
 }
 
 /// Whether the script, without its first line, gives both processes these outcomes after the moves.
@@ -162,5 +192,55 @@ fn an_exit_of_an_active_link_is_obeyed(rt: HostRuntime) -> Result<(), Fail> {
 fn links_to_an_ended_process_come_back(rt: HostRuntime) -> Result<(), Fail> {
     let lines = b"process a\nlink @b\nunlink @b\nprocess b\n";
     assert!(rt; plays(rt.alloc(), lines, b"baa>BB<A", b"dd-", b"en-")?);
+    Ok(())
+}
+
+#[test]
+fn a_crew_has_the_processes_of_its_script(rt: HostRuntime) -> Result<(), Fail> {
+    let alloc = rt.alloc();
+    let script = read_script(alloc, b"sigscript 1\nprocess a\nprocess b").map_err(|_| "refused")?;
+    let mut crew = Crew::open(alloc, &script)?;
+    assert!(rt;
+        crew.get_mut(Pid(1))
+            .is_some_and(|p| p.pid() == Pid(1) && p.is_whole())
+    );
+    assert!(rt; crew.get_mut(Pid(2)).is_none());
+    Ok(())
+}
+
+/// The next number for process 1 after so many instructions.
+fn number_after<L: Ledger>(
+    process: &mut Process,
+    count: usize,
+    steps: &mut Steps<L>,
+) -> Result<u64, Fail> {
+    for _ in 0..count {
+        execute(process, steps)?;
+    }
+    Ok(process.next_number(Pid(1)))
+}
+
+fn first_number_after<L: Ledger>(
+    alloc: Global,
+    blank: Blank,
+    text: &[u8],
+    count: usize,
+) -> Result<u64, Fail>
+    requires name { blank.name ≡ L.name }
+    requires parts { blank.parts ≡ L.parts }
+    requires some { 0 < blank.parts }
+{
+    let mut first = opened(alloc, text)?.0;
+    let mut steps: Steps<L> = Steps::open(blank);
+    number_after(&mut first, count, &mut steps)
+}
+
+#[test]
+fn signals_to_a_process_are_numbered(rt: HostRuntime) -> Result<(), Fail> {
+    let text = b"sigscript 1\nprocess a\nlink @b\nsend @b hi\nprocess b";
+    for count in 0..3 {
+        let number = first_number_after::<Brand>(rt.alloc(), Blank::new(1), text, count)?;
+        assert!(rt; number == count as u64 + 1, "{count}");
+    }
     Ok(())
 }
