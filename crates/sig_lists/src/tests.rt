@@ -15,15 +15,3 @@ fn a_sequence_grows_at_its_end(rt: HostRuntime) -> Result<(), Fail> {
     assert!(rt; numbers.get(3).is_none());
     Ok(())
 }
-
-#[test]
-fn a_queue_gives_the_oldest_first(rt: HostRuntime) -> Result<(), Fail> {
-    let mut numbers = Queue::new(rt.alloc());
-    for n in [7u64, 8, 9] {
-        assert!(rt; matches!(numbers.push(n), Pushed::Added));
-    }
-    assert!(rt; numbers.pop_front() == Some(7));
-    assert!(rt; numbers.get(0).copied() == Some(8));
-    assert!(rt; numbers.len() == 2);
-    Ok(())
-}
