@@ -1,3 +1,4 @@
+pub mod ByteKeyLemmas
 pub mod EnvironmentLemmas
 pub mod PastTheEnd
 pub mod SameSelf

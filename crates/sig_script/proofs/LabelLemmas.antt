@@ -3,11 +3,8 @@ use Rattle.std.proofs.Common.{◌≡◌, ℕ, suc, ◌+◌, ◌<◌, List, [], �
 use Rattle.std.proofs.lemmas.Bool.Decides.{nat_tests}
 use Rattle.std.specs.Option.{option_map, is_some}
 use Rattle.std.specs.List.{list_any, position_or_len}
-use Rattle.std.specs.Ordering.{nat_cmp, eq_by_cmp, match_ordering, is_eq}
-use Rattle.std.specs.declared.cmp.Ordering.TheVariants.{Less, Equal, Greater}
-use Rattle.std.specs.Cmp.Lexicographic.{slice_cmp, nat_list_cmp_total}
-use Rattle.std.specs.FinMap.{find, put}
-use Rattle.std.specs.FinMap.Entries.{find-put, by_order}
+use Rattle.std.specs.Ordering.{nat_cmp}
+use Rattle.std.specs.Cmp.Lexicographic.{slice_cmp}
 use Rattle.std.specs.Map.{lookup}
 use Rattle.std.specs.BTreeMap.{is_at, insert_entry}
 use Rattle.std.specs.Str.{bytes_eq}
@@ -15,6 +12,7 @@ use Rattle.std.proofs.lemmas.Slice.Eq.{bytes_eq-Decides}
 use Rattle.std.proofs.lemmas.Map.Text.{is_eq-slice_cmp}
 use Rattle.std.specs.declared.vec.Vec.{Vec}
 use Rattle.std.specs.declared.alloc.Global.{Global}
+use Rattle.sig_patterns.proofs.ByteKeyLemmas.{lookup-insert_entry}
 use Rattle.sig_script.specs.declared.label.Label.{Label}
 use Rattle.sig_script.specs.LabelPlaces.{IsIndexed}
 
@@ -80,35 +78,12 @@ pub any_place : {A : Type 0} (p : A → Bool) (xs : List A) → is_some (positio
 any_place p [] = refl
 any_place p (x ∷ xs) = ap is_some (position-cons p x xs) ∙ any-some (p x) (position p xs) ∙ ap (λ (b : Bool). p x || b) (any_place p xs)
 
--- entries by bytes
-by_bytes : List (Vec ℕ Global × ℕ) → List (List ℕ × ℕ)
-by_bytes [] = []
-by_bytes (e ∷ es) = (e.0.items, e.1) ∷ by_bytes es
-
-find-by_bytes : (q : List ℕ) (es : List (Vec ℕ Global × ℕ)) → find (slice_cmp nat_cmp) q (by_bytes es) ≡ lookup (is_at (λ k. slice_cmp nat_cmp q k.items)) es
-unfolding by_bytes
-find-by_bytes q [] = refl
-find-by_bytes q (e ∷ es) = ap (cond (eq_by_cmp (slice_cmp nat_cmp) q e.0.items) (Some e.1)) (find-by_bytes q es)
-
-put-by_bytes : (k : Vec ℕ Global) (v : ℕ) (es : List (Vec ℕ Global × ℕ)) → by_bytes (insert_entry (λ x y. slice_cmp nat_cmp x.items y.items) es k v) ≡ put (slice_cmp nat_cmp) k.items v (by_bytes es)
-unfolding by_bytes
-put-by_bytes k v [] = refl
-put-by_bytes k v (e ∷ es) =
-    elim (slice_cmp nat_cmp k.items e.0.items) as (λ o. by_bytes (match_ordering o ((k, v) ∷ e ∷ es) ((e.0, v) ∷ es) (e ∷ insert_entry (λ x y. slice_cmp nat_cmp x.items y.items) es k v))
-    ≡ by_order o ((k.items, v) ∷ by_bytes (e ∷ es)) ((e.0.items, v) ∷ by_bytes es) ((e.0.items, e.1) ∷ put (slice_cmp nat_cmp) k.items v (by_bytes es))) [
-      | Less ↦ refl
-      | Equal ↦ refl
-      | Greater ↦ ap (λ rest. (e.0.items, e.1) ∷ rest) (put-by_bytes k v es)
-    ]
-
+-- what is found once a name has its place
 looked-up : (q : List ℕ) (k : Vec ℕ Global) (v : ℕ) (es : List (Vec ℕ Global × ℕ)) →
     lookup (is_at (λ x. slice_cmp nat_cmp q x.items)) (insert_entry (λ x y. slice_cmp nat_cmp x.items y.items) es k v)
     ≡ cond (bytes_eq q k.items) (Some v) (lookup (is_at (λ x. slice_cmp nat_cmp q x.items)) es)
 looked-up q k v es =
-    sym (find-by_bytes q (insert_entry (λ x y. slice_cmp nat_cmp x.items y.items) es k v))
-    ∙ ap (find (slice_cmp nat_cmp) q) (put-by_bytes k v es)
-    ∙ find-put (slice_cmp nat_cmp) nat_list_cmp_total q k.items v (by_bytes es)
-    ∙ ap (cond (eq_by_cmp (slice_cmp nat_cmp) q k.items) (Some v)) (find-by_bytes q es)
+    lookup-insert_entry q k v es
     ∙ ap (λ (b : Bool). cond b (Some v) (lookup (is_at (λ x. slice_cmp nat_cmp q x.items)) es)) (is_eq-slice_cmp q k.items)
 
 -- the same name, and another
