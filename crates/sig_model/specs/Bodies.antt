@@ -1,17 +1,18 @@
 -- What one event does, before its stamp and the numbers of its signals are put in.
-use Rattle.std.specs.Prelude.{ℕ, ◌+◌, List, [], ◌∷◌, ◌++◌, map, true, Option, Some, None, slice_get, codes}
+use Rattle.std.specs.Prelude.{ℕ, ◌+◌, List, [], ◌∷◌, map, true, Option, Some, None, slice_get, codes}
 use Rattle.std.specs.Option.{option_map_or}
-use Rattle.std.specs.FinMap as maps
 use Rattle.sig_terms.specs.declared.term.Term.{Term}
 use Rattle.sig_terms.specs.declared.term.Term.TheVariants as term
 use Rattle.sig_kinds.specs.declared.signal.Kind.{Kind}
 use Rattle.sig_kinds.specs.declared.signal.Kind.TheVariants as kind
-use Rattle.sig_kinds.specs.LinkRules.{active_after}
+use Rattle.sig_kinds.specs.LinkRules.{LinkState, active_after}
 use Rattle.sig_kinds.specs.LinkRules.{ending as links_ending}
+use Rattle.sig_kinds.specs.WatchRules.{watch_ending}
+use Rattle.sig_patterns.specs.Inbox.{Inbox, appended_to, emptied_inbox}
 use Rattle.sig_script.specs.declared.label.Label.{Label}
 use Rattle.sig_model.specs.declared.event.Outcome.{Outcome}
 use Rattle.sig_model.specs.declared.event.Outcome.TheVariants as outcome
-use Rattle.sig_model.specs.ProcessState.{ProcessState}
+use Rattle.sig_model.specs.ProcessState.{Tables, ProcessState}
 
 -- a signal to be sent: its receiver, and what it says
 pub record Post : Type 0 where
@@ -29,14 +30,28 @@ abbrev pub place_after : List Label → Option ℕ → ℕ → ℕ
 place_after labels None place = place + 1
 place_after labels (Some label) place = option_map_or (λ l. l.place) (slice_get labels label) (place + 1)
 
+-- the process at another place; at the next one; and with other tables
+abbrev pub at_place : ProcessState → ℕ → ProcessState
+at_place s place = record s { counts = record s.counts { place = place } }
+
+abbrev pub at_next : ProcessState → ProcessState
+at_next s = at_place s (s.counts.place + 1)
+
+abbrev pub with_tables : ProcessState → Tables → ProcessState
+with_tables s tables = record s { tables = tables }
+
+-- the process with other links
+abbrev pub relinked : ProcessState → LinkState → ProcessState
+relinked s links = with_tables s (record s.tables { links = links })
+
 -- the process goes on at this place, and sends nothing
 abbrev pub going_on : ProcessState → ℕ → Outcome → Body
-going_on s place how = record { state = record s { place = place }; outcome = how; posts = [] }
+going_on s place how = record { state = at_place s place; outcome = how; posts = [] }
 
 -- the message comes to the end of the list
 abbrev pub appending : ProcessState → Term → Body
 appending s message = record {
-  state = record s { messages = s.messages ++ (s.next_arrival, message) ∷ []; next_arrival = s.next_arrival + 1 };
+  state = with_tables s (record s.tables { inbox = appended_to s.tables.inbox message });
   outcome = outcome.Kept message;
   posts = [];
 }
@@ -49,22 +64,17 @@ dropping s = record { state = s; outcome = outcome.Dropped; posts = [] }
 abbrev pub exits_to : List ℕ → Term → List Post
 exits_to peers reason = map (λ peer. record { to = peer; kind = kind.Exit reason true }) peers
 
+-- what is left at the end: the variables alone
+abbrev pub ended_tables : Tables → Term → Tables
+ended_tables t reason = record t { inbox = emptied_inbox t.inbox; links = links_ending t.links; watch = watch_ending t.watch; end = Some reason }
+
 -- The process ends with this reason (Processes, Process Termination), and the peers of its active links are told, by ascending
 -- pid. Its messages, links, monitors, aliases and markers are gone.
 abbrev pub ending : ProcessState → Term → Body
 ending s reason = record {
-  state = record s {
-    messages = [];
-    links = links_ending s.links;
-    held = maps.empty;
-    borne = [];
-    aliases = maps.empty;
-    reserve = None;
-    marks = [];
-    end = Some reason;
-  };
+  state = with_tables s (ended_tables s.tables reason);
   outcome = outcome.Ended reason;
-  posts = exits_to (active_after s.links None) reason;
+  posts = exits_to (active_after s.tables.links None) reason;
 }
 
 -- the atoms that the machine names

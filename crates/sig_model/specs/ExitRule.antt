@@ -6,7 +6,7 @@ use Rattle.sig_terms.specs.declared.term.Term.TheVariants as term
 use Rattle.sig_terms.specs.TermTest.{same_term}
 use Rattle.sig_kinds.specs.LinkRules.{is_active, deactivated}
 use Rattle.sig_model.specs.ProcessState.{ProcessState}
-use Rattle.sig_model.specs.Bodies.{Body, appending, dropping, ending, normal, kill, killed}
+use Rattle.sig_model.specs.Bodies.{Body, relinked, appending, dropping, ending, normal, kill, killed}
 
 -- the message of an exit signal of this sender: `{'EXIT',Sender,Reason}`
 abbrev pub exit_message : ℕ → Term → Term
@@ -29,5 +29,5 @@ plain_exit pid s sender reason = if same_term reason kill then ending s killed e
 -- Else the signal has no effect.
 abbrev pub linked_exit : ℕ → ProcessState → ℕ → Term → Body
 linked_exit pid s sender reason =
-    if is_active s.links sender then exit_rule pid (record s { links = deactivated s.links sender }) sender reason
+    if is_active s.tables.links sender then exit_rule pid (relinked s (deactivated s.tables.links sender)) sender reason
     else dropping s

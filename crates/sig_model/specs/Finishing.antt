@@ -29,15 +29,17 @@ numbered pid stamp numbers (p ∷ ps) =
 -- the event of the process pid, with its stamp, the new state and the signals
 abbrev pub finished : ℕ → ProcessState → ℕ → ℕ → Did → Body → Effect ProcessState Signal Event
 finished pid s executed stamp what body = record {
-  state = record body.state { next_numbers = numbers_after s.next_numbers body.posts; executed = executed; stamp = stamp };
+  state = record body.state {
+    counts = record body.state.counts { next_numbers = numbers_after s.counts.next_numbers body.posts; executed = executed; stamp = stamp };
+  };
   event = record { stamp = stamp; did = what; outcome = body.outcome };
-  sends = numbered pid stamp s.next_numbers body.posts;
+  sends = numbered pid stamp s.counts.next_numbers body.posts;
 }
 
 -- an execution
 abbrev pub finished_exec : ℕ → ProcessState → Body → Effect ProcessState Signal Event
-finished_exec pid s body = finished pid s (s.executed + 1) (s.stamp + 1) (did.Exec s.place) body
+finished_exec pid s body = finished pid s (s.counts.executed + 1) (s.counts.stamp + 1) (did.Exec s.counts.place) body
 
 -- the handling of a signal
 abbrev pub finished_handle : ℕ → ProcessState → Signal → Body → Effect ProcessState Signal Event
-finished_handle pid s signal body = finished pid s s.executed (max s.stamp signal.stamp + 1) (did.From signal.from signal.number) body
+finished_handle pid s signal body = finished pid s s.counts.executed (max s.counts.stamp signal.stamp + 1) (did.From signal.from signal.number) body

@@ -8,13 +8,13 @@ use Rattle.sig_kinds.specs.declared.signal.Signal.{Signal}
 use Rattle.sig_kinds.specs.LinkRules.{LinkState, on_link, on_unlink, on_ack}
 use Rattle.sig_model.specs.declared.event.Outcome.TheVariants as outcome
 use Rattle.sig_model.specs.ProcessState.{ProcessState}
-use Rattle.sig_model.specs.Bodies.{Body, appending, dropping, noproc}
+use Rattle.sig_model.specs.Bodies.{Body, relinked, appending, dropping, noproc}
 use Rattle.sig_model.specs.ExitRule.{plain_exit, linked_exit}
 
 -- by the rule for a link signal; its answer is whether the link is set up
 abbrev pub linking_up : ProcessState → Bool × LinkState → Body
 linking_up s (linked, links) = record {
-  state = record s { links = links };
+  state = relinked s links;
   outcome = if linked then outcome.Linked else outcome.Dropped;
   posts = [];
 }
@@ -22,7 +22,7 @@ linking_up s (linked, links) = record {
 -- by the rule for an unlink signal of this sender, which gets its id back
 abbrev pub unlinking_from : ProcessState → ℕ → ℕ → Bool × LinkState → Body
 unlinking_from s sender id (ended, links) = record {
-  state = record s { links = links };
+  state = relinked s links;
   outcome = outcome.Unlinked;
   posts = record { to = sender; kind = UnlinkAck id } ∷ [];
 }
@@ -30,7 +30,7 @@ unlinking_from s sender id (ended, links) = record {
 -- by the rule for an acknowledgement; its answer is whether its id is the awaited one
 abbrev pub acknowledging : ProcessState → Bool × LinkState → Body
 acknowledging s (awaited, links) = record {
-  state = record s { links = links };
+  state = relinked s links;
   outcome = if awaited then outcome.Acked else outcome.Dropped;
   posts = [];
 }
@@ -38,9 +38,9 @@ acknowledging s (awaited, links) = record {
 -- at the live process pid, a signal of this sender
 abbrev pub live_body : ℕ → ProcessState → ℕ → Kind → Body
 live_body pid s sender (Message term) = appending s term
-live_body pid s sender Link = linking_up s (on_link s.links sender)
-live_body pid s sender (Unlink id) = unlinking_from s sender id (on_unlink s.links sender)
-live_body pid s sender (UnlinkAck id) = acknowledging s (on_ack s.links sender id)
+live_body pid s sender Link = linking_up s (on_link s.tables.links sender)
+live_body pid s sender (Unlink id) = unlinking_from s sender id (on_unlink s.tables.links sender)
+live_body pid s sender (UnlinkAck id) = acknowledging s (on_ack s.tables.links sender id)
 live_body pid s sender (Exit reason true) = linked_exit pid s sender reason
 live_body pid s sender (Exit reason false) = plain_exit pid s sender reason
 live_body pid s sender (AliasMessage reference term) = dropping s
@@ -60,4 +60,4 @@ ended_body s sender _ = dropping s
 -- what the process pid does with this signal
 unfoldable pub handling : ℕ → ProcessState → Signal → Body
 handling pid s signal =
-    if is_some s.end then ended_body s signal.from.0 signal.kind else live_body pid s signal.from.0 signal.kind
+    if is_some s.tables.end then ended_body s signal.from.0 signal.kind else live_body pid s signal.from.0 signal.kind

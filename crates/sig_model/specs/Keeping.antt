@@ -1,51 +1,36 @@
 -- What every running process keeps.
 use Rattle.std.specs.Prelude.{◌≡◌, ◌≢◌, ℕ, ◌<◌, ◌≤◌, List, [], length, All, Some, slice_get}
-use Rattle.sig_kinds.specs.declared.signal.Kind.{Kind}
-use Rattle.sig_kinds.specs.declared.signal.Kind.TheVariants.{Message, AliasMessage, Link, Unlink, UnlinkAck, Monitor, Demonitor, Exit, Down}
 use Rattle.sig_kinds.specs.declared.signal.Signal.{Signal}
+use Rattle.sig_kinds.specs.SignalNames.{IsSignalBelow}
 use Rattle.sig_runs.specs.Rules.{Rules}
 use Rattle.sig_runs.specs.LocalRun.{Local}
 use Rattle.sig_runs.specs.Replay.{RanAlone}
 use Rattle.sig_model.specs.declared.event.Event.{Event}
+use Rattle.sig_model.specs.declared.TheConstants.{LAST_STAMP}
 use Rattle.sig_model.specs.ProcessState.{ProcessState, opening_state}
 use Rattle.sig_model.specs.Machine.{rules_with}
 use Rattle.sig_model.specs.Running.{Running}
-use Rattle.sig_model.specs.PidsBelow.{IsSignalBelow, IsRunningBelow}
-
--- The kinds of signals that processes send (Erlang Reference Manual, Processes, Signals). Monitors and aliases aren't part of
--- the machine yet.
-abbrev pub IsBuilt : Kind → Type 0
-IsBuilt (Message term) = Unit {0}
-IsBuilt Link = Unit {0}
-IsBuilt (Unlink id) = Unit {0}
-IsBuilt (UnlinkAck id) = Unit {0}
-IsBuilt (Exit reason linked) = Unit {0}
-IsBuilt (AliasMessage reference term) = ⊥
-IsBuilt (Monitor reference) = ⊥
-IsBuilt (Demonitor reference) = ⊥
-IsBuilt (Down reference reason) = ⊥
+use Rattle.sig_model.specs.Names.{IsRunningBelow}
+use Rattle.sig_model.specs.Bounds.{IsBounded}
 
 -- a signal of the process pid to itself, sent when its last stamp was no later than this one
 pub record IsToItself (pid last : ℕ) (x : Signal) : Type 0 where
   pub from : x.from.0 ≡ pid
   pub to : x.to.0 ≡ pid
   pub stamp : x.stamp ≤ last
-  pub built : IsBuilt x.kind
 
 -- such a signal to another process
 pub record IsLeaving (pid last : ℕ) (x : Signal) : Type 0 where
   pub from : x.from.0 ≡ pid
   pub to : x.to.0 ≢ pid
   pub stamp : x.stamp ≤ last
-  pub built : IsBuilt x.kind
 
 -- a signal to the process pid of another one, of so many, which names none but these; no stamp is above 2^62
 pub record IsArriving (pid count : ℕ) (x : Signal) : Type 0 where
   pub from : x.from.0 ≢ pid
   pub to : x.to.0 ≡ pid
   pub below : IsSignalBelow count x
-  pub stamp : x.stamp ≤ 4611686018427387904
-  pub built : IsBuilt x.kind
+  pub stamp : x.stamp ≤ LAST_STAMP
 
 -- The rules of this process alone: what it does depends on nothing else of a script.
 abbrev pub own_rules : Running → Rules ProcessState Signal Event
@@ -65,12 +50,14 @@ pub record IsKeeping (r : Running) : Type 0 where
   -- from its opening it has executed an instruction or handled a signal at each of its events, and these signals are the ones
   -- that it handled (Erlang Reference Manual, Processes, Receiving Signals)
   pub ran : RanAlone (own_rules r) r.pid (opening_local r) r.events r.handled (local_of r)
+  -- how far its counts go
+  pub bounds : IsBounded r.proc r.state
   -- no stamp is above 2^62 (this project's own)
-  pub low : r.state.stamp ≤ 4611686018427387904
+  pub low : r.state.counts.stamp ≤ LAST_STAMP
   -- the signals that wait for it, and those that it sent to others (Processes, Delivery of Signals)
-  pub own : All (IsToItself r.pid r.state.stamp) r.own
+  pub own : All (IsToItself r.pid r.state.counts.stamp) r.own
   pub taken_in : All (IsArriving r.pid r.count) r.taken_in
-  pub outbox : All (IsLeaving r.pid r.state.stamp) r.outbox
+  pub outbox : All (IsLeaving r.pid r.state.counts.stamp) r.outbox
 
 -- the process at each place of the crew has this place as its pid, and is one of as many as there are
 abbrev pub IsPlaced : List Running → Type 0

@@ -6,8 +6,10 @@ pub mod Handling
 pub mod Finishing
 pub mod Machine
 pub mod Running
-pub mod PidsBelow
+pub mod Names
+pub mod Bounds
 pub mod Keeping
+pub mod Accounts
 pub mod OneWorker
 pub mod PrintedState
 pub mod SettledRun

@@ -5,12 +5,13 @@ use Rattle.sig_terms.specs.declared.term.Term.{Term}
 use Rattle.sig_kinds.specs.declared.signal.Signal.{Signal}
 use Rattle.sig_model.specs.declared.state.State.{State}
 use Rattle.sig_model.specs.declared.state.State.TheVariants.{Ended, Waiting, Cut}
+use Rattle.sig_model.specs.declared.TheConstants.{LAST_STAMP}
 use Rattle.sig_model.specs.ProcessState.{is_cut}
 use Rattle.sig_model.specs.Running.{Running}
 
 -- a signal that isn't handled, since its stamp is at least 2^62
 abbrev pub is_late_signal : Signal → Bool
-is_late_signal signal = nat_le 4611686018427387904 signal.stamp
+is_late_signal signal = nat_le LAST_STAMP signal.stamp
 
 -- such a signal waits for the process
 abbrev pub is_late : Running → Bool
@@ -23,4 +24,4 @@ state_of None false = Waiting
 
 -- ended where it has ended, else cut where it is cut or late, else waiting
 abbrev pub printed_state : Running → State
-printed_state r = state_of r.state.end (is_cut r.turns r.state || is_late r)
+printed_state r = state_of r.state.tables.end (is_cut r.turns r.state || is_late r)

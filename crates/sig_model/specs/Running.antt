@@ -1,10 +1,12 @@
 -- A process that runs: its state and what it keeps beside.
 use Rattle.std.specs.Prelude.{ℕ, List, [], ◌∷◌, ◌++◌, length, Bool, false, ◌&&◌, not, ◌==◌, nat_lt, Option, Some, None, is_none, if◌then◌else◌}
+use Rattle.std.specs.List.{filter}
 use Rattle.std.specs.Option.{option_map}
 use Rattle.sig_kinds.specs.declared.signal.Signal.{Signal}
 use Rattle.sig_script.specs.Scripts.{Declared}
 use Rattle.sig_runs.specs.Rules.{Effect}
 use Rattle.sig_model.specs.declared.event.Event.{Event}
+use Rattle.sig_model.specs.declared.TheConstants.{LAST_STAMP}
 use Rattle.sig_model.specs.ProcessState.{ProcessState, opening_state, is_cut}
 use Rattle.sig_model.specs.Machine.{execution, handling_of}
 
@@ -38,21 +40,26 @@ opened pid count turns p = record {
   outbox = [];
 }
 
--- a signal that it sends waits with its own ones where it is to itself, and else in the outbox
-abbrev pub posted : Running → Signal → Running
-posted r signal = if signal.to.0 == r.pid then record r { own = r.own ++ signal ∷ [] } else record r { outbox = r.outbox ++ signal ∷ [] }
+-- of these signals, those to the process itself, and those to others
+abbrev pub to_itself : ℕ → List Signal → List Signal
+to_itself pid signals = filter (λ (x : Signal). x.to.0 == pid) signals
 
-abbrev pub all_posted : Running → List Signal → Running
-all_posted r [] = r
-all_posted r (x ∷ xs) = all_posted (posted r x) xs
+abbrev pub to_others : ℕ → List Signal → List Signal
+to_others pid signals = filter (λ (x : Signal). not (x.to.0 == pid)) signals
 
--- after an event with this effect
+-- After an event with this effect. A signal that the process sends waits with its own ones where it is to itself, and else in the
+-- outbox.
 abbrev pub advanced : Running → Effect ProcessState Signal Event → Running
-advanced r e = all_posted (record r { state = e.state; events = r.events ++ e.event ∷ [] }) e.sends
+advanced r e = record r {
+  state = e.state;
+  events = r.events ++ e.event ∷ [];
+  own = r.own ++ to_itself r.pid e.sends;
+  outbox = r.outbox ++ to_others r.pid e.sends;
+}
 
 -- it is neither ended nor cut, and has no own signal to handle
 unfoldable pub can_exec : Running → Bool
-can_exec r = is_none r.state.end && not (is_cut r.turns r.state) && length r.own == 0
+can_exec r = is_none r.state.tables.end && not (is_cut r.turns r.state) && length r.own == 0
 
 -- after its next instruction, where that may be executed
 unfoldable pub exec_next : Running → Option Running
@@ -67,7 +74,7 @@ next_of [] [] = None
 -- there is one, and its stamp is below 2^62
 abbrev pub is_early : Option Signal → Bool
 is_early None = false
-is_early (Some x) = nat_lt x.stamp 4611686018427387904
+is_early (Some x) = nat_lt x.stamp LAST_STAMP
 
 unfoldable pub can_handle : Running → Bool
 can_handle r = not (is_cut r.turns r.state) && is_early (next_of r.own r.taken_in)

@@ -1,5 +1,5 @@
 -- The run of one worker, as a run of the plain machine that has come to rest.
-use Rattle.std.specs.Prelude.{◌≡◌, ℕ, ◌==◌, List, [], map, Option, Some, None, slice_get, if◌then◌else◌}
+use Rattle.std.specs.Prelude.{◌≡◌, ℕ, ◌==◌, true, List, [], length, map, Option, Some, None, IsSome, ◌⊎◌, slice_get, if◌then◌else◌}
 use Rattle.std.specs.List.{filter}
 use Rattle.sig_kinds.specs.declared.signal.Signal.{Signal}
 use Rattle.sig_script.specs.Scripts.{Program}
@@ -8,7 +8,9 @@ use Rattle.sig_runs.specs.Crew.{opening_machine}
 use Rattle.sig_runs.specs.Order.{events_by}
 use Rattle.sig_runs.specs.Settled.{IsSettled}
 use Rattle.sig_model.specs.declared.event.Event.{Event}
-use Rattle.sig_model.specs.ProcessState.{ProcessState}
+use Rattle.sig_model.specs.ProcessState.{ProcessState, is_cut}
+use Rattle.sig_model.specs.Executing.{IsWaiting}
+use Rattle.sig_model.specs.PrintedState.{is_late}
 use Rattle.sig_model.specs.Machine.{rules_of, opening_of}
 use Rattle.sig_model.specs.Running.{Running}
 
@@ -36,10 +38,15 @@ abbrev pub events_of : Option Running → List Event
 events_of None = []
 events_of (Some r) = r.events
 
+-- The process is cut; or it has ended, or waits at a receive that no message meets, and in both cases no signal waits for it, or
+-- one that it never handles.
+abbrev pub IsResting : Running → Type 0
+IsResting r = (is_cut r.turns r.state ≡ true) ⊎ ((IsSome r.state.tables.end ⊎ IsWaiting r.proc r.state) × (((r.own ≡ []) × (r.taken_in ≡ [])) ⊎ (is_late r ≡ true)))
+
 -- The crew is what a settled run of the script's machine leads to: its events are possible one after another from the
 -- opening, each an execution or the handling of the oldest signal of one sender; each process has had its own ones in that
--- order; and at the end no process can go on but to handle a signal that is late. A process that waits at a receive waits
--- until a message matches (Erlang Reference Manual, Expressions, Receive).
+-- order; and at the end each process is at rest. Only a late process can go on then, and only by handling a signal of another
+-- sender. A process that waits at a receive waits until a message matches (Erlang Reference Manual, Expressions, Receive).
 pub record IsSettledRun (script : Program) (crew : List Running) : Type 0 where
   pub events : List (At Event)
   -- the machine after them
@@ -49,3 +56,6 @@ pub record IsSettledRun (script : Program) (crew : List Running) : Type 0 where
   pub processes : (p : ℕ) (r : Running) → slice_get crew p ≡ Some r → IsProcessOf script p r
   pub told : (p : ℕ) → events_by p events ≡ events_of (slice_get crew p)
   pub settled : IsSettled (rules_of script) machine
+  -- the crew has the script's processes, and each of them is at rest
+  pub many : length crew ≡ length script.procs
+  pub resting : (p : ℕ) (r : Running) → slice_get crew p ≡ Some r → IsResting r

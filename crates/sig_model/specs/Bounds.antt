@@ -1,0 +1,28 @@
+-- How far the counts of a process go (this project's own).
+use Rattle.std.specs.Prelude.{ℕ, ◌+◌, ◌≤◌, ◌==◌, List, length, slice_index}
+use Rattle.std.specs.List.{filter}
+use Rattle.sig_script.specs.Scripts.{Declared}
+use Rattle.sig_model.specs.ProcessState.{ProcessState}
+use Rattle.sig_model.specs.Bodies.{Post, Body}
+
+-- No place lies past the one after the last instruction. An event appends at most one message and begins at most one unlink. It
+-- sends at most one signal to a peer, but for a process that ends, which tells a peer once for each monitor that it bears of it
+-- too: so for each peer the next number and the monitors borne together are at most one above the last stamp.
+pub record IsBounded (p : Declared) (s : ProcessState) : Type 0 where
+  pub first : 1 ≤ s.counts.place
+  pub within : s.counts.place ≤ length p.instrs + 1
+  pub arrivals : s.tables.inbox.next_arrival ≤ s.counts.stamp + 1
+  pub ids : s.tables.links.next_id ≤ s.counts.stamp + 1
+  pub numbers : (peer : ℕ) → slice_index s.counts.next_numbers peer + length s.tables.watch.borne ≤ s.counts.stamp + 1
+
+-- how many of the signals to be sent are to this peer
+abbrev pub posts_to : ℕ → List Post → ℕ
+posts_to peer posts = length (filter (λ (q : Post). q.to == peer) posts)
+
+-- what one event adds to the counts, before its stamp and the numbers are put in
+pub record IsBoundedBody (p : Declared) (s : ProcessState) (b : Body) : Type 0 where
+  pub first : 1 ≤ b.state.counts.place
+  pub within : b.state.counts.place ≤ length p.instrs + 1
+  pub arrivals : b.state.tables.inbox.next_arrival ≤ s.tables.inbox.next_arrival + 1
+  pub ids : b.state.tables.links.next_id ≤ s.tables.links.next_id + 1
+  pub posts : (peer : ℕ) → posts_to peer b.posts + length b.state.tables.watch.borne ≤ length s.tables.watch.borne + 1
