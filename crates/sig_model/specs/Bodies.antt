@@ -8,7 +8,7 @@ use Rattle.sig_kinds.specs.declared.signal.Kind.TheVariants as kind
 use Rattle.sig_kinds.specs.LinkRules.{LinkState, active_after}
 use Rattle.sig_kinds.specs.LinkRules.{ending as links_ending}
 use Rattle.sig_kinds.specs.WatchRules.{watch_ending}
-use Rattle.sig_patterns.specs.Inbox.{Inbox, appended_to, emptied_inbox}
+use Rattle.sig_patterns.specs.Inbox.{Inbox, arrived_in, emptied_inbox}
 use Rattle.sig_script.specs.declared.label.Label.{Label}
 use Rattle.sig_model.specs.declared.event.Outcome.{Outcome}
 use Rattle.sig_model.specs.declared.event.Outcome.TheVariants as outcome
@@ -51,7 +51,7 @@ going_on s place how = record { state = at_place s place; outcome = how; posts =
 -- the message comes to the end of the list
 abbrev pub appending : ProcessState → Term → Body
 appending s message = record {
-  state = with_tables s (record s.tables { inbox = appended_to s.tables.inbox message });
+  state = with_tables s (record s.tables { inbox = arrived_in s.tables.inbox message });
   outcome = outcome.Kept message;
   posts = [];
 }
