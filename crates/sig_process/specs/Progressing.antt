@@ -1,0 +1,66 @@
+-- What the fields of a process mean.
+use Rattle.std.specs.Prelude.{◌≡◌, ℕ, List, ◌++◌, [], ◌∷◌}
+use Rattle.sig_kinds.specs.declared.signal.Signal.{Signal}
+use Rattle.sig_kinds.specs.WatchRules.{unwatched}
+use Rattle.sig_script.specs.Scripts.{Declared}
+use Rattle.sig_runs.specs.Rules.{Effect}
+use Rattle.sig_inner.specs.InnerQueue.{InnerQueue}
+use Rattle.sig_model.specs.declared.event.Event.{Event}
+use Rattle.sig_model.specs.ProcessState.{Tables, Counts, ProcessState}
+use Rattle.sig_model.specs.Running.{Running, to_itself, to_others}
+use Rattle.sig_process.specs.declared.progress.Progress.{Progress}
+
+-- the state of the process
+abbrev pub state_of : Progress → ProcessState
+state_of p = record {
+  tables = record {
+    env = p.tables.env;
+    inbox = p.tables.inner.queue.inbox;
+    links = p.tables.links.links;
+    watch = unwatched p.tables.links.links.owner;
+    end = p.tables.end;
+  };
+  traps = p.traps;
+  counts = record {
+    place = p.counts.place;
+    executed = p.counts.executed;
+    stamp = p.counts.stamp;
+    next_serial = 1;
+    next_numbers = p.counts.next_numbers.items;
+  };
+}
+
+-- the process of this pid, one of so many, with this bound on its turns and this part of the script
+abbrev pub running_of : ℕ → ℕ → ℕ → Declared → Progress → Running
+running_of pid count turns proc p = record {
+  pid = pid;
+  count = count;
+  turns = turns;
+  proc = proc;
+  state = state_of p;
+  events = p.events;
+  handled = p.handled.items;
+  own = p.own.items;
+  taken_in = p.taken_in.items;
+  outbox = p.outbox.items;
+}
+
+-- all but the room is as before
+pub record IsSame (before after : Progress) : Type 0 where
+  pub state : state_of after ≡ state_of before
+  pub queue : after.tables.inner.queue ≡ before.tables.inner.queue
+  pub events : after.events ≡ before.events
+  pub handled : after.handled.items ≡ before.handled.items
+  pub own : after.own.items ≡ before.own.items
+  pub taken_in : after.taken_in.items ≡ before.taken_in.items
+  pub outbox : after.outbox.items ≡ before.outbox.items
+
+-- the process pid has gone on by an event with this effect, and nothing is left of a scan
+pub record HasAdvanced (pid : ℕ) (before after : Progress) (e : Effect ProcessState Signal Event) : Type 0 where
+  pub state : state_of after ≡ e.state
+  pub owner : after.tables.inner.queue.owner ≡ before.tables.inner.queue.owner
+  pub events : after.events ≡ before.events ++ e.event ∷ []
+  pub handled : after.handled.items ≡ before.handled.items
+  pub own : after.own.items ≡ before.own.items ++ to_itself pid e.sends
+  pub taken_in : after.taken_in.items ≡ before.taken_in.items
+  pub outbox : after.outbox.items ≡ before.outbox.items ++ to_others pid e.sends
