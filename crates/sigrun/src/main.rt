@@ -2,12 +2,12 @@
 #![tactic(auto)]
 
 use sig_base::{OpenGate, StdSink, StdSource};
-use sig_host::run;
+use sig_host::{Status, run};
 use std::process::ExitCode;
 use std::{env, io};
 
-/// The words after the program's name.
-fn words_of(rt: &HostRuntime) -> io::Result<Vec<String>> {
+/// The arguments after the program's name.
+fn arguments(rt: &HostRuntime) -> io::Result<Vec<String>> {
     let mut words = Vec::new(rt.alloc());
     for (i, word) in env::args(rt)?.enumerate() {
         if i > 0 {
@@ -17,11 +17,17 @@ fn words_of(rt: &HostRuntime) -> io::Result<Vec<String>> {
     Ok(words)
 }
 
+/// Ends with this status, and tells it on standard error. Nothing was run.
+fn refuse(rt: &HostRuntime, status: Status, text: &str) -> ExitCode {
+    let _ = eprintln!(rt; "{text}");
+    ExitCode::from(status.number())
+}
+
 fn main(rt: HostRuntime) -> ExitCode {
     let mut source = StdSource::new(rt.stdin());
     let mut out = StdSink::new(rt.stdout());
     let mut err = StdSink::new(rt.stderr());
-    match words_of(&rt) {
+    match arguments(&rt) {
         Ok(words) => {
             let status = run(
                 rt.alloc(),
@@ -33,9 +39,9 @@ fn main(rt: HostRuntime) -> ExitCode {
             );
             ExitCode::from(status.number())
         }
-        Err(_) => {
-            let _ = eprintln!(rt; "usage: sigrun");
-            ExitCode::from(2)
+        Err(fault) if fault.kind() == io::ErrorKind::OutOfMemory => {
+            refuse(&rt, Status::Memory, "sigrun: out of memory")
         }
+        Err(_) => refuse(&rt, Status::Usage, "usage: sigrun"),
     }
 }

@@ -1,0 +1,116 @@
+-- What a commit does to the fields of a process.
+use Rattle.std.specs.Prelude.{◌≡◌, ℕ, ◌+◌, ◌<◌, ◌≤◌, ◌^◌, List, [], ◌∷◌, ◌++◌, length, map, slice_index, Option, Some, None}
+use Rattle.std.specs.FinMap.{insert}
+use Rattle.sig_kinds.specs.declared.signal.Signal.{Signal}
+use Rattle.sig_terms.specs.declared.pid.Pid.{Pid}
+use Rattle.sig_terms.specs.declared.term.Term.{Term}
+use Rattle.sig_patterns.specs.declared.pattern.Pattern.{Pattern}
+use Rattle.sig_patterns.specs.Matching.{match_of}
+use Rattle.sig_inner.specs.InnerQueue.{InnerQueue, appended, emptied, taken}
+use Rattle.sig_runs.specs.Rules.{Effect}
+use Rattle.sig_model.specs.declared.event.Event.{Event}
+use Rattle.sig_model.specs.declared.event.Did.TheVariants as did
+use Rattle.sig_model.specs.declared.event.Outcome.{Outcome}
+use Rattle.sig_model.specs.declared.TheConstants.{LAST_STAMP}
+use Rattle.sig_model.specs.ProcessState.{ProcessState}
+use Rattle.sig_model.specs.Bodies.{Post}
+use Rattle.sig_model.specs.Bounds.{posts_to}
+use Rattle.sig_model.specs.Finishing.{numbers_after}
+use Rattle.sig_model.specs.Running.{to_itself, to_others, next_of}
+use Rattle.sig_process.specs.declared.plan.Change.{Change}
+use Rattle.sig_process.specs.declared.plan.Change.TheVariants.{Nothing, Bind, Link, Unlink, Trap, Append, LinkUp, UnlinkBy, Acknowledge, End}
+use Rattle.sig_process.specs.declared.plan.Outgoing.{Outgoing}
+use Rattle.sig_process.specs.declared.progress.Progress.{Progress}
+use Rattle.sig_process.specs.Plans.{changed, after_obeying, post_of}
+use Rattle.sig_process.specs.Progressing.{state_of}
+
+-- there is room for all that an event may add, with so many signals to be sent
+pub record HasRoom (posts : ℕ) (p : Progress) : Type 0 where
+  pub own : posts ≤ p.own.spare
+  pub outbox : posts ≤ p.outbox.spare
+  pub handled : 0 < p.handled.spare
+  pub inner : 0 < p.tables.inner.spare
+  pub links : 0 < p.tables.links.spare
+
+-- no count of the process is at its end, nor will be after it has sent these
+pub record IsCommittable (posts : List Outgoing) (p : Progress) : Type 0 where
+  pub stamp : p.counts.stamp < LAST_STAMP
+  pub arrivals : p.tables.inner.queue.inbox.next_arrival < 2 ^ 63
+  pub ids : p.tables.links.links.next_id < 2 ^ 63
+  pub numbers : (peer : ℕ) → slice_index p.counts.next_numbers.items peer + posts_to peer (map post_of posts) < 2 ^ 63
+
+-- the variable is bound, and nothing is left to be changed; or all is as before
+abbrev pub IsBound : Progress → Change → Progress → Change → Type 0
+IsBound before (Bind var value) after rest = (after ≡ record before { tables = record before.tables { env = insert before.tables.env var.0 value } }) × (rest ≡ Nothing)
+IsBound before change after rest = (after ≡ before) × (rest ≡ change)
+
+-- a change that takes no memory where there is room
+abbrev pub IsReady : Change → Type 0
+IsReady (Bind var value) = ⊥
+IsReady _ = Unit {0}
+
+-- the inner queue after a change
+abbrev pub queue_after : InnerQueue → Change → InnerQueue
+queue_after q (Append message) = appended q message
+queue_after q (End reason) = emptied q
+queue_after q _ = q
+
+-- the lists of the process are as before
+pub record KeepsLists (before after : Progress) : Type 0 where
+  pub events : after.events ≡ before.events
+  pub handled : after.handled ≡ before.handled
+  pub own : after.own ≡ before.own
+  pub taken_in : after.taken_in ≡ before.taken_in
+  pub outbox : after.outbox ≡ before.outbox
+
+-- what waits behind the next signal: of the process's own ones, and of those of others
+abbrev pub behind_first : List Signal → List Signal
+behind_first [] = []
+behind_first (x ∷ xs) = xs
+
+abbrev pub others_behind : List Signal → List Signal → List Signal
+others_behind [] taken_in = behind_first taken_in
+others_behind (x ∷ own) taken_in = taken_in
+
+-- The process pid has handled this signal, the next one of those that waited, by an event with this effect.
+pub record HasHandled (pid : ℕ) (before after : Progress) (x : Signal) (e : Effect ProcessState Signal Event) : Type 0 where
+  pub next : next_of before.own.items before.taken_in.items ≡ Some x
+  pub state : state_of after ≡ e.state
+  pub events : after.events ≡ before.events ++ e.event ∷ []
+  pub handled : after.handled.items ≡ before.handled.items ++ x ∷ []
+  pub own : after.own.items ≡ behind_first before.own.items ++ to_itself pid e.sends
+  pub taken_in : after.taken_in.items ≡ others_behind before.own.items before.taken_in.items
+  pub outbox : after.outbox.items ≡ before.outbox.items ++ to_others pid e.sends
+
+-- Room is made, the event is noted, and a variable is bound where the change says so; this change is left.
+pub record HasBegun (posts : ℕ) (before : Progress) (change : Change) (after : Progress) (rest : Change) (e : Event) : Type 0 where
+  pub room : HasRoom posts after
+  pub ready : IsReady rest
+  pub state : (peer : Option Pid) → changed (after_obeying (state_of after) peer) rest ≡ changed (after_obeying (state_of before) peer) change
+  pub queue : queue_after after.tables.inner.queue rest ≡ queue_after before.tables.inner.queue change
+  pub counts : after.counts ≡ before.counts
+  pub arrivals : after.tables.inner.queue.inbox.next_arrival ≡ before.tables.inner.queue.inbox.next_arrival
+  pub ids : after.tables.links.links.next_id ≡ before.tables.links.links.next_id
+  pub events : after.events ≡ before.events ++ e ∷ []
+  pub handled : after.handled.items ≡ before.handled.items
+  pub own : after.own.items ≡ before.own.items
+  pub taken_in : after.taken_in.items ≡ before.taken_in.items
+  pub outbox : after.outbox.items ≡ before.outbox.items
+
+-- the state at another place and with this stamp, after these were numbered
+abbrev pub gone_on : ProcessState → ℕ → ℕ → List Post → ProcessState
+gone_on s place stamp posts = record s { counts = record s.counts { place = place; stamp = stamp; next_numbers = numbers_after s.counts.next_numbers posts } }
+
+-- the message of the last scan is taken out, and the variables of the pattern are bound to its parts
+pub record HasTaken (place : ℕ) (outcome : Outcome) (before after : Progress) (pattern : Pattern) (message : Term) : Type 0 where
+  pub bound : match_of pattern before.tables.env message ≡ Some after.tables.env
+  pub queue : after.tables.inner.queue ≡ taken before.tables.inner.queue
+  pub links : after.tables.links ≡ before.tables.links
+  pub end : after.tables.end ≡ before.tables.end
+  pub traps : after.traps ≡ before.traps
+  pub counts : after.counts ≡ record before.counts { place = place; executed = before.counts.executed + 1; stamp = before.counts.stamp + 1 }
+  pub events : after.events ≡ before.events ++ record { stamp = before.counts.stamp + 1; did = did.Exec before.counts.place; outcome = outcome } ∷ []
+  pub handled : after.handled ≡ before.handled
+  pub own : after.own ≡ before.own
+  pub taken_in : after.taken_in ≡ before.taken_in
+  pub outbox : after.outbox ≡ before.outbox

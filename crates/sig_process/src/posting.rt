@@ -1,0 +1,94 @@
+//! What an event sends, with its stamp and the next numbers.
+
+ghost use Rattle.std.specs.Prelude.{ℕ, ◌≡◌, ◌+◌, ◌<◌, ◌≤◌, ◌^◌, ◌++◌, ◌∷◌, [], length, map, slice_index};
+ghost use Rattle.sig_model.specs.Bounds.{posts_to};
+ghost use Rattle.sig_model.specs.Finishing.{drawn, numbers_after, numbered};
+ghost use Rattle.sig_model.specs.Running.{to_itself, to_others};
+ghost use Rattle.sig_process.specs.Plans.{post_of};
+
+use crate::plan::Outgoing;
+use sig_kinds::{Signal, Signals};
+use sig_terms::Pid;
+
+/// Draws the next number for this peer.
+fn draw(numbers: &mut Vec<u64>, peer: Pid) -> u64
+    requires { slice_index numbers.old.items peer.0 < 2 ^ 63 }
+    ensures number { result ≡ slice_index numbers.old.items peer.0 }
+    ensures drawn { numbers.new.items ≡ drawn numbers.old.items peer.0 }
+{
+    match numbers.get_mut(peer.0 as usize) {
+        None => 0,
+        Some(next) => {
+            let number = *next;
+            *next = number + 1;
+            number
+        }
+    }
+}
+
+/// A signal that the process sends: to itself, or to another.
+fn put(pid: Pid, signal: Signal, own: &mut Signals, outbox: &mut Signals)
+    requires own { 0 < own.old.spare }
+    requires outbox { 0 < outbox.old.spare }
+    ensures own { own.new.items ≡ own.old.items ++ to_itself pid.0 (signal ∷ []) }
+    ensures outbox { outbox.new.items ≡ outbox.old.items ++ to_others pid.0 (signal ∷ []) }
+    ensures own_spare { own.old.spare ≤ own.new.spare + 1 }
+    ensures outbox_spare { outbox.old.spare ≤ outbox.new.spare + 1 }
+{
+    if signal.to.0 == pid.0 {
+        own.add(signal);
+    } else {
+        outbox.add(signal);
+    }
+}
+
+/// Sends one of the signals of an event, with the next number for its receiver.
+fn send_one(
+    pid: Pid,
+    stamp: u64,
+    post: Outgoing,
+    numbers: &mut Vec<u64>,
+    own: &mut Signals,
+    outbox: &mut Signals,
+)
+    requires number { slice_index numbers.old.items post.to.0 < 2 ^ 63 }
+    requires own { 0 < own.old.spare }
+    requires outbox { 0 < outbox.old.spare }
+    ensures numbers { numbers.new.items ≡ drawn numbers.old.items post.to.0 }
+    ensures own { own.new.items ≡ own.old.items ++ to_itself pid.0 (numbered pid.0 stamp numbers.old.items (post_of post ∷ [])) }
+    ensures outbox { outbox.new.items ≡ outbox.old.items ++ to_others pid.0 (numbered pid.0 stamp numbers.old.items (post_of post ∷ [])) }
+    ensures own_spare { own.old.spare ≤ own.new.spare + 1 }
+    ensures outbox_spare { outbox.old.spare ≤ outbox.new.spare + 1 }
+{
+    let number = draw(numbers, post.to);
+    let signal = Signal {
+        from: pid,
+        to: post.to,
+        number,
+        stamp,
+        kind: post.kind,
+    };
+    put(pid, signal, own, outbox);
+}
+
+/// Sends the signals of an event in their order, each with the next number for its receiver. Room
+/// was made for them.
+pub(crate) fn send_all(
+    pid: Pid,
+    stamp: u64,
+    posts: Vec<Outgoing>,
+    numbers: &mut Vec<u64>,
+    own: &mut Signals,
+    outbox: &mut Signals,
+)
+    requires numbers { (peer : ℕ) → slice_index numbers.old.items peer + posts_to peer (map post_of posts.items) < 2 ^ 63 }
+    requires own { length posts.items ≤ own.old.spare }
+    requires outbox { length posts.items ≤ outbox.old.spare }
+    ensures numbers { numbers.new.items ≡ numbers_after numbers.old.items (map post_of posts.items) }
+    ensures own { own.new.items ≡ own.old.items ++ to_itself pid.0 (numbered pid.0 stamp numbers.old.items (map post_of posts.items)) }
+    ensures outbox { outbox.new.items ≡ outbox.old.items ++ to_others pid.0 (numbered pid.0 stamp numbers.old.items (map post_of posts.items)) }
+{
+    for post in posts {
+        send_one(pid, stamp, post, numbers, own, outbox);
+    }
+}
