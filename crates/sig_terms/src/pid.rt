@@ -15,7 +15,8 @@ impl Pid {
     pub fn print(self, into: &mut Vec<u8>) -> Result<(), AllocError>
         ensures text { OnOk result (into.new.items ≡ into.old.items ++ pid_text self.0) }
         ensures err { OnErr result (into.new.items ≡ into.old.items) }
-        ensures fits { self.0 < 2 ^ 32 }
+        // What is printed is a term as `read` knows them.
+        ensures term { OnOk result (self.0 < 2 ^ 32) }
     {
         let mut buffer = Buffer::new();
         append_pieces(into, &[b"<", buffer.format(self.0).as_bytes(), b">"])

@@ -20,7 +20,8 @@ impl Ref {
     pub fn print(self, into: &mut Vec<u8>) -> Result<(), AllocError>
         ensures text { OnOk result (into.new.items ≡ into.old.items ++ reference_text self) }
         ensures err { OnErr result (into.new.items ≡ into.old.items) }
-        ensures fits { (self.owner.0 < 2 ^ 32) × (self.serial < 2 ^ 64) }
+        // What is printed is a term as `read` knows them.
+        ensures term { OnOk result ((self.owner.0 < 2 ^ 32) × (self.serial < 2 ^ 64)) }
     {
         let mut owner = Buffer::new();
         let mut serial = Buffer::new();
