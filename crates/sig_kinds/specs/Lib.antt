@@ -1,2 +1,3 @@
+pub mod SignalList
 pub mod Pushes
 pub mod LinkRules
