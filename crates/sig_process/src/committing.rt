@@ -115,7 +115,7 @@ impl Progress {
 
     /// What the handling of the next signal did is told by its event.
     fn handling_event(&self, outcome: Outcome) -> Event
-        requires { IfSome (next_of self.now.own.items self.now.taken_in.items) (λ x. x.stamp < LAST_STAMP) }
+        requires due { IsSomeAnd (next_of self.now.own.items self.now.taken_in.items) (λ x. x.stamp < LAST_STAMP) }
         requires stamp { self.now.counts.stamp < LAST_STAMP }
         ensures { IfSome (next_of self.now.own.items self.now.taken_in.items) (λ x. result ≡ record {
             stamp = max self.now.counts.stamp x.stamp + 1; did = Did.From x.from x.number; outcome = outcome }) }
