@@ -1,5 +1,6 @@
 pub mod StampLemmas
-pub mod PostingLemmas
+pub mod SenderLemmas
+pub mod Guards
 pub mod EventLemmas
 pub mod GoingLemmas
 pub mod CrewLemmas
@@ -9,13 +10,6 @@ pub mod CountLemmas
 pub mod StillLemmas
 pub mod OpeningLemmas
 pub mod SettledLemmas
-pub mod TermBelowLemmas
-pub mod MatchBelowLemmas
-pub mod LinkBelowLemmas
-pub mod BodyBelowLemmas
-pub mod ExecutingBelowLemmas
-pub mod HandlingBelowLemmas
-pub mod RunningBelowLemmas
-pub mod BuiltLemmas
 pub mod KeepLemmas
 pub mod PlacedLemmas
+pub mod NumberLemmas

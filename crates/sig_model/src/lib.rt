@@ -3,11 +3,13 @@
 #![tactic(auto)]
 
 mod event;
+mod numbers;
 mod settled;
 mod stamps;
 mod state;
 
 pub use event::{Did, Event, Events, Outcome};
+pub use numbers::signals_are_numbered;
 pub use settled::one_worker_run_is_settled;
 pub use stamps::stamps_are_kept;
 pub use state::{LAST_STAMP, State};
