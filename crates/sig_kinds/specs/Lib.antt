@@ -1,2 +1,6 @@
+pub mod SignalList
 pub mod Pushes
 pub mod LinkRules
+pub mod WatchRules
+pub mod Counting
+pub mod SignalNames
