@@ -4,12 +4,15 @@ use Rattle.std.specs.Prelude.{◌==◌, nat_le}
 use Rattle.std.specs.Option.{option_map}
 use Rattle.std.proofs.lemmas.Bool.{ltb-true}
 use Rattle.std.proofs.lemmas.Bool.Decides.{nat_tests}
-use Rattle.std.proofs.lemmas.Option.{same_Some}
+use Rattle.std.proofs.lemmas.Option.{same_Some, none-some}
 use Rattle.sig_kinds.specs.declared.signal.Signal.{Signal}
 use Rattle.sig_runs.specs.Rules.{Effect}
 use Rattle.sig_model.specs.declared.event.Event.{Event}
 use Rattle.sig_model.specs.declared.state.TheConstants.{LAST_STAMP}
 use Rattle.sig_model.specs.ProcessState.{ProcessState, is_cut}
+use Rattle.sig_model.specs.Bodies.{Body}
+use Rattle.sig_model.specs.Executing.{executing}
+use Rattle.sig_model.specs.Finishing.{finished_exec}
 use Rattle.sig_model.specs.Machine.{execution}
 use Rattle.sig_model.specs.Running.{Running, advanced, can_exec, exec_next, next_of, is_early, can_handle, handled_one, handled_first, handle_next}
 
@@ -129,20 +132,19 @@ pub record HandledOther (r t : Running) : Type 0 where
   pub early : signal.stamp < LAST_STAMP
   pub is : handled_one (record r { taken_in = rest }) signal ≡ t
 
-executed_by : (r t : Running) (o : Option (Effect ProcessState Signal Event)) → CanExec r → execution r.pid r.proc r.state ≡ o → option_map (advanced r) o ≡ Some t → Executed r t
-executed_by r t None can is e = cc
-executed_by r t (Some f) can is e = record { can = can; effect = f; is_effect = is; is = same_Some (advanced r f) t e }
-
-exec_case : (b : Bool) (r t : Running) → can_exec r ≡ b → cond b (option_map (advanced r) (execution r.pid r.proc r.state)) None ≡ Some t → Executed r t
-exec_case true r t h e = executed_by r t (execution r.pid r.proc r.state) (can_exec_tells r h) refl e
-exec_case false r t h e = cc
+executed_by : (b : Bool) (o : Option Body) (r t : Running) → can_exec r ≡ b → executing r.proc r.state ≡ o → cond b (option_map (advanced r) (option_map (finished_exec r.pid r.state) o)) None ≡ Some t → Executed r t
+executed_by true (Some body) r t h is e =
+    let f : Effect ProcessState Signal Event = finished_exec r.pid r.state body in
+    record { can = can_exec_tells r h; effect = f; is_effect = ap (λ o. option_map (finished_exec r.pid r.state) o) is; is = same_Some (advanced r f) t e }
+executed_by true None r t h is e = absurd (none-some t e)
+executed_by false o r t h is e = absurd (none-some t e)
 
 pub exec_next_tells : (r t : Running) → exec_next r ≡ Some t → Executed r t
 unfolding exec_next
-exec_next_tells r t e = exec_case (can_exec r) r t refl e
+exec_next_tells r t e = executed_by (can_exec r) (executing r.proc r.state) r t refl refl e
 
 handled_by : (r t : Running) (own taken : List Signal) → (can : CanHandle r) → r.own ≡ own → r.taken_in ≡ taken → handled_first r own taken ≡ Some t → HandledOwn r t ⊎ HandledOther r t
-handled_by r t [] [] can o i e = cc
+handled_by r t [] [] can o i e = absurd (none-some t e)
 handled_by r t (x ∷ own) taken can o i e =
     let due : Some can.next ≡ Some x = sym can.is_next ∙ ap (λ xs. next_of xs r.taken_in) o in
     let same : can.next ≡ x = cc in
@@ -169,7 +171,7 @@ handled_by r t [] (x ∷ taken) can o i e =
 
 handle_case : (b : Bool) (r t : Running) → can_handle r ≡ b → cond b (handled_first r r.own r.taken_in) None ≡ Some t → HandledOwn r t ⊎ HandledOther r t
 handle_case true r t h e = handled_by r t r.own r.taken_in (can_handle_tells r h) refl refl e
-handle_case false r t h e = cc
+handle_case false r t h e = absurd (none-some t e)
 
 pub handle_next_tells : (r t : Running) → handle_next r ≡ Some t → HandledOwn r t ⊎ HandledOther r t
 unfolding handle_next

@@ -1,6 +1,6 @@
 -- What every running process keeps, from its opening on.
-use Rattle.std.proofs.Common.{◌≡◌, ◌≢◌, ℕ, zero, suc, ◌+◌, ◌<◌, ◌≤◌, max, List, [], ◌∷◌, ◌++◌, true, not, Option, Some, refl, sym, ◌∙◌, subst, inl, inr, ◌⊎◌, arith}
-use Rattle.std.specs.Prelude.{All, ◌==◌, slice_index, replicate}
+use Rattle.std.proofs.Common.{◌≡◌, ◌≢◌, ℕ, ◌+◌, ◌<◌, ◌≤◌, max, List, [], ◌∷◌, ◌++◌, true, not, Option, Some, refl, sym, ◌∙◌, subst, inl, inr, ◌⊎◌, arith}
+use Rattle.std.specs.Prelude.{All, ◌==◌}
 use Rattle.std.specs.List.{filter}
 use Rattle.std.proofs.lemmas.Bool.{eqb-true}
 use Rattle.std.proofs.lemmas.List.Elements.{All-nil, All-cons, All-append, All-filter, All-weaker, filter_passes}
@@ -15,7 +15,7 @@ use Rattle.sig_runs.specs.OnTheWay.{outgoing}
 use Rattle.sig_runs.proofs.Replay.{one_more}
 use Rattle.sig_model.specs.declared.event.Event.{Event}
 use Rattle.sig_model.specs.declared.state.TheConstants.{LAST_STAMP}
-use Rattle.sig_model.specs.ProcessState.{ProcessState, opening_state}
+use Rattle.sig_model.specs.ProcessState.{ProcessState}
 use Rattle.sig_model.specs.Machine.{rules_with}
 use Rattle.sig_model.specs.Running.{Running, opened, exec_next, handle_next}
 use Rattle.sig_model.specs.OneWorker.{arrived}
@@ -25,23 +25,9 @@ use Rattle.sig_model.specs.Keeping.{IsToItself, IsLeaving, IsArriving, opening_l
 use Rattle.sig_model.proofs.StampLemmas.{stamps_kept}
 use Rattle.sig_model.proofs.SenderLemmas.{AreFrom}
 use Rattle.sig_model.proofs.RunningNames.{opened_below, exec_next_below, handle_next_below}
-use Rattle.sig_model.proofs.BoundLemmas.{bounded_exec, bounded_handle}
+use Rattle.sig_model.proofs.BoundLemmas.{bounded_opening, bounded_exec, bounded_handle}
 use Rattle.sig_model.proofs.Guards.{Executed, HandledOwn, HandledOther, uncut_stamp, exec_next_tells, handle_next_tells}
 use Rattle.sig_model.proofs.EventLemmas.{IsKept, IsEvent, IsStep, with_event, step_event, event_stamps, sent_low, own_left_all, taken_in_all, other_than}
-
-one_each : (count peer : ℕ) → slice_index (replicate count 1) peer ≤ 1
-one_each zero peer = omega arith
-one_each (suc count) zero = omega arith
-one_each (suc count) (suc peer) = one_each count peer
-
-opened_bounded : (pid count : ℕ) (p : Declared) → IsBounded p (opening_state pid count)
-opened_bounded pid count p = record {
-  first = omega arith;
-  within = omega arith;
-  arrivals = omega arith;
-  ids = omega arith;
-  numbers = λ peer. let h : slice_index (replicate count 1) peer ≤ 1 = one_each count peer in omega (arith, h);
-}
 
 -- the process as the script opens it
 pub opened_keeps : (pid count turns : ℕ) (p : Declared) → pid < count → IsWithin p → IsProcBelow count p → IsKeeping (opened pid count turns p)
@@ -49,7 +35,7 @@ opened_keeps pid count turns p lt within h = record {
   below = opened_below pid count turns p lt h;
   ran = record { runs = refl; events_told = refl; handled_told = refl };
   within = within;
-  bounds = opened_bounded pid count p;
+  bounds = bounded_opening p pid count;
   low = omega arith;
   own = All-nil (IsToItself pid 0);
   taken_in = All-nil (IsArriving pid count);

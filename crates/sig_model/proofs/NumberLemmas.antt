@@ -111,7 +111,7 @@ module _ (r t : Running) (k : IsKeeping r) (e : IsEvent r.turns (part r) r.pid r
       let next_is : t.state.counts.next_numbers ≡ e.effect.state.counts.next_numbers = ap (λ (z : Running). z.state.counts.next_numbers) e.is in
       let at : (p : ℕ) → p < t.count → Draws p (length (went p r) + 1) e.effect.state.counts.next_numbers e.effect.sends =
       λ p lt.
-          let below : p < r.count = subst (λ z. p < z) count lt in d.draws p (length (went p r) + 1) (subst (λ z. p < z) (sym n.many) below) (n.next p below) in
+      let below : p < r.count = subst (λ z. p < z) count lt in d.draws p (length (went p r) + 1) (subst (λ z. p < z) (sym n.many) below) (n.next p below) in
       record {
         many = ap (λ (z : List ℕ). length z) next_is ∙ d.long ∙ n.many ∙ sym count;
         counted = λ p lt.

@@ -167,7 +167,7 @@ module _ (script : Program) where
 
     -- it has ended, or waits
     stops : (o : Option Term) → r.state.tables.end ≡ o → is_cut r.turns r.state ≡ false → r.own ≡ [] → IsSome r.state.tables.end ⊎ IsWaiting r.proc r.state
-    stops (Some reason) e uncut own = inl (subst (λ o. IsSome o) (sym e) tt)
+    stops (Some reason) e uncut own = inl (ap (λ o. is_some o) e)
     stops None e uncut own = inr ((waiting_iff r.proc r.state).0 (no_body (executing r.proc r.state) (sym (exec_due r (can_exec_at r e uncut own)) ∙ s.exec)))
 
     rests_by : (c : Bool) → is_cut r.turns r.state ≡ c → IsResting r
