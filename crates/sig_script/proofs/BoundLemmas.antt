@@ -486,7 +486,7 @@ module _ (s : Program) (n : ℕ) (turns : Option ℕ) (procs : List Declared) (b
   receive-more p clauses after lt h k =
       let few : length clauses < 2 ^ 32 = omega (arith, lt, h.0) in
       let targets : All (λ t. t < length (labels_at (length procs) s.procs)) (targets_of (instr.Receive clauses after)) =
-          receive-targets (length (labels_at (length procs) s.procs)) clauses after h.1 h.3 in
+      receive-targets (length (labels_at (length procs) s.procs)) clauses after h.1 h.3 in
       instr-more s (length procs) p (instr.Receive clauses after) (few, targets) (All-nil (IsExprBelow (length s.procs)), h.2) k
 
   taken_at-meant : (place : Place) (f : Form) → n < 2 ^ 32 → Each (IsMeant s) 0 (procs ++ open_proc place) → IsOpen s n (length procs) place →

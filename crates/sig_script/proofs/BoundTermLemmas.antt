@@ -10,7 +10,6 @@ use Rattle.sig_patterns.specs.declared.pattern.Pattern.{Pattern}
 use Rattle.sig_patterns.specs.declared.pattern.Pattern.TheVariants as pattern
 use Rattle.sig_script.specs.declared.label.Label.{Label}
 use Rattle.sig_script.specs.declared.instruction.Instr.{Instr}
-use Rattle.sig_script.specs.declared.instruction.Instr.TheVariants as instr
 use Rattle.sig_script.specs.declared.fault.FaultKind.TheVariants.{UnknownProcess, UnknownLabel}
 use Rattle.sig_script.specs.declared.token.Sign.TheVariants.{CloseBrace, CloseBracket}
 use Rattle.sig_script.specs.declared.token.TokenKind.{TokenKind}
@@ -301,10 +300,10 @@ module _ (s : Program) (here : ℕ) (line : List ℕ) where
   unfolding made_of
   made-meant os make ts h = holds-on_ok (AreMeant os) IsMeantInstr make (all_said (Among s) here line os ts) (operands-meant os ts) h
 
-  -- An instruction has the expressions and the labels of its operands, and no clauses. A verb is named so that each is looked at.
+  -- An instruction has the expressions and the labels of its operands, and no clauses. A first verb stands here so that each is looked at by itself.
   instr-meant : (v : Verb) (ts : List Token) → Holds IsMeantInstr (instr_of (Among s) here v line ts)
   unfolding instr_of
-  instr-meant verb.Stop ts = made-meant [] (λ x. instr.Stop) ts (λ x h. ((no-clauses, h.1), (h.0, All-nil (λ (c : Clause). IsPatternBelow (length s.procs) c.pattern))))
+  instr-meant verb.Stop ts = made-meant _ _ ts (λ x h. ((no-clauses, h.1), (h.0, All-nil (λ (c : Clause). IsPatternBelow (length s.procs) c.pattern))))
   instr-meant _ ts = made-meant _ _ ts (λ x h. ((no-clauses, h.1), (h.0, All-nil (λ (c : Clause). IsPatternBelow (length s.procs) c.pattern))))
 
   abbrev IsMeantHere : Form → Type 0

@@ -172,6 +172,7 @@ module _ (P : ℕ → Type 0) where
   pub cons_pattern_pids-tell : (heads : List Pattern) (tail : Pattern) → OfPattern (pat.Cons heads tail) → All OfPattern heads × OfPattern tail
   cons_pattern_pids-tell heads tail h =
       let both : All P (concat (map pids_of_pattern heads) ++ pids_of_pattern tail) =
-          All-same P (concat (map pids_of_pattern heads) ++ pids_of_pattern tail) (pids_of_pattern (pat.Cons heads tail)) (sym (pids_of_pattern-Cons heads tail)) h in
-      (each_all pids_of_pattern heads (all_front (concat (map pids_of_pattern heads)) (pids_of_pattern tail) both),
-      all_behind (concat (map pids_of_pattern heads)) (pids_of_pattern tail) both)
+      All-same P (concat (map pids_of_pattern heads) ++ pids_of_pattern tail) (pids_of_pattern (pat.Cons heads tail)) (sym (pids_of_pattern-Cons heads tail)) h in (
+        each_all pids_of_pattern heads (all_front (concat (map pids_of_pattern heads)) (pids_of_pattern tail) both),
+        all_behind (concat (map pids_of_pattern heads)) (pids_of_pattern tail) both,
+      )

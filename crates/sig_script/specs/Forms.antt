@@ -132,13 +132,14 @@ pub data Operand : Type 0 where
   a_label : Operand
   a_switch : Operand
 
--- what it says
+-- what an operand says
 abbrev pub Said : Operand → Type 0
 Said an_expr = Expr
 Said a_variable = List ℕ
 Said a_label = ℕ
 Said a_switch = Bool
 
+-- what operands say, one after another
 abbrev pub AllSaid : List Operand → Type 0
 AllSaid [] = Unit {0}
 AllSaid (o ∷ os) = Said o × AllSaid os
@@ -150,16 +151,16 @@ operand_at known here line a_variable ts = variable_at line ts
 operand_at known here line a_label ts = target_at known here line ts
 operand_at known here line a_switch ts = switch_at line ts
 
--- these operands, one after another, and nothing behind them
+-- these operands, from left to right, and nothing behind them
 abbrev pub all_said : Known → ℕ → List ℕ → (os : List Operand) → List Token → Result (AllSaid os) FaultKind
 all_said known here line [] ts = ends tt ts
 all_said known here line (o ∷ os) ts = operand_at known here line o ts >>= λ x. on_ok (λ xs. (x.0, xs)) (all_said known here line os x.1)
 
--- the instruction that is made of these operands
+-- the instruction that is made of what these operands say
 unfoldable pub made_of : Known → ℕ → List ℕ → (os : List Operand) → (AllSaid os → Instr) → List Token → Result Instr FaultKind
 made_of known here line os make ts = on_ok make (all_said known here line os ts)
 
--- an instruction: what stands behind its word, and what is made of it
+-- the table of the instructions that are no receives: the operands behind the word, and the instruction
 unfoldable pub instr_of : Known → ℕ → Verb → List ℕ → List Token → Result Instr FaultKind
 instr_of known here verb.Send line ts = made_of known here line (an_expr ∷ an_expr ∷ []) (λ x. instr.Send x.0 x.1.0) ts
 instr_of known here verb.Set line ts = made_of known here line (a_variable ∷ an_expr ∷ []) (λ x. instr.Set (record { 0 = x.0 }) x.1.0) ts
