@@ -1,5 +1,5 @@
 -- What every running process keeps.
-use Rattle.std.specs.Prelude.{◌≡◌, ◌≢◌, ℕ, ◌<◌, ◌≤◌, List, [], length, All, Some, slice_get}
+use Rattle.std.specs.Prelude.{◌≡◌, ◌≢◌, ℕ, ◌≤◌, List, [], length, All, Some, slice_get}
 use Rattle.sig_kinds.specs.declared.signal.Signal.{Signal}
 use Rattle.sig_kinds.specs.SignalNames.{IsSignalBelow}
 use Rattle.sig_script.specs.Scripts.{IsWithin}
@@ -51,7 +51,7 @@ pub record IsKeeping (r : Running) : Type 0 where
   -- from its opening it has executed an instruction or handled a signal at each of its events, and these signals are the ones
   -- that it handled (Erlang Reference Manual, Processes, Receiving Signals)
   pub ran : RanAlone (own_rules r) r.pid (opening_local r) r.events r.handled (local_of r)
-  -- how far its part of the script goes, and its counts
+  -- how far its part of the script and its counts go
   pub within : IsWithin r.proc
   pub bounds : IsBounded r.proc r.state
   -- no stamp is above 2^62 (this project's own)
