@@ -1,3 +1,12 @@
+pub mod PostCounts
+pub mod Waiting
+pub mod ValueNames
+pub mod MatchNames
+pub mod BodyNames
+pub mod ExecutingNames
+pub mod HandlingNames
+pub mod RunningNames
+pub mod BoundLemmas
 pub mod StampLemmas
 pub mod SenderLemmas
 pub mod Guards
