@@ -5,7 +5,7 @@ ghost use Rattle.std.specs.FinMap as map;
 ghost use Rattle.std.specs.List.Sorted.{IsSearchInRange};
 ghost use Rattle.sig_links.specs.NextActive.{peers_above};
 ghost use Rattle.sig_links.specs.Places.{IsAt, IsGapFor};
-ghost use Rattle.sig_links.specs.Tables.{marked, peers_of, ids_of, IsInOrder};
+ghost use Rattle.sig_links.specs.Tables.{room_of, marked, peers_of, ids_of, IsInOrder};
 
 use sig_terms::Pid;
 use std::alloc::AllocError;
@@ -49,6 +49,7 @@ pub fn remove_peer(peers: &mut Vec<u32>, peer: u32) -> bool
     ensures order { IsInOrder (marked peers.new.items) }
     ensures removed { result ≡ map.contains_key (peers_of peers.old.items) peer }
     ensures peers { peers_of peers.new.items ≡ map.remove (peers_of peers.old.items) peer }
+    ensures room { room_of peers.old ≤ room_of peers.new }
 {
     let Ok(place) = place_of_peer(peers, peer) else {
         return false;

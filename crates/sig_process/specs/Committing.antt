@@ -1,5 +1,5 @@
 -- What a commit does to the fields of a process.
-use Rattle.std.specs.Prelude.{◌≡◌, ℕ, ◌+◌, ◌<◌, ◌≤◌, ◌^◌, List, [], ◌∷◌, ◌++◌, length, map, slice_index, Option, Some, None}
+use Rattle.std.specs.Prelude.{◌≡◌, ℕ, ◌+◌, ◌<◌, ◌≤◌, ◌^◌, List, [], ◌∷◌, ◌++◌, map, slice_index, Option, Some}
 use Rattle.std.specs.FinMap.{insert}
 use Rattle.sig_kinds.specs.declared.signal.Signal.{Signal}
 use Rattle.sig_terms.specs.declared.pid.Pid.{Pid}
@@ -18,17 +18,16 @@ use Rattle.sig_model.specs.Bounds.{posts_to}
 use Rattle.sig_model.specs.Finishing.{numbers_after}
 use Rattle.sig_model.specs.Running.{to_itself, to_others, next_of}
 use Rattle.sig_process.specs.declared.plan.Change.{Change}
-use Rattle.sig_process.specs.declared.plan.Change.TheVariants.{Nothing, Bind, Link, Unlink, Trap, Append, LinkUp, UnlinkBy, Acknowledge, End}
+use Rattle.sig_process.specs.declared.plan.Change.TheVariants.{Nothing, Bind, Append, End}
 use Rattle.sig_process.specs.declared.plan.Outgoing.{Outgoing}
 use Rattle.sig_process.specs.declared.progress.Progress.{Progress}
 use Rattle.sig_process.specs.Plans.{changed, after_obeying, post_of}
 use Rattle.sig_process.specs.Progressing.{state_of}
 
--- there is room for all that an event may add, with so many signals to be sent
+-- there is room for all that an event may change, with so many signals to be sent
 pub record HasRoom (posts : ℕ) (p : Progress) : Type 0 where
   pub own : posts ≤ p.own.spare
   pub outbox : posts ≤ p.outbox.spare
-  pub handled : 0 < p.handled.spare
   pub inner : 0 < p.tables.inner.spare
   pub links : 0 < p.tables.links.spare
 
@@ -85,6 +84,8 @@ pub record HasHandled (pid : ℕ) (before after : Progress) (x : Signal) (e : Ef
 -- Room is made, the event is noted, and a variable is bound where the change says so; this change is left.
 pub record HasBegun (posts : ℕ) (before : Progress) (change : Change) (after : Progress) (rest : Change) (e : Event) : Type 0 where
   pub room : HasRoom posts after
+  -- and for the signal that was handled
+  pub handled_room : 0 < after.handled.spare
   pub ready : IsReady rest
   pub state : (peer : Option Pid) → changed (after_obeying (state_of after) peer) rest ≡ changed (after_obeying (state_of before) peer) change
   pub queue : queue_after after.tables.inner.queue rest ≡ queue_after before.tables.inner.queue change

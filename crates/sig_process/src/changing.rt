@@ -17,6 +17,7 @@ impl Progress {
         ensures same { IsSame self.old self.new }
         ensures counts { self.new.counts ≡ self.old.counts }
         ensures room { OnOk result (HasRoom posts self.new) }
+        ensures handled { OnOk result (0 < self.new.handled.spare) }
     {
         self.own.room(posts)?;
         self.outbox.room(posts)?;

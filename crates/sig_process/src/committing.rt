@@ -7,7 +7,7 @@ ghost use Rattle.sig_patterns.specs.Matching.{match_of};
 ghost use Rattle.sig_model.specs.Bounds.{posts_to};
 ghost use Rattle.sig_model.specs.Finishing.{numbers_after, numbered, finished_exec, finished_handle};
 ghost use Rattle.sig_model.specs.Running.{to_itself, to_others, next_of};
-ghost use Rattle.sig_process.specs.Committing.{HasRoom, IsCommittable, IsReady, HasBegun, HasHandled, HasTaken, gone_on, queue_after};
+ghost use Rattle.sig_process.specs.Committing.{HasRoom, IsCommittable, IsReady, HasBegun, HasHandled, HasTaken, gone_on, queue_after, behind_first, others_behind};
 ghost use Rattle.sig_process.specs.Plans.{changed, after_obeying, post_of, body_of};
 ghost use Rattle.sig_process.specs.Progressing.{state_of, IsSame, HasAdvanced};
 
@@ -15,7 +15,7 @@ use crate::plan::{Change, Outgoing, Plan};
 use crate::posting::send_all;
 use crate::progress::Progress;
 use crate::waiting::{next_signal, pop_next};
-use sig_model::{Did, Event, Outcome, LAST_STAMP};
+use sig_model::{Did, Event, LAST_STAMP, Outcome};
 use sig_patterns::{Pattern, bind_match};
 use sig_terms::Pid;
 use std::alloc::{AllocError, Global};
@@ -118,7 +118,10 @@ impl Progress {
         requires due { IsSomeAnd (next_of self.now.own.items self.now.taken_in.items) (λ x. x.stamp < LAST_STAMP) }
         requires stamp { self.now.counts.stamp < LAST_STAMP }
         ensures { IfSome (next_of self.now.own.items self.now.taken_in.items) (λ x. result ≡ record {
-            stamp = max self.now.counts.stamp x.stamp + 1; did = Did.From x.from x.number; outcome = outcome }) }
+          stamp = max self.now.counts.stamp x.stamp + 1;
+          did = Did.From x.from x.number;
+          outcome = outcome;
+        }) }
     {
         match next_signal(&self.own, &self.taken_in) {
             None => unreachable!(),
@@ -133,13 +136,28 @@ impl Progress {
         }
     }
 
+    /// The next signal waits no more, and is the last of those that were handled.
+    fn move_next(&mut self)
+        requires room { 0 < self.old.handled.spare }
+        ensures handled { IfSome (next_of self.old.own.items self.old.taken_in.items) (λ x. self.new.handled.items ≡ self.old.handled.items ++ x ∷ []) }
+        ensures own { self.new.own.items ≡ behind_first self.old.own.items }
+        ensures taken_in { self.new.taken_in.items ≡ others_behind self.old.own.items self.old.taken_in.items }
+        ensures own_room { self.old.own.spare ≤ self.new.own.spare }
+        ensures others { self.new ≡ record self.old { handled = self.new.handled; own = self.new.own; taken_in = self.new.taken_in } }
+    {
+        match pop_next(&mut self.own, &mut self.taken_in) {
+            None => {}
+            Some(signal) => self.handled.add(signal),
+        }
+    }
+
     /// The plan of the next signal's handling happens, or for want of memory nothing does.
     pub(crate) fn commit_handle(&mut self, pid: Pid, plan: Plan) -> Result<(), AllocError>
         requires committable { IsCommittable plan.posts.items self.old }
         requires due { IsSomeAnd (next_of self.old.own.items self.old.taken_in.items) (λ x. x.stamp < LAST_STAMP) }
         ensures event { MatchResult result
             (λ _. IfSome (next_of self.old.own.items self.old.taken_in.items) (λ x.
-                HasHandled pid.0 self.old self.new x (finished_handle pid.0 (state_of self.old) x (body_of (state_of self.old) plan))))
+            HasHandled pid.0 self.old self.new x (finished_handle pid.0 (state_of self.old) x (body_of (state_of self.old) plan))))
             (λ _. IsSame self.old self.new) }
         ensures queue { OnOk result (self.new.tables.inner.queue ≡ queue_after self.old.tables.inner.queue plan.change) }
     {
@@ -153,9 +171,7 @@ impl Progress {
         let event = self.handling_event(outcome);
         let stamp = event.stamp;
         let rest = self.begin(event, change, posts.len())?;
-        if let Some(signal) = pop_next(&mut self.own, &mut self.taken_in) {
-            self.handled.add(signal);
-        }
+        self.move_next();
         self.go_on(pid, stamp, obeyed, rest, place, posts);
         Ok(())
     }
@@ -201,7 +217,7 @@ impl Progress {
         requires { IsSomeAnd (found_message self.old.tables.inner.queue) (λ m. IsSome (match_of pattern.now self.old.tables.env m)) }
         ensures { MatchResult result
             (λ _. IfSome (found_message self.old.tables.inner.queue) (λ m.
-                (match_of pattern.now self.old.tables.env m ≡ Some self.new.tables.env) × (self.new ≡ record self.old { tables = record self.old.tables { env = self.new.tables.env } })))
+            (match_of pattern.now self.old.tables.env m ≡ Some self.new.tables.env) × (self.new ≡ record self.old { tables = record self.old.tables { env = self.new.tables.env } })))
             (λ _. self.new ≡ self.old) }
     {
         match self.tables.inner.found() {

@@ -16,7 +16,7 @@ impl Pid {
         ensures text { OnOk result (into.new.items ≡ into.old.items ++ pid_text self.0) }
         ensures err { OnErr result (into.new.items ≡ into.old.items) }
         // What is printed is a term as `read` knows them.
-        ensures term { OnOk result (self.0 < 2 ^ 32) }
+        ensures term { self.0 < 2 ^ 32 }
     {
         let mut buffer = Buffer::new();
         append_pieces(into, &[b"<", buffer.format(self.0).as_bytes(), b">"])

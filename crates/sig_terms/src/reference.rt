@@ -21,7 +21,7 @@ impl Ref {
         ensures text { OnOk result (into.new.items ≡ into.old.items ++ reference_text self) }
         ensures err { OnErr result (into.new.items ≡ into.old.items) }
         // What is printed is a term as `read` knows them.
-        ensures term { OnOk result ((self.owner.0 < 2 ^ 32) × (self.serial < 2 ^ 64)) }
+        ensures term { (self.owner.0 < 2 ^ 32) × (self.serial < 2 ^ 64) }
     {
         let mut owner = Buffer::new();
         let mut serial = Buffer::new();
