@@ -7,6 +7,7 @@ mod name;
 mod nested;
 mod nodes;
 mod pid;
+mod pieces;
 mod reading;
 mod reference;
 mod refusal;

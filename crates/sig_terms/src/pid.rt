@@ -1,6 +1,7 @@
-ghost use Rattle.std.specs.Prelude.{◌≡◌, ◌<◌, ◌^◌, OnOk, ◌++◌};
+ghost use Rattle.std.specs.Prelude.{◌≡◌, ◌<◌, ◌^◌, OnOk, OnErr, ◌++◌};
 ghost use Rattle.sig_terms.specs.TermText.{pid_text};
 
+use crate::pieces::append_pieces;
 use itoa::Buffer;
 use std::alloc::AllocError;
 
@@ -10,15 +11,14 @@ use std::alloc::AllocError;
 pub struct Pid(pub u32);
 
 impl Pid {
-    /// Appends the pid's text, `<N>`.
+    /// Appends the pid's text, `<N>`. Where memory is refused, `into` is as before.
     pub fn print(self, into: &mut Vec<u8>) -> Result<(), AllocError>
         ensures text { OnOk result (into.new.items ≡ into.old.items ++ pid_text self.0) }
-        ensures fits { self.0 < 2 ^ 32 }
+        ensures err { OnErr result (into.new.items ≡ into.old.items) }
+        // What is printed is a term as `read` knows them.
+        ensures term { OnOk result (self.0 < 2 ^ 32) }
     {
         let mut buffer = Buffer::new();
-        into.extend_from_slice(b"<")?;
-        into.extend_from_slice(buffer.format(self.0).as_bytes())?;
-        into.extend_from_slice(b">")?;
-        Ok(())
+        append_pieces(into, &[b"<", buffer.format(self.0).as_bytes(), b">"])
     }
 }

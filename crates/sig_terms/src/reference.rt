@@ -1,7 +1,8 @@
-ghost use Rattle.std.specs.Prelude.{◌≡◌, ◌<◌, ◌^◌, OnOk, ◌++◌};
+ghost use Rattle.std.specs.Prelude.{◌≡◌, ◌<◌, ◌^◌, OnOk, OnErr, ◌++◌};
 ghost use Rattle.sig_terms.specs.TermText.{reference_text};
 
 use crate::pid::Pid;
+use crate::pieces::append_pieces;
 use itoa::Buffer;
 use std::alloc::AllocError;
 
@@ -15,18 +16,17 @@ pub struct Ref {
 }
 
 impl Ref {
-    /// Appends the reference's text, `#Ref<O.S>`.
+    /// Appends the reference's text, `#Ref<O.S>`. Where memory is refused, `into` is as before.
     pub fn print(self, into: &mut Vec<u8>) -> Result<(), AllocError>
         ensures text { OnOk result (into.new.items ≡ into.old.items ++ reference_text self) }
-        ensures fits { (self.owner.0 < 2 ^ 32) × (self.serial < 2 ^ 64) }
+        ensures err { OnErr result (into.new.items ≡ into.old.items) }
+        // What is printed is a term as `read` knows them.
+        ensures term { OnOk result ((self.owner.0 < 2 ^ 32) × (self.serial < 2 ^ 64)) }
     {
         let mut owner = Buffer::new();
         let mut serial = Buffer::new();
-        into.extend_from_slice(b"#Ref<")?;
-        into.extend_from_slice(owner.format(self.owner.0).as_bytes())?;
-        into.extend_from_slice(b".")?;
-        into.extend_from_slice(serial.format(self.serial).as_bytes())?;
-        into.extend_from_slice(b">")?;
-        Ok(())
+        let owner = owner.format(self.owner.0).as_bytes();
+        let serial = serial.format(self.serial).as_bytes();
+        append_pieces(into, &[b"#Ref<", owner, b".", serial, b">"])
     }
 }

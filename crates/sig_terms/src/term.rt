@@ -1,4 +1,4 @@
-ghost use Rattle.std.specs.Prelude.{◌≡◌, ◌++◌, IfOk, OnOk, IsTrue, ◌↔◌, map, true};
+ghost use Rattle.std.specs.Prelude.{◌≡◌, ◌++◌, IfOk, OnOk, OnErr, IsTrue, ◌↔◌, map, true, take, length};
 ghost use Rattle.std.specs.Fmt.{signed_decimal};
 ghost use Rattle.std.specs.List.{list_all};
 ghost use Rattle.sig_terms.specs.TermText.{term_text, joined};
@@ -69,18 +69,19 @@ fn same_all(a: &[Term], b: &[Term]) -> bool
 }
 
 /// Appends the texts of the terms, with a comma between two.
-#[cycle(print)]
-fn print_all(items: &[Term], into: &mut Vec<u8>) -> Result<(), AllocError>
+#[cycle(append)]
+fn append_all(items: &[Term], into: &mut Vec<u8>) -> Result<(), AllocError>
     ensures text { OnOk result (into.new.items ≡ into.old.items ++ joined (map term_text items.now)) }
+    ensures front { OnErr result (take (length into.old.items) into.new.items ≡ into.old.items) }
     ensures terms { OnOk result (list_all (λ b. b) (map is_term items.now) ≡ true) }
 {
     match items {
         [] => Ok(()),
         [first, rest @ ..] => {
-            first.print(into)?;
+            first.append(into)?;
             for item in rest {
                 into.extend_from_slice(b",")?;
-                item.print(into)?;
+                item.append(into)?;
             }
             Ok(())
         }
@@ -88,8 +89,9 @@ fn print_all(items: &[Term], into: &mut Vec<u8>) -> Result<(), AllocError>
 }
 
 /// Appends the text of an integer.
-fn print_int(n: i64, into: &mut Vec<u8>) -> Result<(), AllocError>
+fn append_int(n: i64, into: &mut Vec<u8>) -> Result<(), AllocError>
     ensures text { OnOk result (into.new.items ≡ into.old.items ++ signed_decimal n) }
+    ensures err { OnErr result (into.new.items ≡ into.old.items) }
     ensures wide { is_wide n ≡ true }
 {
     let mut buffer = Buffer::new();
@@ -138,26 +140,43 @@ impl Term {
         }
     }
 
-    /// Appends the term's text. Each term has one text, and `read` gives the term back.
-    #[cycle(print)]
+    /// Appends the term's text. Each term has one text, and `read` gives the term back. Where
+    /// memory is refused, `into` is as before.
     pub fn print(&self, into: &mut Vec<u8>) -> Result<(), AllocError>
         ensures text { OnOk result (into.new.items ≡ into.old.items ++ term_text self.now) }
+        ensures err { OnErr result (into.new.items ≡ into.old.items) }
         // What is printed is a term as `read` knows them.
         ensures term { OnOk result (IsTerm self.now) }
     {
+        let before = into.len();
+        let appended = self.append(into);
+        if appended.is_err() {
+            into.truncate(before);
+        }
+        appended
+    }
+
+    /// Appends the term's text. Where memory is refused, a part of it may stand behind what was
+    /// there.
+    #[cycle(append)]
+    fn append(&self, into: &mut Vec<u8>) -> Result<(), AllocError>
+        ensures text { OnOk result (into.new.items ≡ into.old.items ++ term_text self.now) }
+        ensures front { OnErr result (take (length into.old.items) into.new.items ≡ into.old.items) }
+        ensures term { OnOk result (IsTerm self.now) }
+    {
         match self {
-            Term::Int(n) => print_int(*n, into),
+            Term::Int(n) => append_int(*n, into),
             Term::Atom(atom) => atom.print(into),
             Term::Pid(pid) => pid.print(into),
             Term::Ref(reference) => reference.print(into),
             Term::Tuple(items) => {
                 into.extend_from_slice(b"{")?;
-                print_all(items.as_slice(), into)?;
+                append_all(items.as_slice(), into)?;
                 into.extend_from_slice(b"}")
             }
             Term::List(items) => {
                 into.extend_from_slice(b"[")?;
-                print_all(items.as_slice(), into)?;
+                append_all(items.as_slice(), into)?;
                 into.extend_from_slice(b"]")
             }
         }
