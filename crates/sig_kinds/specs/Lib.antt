@@ -1,2 +1,5 @@
+pub mod SignalList
 pub mod Pushes
 pub mod LinkRules
+pub mod WatchRules
+pub mod Counting

@@ -103,8 +103,17 @@ fn signals_move_behind_the_others(rt: HostRuntime) -> Result<(), Fail> {
         assert!(rt; matches!(others.push(numbered(number)), Push::Added));
     }
     signals.append(&mut others)?;
+    signals.room(2)?;
+    signals.add(numbered(4));
+    signals.add(numbered(5));
     assert!(rt; others.is_empty());
-    assert!(rt; signals.len() == 3);
-    assert!(rt; signals.get(2).is_some_and(|s| s.number == 3));
+    assert!(rt; signals.len() == 5);
+    for place in 0usize..5 {
+        assert!(rt;
+            signals
+                .get(place)
+                .is_some_and(|s| s.number == place as u64 + 1)
+        );
+    }
     Ok(())
 }

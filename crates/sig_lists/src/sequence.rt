@@ -1,12 +1,12 @@
-ghost use Rattle.std.specs.Prelude.{◌≡◌, ◌<◌, [], length, slice_get, IsTrue, ◌↔◌, OnSome};
+ghost use Rattle.std.specs.Prelude.{◌≡◌, ◌<◌, [], ◌∷◌, ◌++◌, length, slice_get, IsTrue, ◌↔◌, OnSome, MatchOption, MatchResult};
 ghost use Rattle.std.specs.Option.{option_copied};
 ghost use Rattle.sig_lists.specs.Pushing.{IsPushed};
 
 use crate::pushed::Pushed;
-use std::alloc::Global;
+use std::alloc::{AllocError, Global};
 use std::marker::Model;
 
-/// A list of items, added to at its end. Contracts see the items alone, so a copy equals what it
+/// A list of items, added to and taken from at its end. Contracts see the items alone, so a copy equals what it
 /// copies, and a type that holds a sequence of itself is plain data.
 #[derive(Debug, Drop)]
 pub struct Sequence<T> {
@@ -85,5 +85,27 @@ impl<T> Sequence<T> {
             Ok(()) => Pushed::Added,
             Err(full) => Pushed::Memory { item: full.value },
         }
+    }
+
+    /// Adds an item at the end, for callers that don't want it back: without memory for it it is
+    /// dropped, and the list is as before.
+    pub fn add(&mut self, item: T) -> Result<(), AllocError>
+    where
+        T: Drop,
+        ensures { MatchResult result
+            (λ _. self.new ≡ self.old ++ item ∷ [])
+            (λ _. self.new ≡ self.old) }
+    {
+        self.items.push(item)?;
+        Ok(())
+    }
+
+    /// Takes the last item, in constant time. `None` exactly where there is none.
+    pub fn pop(&mut self) -> Option<T>
+        ensures { MatchOption result
+            ((self.old ≡ []) × (self.new ≡ []))
+            (λ last. self.old ≡ self.new ++ last ∷ []) }
+    {
+        self.items.pop()
     }
 }
