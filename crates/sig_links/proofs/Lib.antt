@@ -1,3 +1,3 @@
-pub mod Held
-pub mod InOrder
 pub mod NextLemmas
+pub mod Peers
+pub mod Places

@@ -1,2 +1,4 @@
+pub mod LinkTable
 pub mod NextActive
+pub mod Places
 pub mod Tables

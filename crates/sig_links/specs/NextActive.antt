@@ -1,7 +1,5 @@
 -- The active peers one after another, in ascending order.
-use Rattle.std.specs.Prelude.{◌≡◌, ℕ, ◌<◌, ◌≤◌, true, false, [], ◌∷◌, Option, Some, None}
-use Rattle.std.specs.declared.ops.Bound.{Bound}
-use Rattle.std.specs.declared.ops.Bound.TheVariants.{Excluded, Unbounded}
+use Rattle.std.specs.Prelude.{◌≡◌, ℕ, ◌<◌, ◌≤◌, true, false, [], ◌∷◌, List, Option, Some, None, filter, nat_lt}
 use Rattle.sig_terms.specs.declared.pid.Pid.{Pid}
 use Rattle.sig_kinds.specs.LinkRules.{LinkState, is_active, active_after}
 
@@ -10,10 +8,10 @@ abbrev pub IsNextActive : LinkState → Option Pid → Option Pid → Type 0
 IsNextActive links after None = active_after links after ≡ []
 IsNextActive links after (Some peer) = active_after links after ≡ peer.0 ∷ active_after links (Some peer)
 
--- where a range of the pids above `after` begins
-abbrev pub start_above : Option Pid → Bound ℕ
-start_above None = Unbounded
-start_above (Some after) = Excluded after.0
+-- those of the peers that are above a pid, or all of them
+abbrev pub peers_above : Option Pid → List ℕ → List ℕ
+peers_above None peers = peers
+peers_above (Some after) peers = filter (λ peer. nat_lt after.0 peer) peers
 
 -- every pid is above none
 abbrev pub IsAbove : Option Pid → ℕ → Type 0

@@ -2,6 +2,7 @@
 #![tactic(auto)]
 
 mod links;
+mod tables;
 
 pub use links::Links;
 

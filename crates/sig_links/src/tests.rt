@@ -15,9 +15,18 @@ fn digit(number: u64) -> u8 {
     b'0' + (number % 10) as u8
 }
 
+/// `link` after `room`, which can't be refused memory.
+fn linked_in_room(links: &mut Links, peer: Pid) -> Result<bool, Fail> {
+    links.room()?;
+    let Ok(sends) = links.link(peer) else {
+        unreachable!();
+    };
+    Ok(sends)
+}
+
 fn called(links: &mut Links, sign: u8, peer: Pid) -> Result<u8, Fail>
-    requires { links.old.next_id < 2 ^ 63 }
-    ensures { links.new.next_id ≤ links.old.next_id + 1 }
+    requires { links.old.links.next_id < 2 ^ 63 }
+    ensures { links.new.links.next_id ≤ links.old.links.next_id + 1 }
 {
     let yes = match sign {
         b'+' => links.link(peer)?,
@@ -32,8 +41,8 @@ fn called(links: &mut Links, sign: u8, peer: Pid) -> Result<u8, Fail>
 
 /// The answers to these calls.
 fn answers(alloc: Global, links: &mut Links, calls: &[&[u8; 2]]) -> Result<Vec<u8>, Fail>
-    requires { links.old.next_id < 2 ^ 62 }
-    ensures { links.new.next_id ≤ links.old.next_id + 1000 }
+    requires { links.old.links.next_id < 2 ^ 62 }
+    ensures { links.new.links.next_id ≤ links.old.links.next_id + 1000 }
 {
     let mut answers = Vec::new(alloc);
     for index in 0..1000 {
@@ -145,6 +154,17 @@ fn active_peers_ascend(rt: HostRuntime) -> Result<(), Fail> {
     assert!(rt; links.next_active(Some(Pid(3))) == Some(Pid(5)));
     assert!(rt; links.next_active(Some(Pid(9))).is_none());
     assert!(rt; links.next_active(Some(Pid(u32::MAX))).is_none());
+    Ok(())
+}
+
+#[test]
+fn room_is_made_ahead(rt: HostRuntime) -> Result<(), Fail> {
+    let alloc = rt.alloc();
+    let mut links = Links::open(alloc, Pid(0));
+    assert!(rt; linked_in_room(&mut links, Pid(2))?);
+    assert!(rt; linked_in_room(&mut links, Pid(1))?);
+    assert!(rt; !linked_in_room(&mut links, Pid(2))?);
+    assert_eq!(rt; active_peers(alloc, &links)?.as_slice(), b"12".as_slice());
     Ok(())
 }
 
