@@ -7,3 +7,5 @@ pub mod Walks
 pub mod Settings
 pub mod Extents
 pub mod Examples
+pub mod HitLemmas
+mod MarkLemmas

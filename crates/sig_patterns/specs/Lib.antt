@@ -1,4 +1,5 @@
 pub mod Environment
+pub mod Inbox
 pub mod Entries
 pub mod Matching
 pub mod Fitting

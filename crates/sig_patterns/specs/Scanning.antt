@@ -1,25 +1,56 @@
 -- The scan of a receive (Erlang Reference Manual, Expressions, Receive): the oldest message that some clause matches, and
 -- the first clause that matches it.
-use Rattle.std.specs.Prelude.{ℕ, ◌+◌, List, [], ◌∷◌, length, Option, Some, None, is_some, position}
-use Rattle.std.specs.Option.{option_map, option_map_or}
+use Rattle.std.specs.Prelude.{ℕ, ◌+◌, List, [], ◌∷◌, length, Option, None, is_some, position}
+use Rattle.std.specs.Option.{option_map, option_map_or, option_or}
 use Rattle.sig_terms.specs.declared.term.Term.{Term}
 use Rattle.sig_patterns.specs.declared.clause.Clause.{Clause}
 use Rattle.sig_patterns.specs.declared.found.Found.{Found}
 use Rattle.sig_patterns.specs.Environment.{Environment}
 use Rattle.sig_patterns.specs.Matching.{match_of}
 
+-- what a scan found: the place of the message, from 0; the clause, from 0; the message; where the clause goes on; and the
+-- environment after the match
+pub record Hit : Type 0 where
+  pub at : ℕ
+  pub clause : ℕ
+  pub message : Term
+  pub target : Option ℕ
+  pub env : Environment
+
+-- the hit of a clause that matches the message, both at the front
+abbrev pub hit_by : Clause → Term → Environment → Hit
+hit_by clause message env = record { at = 0; clause = 0; message = message; target = clause.target; env = env }
+
+-- the same hit, with one more clause before its clause
+abbrev pub behind_clause : Hit → Hit
+behind_clause h = record h { clause = h.clause + 1 }
+
+-- the same hit, with one more message before its message
+abbrev pub behind_message : Hit → Hit
+behind_message h = record h { at = h.at + 1 }
+
+-- the first clause that matches the message
+abbrev pub hit_here : List Clause → Environment → Term → Option Hit
+hit_here [] env message = None
+hit_here (clause ∷ clauses) env message =
+    option_or (option_map (hit_by clause message) (match_of clause.pattern env message)) (option_map behind_clause (hit_here clauses env message))
+
+-- the oldest message that some clause matches, and the first such clause
+unfoldable pub hit : List Clause → Environment → List Term → Option Hit
+hit clauses env [] = None
+hit clauses env (message ∷ messages) = option_or (hit_here clauses env message) (option_map behind_message (hit clauses env messages))
+
+-- the places alone of a hit
+abbrev pub places_of : Hit → Found
+places_of h = record { at = h.at; clause = h.clause }
+
+-- the oldest message that some clause matches, and the first such clause, by their places
+abbrev pub scan : List Clause → Environment → List Term → Option Found
+scan clauses env messages = option_map places_of (hit clauses env messages)
+
 -- the first clause that matches the message, from 0
 abbrev pub first_clause : List Clause → Environment → Term → Option ℕ
 first_clause clauses env message = position (λ c. is_some (match_of c.pattern env message)) clauses
-
--- the oldest message, or none, after the message in front
-abbrev pub or_later : Option ℕ → Option Found → Option Found
-or_later (Some clause) later = Some (record { at = 0; clause = clause })
-or_later None later = option_map (λ f. record { at = f.at + 1; clause = f.clause }) later
-
-unfoldable pub scan : List Clause → Environment → List Term → Option Found
-scan clauses env [] = None
-scan clauses env (message ∷ messages) = or_later (first_clause clauses env message) (scan clauses env messages)
 
 -- how many messages a scan of the whole list looks at: up to the one that it finds, or all
 abbrev pub looked : List Term → Option Found → ℕ

@@ -1,16 +1,18 @@
-//! What a match is, in the manual's words. Each function is a theorem on the definition of a match: its contract is what
-//! was proved, and its body is empty. (Erlang Reference Manual, Pattern Matching.)
+//! What a match is, in the manual's words, and what a hit of a scan tells. Each function is a theorem on the definitions: its
+//! contract is what was proved, and its body is empty. (Erlang Reference Manual, Pattern Matching; Expressions, Receive.)
 
-ghost use Rattle.std.specs.Prelude.{◌≡◌, if◌then◌else◌, List, [], ◌∷◌, Some, None};
+ghost use Rattle.std.specs.Prelude.{◌≡◌, if◌then◌else◌, List, [], ◌∷◌, Some, None, slice_get};
 ghost use Rattle.std.specs.FinMap as map;
 ghost use Rattle.sig_terms.specs.TermTest.{same_term};
 ghost use Rattle.sig_terms.specs.declared.term.Term.{Term};
 ghost use Rattle.sig_terms.specs.declared.term.Term.TheVariants as term;
+ghost use Rattle.sig_patterns.specs.declared.clause.Clause.{Clause};
 ghost use Rattle.sig_patterns.specs.declared.var.Var.{Var};
 ghost use Rattle.sig_patterns.specs.declared.pattern.Pattern.{Pattern};
 ghost use Rattle.sig_patterns.specs.declared.pattern.Pattern.TheVariants as pattern;
 ghost use Rattle.sig_patterns.specs.Environment.{Environment, value_of_var};
 ghost use Rattle.sig_patterns.specs.Matching.{match_of};
+ghost use Rattle.sig_patterns.specs.Scanning.{Hit, hit};
 
 /// `[P1, P2, .. | Q]` matches as `[P1 | [P2, .. | Q]]` does.
 pub fn heads_nest()
@@ -31,4 +33,14 @@ pub fn a_pin_compares_with_the_value_before()
     ensures { (env : Environment) (x : Var) (t u : Term) →
         match_of (pattern.Tuple (pattern.Bind x ∷ pattern.Pin x ∷ [])) env (term.Tuple (t ∷ u ∷ []))
         ≡ (if same_term (value_of_var env x.0) u then Some (map.insert env x.0 t) else None) }
+{}
+
+/// A hit tells the message at its place, and where its clause goes on. The clause at its number matches that message, with
+/// the environment that the hit tells.
+pub fn a_hit_tells_its_match()
+    ensures message { (clauses : List Clause) (env : Environment) (messages : List Term) (h : Hit) →
+        hit clauses env messages ≡ Some h → slice_get messages h.at ≡ Some h.message }
+    ensures clause { (clauses : List Clause) (env : Environment) (messages : List Term) (h : Hit) →
+        hit clauses env messages ≡ Some h →
+        (c : Clause) × ((slice_get clauses h.clause ≡ Some c) × (h.target ≡ c.target) × (match_of c.pattern env h.message ≡ Some h.env)) }
 {}

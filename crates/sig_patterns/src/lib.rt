@@ -22,7 +22,10 @@ pub use clause::{Clause, Clauses};
 pub use env::Env;
 pub use expression::{Expr, Exprs};
 pub use found::Found;
-pub use laws::{a_pin_compares_with_the_value_before, a_repeated_variable_compares, heads_nest};
+pub use laws::{
+    a_hit_tells_its_match, a_pin_compares_with_the_value_before, a_repeated_variable_compares,
+    heads_nest,
+};
 pub use matching::matches;
 pub use pattern::{Pattern, Patterns};
 pub use scanning::first_match;
