@@ -6,3 +6,5 @@ pub mod FrontTexts
 pub mod TokenReads
 pub mod FrontReads
 pub mod WholeReads
+pub mod NameLemmas
+pub mod SameTerms

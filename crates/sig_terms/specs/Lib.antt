@@ -6,3 +6,4 @@ pub mod References
 pub mod Readable
 pub mod Tokens
 pub mod Fronts
+pub mod Names

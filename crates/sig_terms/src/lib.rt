@@ -2,6 +2,7 @@
 #![tactic(auto)]
 
 mod atom;
+mod atoms;
 pub mod bytes;
 mod name;
 mod nested;
@@ -21,7 +22,7 @@ pub use reading::{Front, read, read_front, texts_tell_terms_apart};
 pub use reference::Ref;
 pub use refusal::ReadTerm;
 pub use sig_lists::Pushed;
-pub use term::{Term, Terms};
+pub use term::{Term, Terms, same_is_equality};
 
 #[cfg(test)]
 mod tests;

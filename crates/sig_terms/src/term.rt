@@ -4,6 +4,7 @@ ghost use Rattle.std.specs.List.{list_all};
 ghost use Rattle.sig_terms.specs.TermText.{term_text, joined};
 ghost use Rattle.sig_terms.specs.Readable.{is_wide, is_term, IsTerm};
 ghost use Rattle.sig_terms.specs.TermTest.{same_term, same_list};
+ghost use Rattle.sig_terms.specs.declared.term.Term.{Term};
 
 use crate::atom::Atom;
 use crate::pid::Pid;
@@ -182,3 +183,9 @@ impl Term {
         }
     }
 }
+
+/// The test of two terms passes exactly where they are equal.
+/// (Erlang Reference Manual, Expressions, Term Comparisons: `=:=`.)
+pub fn same_is_equality()
+    ensures { (t u : Term) → IsTrue (same_term t u) ↔ (t ≡ u) }
+{}

@@ -137,6 +137,7 @@ fn read_gives_the_term(rt: HostRuntime) -> Result<(), Fail> {
     assert!(rt; read(alloc, b"#Ref<12.34>")?.same(&Term::Ref(Ref { owner, serial: 34 })));
     assert!(rt; read(alloc, b"[]")?.same(&Term::List(Sequence::new(alloc))));
     assert!(rt; read(alloc, b"{}")?.same(&Term::Tuple(Sequence::new(alloc))));
+    assert!(rt; Term::plain_atom(alloc, b"Two words")?.is_atom(b"Two words"));
     if let Some(atom) = Atom::new(alloc, b"Two words")? {
         assert!(rt; read(alloc, b"'Two words'")?.same(&Term::Atom(atom)));
     }
