@@ -3,3 +3,4 @@ pub mod Pushes
 pub mod LinkRules
 pub mod WatchRules
 pub mod Counting
+pub mod SignalNames

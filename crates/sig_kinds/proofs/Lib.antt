@@ -1,0 +1,2 @@
+pub mod LinkNameLemmas
+pub mod WatchNameLemmas
