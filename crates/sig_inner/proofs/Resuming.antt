@@ -1,5 +1,5 @@
 -- When no clause matches a message before the saved place: what each call keeps of that.
-use Rattle.std.proofs.Common.{◌≡◌, ℕ, ◌+◌, ◌-◌, ◌*◌, ◌≤◌, List, [], length, take, false, Option, Some, None, refl, sym, ◌∙◌, ap, subst, arith}
+use Rattle.std.proofs.Common.{◌≡◌, ℕ, ◌+◌, ◌-◌, ◌*◌, ◌≤◌, List, [], length, take, false, Option, Some, None, sym, ◌∙◌, ap, subst, arith}
 use Rattle.std.proofs.Math.Nat.{mul-sub}
 use Rattle.std.proofs.lemmas.List.{take_all, length-map}
 use Rattle.sig_terms.specs.declared.term.Term.{Term}
@@ -7,28 +7,29 @@ use Rattle.sig_patterns.specs.declared.clause.Clause.{Clause}
 use Rattle.sig_patterns.specs.declared.found.Found.{Found}
 use Rattle.sig_patterns.specs.Environment.{Environment}
 use Rattle.sig_patterns.specs.Scanning.{scan}
+use Rattle.sig_patterns.proofs.HitLemmas as hits
 use Rattle.sig_inner.specs.declared.last_scan.LastScan.{LastScan}
 use Rattle.sig_inner.specs.declared.last_scan.LastScan.TheVariants as last
-use Rattle.sig_inner.specs.InnerQueue.{InnerQueue, terms_of}
+use Rattle.sig_patterns.specs.Inbox.{terms_of}
+use Rattle.sig_inner.specs.InnerQueue.{InnerQueue}
 use Rattle.sig_inner.specs.Receiving.{scanned, after_scan, is_saved, passed, HasPassed}
 
 module _ (clauses : List Clause) (env : Environment) where
   pub scan_nothing : scan clauses env [] ≡ None
-  unfolding scan
-  scan_nothing = refl
+  scan_nothing = hits.scan_nothing clauses env
 
   -- after a scan
   left : (q : InnerQueue) (found : Option Found) → scanned q clauses env ≡ found → HasPassed (after_scan q found) clauses env
   left q (Some f) e = scan_nothing
   left q None e =
-      ap (scan clauses env) (take_all (length q.messages) (terms_of q.messages) (omega (arith, length-map q.messages (λ m. m.1)))) ∙ e
+      ap (scan clauses env) (take_all (length q.inbox.messages) (terms_of q.inbox.messages) (omega (arith, length-map q.inbox.messages (λ m. m.1)))) ∙ e
 
   pub passed_after_scan : (before after : InnerQueue) (found : Option Found) → found ≡ scanned before clauses env → after ≡ after_scan before found → HasPassed after clauses env
   passed_after_scan before after found e is = subst (λ (q : InnerQueue). HasPassed q clauses env) (sym is) (left before found (sym e))
 
   -- where no place is saved
   pub passed_unsaved : (q : InnerQueue) → is_saved q.last ≡ false → HasPassed q clauses env
-  passed_unsaved q e = at q.last q.messages e where
+  passed_unsaved q e = at q.last q.inbox.messages e where
     at : (l : LastScan) (messages : List (ℕ × Term)) → is_saved l ≡ false → scan clauses env (take (passed l) (terms_of messages)) ≡ None
     at last.Gone messages e = scan_nothing
     at (last.Found place) messages e = scan_nothing

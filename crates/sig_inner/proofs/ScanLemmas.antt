@@ -6,8 +6,9 @@ use Rattle.sig_terms.specs.declared.term.Term.{Term}
 use Rattle.sig_patterns.specs.declared.found.Found.{Found}
 use Rattle.sig_patterns.specs.declared.clause.Clause.{Clause}
 use Rattle.sig_patterns.specs.Environment.{Environment}
-use Rattle.sig_patterns.specs.Scanning.{first_clause, or_later, scan}
-use Rattle.sig_inner.specs.InnerQueue.{terms_of}
+use Rattle.sig_patterns.specs.Scanning.{first_clause, scan}
+use Rattle.sig_patterns.proofs.HitLemmas.{or_later, scan_nothing, scan_next}
+use Rattle.sig_patterns.specs.Inbox.{terms_of}
 
 -- what a scan of the messages from a place on found, counted from the head
 abbrev pub shifted : ℕ → Option Found → Option Found
@@ -31,9 +32,9 @@ once_more n (Some f) = ap (λ (k : ℕ). Some (record { at = k; clause = f.claus
 module _ (clauses : List Clause) (env : Environment) where
   at_message : (terms : List Term) (i : ℕ) (t : Term) → i < length terms → t ≡ get_or terms i t →
       scan clauses env (drop i terms) ≡ or_later (first_clause clauses env t) (scan clauses env (drop (i + 1) terms))
-  unfolding scan
   at_message terms i t lt is =
       ap (scan clauses env) (drop_more terms i t lt)
+      ∙ scan_next clauses env (get_or terms i t) (drop (i + 1) terms)
       ∙ ap (λ (u : Term). or_later (first_clause clauses env u) (scan clauses env (drop (i + 1) terms))) (sym is)
 
   -- no clause matches the message at a place
@@ -51,8 +52,7 @@ module _ (clauses : List Clause) (env : Environment) where
       ∙ ap (λ (k : ℕ). Some (record { at = k; clause = clause })) (omega arith)
 
   pub scan_ends : (terms : List Term) (i : ℕ) → length terms ≤ i → shifted i (scan clauses env (drop i terms)) ≡ None
-  unfolding scan
-  scan_ends terms i h = ap (λ (ts : List Term). shifted i (scan clauses env ts)) (drop_all i terms h)
+  scan_ends terms i h = ap (λ (ts : List Term). shifted i (scan clauses env ts)) (drop_all i terms h) ∙ ap (shifted i) (scan_nothing clauses env)
 
   later_or : (first : Option ℕ) (front back : Option Found) (n : ℕ) →
       or_later first (option_or front (shifted n back)) ≡ option_or (or_later first front) (shifted (suc n) back)
@@ -65,11 +65,13 @@ module _ (clauses : List Clause) (env : Environment) where
 
   -- a list that is cut at a place: what stands in front comes first
   pub scan-append : (xs ys : List Term) → scan clauses env (xs ++ ys) ≡ option_or (scan clauses env xs) (shifted (length xs) (scan clauses env ys))
-  unfolding scan
-  scan-append [] ys = sym (shifted_none (scan clauses env ys))
+  scan-append [] ys =
+      sym (ap (λ (o : Option Found). option_or o (shifted 0 (scan clauses env ys))) (scan_nothing clauses env) ∙ shifted_none (scan clauses env ys))
   scan-append (x ∷ xs) ys =
-      ap (or_later (first_clause clauses env x)) (scan-append xs ys)
+      scan_next clauses env x (xs ++ ys)
+      ∙ ap (or_later (first_clause clauses env x)) (scan-append xs ys)
       ∙ later_or (first_clause clauses env x) (scan clauses env xs) (scan clauses env ys) (length xs)
+      ∙ ap (λ (o : Option Found). option_or o (shifted (length (x ∷ xs)) (scan clauses env ys))) (sym (scan_next clauses env x xs))
 
   -- where none of the first messages matches, a scan of the others is the whole scan
   pub scan_behind : (terms : List Term) (n : ℕ) → n ≤ length terms → scan clauses env (take n terms) ≡ None →

@@ -56,7 +56,7 @@ fn clauses(alloc: Global, signs: &[u8]) -> Result<Clauses, Fail> {
 }
 
 fn append(alloc: Global, queue: &mut Inner, sign: u8) -> Result<(), Fail>
-    ensures { KeepsPassed queue.old queue.new }
+    ensures { KeepsPassed queue.old.queue queue.new.queue }
 {
     if 1000 <= queue.next_arrival() {
         return Err("too many messages".into());
@@ -157,7 +157,7 @@ fn waited<L: Ledger>(
     }
     let first = queue.receive(&clauses, &env, None, &mut steps);
     append(alloc, &mut queue, news[0])?;
-    if !queue.is_saved() {
+    if !queue.is_saved() || queue.passed() != messages.len() {
         return Err("no saved place".into());
     }
     let second = queue.resume(&clauses, &env, None, &mut steps);
@@ -193,6 +193,7 @@ fn numbers_go_on(rt: HostRuntime) -> Result<(), Fail> {
     assert!(rt; queue.pop_front().is_some_and(|front| front.0 == 1));
     queue.empty();
     assert!(rt; queue.is_empty() && queue.pop_front().is_none());
+    queue.room()?;
     append(alloc, &mut queue, b'd')?;
     assert_eq!(rt; queue.next_arrival(), 5);
     assert_eq!(rt; popped(alloc, &mut queue)?.as_slice(), b"4d".as_slice());

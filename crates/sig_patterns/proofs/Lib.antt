@@ -4,7 +4,7 @@ pub mod PastTheEnd
 pub mod SameSelf
 pub mod Bindings
 pub mod Walks
-pub mod Settings
+pub mod Placing
 pub mod Extents
 pub mod Examples
 pub mod HitLemmas

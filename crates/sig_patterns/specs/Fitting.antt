@@ -1,9 +1,8 @@
 -- The match once more, for a walk that carries no bindings: at each variable it compares with the term at the variable's
--- first place in the whole pattern.
-use Rattle.std.specs.Prelude.{ℕ, List, ◌∷◌, Bool, true, false, ◌&&◌, ◌==◌, nat_le, length, drop, if◌then◌else◌, Option, Some, None, option_and_then}
+-- first place in the whole pattern. And what a match binds, place by place.
+use Rattle.std.specs.Prelude.{ℕ, List, [], ◌∷◌, ◌++◌, map, Bool, true, false, ◌&&◌, ◌==◌, nat_le, length, drop, if◌then◌else◌, Option, Some, None, option_and_then}
 use Rattle.std.specs.Option.{option_or, option_map_or}
 use Rattle.std.specs.Str.{bytes_eq}
-use Rattle.std.specs.FinMap.{insert}
 use Rattle.sig_terms.specs.TermTest.{same_term}
 use Rattle.sig_terms.specs.declared.term.Term.{Term}
 use Rattle.sig_terms.specs.declared.term.Term.TheVariants as term
@@ -11,10 +10,11 @@ use Rattle.sig_patterns.specs.declared.pattern.Pattern.{Pattern}
 use Rattle.sig_patterns.specs.declared.pattern.Pattern.TheOpen.{Pattern-F}
 use Rattle.sig_patterns.specs.declared.pattern.Pattern.TheOpen as pattern
 use Rattle.sig_patterns.specs.declared.pattern.Pattern.TheFolds.{fold-Pattern}
+use Rattle.sig_patterns.specs.declared.binding.Binding.{Binding}
 use Rattle.sig_patterns.specs.declared.seen.Seen.{Seen}
 use Rattle.sig_patterns.specs.declared.seen.Seen.TheVariants.{Whole, Rest}
 use Rattle.sig_patterns.specs.Environment.{Environment, value_of_var}
-use Rattle.sig_patterns.specs.Matching.{tuple_items, list_items}
+use Rattle.sig_patterns.specs.Matching.{Bindings, tuple_items, list_items}
 
 -- the rest of a list is a list
 abbrev pub term_seen : Seen → Term
@@ -69,26 +69,29 @@ fits_step env first (pattern.Cons heads tail) t = option_map_or (fits_cons heads
 abbrev pub fits : Environment → Places → Pattern → Term → Bool
 fits env first = fold-Pattern (Term → Bool) (fits_step env first)
 
--- each variable is set to the term at each of its places, from the last to the first
-abbrev pub Setter : Type 0
-Setter = Term → Environment → Environment
+-- the variables of a pattern, each with the term at each of its places, in the order of the places
+abbrev pub Placer : Type 0
+Placer = Term → Bindings
 
-abbrev pub set_each : List Setter → List Term → Environment → Environment
-set_each (f ∷ fs) (t ∷ ts) env = f t (set_each fs ts env)
-set_each _ _ env = env
+abbrev pub placed_each : List Placer → List Term → Bindings
+placed_each (f ∷ fs) (t ∷ ts) = f t ++ placed_each fs ts
+placed_each _ _ = []
 
-abbrev pub set_tail : ℕ → Setter → List Term → Environment → Environment
-set_tail n tail ts env = if nat_le n (length ts) then tail (term.List (drop n ts)) env else env
+abbrev pub placed_tail : ℕ → Placer → List Term → Bindings
+placed_tail n tail ts = if nat_le n (length ts) then tail (term.List (drop n ts)) else []
 
-abbrev pub set_cons : List Setter → Setter → List Term → Environment → Environment
-set_cons heads tail ts env = set_each heads ts (set_tail (length heads) tail ts env)
+abbrev pub placed_cons : List Placer → Placer → List Term → Bindings
+placed_cons heads tail ts = placed_each heads ts ++ placed_tail (length heads) tail ts
 
-abbrev pub set_step : Pattern-F Setter → Setter
-set_step (pattern.Bind var) t env = insert env var.0 t
-set_step (pattern.Tuple fs) t env = option_map_or (λ ts. set_each fs ts env) (tuple_items t) env
-set_step (pattern.List fs) t env = option_map_or (λ ts. set_each fs ts env) (list_items t) env
-set_step (pattern.Cons heads tail) t env = option_map_or (λ ts. set_cons heads tail ts env) (list_items t) env
-set_step _ t env = env
+abbrev pub placed_step : Pattern-F Placer → Placer
+placed_step (pattern.Bind var) t = (var.0, t) ∷ []
+placed_step (pattern.Tuple fs) t = option_map_or (placed_each fs) (tuple_items t) []
+placed_step (pattern.List fs) t = option_map_or (placed_each fs) (list_items t) []
+placed_step (pattern.Cons heads tail) t = option_map_or (placed_cons heads tail) (list_items t) []
+placed_step _ t = []
 
-abbrev pub setting : Pattern → Setter
-setting = fold-Pattern Setter set_step
+abbrev pub placed : Pattern → Placer
+placed = fold-Pattern Placer placed_step
+
+abbrev pub bindings_of : List Binding → Bindings
+bindings_of bindings = map (λ b. (b.var.0, b.value)) bindings

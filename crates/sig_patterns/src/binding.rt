@@ -1,62 +1,74 @@
-ghost use Rattle.std.specs.Prelude.{◌≡◌, OnOk, IsSome, Some, map};
-ghost use Rattle.sig_patterns.specs.Matching.{match_of};
-ghost use Rattle.sig_patterns.specs.Fitting.{term_seen, set_each, setting};
+ghost use Rattle.std.specs.Prelude.{◌≡◌, ◌++◌, OnOk, OnErr, IsSome, Some, MatchResult, map};
+ghost use Rattle.sig_patterns.specs.Matching.{match_of, overlaid};
+ghost use Rattle.sig_patterns.specs.Fitting.{term_seen, placed_each, placed, bindings_of};
 
 use crate::env::Env;
 use crate::pattern::Pattern;
 use crate::seen::Seen;
+use crate::var::Var;
 use sig_terms::Term;
 use std::alloc::{AllocError, Global};
 
-/// Sets the variables of these patterns, each of which meets the term at its place, from the last
-/// to the first.
-#[cycle(set)]
-fn set_each(
+/// A variable, and a term at one of its places in a pattern.
+#[derive(Drop)]
+struct Binding {
+    var: Var,
+    value: Term,
+}
+
+/// Adds what the variables of these patterns meet, where each pattern meets the term at its place.
+#[cycle(collect)]
+fn collect_each(
     alloc: Global,
     patterns: &[Pattern],
     terms: &[Term],
-    env: &mut Env,
+    into: &mut Vec<Binding>,
 ) -> Result<(), AllocError>
-    ensures { OnOk result (env.new ≡ set_each (map setting patterns.now) terms.now env.old) }
+    ensures { OnOk result (bindings_of into.new.items ≡ bindings_of into.old.items ++ placed_each (map placed patterns.now) terms.now) }
 {
-    let mut i = patterns.len().min(terms.len());
-    while i > 0 {
-        i -= 1;
-        set_all(alloc, &patterns[i], Seen::Whole(&terms[i]), env)?;
+    let mut i = 0;
+    while i < patterns.len() {
+        if i >= terms.len() {
+            return Ok(());
+        }
+        collect(alloc, &patterns[i], Seen::Whole(&terms[i]), into)?;
+        i += 1;
     }
     Ok(())
 }
 
-/// Sets each variable of the pattern to what it meets at each of its places, from the last to the
-/// first. So the first place is what stays.
-#[cycle(set)]
-fn set_all(
+/// Adds what each variable of the pattern meets at each of its places, from the first to the last.
+#[cycle(collect)]
+fn collect(
     alloc: Global,
     pattern: &Pattern,
     seen: Seen<'_>,
-    env: &mut Env,
+    into: &mut Vec<Binding>,
 ) -> Result<(), AllocError>
-    ensures { OnOk result (env.new ≡ setting pattern.now (term_seen seen.entry) env.old) }
+    ensures { OnOk result (bindings_of into.new.items ≡ bindings_of into.old.items ++ placed pattern.now (term_seen seen.entry)) }
 {
     match pattern {
         Pattern::Bind(var) => {
+            let var = var.copy(alloc)?;
             let value = seen.copy(alloc)?;
-            env.set(var, value)
+            into.push(Binding { var, value })?;
+            Ok(())
         }
         Pattern::Tuple(patterns) => match seen.tuple_items() {
-            Some(terms) => set_each(alloc, patterns.as_slice(), terms, env),
+            Some(terms) => collect_each(alloc, patterns.as_slice(), terms, into),
             None => Ok(()),
         },
         Pattern::List(patterns) => match seen.list_items() {
-            Some(terms) => set_each(alloc, patterns.as_slice(), terms, env),
+            Some(terms) => collect_each(alloc, patterns.as_slice(), terms, into),
             None => Ok(()),
         },
         Pattern::Cons { heads, tail } => match seen.list_items() {
             Some(terms) => {
-                if heads.len() <= terms.len() {
-                    set_all(alloc, tail.get(), Seen::Rest(&terms[heads.len()..]), env)?;
+                collect_each(alloc, heads.as_slice(), terms, into)?;
+                if heads.len() > terms.len() {
+                    return Ok(());
                 }
-                set_each(alloc, heads.as_slice(), terms, env)
+                collect(alloc, tail.get(), Seen::Rest(&terms[heads.len()..]), into)
             }
             None => Ok(()),
         },
@@ -64,11 +76,30 @@ fn set_all(
     }
 }
 
+/// Puts the bindings in, from the last to the first. So of a variable that stands there twice the
+/// first one stays. Where memory is refused, it takes out again what it has put in.
+fn put_in(bindings: &mut Vec<Binding>, env: &mut Env) -> Result<(), AllocError>
+    ensures ok { OnOk result (env.new ≡ overlaid env.old (bindings_of bindings.old.items)) }
+    ensures err { OnErr result (env.new ≡ env.old) }
+{
+    let Some(Binding { var, value }) = bindings.pop() else {
+        return Ok(());
+    };
+    let before = env.replace(&var, value)?;
+    match put_in(bindings, env) {
+        Ok(()) => Ok(()),
+        Err(refused) => {
+            env.restore(&var, before);
+            Err(refused)
+        }
+    }
+}
+
 /// Binds the variables of a pattern that matches: the environment becomes the match's.
 /// (Erlang Reference Manual, Pattern Matching.)
 ///
-/// `AllocError` comes only where memory is refused. Some of the pattern's variables may then be bound
-/// and others not, so the environment is not to be used further.
+/// `AllocError` comes only where memory is refused, and then the environment is as before. Takes
+/// time and memory in the size of what is bound, and no copy of the environment.
 pub fn bind_match(
     alloc: Global,
     pattern: &Pattern,
@@ -76,7 +107,9 @@ pub fn bind_match(
     term: &Term,
 ) -> Result<(), AllocError>
     requires { IsSome (match_of pattern.now env.old term.now) }
-    ensures { OnOk result (Some env.new ≡ match_of pattern.now env.old term.now) }
+    ensures { MatchResult result (λ _. Some env.new ≡ match_of pattern.now env.old term.now) (λ _. env.new ≡ env.old) }
 {
-    set_all(alloc, pattern, Seen::Whole(term), env)
+    let mut bindings = Vec::new(alloc);
+    collect(alloc, pattern, Seen::Whole(term), &mut bindings)?;
+    put_in(&mut bindings, env)
 }
