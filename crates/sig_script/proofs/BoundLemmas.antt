@@ -1,11 +1,12 @@
 -- The bounds that hold while a text is walked, and of the scripts that the walks give.
 use Rattle.std.proofs.Common.{◌≡◌, ℕ, suc, ◌+◌, ◌<◌, ◌≤◌, List, [], ◌∷◌, ◌++◌, length, All, Bool, true, false, if◌then◌else◌, ◌==◌, nat_le, Option, Some, None, Result, Ok, Err, refl, sym, ◌∙◌, ap, subst, arith, length-append, ◌^◌, le_refl, map, zero, get_or, IfSome}
 use Rattle.std.specs.Option.{option_map_or}
-use Rattle.std.specs.List.{list_any}
+use Rattle.std.specs.Prelude.{filter_map, option_to_list}
+use Rattle.std.specs.List.{list_any, cons_option}
 use Rattle.std.specs.Str.{bytes_eq}
 use Rattle.std.proofs.lemmas.Bool.Decides.{nat_tests}
 use Rattle.std.proofs.lemmas.List.{map-append, length-map}
-use Rattle.std.proofs.lemmas.List.Elements.{All-nil, All-cons, All-head, All-tail, All-push, All-weaker}
+use Rattle.std.proofs.lemmas.List.Elements.{All-nil, All-cons, All-head, All-tail, All-append, All-push, All-weaker}
 use Rattle.sig_patterns.specs.declared.clause.Clause.{Clause}
 use Rattle.sig_script.specs.declared.label.Label.{Label}
 use Rattle.sig_script.specs.declared.instruction.After.{After}
@@ -22,7 +23,8 @@ use Rattle.sig_script.specs.declared.draft.Place.TheVariants.{Before, Outside, I
 use Rattle.sig_script.specs.declared.draft.Draft.{Draft}
 use Rattle.sig_script.specs.declared.form.Form.{Form}
 use Rattle.sig_script.specs.declared.form.Form.TheVariants as form
-use Rattle.sig_script.specs.Scripts.{Declared, Program, IsTarget, IsLawful, IsPlace, IsWithin, IsPatternBelow, IsInstrBelow, IsSound}
+use Rattle.sig_script.specs.Scripts.{Declared, Program, IsLawful, IsPlace, IsWithin, IsExprBelow, IsPatternBelow, IsInstrBelow, IsSound}
+use Rattle.sig_script.specs.Parts.{targets_of}
 use Rattle.sig_script.specs.Faults.{Fault, ◌>>=◌, on_ok}
 use Rattle.sig_script.specs.Lines.{lines_of, onto_first}
 use Rattle.sig_script.specs.Tokens.{text}
@@ -33,7 +35,7 @@ use Rattle.sig_script.specs.Drafts.{blank, open_proc, all_procs, program_of, beg
 use Rattle.sig_script.specs.Grammar.{located, finished, taken_if, line_taken, body, walk}
 use Rattle.sig_script.specs.Fitting.{IsSmall, IsFit, IsFewKnown}
 use Rattle.sig_script.proofs.FitLemmas.{all-last}
-use Rattle.sig_script.proofs.BoundTermLemmas.{Holds, anything, holds-of, holds-if, holds-on_ok, holds-then, holds-ends, IsMeantForm, said-meant}
+use Rattle.sig_script.proofs.BoundTermLemmas.{Holds, anything, holds-of, holds-if, holds-on_ok, holds-then, holds-ends, IsTarget, IsMeantForm, said-meant}
 
 -- each item but the last
 all-front : {A : Type 0} (P : A → Type 0) (xs : List A) (x : A) → All P (xs ++ x ∷ []) → All P xs
@@ -242,24 +244,8 @@ form-counted known here keyword.On line ts = on-counted known here line ts
 form-counted known here keyword.After line ts =
     holds-on_ok (λ _. Unit {0}) (SaysAs keyword.After) (λ target. form.After (record { target = target })) (arrow_of known here line ts) (anything (arrow_of known here line ts)) (λ o _ cs. refl)
 form-counted known here keyword.End line ts = holds-ends (SaysAs keyword.End) form.End ts (λ cs. refl)
-form-counted known here keyword.Send line ts =
-    holds-on_ok (λ _. Unit {0}) (SaysAs keyword.Send) form.Do (instr_of known here keyword.Send line ts) (anything (instr_of known here keyword.Send line ts)) (λ i _ cs. refl)
-form-counted known here keyword.Set line ts =
-    holds-on_ok (λ _. Unit {0}) (SaysAs keyword.Set) form.Do (instr_of known here keyword.Set line ts) (anything (instr_of known here keyword.Set line ts)) (λ i _ cs. refl)
-form-counted known here keyword.Link line ts =
-    holds-on_ok (λ _. Unit {0}) (SaysAs keyword.Link) form.Do (instr_of known here keyword.Link line ts) (anything (instr_of known here keyword.Link line ts)) (λ i _ cs. refl)
-form-counted known here keyword.Unlink line ts =
-    holds-on_ok (λ _. Unit {0}) (SaysAs keyword.Unlink) form.Do (instr_of known here keyword.Unlink line ts) (anything (instr_of known here keyword.Unlink line ts)) (λ i _ cs. refl)
-form-counted known here keyword.Exit line ts =
-    holds-on_ok (λ _. Unit {0}) (SaysAs keyword.Exit) form.Do (instr_of known here keyword.Exit line ts) (anything (instr_of known here keyword.Exit line ts)) (λ i _ cs. refl)
-form-counted known here keyword.ExitTo line ts =
-    holds-on_ok (λ _. Unit {0}) (SaysAs keyword.ExitTo) form.Do (instr_of known here keyword.ExitTo line ts) (anything (instr_of known here keyword.ExitTo line ts)) (λ i _ cs. refl)
-form-counted known here keyword.Trap line ts =
-    holds-on_ok (λ _. Unit {0}) (SaysAs keyword.Trap) form.Do (instr_of known here keyword.Trap line ts) (anything (instr_of known here keyword.Trap line ts)) (λ i _ cs. refl)
-form-counted known here keyword.Goto line ts =
-    holds-on_ok (λ _. Unit {0}) (SaysAs keyword.Goto) form.Do (instr_of known here keyword.Goto line ts) (anything (instr_of known here keyword.Goto line ts)) (λ i _ cs. refl)
-form-counted known here keyword.Stop line ts =
-    holds-on_ok (λ _. Unit {0}) (SaysAs keyword.Stop) form.Do (instr_of known here keyword.Stop line ts) (anything (instr_of known here keyword.Stop line ts)) (λ i _ cs. refl)
+form-counted known here (keyword.Do v) line ts =
+    holds-on_ok (λ _. Unit {0}) (SaysAs (keyword.Do v)) form.Do (instr_of known here v line ts) (anything (instr_of known here v line ts)) (λ i _ cs. refl)
 
 form_behind-counted : (known : Known) (d : Draft) (word : Option Keyword) (line : List ℕ) (ts : List Token) →
     Holds (λ f. (cs : List ℕ) → counted_form f cs ≡ counted_by word cs) (form_behind known d word line ts)
@@ -449,6 +435,28 @@ begun-meant s n d name h =
       receive = tt;
     }))
 
+-- what is given of the elements
+given-front : (P : ℕ → Type 0) (o : Option ℕ) (xs : List ℕ) → IfSome o P → All P xs → All P (cons_option o xs)
+given-front P None xs h k = k
+given-front P (Some x) xs h k = All-cons P x xs h k
+
+all-given : {A : Type 0} (P : ℕ → Type 0) (f : A → Option ℕ) (xs : List A) → All (λ x. IfSome (f x) P) xs → All P (filter_map f xs)
+all-given P f [] h = All-nil P
+all-given P f (x ∷ xs) h = given-front P (f x) (filter_map f xs) (All-head (λ y. IfSome (f y) P) x xs h) (all-given P f xs (All-tail (λ y. IfSome (f y) P) x xs h))
+
+all-kept : {A : Type 0} (P : A → Type 0) (o : Option A) → IfSome o P → All P (option_to_list o)
+all-kept P None h = All-nil P
+all-kept P (Some x) h = All-cons P x [] h (All-nil P)
+
+-- the targets of a receive are those of its clauses and that of its `after`
+receive-targets : (labels : ℕ) (clauses : List Clause) (after : Option After) → All (λ (c : Clause). IsTarget labels c.target) clauses →
+    IfSome after (λ (a : After). IsTarget labels a.target) → All (λ t. t < labels) (targets_of (instr.Receive clauses after))
+receive-targets labels clauses after h k =
+    let target : Clause → Option ℕ = λ c. c.target in
+    let behind : After → Option ℕ = λ a. a.target in
+    All-append (λ t. t < labels) (filter_map target clauses) (filter_map behind (option_to_list after)) (all-given (λ t. t < labels) target clauses h)
+    (all-given (λ t. t < labels) behind (option_to_list after) (all-kept (λ a. IsTarget labels a.target) after k))
+
 -- from here on the names are those of a script, and n is a line of a text that isn't too long
 module _ (s : Program) (n : ℕ) (turns : Option ℕ) (procs : List Declared) (bounded : IfSome turns (λ t. t ≤ 20000)) where
   here-is : length procs ≡ 0 + length procs
@@ -477,7 +485,9 @@ module _ (s : Program) (n : ℕ) (turns : Option ℕ) (procs : List Declared) (b
       IsMeant s (length procs) p → IsMeant s (length procs) (with_instr p (instr.Receive clauses after))
   receive-more p clauses after lt h k =
       let few : length clauses < 2 ^ 32 = omega (arith, lt, h.0) in
-      instr-more s (length procs) p (instr.Receive clauses after) (few, h.1, h.3) h.2 k
+      let targets : All (λ t. t < length (labels_at (length procs) s.procs)) (targets_of (instr.Receive clauses after)) =
+      receive-targets (length (labels_at (length procs) s.procs)) clauses after h.1 h.3 in
+      instr-more s (length procs) p (instr.Receive clauses after) (few, targets) (All-nil (IsExprBelow (length s.procs)), h.2) k
 
   taken_at-meant : (place : Place) (f : Form) → n < 2 ^ 32 → Each (IsMeant s) 0 (procs ++ open_proc place) → IsOpen s n (length procs) place →
       IsMeantForm (length s.procs) (length (labels_at (length procs) s.procs)) f →

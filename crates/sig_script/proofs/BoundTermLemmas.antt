@@ -1,37 +1,39 @@
 -- What a line says where the names are those of a script: each pid is that of a process, and each target a label of its own.
-use Rattle.std.proofs.Common.{◌≡◌, ℕ, zero, suc, ◌<◌, List, [], ◌∷◌, ◌++◌, length, drop, position, ok_or, All, IfSome, Bool, true, false, if◌then◌else◌, Option, Some, None, Result, Ok, Err, refl, subst}
+use Rattle.std.proofs.Common.{◌≡◌, ℕ, zero, suc, ◌<◌, ◌^◌, List, [], ◌∷◌, ◌++◌, length, drop, position, ok_or, All, IfSome, Bool, true, false, if◌then◌else◌, Option, Some, None, Result, Ok, Err, refl, subst, arith}
 use Rattle.std.specs.Str.{bytes_eq}
 use Rattle.std.proofs.lemmas.List.Quantifiers.{position-Some}
-use Rattle.std.proofs.lemmas.List.Elements.{All-nil, All-push}
+use Rattle.std.proofs.lemmas.List.Elements.{All-nil, All-cons, All-push}
+use Rattle.sig_patterns.specs.declared.clause.Clause.{Clause}
 use Rattle.sig_patterns.specs.declared.expression.Expr.{Expr}
 use Rattle.sig_patterns.specs.declared.expression.Expr.TheVariants as expr
 use Rattle.sig_patterns.specs.declared.pattern.Pattern.{Pattern}
 use Rattle.sig_patterns.specs.declared.pattern.Pattern.TheVariants as pattern
 use Rattle.sig_script.specs.declared.label.Label.{Label}
 use Rattle.sig_script.specs.declared.instruction.Instr.{Instr}
-use Rattle.sig_script.specs.declared.instruction.Instr.TheVariants as instr
 use Rattle.sig_script.specs.declared.fault.FaultKind.TheVariants.{UnknownProcess, UnknownLabel}
 use Rattle.sig_script.specs.declared.token.Sign.TheVariants.{CloseBrace, CloseBracket}
 use Rattle.sig_script.specs.declared.token.TokenKind.{TokenKind}
 use Rattle.sig_script.specs.declared.token.TokenKind.TheVariants.{Name, Variable, Integer, Quoted, Process, Sign}
 use Rattle.sig_script.specs.declared.token.Token.{Token}
 use Rattle.sig_script.specs.declared.known.Known.TheVariants.{Among}
+use Rattle.sig_script.specs.declared.keyword.Verb.{Verb}
+use Rattle.sig_script.specs.declared.keyword.Verb.TheVariants as verb
 use Rattle.sig_script.specs.declared.keyword.Keyword.{Keyword}
 use Rattle.sig_script.specs.declared.keyword.Keyword.TheVariants as keyword
 use Rattle.sig_script.specs.declared.draft.Draft.{Draft}
 use Rattle.sig_script.specs.declared.form.Form.{Form}
 use Rattle.sig_script.specs.declared.form.Form.TheVariants as form
-use Rattle.sig_script.specs.Scripts.{Declared, Program, IsTarget, IsLawful, IsExprBelow, IsPatternBelow, IsInstrBelow}
+use Rattle.sig_script.specs.Scripts.{Declared, Program, IsLawful, IsExprBelow, IsPatternBelow, IsInstrBelow}
 use Rattle.sig_script.specs.Faults.{◌>>=◌, on_ok}
 use Rattle.sig_script.specs.Tokens.{text, unquoted}
 use Rattle.sig_script.specs.Numbers.{int_of}
-use Rattle.sig_script.specs.Names.{pid_of, labels_at, label_of, name_of, name_at, variable_at}
+use Rattle.sig_script.specs.Names.{pid_of, labels_at, label_of, name_at, variable_at}
 use Rattle.sig_script.specs.Signs.{is_open_brace, is_open_bracket, is_arrow, is_comma, is_bar, is_caret, is_underscore, closes}
 use Rattle.sig_script.specs.Operands.{Read, behind, elements, closed, enclosed}
 use Rattle.sig_script.specs.Expressions.{expr_leaf, expr_by, expr_front, expr_at, expr_of}
 use Rattle.sig_script.specs.PatternTexts.{pattern_leaf, list_end, pin_at, pattern_by, pattern_front, pattern_at, pattern_of}
-use Rattle.sig_script.specs.Forms.{tokens_of, keyword_of, may_stand, ends, target_at, arrow_of, count_from, turns_of, send_of, set_of, link_of, unlink_of, exit_of, exit_to_of, switch_of, trap_of, goto_of, whole_name, on_of, instr_of, form_of, form_behind, said_by, said}
-use Rattle.sig_script.proofs.BelowLemmas.{int_below, atom_below, var_below, pid_below, tuple_below, list_below, any_pattern_below, bind_pattern_below, pin_pattern_below, int_pattern_below, atom_pattern_below, pid_pattern_below, tuple_pattern_below, list_pattern_below, cons_pattern_below}
+use Rattle.sig_script.specs.Forms.{Operand, an_expr, a_label, AllSaid, operand_at, all_said, made_of, tokens_of, keyword_of, may_stand, ends, target_at, arrow_of, count_from, turns_of, whole_name, on_of, instr_of, form_of, form_behind, said_by, said}
+use Rattle.sig_script.proofs.PidLemmas.{int_pids, atom_pids, var_pids, pid_pids, tuple_pids, list_pids, any_pattern_pids, bind_pattern_pids, pin_pattern_pids, int_pattern_pids, atom_pattern_pids, pid_pattern_pids, tuple_pattern_pids, list_pattern_pids, cons_pattern_pids}
 
 -- what holds of a result that isn't a refusal
 abbrev pub Holds : {A E : Type 0} → (A → Type 0) → Result A E → Type 0
@@ -101,16 +103,19 @@ pid-below s name =
     found UnknownProcess (length s.procs) (position (λ (p : Declared). bytes_eq p.name name) s.procs)
     (λ i e. (position-Some (λ (p : Declared). bytes_eq p.name name) s.procs i (record { name = []; labels = []; instrs = [] }) e).0)
 
+abbrev IsProcess : Program → ℕ → Type 0
+IsProcess s pid = pid < length s.procs
+
 -- from here on the names are those of a script
 module _ (s : Program) (line : List ℕ) where
   expr_leaf-below : (kind : TokenKind) (word : List ℕ) → Holds (IsExprBelow (length s.procs)) (expr_leaf (Among s) kind word)
-  expr_leaf-below Name word = atom_below (length s.procs) word
-  expr_leaf-below Quoted word = atom_below (length s.procs) (unquoted word)
-  expr_leaf-below Integer word = int_below (length s.procs) (int_of word)
-  expr_leaf-below Variable word = var_below (length s.procs) (record { 0 = word })
+  expr_leaf-below Name word = atom_pids (IsProcess s) word
+  expr_leaf-below Quoted word = atom_pids (IsProcess s) (unquoted word)
+  expr_leaf-below Integer word = int_pids (IsProcess s) (int_of word)
+  expr_leaf-below Variable word = var_pids (IsProcess s) (record { 0 = word })
   expr_leaf-below Process word =
       holds-on_ok (λ n. n < length s.procs) (IsExprBelow (length s.procs)) (λ n. expr.Pid (record { 0 = n })) (pid_of (Among s) (drop 1 word)) (pid-below s (drop 1 word))
-      (λ n h. pid_below (length s.procs) n h)
+      (λ n h. pid_pids (IsProcess s) n h)
   expr_leaf-below (Sign g) word = tt
 
   module _ (read : ℕ → List Token → Read Expr) (reads : (nodes : ℕ) (ts : List Token) → Reads (IsExprBelow (length s.procs)) (read nodes ts)) where
@@ -125,10 +130,10 @@ module _ (s : Program) (line : List ℕ) where
         let AllBelow : List Expr × ℕ × List Token → Type 0 = λ x. All (IsExprBelow (length s.procs)) x.0 in
         holds-if Below (is_open_brace kind) _ _
         (λ _. holds-on_ok AllBelow Below (λ x. (expr.Tuple x.0, x.1, x.2)) (enclosed (closes CloseBrace) [] read (closed (closes CloseBrace)) nodes ts)
-        (exprs-below (closes CloseBrace) nodes ts) (λ x h. tuple_below (length s.procs) x.0 h))
+        (exprs-below (closes CloseBrace) nodes ts) (λ x h. tuple_pids (IsProcess s) x.0 h))
         (λ _. holds-if Below (is_open_bracket kind) _ _
         (λ _. holds-on_ok AllBelow Below (λ x. (expr.List x.0, x.1, x.2)) (enclosed (closes CloseBracket) [] read (closed (closes CloseBracket)) nodes ts)
-        (exprs-below (closes CloseBracket) nodes ts) (λ x h. list_below (length s.procs) x.0 h))
+        (exprs-below (closes CloseBracket) nodes ts) (λ x h. list_pids (IsProcess s) x.0 h))
         (λ _. holds-on_ok (IsExprBelow (length s.procs)) Below (λ e. (e, nodes, ts)) (expr_leaf (Among s) kind word) (expr_leaf-below kind word) (λ e h. h)))
 
     expr_front-below : (nodes : ℕ) (ts : List Token) → Reads (IsExprBelow (length s.procs)) (expr_front (Among s) line read nodes ts)
@@ -151,19 +156,19 @@ module _ (s : Program) (line : List ℕ) where
 -- the same with patterns
 module _ (s : Program) (line : List ℕ) where
   pattern_leaf-below : (kind : TokenKind) (word : List ℕ) → Holds (IsPatternBelow (length s.procs)) (pattern_leaf (Among s) kind word)
-  pattern_leaf-below Name word = atom_pattern_below (length s.procs) word
-  pattern_leaf-below Quoted word = atom_pattern_below (length s.procs) (unquoted word)
-  pattern_leaf-below Integer word = int_pattern_below (length s.procs) (int_of word)
-  pattern_leaf-below Variable word = bind_pattern_below (length s.procs) (record { 0 = word })
+  pattern_leaf-below Name word = atom_pattern_pids (IsProcess s) word
+  pattern_leaf-below Quoted word = atom_pattern_pids (IsProcess s) (unquoted word)
+  pattern_leaf-below Integer word = int_pattern_pids (IsProcess s) (int_of word)
+  pattern_leaf-below Variable word = bind_pattern_pids (IsProcess s) (record { 0 = word })
   pattern_leaf-below Process word =
       holds-on_ok (λ n. n < length s.procs) (IsPatternBelow (length s.procs)) (λ n. pattern.Pid (record { 0 = n })) (pid_of (Among s) (drop 1 word)) (pid-below s (drop 1 word))
-      (λ n h. pid_pattern_below (length s.procs) n h)
+      (λ n h. pid_pattern_pids (IsProcess s) n h)
   pattern_leaf-below (Sign g) word = tt
 
   pin-below : (nodes : ℕ) (ts : List Token) → Reads (IsPatternBelow (length s.procs)) (pin_at line nodes ts)
   pin-below nodes ts =
       holds-on_ok (λ (x : List ℕ × List Token). Unit {0}) (λ (x : Pattern × ℕ × List Token). IsPatternBelow (length s.procs) x.0)
-      (λ x. (pattern.Pin (record { 0 = x.0 }), nodes, x.1)) (variable_at line ts) (anything (variable_at line ts)) (λ x _. pin_pattern_below (length s.procs) (record { 0 = x.0 }))
+      (λ x. (pattern.Pin (record { 0 = x.0 }), nodes, x.1)) (variable_at line ts) (anything (variable_at line ts)) (λ x _. pin_pattern_pids (IsProcess s) (record { 0 = x.0 }))
 
   module _ (read : ℕ → List Token → Read Pattern) (reads : (nodes : ℕ) (ts : List Token) → Reads (IsPatternBelow (length s.procs)) (read nodes ts)) where
     patterns-below : (ends : TokenKind → Bool) (nodes : ℕ) (ts : List Token) → Reads (All (IsPatternBelow (length s.procs))) (enclosed ends [] read (closed ends) nodes ts)
@@ -177,13 +182,13 @@ module _ (s : Program) (line : List ℕ) where
         let Below : Pattern × ℕ × List Token → Type 0 = λ x. IsPatternBelow (length s.procs) x.0 in
         holds-if Below (is_bar t.kind) _ _
         (λ _. holds-then Below Below (λ x. closed (closes CloseBracket) (pattern.Cons items x.0) x.1 x.2) (read nodes ts) (reads nodes ts)
-        (λ x k. closed-reads (IsPatternBelow (length s.procs)) (closes CloseBracket) (pattern.Cons items x.0) x.1 x.2 (cons_pattern_below (length s.procs) items x.0 h k)))
-        (λ _. closed-reads (IsPatternBelow (length s.procs)) (closes CloseBracket) (pattern.List items) nodes (t ∷ ts) (list_pattern_below (length s.procs) items h))
+        (λ x k. closed-reads (IsPatternBelow (length s.procs)) (closes CloseBracket) (pattern.Cons items x.0) x.1 x.2 (cons_pattern_pids (IsProcess s) items x.0 h k)))
+        (λ _. closed-reads (IsPatternBelow (length s.procs)) (closes CloseBracket) (pattern.List items) nodes (t ∷ ts) (list_pattern_pids (IsProcess s) items h))
 
     list-below : (nodes : ℕ) (ts : List Token) → Reads (IsPatternBelow (length s.procs)) (enclosed (closes CloseBracket) (pattern.List []) read (list_end read) nodes ts)
     list-below nodes ts =
         enclosed-reads (IsPatternBelow (length s.procs)) (IsPatternBelow (length s.procs)) read (list_end read) reads list_end-below
-        (closes CloseBracket) (pattern.List []) nodes ts (list_pattern_below (length s.procs) [] (All-nil (IsPatternBelow (length s.procs))))
+        (closes CloseBracket) (pattern.List []) nodes ts (list_pattern_pids (IsProcess s) [] (All-nil (IsPatternBelow (length s.procs))))
 
     pattern_by-below : (kind : TokenKind) (word : List ℕ) (nodes : ℕ) (ts : List Token) → Reads (IsPatternBelow (length s.procs)) (pattern_by (Among s) line read kind word nodes ts)
     pattern_by-below kind word nodes ts =
@@ -191,10 +196,10 @@ module _ (s : Program) (line : List ℕ) where
         let AllBelow : List Pattern × ℕ × List Token → Type 0 = λ x. All (IsPatternBelow (length s.procs)) x.0 in
         holds-if Below (is_open_brace kind) _ _
         (λ _. holds-on_ok AllBelow Below (λ x. (pattern.Tuple x.0, x.1, x.2)) (enclosed (closes CloseBrace) [] read (closed (closes CloseBrace)) nodes ts)
-        (patterns-below (closes CloseBrace) nodes ts) (λ x h. tuple_pattern_below (length s.procs) x.0 h))
+        (patterns-below (closes CloseBrace) nodes ts) (λ x h. tuple_pattern_pids (IsProcess s) x.0 h))
         (λ _. holds-if Below (is_open_bracket kind) _ _ (λ _. list-below nodes ts)
         (λ _. holds-if Below (is_caret kind) _ _ (λ _. pin-below nodes ts)
-        (λ _. holds-if Below (is_underscore kind) _ _ (λ _. any_pattern_below (length s.procs))
+        (λ _. holds-if Below (is_underscore kind) _ _ (λ _. any_pattern_pids (IsProcess s))
         (λ _. holds-on_ok (IsPatternBelow (length s.procs)) Below (λ p. (p, nodes, ts)) (pattern_leaf (Among s) kind word) (pattern_leaf-below kind word) (λ p h. h)))))
 
     pattern_front-below : (nodes : ℕ) (ts : List Token) → Reads (IsPatternBelow (length s.procs)) (pattern_front (Among s) line read nodes ts)
@@ -225,6 +230,10 @@ label-below s here name =
     found UnknownLabel (length (labels_at here s.procs)) (position (λ (l : Label). bytes_eq l.name name) (labels_at here s.procs))
     (λ i e. (position-Some (λ (l : Label). bytes_eq l.name name) (labels_at here s.procs) i (record { name = []; place = 0 }) e).0)
 
+-- a target is one of so many labels
+abbrev pub IsTarget : ℕ → Option ℕ → Type 0
+IsTarget labels target = IfSome target (λ t. t < labels)
+
 -- the targets of a form are labels, and its pids those of processes
 abbrev pub IsMeantForm : ℕ → ℕ → Form → Type 0
 IsMeantForm count labels (form.Do i) = IsLawful labels i × IsInstrBelow count i
@@ -246,69 +255,56 @@ module _ (s : Program) (here : ℕ) (line : List ℕ) where
       (λ x h. holds-ends (IsTarget (length (labels_at here s.procs))) (Some x.0) x.1 h))
       (λ _. tt)
 
-  abbrev IsMeantInstr : Instr → Type 0
-  IsMeantInstr i = IsLawful (length (labels_at here s.procs)) i × IsInstrBelow (length s.procs) i
+  abbrev IsLabel : ℕ → Type 0
+  IsLabel target = target < length (labels_at here s.procs)
 
   abbrev IsBelow : Expr × List Token → Type 0
   IsBelow x = IsExprBelow (length s.procs) x.0
 
-  send-meant : (ts : List Token) → Holds IsMeantInstr (send_of (Among s) line ts)
-  send-meant ts =
-      holds-then IsBelow IsMeantInstr (λ to. expr_of (Among s) line to.1 >>= λ message. ends (instr.Send to.0 message.0) message.1) (expr_of (Among s) line ts) (expr_of-below s line ts)
-      (λ to h. holds-then IsBelow IsMeantInstr (λ message. ends (instr.Send to.0 message.0) message.1) (expr_of (Among s) line to.1) (expr_of-below s line to.1)
-      (λ message k. holds-ends IsMeantInstr (instr.Send to.0 message.0) message.1 (tt, (h, k))))
+  -- the expressions and the labels among operands
+  abbrev exprs_in : (os : List Operand) → AllSaid os → List Expr
+  exprs_in [] x = []
+  exprs_in (an_expr ∷ os) x = x.0 ∷ exprs_in os x.1
+  exprs_in (_ ∷ os) x = exprs_in os x.1
 
-  set-meant : (ts : List Token) → Holds IsMeantInstr (set_of (Among s) line ts)
-  set-meant ts =
-      holds-then (λ _. Unit {0}) IsMeantInstr (λ var. expr_of (Among s) line var.1 >>= λ value. ends (instr.Set (record { 0 = var.0 }) value.0) value.1) (variable_at line ts) (anything (variable_at line ts))
-      (λ var _. holds-then IsBelow IsMeantInstr (λ value. ends (instr.Set (record { 0 = var.0 }) value.0) value.1) (expr_of (Among s) line var.1) (expr_of-below s line var.1)
-      (λ value k. holds-ends IsMeantInstr (instr.Set (record { 0 = var.0 }) value.0) value.1 (tt, k)))
+  abbrev labels_in : (os : List Operand) → AllSaid os → List ℕ
+  labels_in [] x = []
+  labels_in (a_label ∷ os) x = x.0 ∷ labels_in os x.1
+  labels_in (_ ∷ os) x = labels_in os x.1
 
-  link-meant : (ts : List Token) → Holds IsMeantInstr (link_of (Among s) line ts)
-  link-meant ts =
-      holds-then IsBelow IsMeantInstr (λ peer. ends (instr.Link peer.0) peer.1) (expr_of (Among s) line ts) (expr_of-below s line ts)
-      (λ peer h. holds-ends IsMeantInstr (instr.Link peer.0) peer.1 (tt, h))
+  abbrev AreMeant : (os : List Operand) → AllSaid os → Type 0
+  AreMeant os x = All (IsExprBelow (length s.procs)) (exprs_in os x) × All IsLabel (labels_in os x)
 
-  unlink-meant : (ts : List Token) → Holds IsMeantInstr (unlink_of (Among s) line ts)
-  unlink-meant ts =
-      holds-then IsBelow IsMeantInstr (λ peer. ends (instr.Unlink peer.0) peer.1) (expr_of (Among s) line ts) (expr_of-below s line ts)
-      (λ peer h. holds-ends IsMeantInstr (instr.Unlink peer.0) peer.1 (tt, h))
+  operands-meant : (os : List Operand) (ts : List Token) → Holds (AreMeant os) (all_said (Among s) here line os ts)
+  operands-meant [] ts = holds-ends (AreMeant []) tt ts (All-nil (IsExprBelow (length s.procs)), All-nil IsLabel)
+  operands-meant (an_expr ∷ os) ts =
+      holds-then IsBelow (AreMeant (an_expr ∷ os)) (λ x. on_ok (λ xs. (x.0, xs)) (all_said (Among s) here line os x.1)) (expr_of (Among s) line ts) (expr_of-below s line ts)
+      (λ x h. holds-on_ok (AreMeant os) (AreMeant (an_expr ∷ os)) (λ xs. (x.0, xs)) (all_said (Among s) here line os x.1) (operands-meant os x.1)
+      (λ xs k. (All-cons (IsExprBelow (length s.procs)) x.0 (exprs_in os xs) h k.0, k.1)))
+  operands-meant (a_label ∷ os) ts =
+      holds-then (λ (x : ℕ × List Token). IsLabel x.0) (AreMeant (a_label ∷ os)) (λ x. on_ok (λ xs. (x.0, xs)) (all_said (Among s) here line os x.1)) (target_at (Among s) here line ts) (target-below ts)
+      (λ x h. holds-on_ok (AreMeant os) (AreMeant (a_label ∷ os)) (λ xs. (x.0, xs)) (all_said (Among s) here line os x.1) (operands-meant os x.1)
+      (λ xs k. (k.0, All-cons IsLabel x.0 (labels_in os xs) h k.1)))
+  operands-meant (o ∷ os) ts =
+      holds-then (λ _. Unit {0}) (AreMeant (o ∷ os)) (λ x. on_ok (λ xs. (x.0, xs)) (all_said (Among s) here line os x.1)) (operand_at (Among s) here line o ts) (anything (operand_at (Among s) here line o ts))
+      (λ x _. holds-on_ok (AreMeant os) (AreMeant (o ∷ os)) (λ xs. (x.0, xs)) (all_said (Among s) here line os x.1) (operands-meant os x.1) (λ xs k. k))
 
-  exit-meant : (ts : List Token) → Holds IsMeantInstr (exit_of (Among s) line ts)
-  exit-meant ts =
-      holds-then IsBelow IsMeantInstr (λ reason. ends (instr.Exit reason.0) reason.1) (expr_of (Among s) line ts) (expr_of-below s line ts)
-      (λ reason h. holds-ends IsMeantInstr (instr.Exit reason.0) reason.1 (tt, h))
+  abbrev IsMeantInstr : Instr → Type 0
+  IsMeantInstr i = IsLawful (length (labels_at here s.procs)) i × IsInstrBelow (length s.procs) i
 
-  exit_to-meant : (ts : List Token) → Holds IsMeantInstr (exit_to_of (Among s) line ts)
-  exit_to-meant ts =
-      holds-then IsBelow IsMeantInstr (λ target. expr_of (Among s) line target.1 >>= λ reason. ends (instr.ExitTo target.0 reason.0) reason.1) (expr_of (Among s) line ts) (expr_of-below s line ts)
-      (λ target h. holds-then IsBelow IsMeantInstr (λ reason. ends (instr.ExitTo target.0 reason.0) reason.1) (expr_of (Among s) line target.1) (expr_of-below s line target.1)
-      (λ reason k. holds-ends IsMeantInstr (instr.ExitTo target.0 reason.0) reason.1 (tt, (h, k))))
+  no-clauses : length {A = Clause} [] < 2 ^ 32
+  no-clauses = omega arith
 
-  trap-meant : (ts : List Token) → Holds IsMeantInstr (trap_of line ts)
-  trap-meant [] = tt
-  trap-meant (t ∷ ts) =
-      holds-then (λ _. Unit {0}) IsMeantInstr (λ word. switch_of word >>= λ on. ends (instr.Trap on) ts) (name_of t.kind (text line t)) (anything (name_of t.kind (text line t)))
-      (λ word _. holds-then (λ _. Unit {0}) IsMeantInstr (λ on. ends (instr.Trap on) ts) (switch_of word) (anything (switch_of word))
-      (λ on _. holds-ends IsMeantInstr (instr.Trap on) ts (tt, tt)))
+  made-meant : (os : List Operand) (make : AllSaid os → Instr) (ts : List Token) → ((x : AllSaid os) → AreMeant os x → IsMeantInstr (make x)) →
+      Holds IsMeantInstr (made_of (Among s) here line os make ts)
+  unfolding made_of
+  made-meant os make ts h = holds-on_ok (AreMeant os) IsMeantInstr make (all_said (Among s) here line os ts) (operands-meant os ts) h
 
-  goto-meant : (ts : List Token) → Holds IsMeantInstr (goto_of (Among s) here line ts)
-  goto-meant ts =
-      holds-then (λ (x : ℕ × List Token). x.0 < length (labels_at here s.procs)) IsMeantInstr (λ x. ends (instr.Goto x.0) x.1) (target_at (Among s) here line ts) (target-below ts)
-      (λ x h. holds-ends IsMeantInstr (instr.Goto x.0) x.1 (h, tt))
-
-  instr-meant : (word : Keyword) (ts : List Token) → Holds IsMeantInstr (instr_of (Among s) here word line ts)
+  -- An instruction has the expressions and the labels of its operands, and no clauses. A first verb stands here so that each is looked at by itself.
+  instr-meant : (v : Verb) (ts : List Token) → Holds IsMeantInstr (instr_of (Among s) here v line ts)
   unfolding instr_of
-  instr-meant keyword.Send ts = send-meant ts
-  instr-meant keyword.Set ts = set-meant ts
-  instr-meant keyword.Link ts = link-meant ts
-  instr-meant keyword.Unlink ts = unlink-meant ts
-  instr-meant keyword.Exit ts = exit-meant ts
-  instr-meant keyword.ExitTo ts = exit_to-meant ts
-  instr-meant keyword.Trap ts = trap-meant ts
-  instr-meant keyword.Goto ts = goto-meant ts
-  instr-meant keyword.Stop ts = holds-ends IsMeantInstr instr.Stop ts (tt, tt)
-  instr-meant _ ts = tt
+  instr-meant verb.Stop ts = made-meant _ _ ts (λ x h. ((no-clauses, h.1), (h.0, All-nil (λ (c : Clause). IsPatternBelow (length s.procs) c.pattern))))
+  instr-meant _ ts = made-meant _ _ ts (λ x h. ((no-clauses, h.1), (h.0, All-nil (λ (c : Clause). IsPatternBelow (length s.procs) c.pattern))))
 
   abbrev IsMeantHere : Form → Type 0
   IsMeantHere f = IsMeantForm (length s.procs) (length (labels_at here s.procs)) f
@@ -324,9 +320,6 @@ module _ (s : Program) (here : ℕ) (line : List ℕ) where
       holds-then (λ _. Unit {0}) IsMeantHere (λ n. ends (form.Turns n) ts) (count_from t.kind (text line t)) (anything (count_from t.kind (text line t)))
       (λ n _. holds-ends IsMeantHere (form.Turns n) ts tt)
 
-  do-meant : (word : Keyword) (ts : List Token) → Holds IsMeantHere (on_ok form.Do (instr_of (Among s) here word line ts))
-  do-meant word ts = holds-on_ok IsMeantInstr IsMeantHere form.Do (instr_of (Among s) here word line ts) (instr-meant word ts) (λ i h. h)
-
   form-meant : (word : Keyword) (ts : List Token) → Holds IsMeantHere (form_of (Among s) here word line ts)
   unfolding form_of
   form-meant keyword.Turns ts = turns-meant ts
@@ -337,15 +330,7 @@ module _ (s : Program) (here : ℕ) (line : List ℕ) where
   form-meant keyword.After ts =
       holds-on_ok (IsTarget (length (labels_at here s.procs))) IsMeantHere (λ target. form.After (record { target = target })) (arrow_of (Among s) here line ts) (arrow-below ts) (λ o h. h)
   form-meant keyword.End ts = holds-ends IsMeantHere form.End ts tt
-  form-meant keyword.Send ts = do-meant keyword.Send ts
-  form-meant keyword.Set ts = do-meant keyword.Set ts
-  form-meant keyword.Link ts = do-meant keyword.Link ts
-  form-meant keyword.Unlink ts = do-meant keyword.Unlink ts
-  form-meant keyword.Exit ts = do-meant keyword.Exit ts
-  form-meant keyword.ExitTo ts = do-meant keyword.ExitTo ts
-  form-meant keyword.Trap ts = do-meant keyword.Trap ts
-  form-meant keyword.Goto ts = do-meant keyword.Goto ts
-  form-meant keyword.Stop ts = do-meant keyword.Stop ts
+  form-meant (keyword.Do v) ts = holds-on_ok IsMeantInstr IsMeantHere form.Do (instr_of (Among s) here v line ts) (instr-meant v ts) (λ i h. h)
 
 module _ (s : Program) (d : Draft) (line : List ℕ) where
   abbrev pub IsMeantNext : Form → Type 0

@@ -1,5 +1,5 @@
 -- The bounds while a text is read.
-use Rattle.std.proofs.Common.{ℕ, zero, suc, ◌≤◌, List, [], ◌∷◌, ◌++◌, length, All, arith}
+use Rattle.std.proofs.Common.{ℕ, ◌≤◌, List, [], ◌∷◌, ◌++◌, length, All}
 use Rattle.std.proofs.lemmas.List.Elements.{All-head, All-tail}
 use Rattle.sig_script.specs.Scripts.{Declared}
 use Rattle.sig_script.specs.Fitting.{IsSmall}

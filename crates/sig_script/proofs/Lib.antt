@@ -2,7 +2,7 @@ pub mod NumberLemmas
 pub mod SpellingLemmas
 pub mod CutLemmas
 pub mod LineLemmas
-pub mod BelowLemmas
+pub mod PidLemmas
 pub mod LabelLemmas
 pub mod FitLemmas
 pub mod OperandLemmas

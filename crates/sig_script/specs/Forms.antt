@@ -1,7 +1,8 @@
 -- What a line says: its word, and what stands behind it.
-use Rattle.std.specs.Prelude.{ℕ, List, [], ◌∷◌, Bool, true, false, not, is_some, is_none, codes, ok_or, length, if◌then◌else◌, Option, Some, None, Result, Ok, Err}
+use Rattle.std.specs.Prelude.{ℕ, List, [], ◌∷◌, Bool, true, false, not, is_some, is_none, codes, ok_or, length, if◌then◌else◌, Option, Some, None, option_map, Result, Ok, Err}
 use Rattle.std.specs.List.{list_all}
 use Rattle.std.specs.Str.{bytes_eq}
+use Rattle.sig_patterns.specs.declared.expression.Expr.{Expr}
 use Rattle.sig_script.specs.declared.instruction.Instr.{Instr}
 use Rattle.sig_script.specs.declared.instruction.Instr.TheVariants as instr
 use Rattle.sig_script.specs.declared.fault.FaultKind.{FaultKind}
@@ -11,6 +12,8 @@ use Rattle.sig_script.specs.declared.token.TokenKind.TheVariants.{Integer}
 use Rattle.sig_script.specs.declared.token.Token.{Token}
 use Rattle.sig_script.specs.declared.token.Cut.{Cut}
 use Rattle.sig_script.specs.declared.known.Known.{Known}
+use Rattle.sig_script.specs.declared.keyword.Verb.{Verb}
+use Rattle.sig_script.specs.declared.keyword.Verb.TheVariants as verb
 use Rattle.sig_script.specs.declared.keyword.Keyword.{Keyword}
 use Rattle.sig_script.specs.declared.keyword.Keyword.TheVariants as keyword
 use Rattle.sig_script.specs.declared.draft.Place.{Place}
@@ -22,7 +25,7 @@ use Rattle.sig_script.specs.Faults.{◌>>=◌, on_ok}
 use Rattle.sig_script.specs.Numbers.{count_of}
 use Rattle.sig_script.specs.Tokens.{text, cut_of, is_token_in_range}
 use Rattle.sig_script.specs.Signs.{is_arrow}
-use Rattle.sig_script.specs.Names.{label_of, name_of, name_at, variable_at}
+use Rattle.sig_script.specs.Names.{label_of, name_at, variable_at}
 use Rattle.sig_script.specs.Expressions.{expr_of}
 use Rattle.sig_script.specs.PatternTexts.{pattern_of}
 
@@ -35,26 +38,31 @@ checked line cut =
 abbrev pub tokens_of : List ℕ → Result (List Token) FaultKind
 tokens_of line = checked line (cut_of 0 0 line)
 
+-- the word of an instruction that is no receive
+abbrev pub verb_of : List ℕ → Option Verb
+verb_of word =
+    if bytes_eq word (codes "send") then Some verb.Send
+    else if bytes_eq word (codes "set") then Some verb.Set
+    else if bytes_eq word (codes "link") then Some verb.Link
+    else if bytes_eq word (codes "unlink") then Some verb.Unlink
+    else if bytes_eq word (codes "exit") then Some verb.Exit
+    else if bytes_eq word (codes "exit_to") then Some verb.ExitTo
+    else if bytes_eq word (codes "trap") then Some verb.Trap
+    else if bytes_eq word (codes "goto") then Some verb.Goto
+    else if bytes_eq word (codes "stop") then Some verb.Stop
+    else None
+
 -- the word with which a line begins
 abbrev pub keyword_of : List ℕ → Option Keyword
 keyword_of word =
     if bytes_eq word (codes "turns") then Some keyword.Turns
     else if bytes_eq word (codes "process") then Some keyword.Process
     else if bytes_eq word (codes "label") then Some keyword.Label
-    else if bytes_eq word (codes "send") then Some keyword.Send
-    else if bytes_eq word (codes "set") then Some keyword.Set
-    else if bytes_eq word (codes "link") then Some keyword.Link
-    else if bytes_eq word (codes "unlink") then Some keyword.Unlink
-    else if bytes_eq word (codes "exit") then Some keyword.Exit
-    else if bytes_eq word (codes "exit_to") then Some keyword.ExitTo
-    else if bytes_eq word (codes "trap") then Some keyword.Trap
-    else if bytes_eq word (codes "goto") then Some keyword.Goto
-    else if bytes_eq word (codes "stop") then Some keyword.Stop
     else if bytes_eq word (codes "receive") then Some keyword.Receive
     else if bytes_eq word (codes "on") then Some keyword.On
     else if bytes_eq word (codes "after") then Some keyword.After
     else if bytes_eq word (codes "end") then Some keyword.End
-    else None
+    else option_map keyword.Do (verb_of word)
 
 -- before the first process: the turns once, and a process
 abbrev pub may_begin : Option ℕ → Keyword → Bool
@@ -64,11 +72,11 @@ may_begin turns _ = false
 
 -- in a process, outside a receive: a label, an instruction, the next process
 abbrev pub may_be_outside : Keyword → Bool
-may_be_outside keyword.Turns = false
-may_be_outside keyword.On = false
-may_be_outside keyword.After = false
-may_be_outside keyword.End = false
-may_be_outside _ = true
+may_be_outside keyword.Process = true
+may_be_outside keyword.Label = true
+may_be_outside (keyword.Do verb) = true
+may_be_outside keyword.Receive = true
+may_be_outside _ = false
 
 -- in a receive: clauses up to its `after`, which stands once, and the end
 abbrev pub may_be_inside : Bool → Keyword → Bool
@@ -106,39 +114,6 @@ abbrev pub turns_of : List ℕ → List Token → Result Form FaultKind
 turns_of line [] = Err Syntax
 turns_of line (t ∷ ts) = count_from t.kind (text line t) >>= λ n. ends (form.Turns n) ts
 
--- `send E E`
-abbrev pub send_of : Known → List ℕ → List Token → Result Instr FaultKind
-send_of known line ts = do
-  to ← expr_of known line ts
-  message ← expr_of known line to.1
-  ends (instr.Send to.0 message.0) message.1
-
--- `set X E`
-abbrev pub set_of : Known → List ℕ → List Token → Result Instr FaultKind
-set_of known line ts = do
-  var ← variable_at line ts
-  value ← expr_of known line var.1
-  ends (instr.Set (record { 0 = var.0 }) value.0) value.1
-
--- `link E`
-abbrev pub link_of : Known → List ℕ → List Token → Result Instr FaultKind
-link_of known line ts = expr_of known line ts >>= λ peer. ends (instr.Link peer.0) peer.1
-
--- `unlink E`
-abbrev pub unlink_of : Known → List ℕ → List Token → Result Instr FaultKind
-unlink_of known line ts = expr_of known line ts >>= λ peer. ends (instr.Unlink peer.0) peer.1
-
--- `exit E`
-abbrev pub exit_of : Known → List ℕ → List Token → Result Instr FaultKind
-exit_of known line ts = expr_of known line ts >>= λ reason. ends (instr.Exit reason.0) reason.1
-
--- `exit_to E E`
-abbrev pub exit_to_of : Known → List ℕ → List Token → Result Instr FaultKind
-exit_to_of known line ts = do
-  target ← expr_of known line ts
-  reason ← expr_of known line target.1
-  ends (instr.ExitTo target.0 reason.0) reason.1
-
 -- `on` or `off`
 abbrev pub switch_of : List ℕ → Result Bool FaultKind
 switch_of word =
@@ -146,29 +121,56 @@ switch_of word =
     else if bytes_eq word (codes "off") then Ok false
     else Err Syntax
 
--- `trap on`, `trap off`
-abbrev pub trap_of : List ℕ → List Token → Result Instr FaultKind
-trap_of line [] = Err Syntax
-trap_of line (t ∷ ts) = do
-  word ← name_of t.kind (text line t)
-  on ← switch_of word
-  ends (instr.Trap on) ts
+-- a switch at the front of the tokens, and the tokens behind it
+abbrev pub switch_at : List ℕ → List Token → Result (Bool × List Token) FaultKind
+switch_at line ts = name_at line ts >>= λ x. on_ok (λ on. (on, x.1)) (switch_of x.0)
 
--- `goto L`
-abbrev pub goto_of : Known → ℕ → List ℕ → List Token → Result Instr FaultKind
-goto_of known here line ts = target_at known here line ts >>= λ x. ends (instr.Goto x.0) x.1
+-- what may stand behind the word of an instruction
+pub data Operand : Type 0 where
+  an_expr : Operand
+  a_variable : Operand
+  a_label : Operand
+  a_switch : Operand
 
-unfoldable pub instr_of : Known → ℕ → Keyword → List ℕ → List Token → Result Instr FaultKind
-instr_of known here keyword.Send line ts = send_of known line ts
-instr_of known here keyword.Set line ts = set_of known line ts
-instr_of known here keyword.Link line ts = link_of known line ts
-instr_of known here keyword.Unlink line ts = unlink_of known line ts
-instr_of known here keyword.Exit line ts = exit_of known line ts
-instr_of known here keyword.ExitTo line ts = exit_to_of known line ts
-instr_of known here keyword.Trap line ts = trap_of line ts
-instr_of known here keyword.Goto line ts = goto_of known here line ts
-instr_of known here keyword.Stop line ts = ends instr.Stop ts
-instr_of known here _ line ts = Err Syntax
+-- what an operand says
+abbrev pub Said : Operand → Type 0
+Said an_expr = Expr
+Said a_variable = List ℕ
+Said a_label = ℕ
+Said a_switch = Bool
+
+-- what operands say, one after another
+abbrev pub AllSaid : List Operand → Type 0
+AllSaid [] = Unit {0}
+AllSaid (o ∷ os) = Said o × AllSaid os
+
+-- an operand at the front of the tokens, and the tokens behind it
+abbrev pub operand_at : Known → ℕ → List ℕ → (o : Operand) → List Token → Result (Said o × List Token) FaultKind
+operand_at known here line an_expr ts = expr_of known line ts
+operand_at known here line a_variable ts = variable_at line ts
+operand_at known here line a_label ts = target_at known here line ts
+operand_at known here line a_switch ts = switch_at line ts
+
+-- these operands, from left to right, and nothing behind them
+abbrev pub all_said : Known → ℕ → List ℕ → (os : List Operand) → List Token → Result (AllSaid os) FaultKind
+all_said known here line [] ts = ends tt ts
+all_said known here line (o ∷ os) ts = operand_at known here line o ts >>= λ x. on_ok (λ xs. (x.0, xs)) (all_said known here line os x.1)
+
+-- the instruction that is made of what these operands say
+unfoldable pub made_of : Known → ℕ → List ℕ → (os : List Operand) → (AllSaid os → Instr) → List Token → Result Instr FaultKind
+made_of known here line os make ts = on_ok make (all_said known here line os ts)
+
+-- the table of the instructions that are no receives: the operands behind the word, and the instruction
+unfoldable pub instr_of : Known → ℕ → Verb → List ℕ → List Token → Result Instr FaultKind
+instr_of known here verb.Send line ts = made_of known here line (an_expr ∷ an_expr ∷ []) (λ x. instr.Send x.0 x.1.0) ts
+instr_of known here verb.Set line ts = made_of known here line (a_variable ∷ an_expr ∷ []) (λ x. instr.Set (record { 0 = x.0 }) x.1.0) ts
+instr_of known here verb.Link line ts = made_of known here line (an_expr ∷ []) (λ x. instr.Link x.0) ts
+instr_of known here verb.Unlink line ts = made_of known here line (an_expr ∷ []) (λ x. instr.Unlink x.0) ts
+instr_of known here verb.Exit line ts = made_of known here line (an_expr ∷ []) (λ x. instr.Exit x.0) ts
+instr_of known here verb.ExitTo line ts = made_of known here line (an_expr ∷ an_expr ∷ []) (λ x. instr.ExitTo x.0 x.1.0) ts
+instr_of known here verb.Trap line ts = made_of known here line (a_switch ∷ []) (λ x. instr.Trap x.0) ts
+instr_of known here verb.Goto line ts = made_of known here line (a_label ∷ []) (λ x. instr.Goto x.0) ts
+instr_of known here verb.Stop line ts = made_of known here line [] (λ x. instr.Stop) ts
 
 -- a name, and nothing behind it
 abbrev pub whole_name : List ℕ → List Token → Result (List ℕ) FaultKind
@@ -187,7 +189,7 @@ form_of known here keyword.Receive line ts = ends form.Receive ts
 form_of known here keyword.On line ts = on_of known here line ts
 form_of known here keyword.After line ts = on_ok (λ target. form.After (record { target = target })) (arrow_of known here line ts)
 form_of known here keyword.End line ts = ends form.End ts
-form_of known here word line ts = on_ok form.Do (instr_of known here word line ts)
+form_of known here (keyword.Do v) line ts = on_ok form.Do (instr_of known here v line ts)
 
 -- the form behind a word that may stand here
 abbrev pub form_behind : Known → Draft → Option Keyword → List ℕ → List Token → Result Form FaultKind

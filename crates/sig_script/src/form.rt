@@ -1,4 +1,4 @@
-ghost use Rattle.std.specs.Prelude.{◌≡◌, length, IfOk};
+ghost use Rattle.std.specs.Prelude.{◌≡◌, ◌∷◌, [], length, IfOk};
 ghost use Rattle.sig_script.specs.Faults.{Gives};
 ghost use Rattle.sig_script.specs.Tokens.{AreWhole};
 ghost use Rattle.sig_script.specs.Forms.{
@@ -7,15 +7,9 @@ ghost use Rattle.sig_script.specs.Forms.{
   arrow_of,
   count_from,
   turns_of,
-  send_of,
-  set_of,
-  link_of,
-  unlink_of,
-  exit_of,
-  exit_to_of,
   switch_of,
-  trap_of,
-  goto_of,
+  Operand,
+  all_said,
   whole_name,
   on_of,
   instr_of,
@@ -30,14 +24,14 @@ use crate::draft::{Draft, Place};
 use crate::expressions::take_expr;
 use crate::fault::{FaultKind, Stop};
 use crate::instruction::{After, Instr};
-use crate::keyword::{Keyword, read_keyword};
+use crate::keyword::{Keyword, Verb, read_keyword};
 use crate::known::Known;
 use crate::line::{read_tokens, text_of};
 use crate::names::{take_name, take_target, take_variable};
 use crate::number::read_count;
 use crate::patterns::take_pattern;
 use crate::token::{Token, TokenKind};
-use sig_patterns::Pattern;
+use sig_patterns::{Expr, Pattern, Var};
 use sig_terms::Name;
 use sig_terms::bytes::equal_bytes;
 use std::alloc::Global;
@@ -115,67 +109,47 @@ fn read_turns(line: &[u8], tokens: &[Token]) -> Result<Form, Stop>
     }
 }
 
-fn read_send(alloc: Global, known: &Known, line: &[u8], tokens: &[Token]) -> Result<Instr, Stop>
+/// An expression, and nothing behind it.
+fn one_expr(alloc: Global, known: &Known, line: &[u8], tokens: &[Token]) -> Result<Expr, Stop>
     requires known { IsFewKnown known.now }
     requires whole { AreWhole line.now tokens.now }
-    ensures { Gives (λ i. i) result (send_of known.now line.now tokens.now) }
+    ensures { Gives (λ e. (e, tt)) result (all_said known.now 0 line.now (Operand.an_expr ∷ []) tokens.now) }
 {
-    let (to, rest) = take_expr(alloc, known, line, tokens)?;
-    let (message, rest) = take_expr(alloc, known, line, rest)?;
+    let (value, rest) = take_expr(alloc, known, line, tokens)?;
     end(rest)?;
-    Ok(Instr::Send { to, message })
+    Ok(value)
 }
 
-fn read_set(alloc: Global, known: &Known, line: &[u8], tokens: &[Token]) -> Result<Instr, Stop>
+/// Two expressions, and nothing behind them.
+fn two_exprs(
+    alloc: Global,
+    known: &Known,
+    line: &[u8],
+    tokens: &[Token],
+) -> Result<(Expr, Expr), Stop>
     requires known { IsFewKnown known.now }
     requires whole { AreWhole line.now tokens.now }
-    ensures { Gives (λ i. i) result (set_of known.now line.now tokens.now) }
+    ensures { Gives (λ x. (x.0, (x.1, tt))) result (all_said known.now 0 line.now (Operand.an_expr ∷ Operand.an_expr ∷ []) tokens.now) }
+{
+    let (first, rest) = take_expr(alloc, known, line, tokens)?;
+    let second = one_expr(alloc, known, line, rest)?;
+    Ok((first, second))
+}
+
+/// A variable and an expression, and nothing behind them.
+fn variable_and_expr(
+    alloc: Global,
+    known: &Known,
+    line: &[u8],
+    tokens: &[Token],
+) -> Result<(Var, Expr), Stop>
+    requires known { IsFewKnown known.now }
+    requires whole { AreWhole line.now tokens.now }
+    ensures { Gives (λ x. (x.0.0, (x.1, tt))) result (all_said known.now 0 line.now (Operand.a_variable ∷ Operand.an_expr ∷ []) tokens.now) }
 {
     let (var, rest) = take_variable(alloc, line, tokens)?;
-    let (value, rest) = take_expr(alloc, known, line, rest)?;
-    end(rest)?;
-    Ok(Instr::Set { var, value })
-}
-
-fn read_link(alloc: Global, known: &Known, line: &[u8], tokens: &[Token]) -> Result<Instr, Stop>
-    requires known { IsFewKnown known.now }
-    requires whole { AreWhole line.now tokens.now }
-    ensures { Gives (λ i. i) result (link_of known.now line.now tokens.now) }
-{
-    let (peer, rest) = take_expr(alloc, known, line, tokens)?;
-    end(rest)?;
-    Ok(Instr::Link { peer })
-}
-
-fn read_unlink(alloc: Global, known: &Known, line: &[u8], tokens: &[Token]) -> Result<Instr, Stop>
-    requires known { IsFewKnown known.now }
-    requires whole { AreWhole line.now tokens.now }
-    ensures { Gives (λ i. i) result (unlink_of known.now line.now tokens.now) }
-{
-    let (peer, rest) = take_expr(alloc, known, line, tokens)?;
-    end(rest)?;
-    Ok(Instr::Unlink { peer })
-}
-
-fn read_exit(alloc: Global, known: &Known, line: &[u8], tokens: &[Token]) -> Result<Instr, Stop>
-    requires known { IsFewKnown known.now }
-    requires whole { AreWhole line.now tokens.now }
-    ensures { Gives (λ i. i) result (exit_of known.now line.now tokens.now) }
-{
-    let (reason, rest) = take_expr(alloc, known, line, tokens)?;
-    end(rest)?;
-    Ok(Instr::Exit { reason })
-}
-
-fn read_exit_to(alloc: Global, known: &Known, line: &[u8], tokens: &[Token]) -> Result<Instr, Stop>
-    requires known { IsFewKnown known.now }
-    requires whole { AreWhole line.now tokens.now }
-    ensures { Gives (λ i. i) result (exit_to_of known.now line.now tokens.now) }
-{
-    let (target, rest) = take_expr(alloc, known, line, tokens)?;
-    let (reason, rest) = take_expr(alloc, known, line, rest)?;
-    end(rest)?;
-    Ok(Instr::ExitTo { target, reason })
+    let value = one_expr(alloc, known, line, rest)?;
+    Ok((var, value))
 }
 
 /// Whether the word is `on`. A word that isn't `off` either is refused.
@@ -191,34 +165,36 @@ fn read_switch(word: &[u8]) -> Result<bool, Stop>
     }
 }
 
-fn read_trap(line: &[u8], tokens: &[Token]) -> Result<Instr, Stop>
+/// `on` or `off`, and nothing behind it.
+fn one_switch(line: &[u8], tokens: &[Token]) -> Result<bool, Stop>
     requires { AreWhole line.now tokens.now }
-    ensures { Gives (λ i. i) result (trap_of line.now tokens.now) }
+    ensures { Gives (λ on. (on, tt)) result (all_said Known.Any 0 line.now (Operand.a_switch ∷ []) tokens.now) }
 {
     match tokens {
         [token, rest @ ..] if token.kind == TokenKind::Name => {
             let on = read_switch(text_of(line, *token))?;
             end(rest)?;
-            Ok(Instr::Trap { on })
+            Ok(on)
         }
         _ => Err(Stop::Fault(FaultKind::Syntax)),
     }
 }
 
-fn read_goto(
+/// A label of the process with this place among the processes, and nothing behind it.
+fn one_label(
     alloc: Global,
     known: &Known,
     here: usize,
     line: &[u8],
     tokens: &[Token],
-) -> Result<Instr, Stop>
+) -> Result<u32, Stop>
     requires known { IsFewKnown known.now }
     requires whole { AreWhole line.now tokens.now }
-    ensures { Gives (λ i. i) result (goto_of known.now here line.now tokens.now) }
+    ensures { Gives (λ l. (l, tt)) result (all_said known.now here line.now (Operand.a_label ∷ []) tokens.now) }
 {
     let (label, rest) = take_target(alloc, known, here, line, tokens)?;
     end(rest)?;
-    Ok(Instr::Goto { label })
+    Ok(label)
 }
 
 fn read_name(alloc: Global, line: &[u8], tokens: &[Token]) -> Result<Name, Stop>
@@ -246,35 +222,57 @@ fn read_on(
     Ok(Form::On(pattern, target))
 }
 
-/// The instruction behind the word, which is no receive, of the process with this place among the
-/// processes.
-#[tactic(auto, unfolding(crate::specs::Forms::instr_of))]
+/// The instruction of the verb, of the process with this place among the processes.
+#[tactic(auto, unfolding(crate::specs::Forms::instr_of, crate::specs::Forms::made_of))]
 fn read_instr(
     alloc: Global,
     known: &Known,
     here: usize,
-    word: Keyword,
+    verb: Verb,
     line: &[u8],
     tokens: &[Token],
 ) -> Result<Instr, Stop>
     requires known { IsFewKnown known.now }
     requires whole { AreWhole line.now tokens.now }
-    ensures { Gives (λ i. i) result (instr_of known.now here word line.now tokens.now) }
+    ensures { Gives (λ i. i) result (instr_of known.now here verb line.now tokens.now) }
 {
-    match word {
-        Keyword::Send => read_send(alloc, known, line, tokens),
-        Keyword::Set => read_set(alloc, known, line, tokens),
-        Keyword::Link => read_link(alloc, known, line, tokens),
-        Keyword::Unlink => read_unlink(alloc, known, line, tokens),
-        Keyword::Exit => read_exit(alloc, known, line, tokens),
-        Keyword::ExitTo => read_exit_to(alloc, known, line, tokens),
-        Keyword::Trap => read_trap(line, tokens),
-        Keyword::Goto => read_goto(alloc, known, here, line, tokens),
-        Keyword::Stop => {
+    match verb {
+        Verb::Send => {
+            let (to, message) = two_exprs(alloc, known, line, tokens)?;
+            Ok(Instr::Send { to, message })
+        }
+        Verb::Set => {
+            let (var, value) = variable_and_expr(alloc, known, line, tokens)?;
+            Ok(Instr::Set { var, value })
+        }
+        Verb::Link => {
+            let peer = one_expr(alloc, known, line, tokens)?;
+            Ok(Instr::Link { peer })
+        }
+        Verb::Unlink => {
+            let peer = one_expr(alloc, known, line, tokens)?;
+            Ok(Instr::Unlink { peer })
+        }
+        Verb::Exit => {
+            let reason = one_expr(alloc, known, line, tokens)?;
+            Ok(Instr::Exit { reason })
+        }
+        Verb::ExitTo => {
+            let (target, reason) = two_exprs(alloc, known, line, tokens)?;
+            Ok(Instr::ExitTo { target, reason })
+        }
+        Verb::Trap => {
+            let on = one_switch(line, tokens)?;
+            Ok(Instr::Trap { on })
+        }
+        Verb::Goto => {
+            let label = one_label(alloc, known, here, line, tokens)?;
+            Ok(Instr::Goto { label })
+        }
+        Verb::Stop => {
             end(tokens)?;
             Ok(Instr::Stop)
         }
-        _ => Err(Stop::Fault(FaultKind::Syntax)),
     }
 }
 
@@ -309,7 +307,7 @@ fn read_form(
             end(tokens)?;
             Ok(Form::End)
         }
-        _ => Ok(Form::Do(read_instr(alloc, known, here, word, line, tokens)?)),
+        Keyword::Do(verb) => Ok(Form::Do(read_instr(alloc, known, here, verb, line, tokens)?)),
     }
 }
 

@@ -1,14 +1,17 @@
 ghost use Rattle.std.specs.Prelude.{◌≡◌};
-ghost use Rattle.sig_script.specs.Forms.{keyword_of, may_begin, may_be_outside, may_be_inside};
+ghost use Rattle.sig_script.specs.Forms.{
+  verb_of,
+  keyword_of,
+  may_begin,
+  may_be_outside,
+  may_be_inside,
+};
 
 use sig_terms::bytes::equal_bytes;
 
-/// The word with which a line begins.
+/// The word of an instruction that is no receive.
 #[derive(Clone, Copy, Debug, PartialEq, Eq)]
-pub enum Keyword {
-    Turns,
-    Process,
-    Label,
+pub enum Verb {
     Send,
     Set,
     Link,
@@ -18,10 +21,46 @@ pub enum Keyword {
     Trap,
     Goto,
     Stop,
+}
+
+/// The word with which a line begins.
+#[derive(Clone, Copy, Debug, PartialEq, Eq)]
+pub enum Keyword {
+    Turns,
+    Process,
+    Label,
+    Do(Verb),
     Receive,
     On,
     After,
     End,
+}
+
+/// The verb of these bytes.
+fn read_verb(word: &[u8]) -> Option<Verb>
+    ensures { result ≡ verb_of word.now }
+{
+    if equal_bytes(word, b"send") {
+        Some(Verb::Send)
+    } else if equal_bytes(word, b"set") {
+        Some(Verb::Set)
+    } else if equal_bytes(word, b"link") {
+        Some(Verb::Link)
+    } else if equal_bytes(word, b"unlink") {
+        Some(Verb::Unlink)
+    } else if equal_bytes(word, b"exit") {
+        Some(Verb::Exit)
+    } else if equal_bytes(word, b"exit_to") {
+        Some(Verb::ExitTo)
+    } else if equal_bytes(word, b"trap") {
+        Some(Verb::Trap)
+    } else if equal_bytes(word, b"goto") {
+        Some(Verb::Goto)
+    } else if equal_bytes(word, b"stop") {
+        Some(Verb::Stop)
+    } else {
+        None
+    }
 }
 
 /// The keyword of these bytes.
@@ -34,24 +73,6 @@ pub fn read_keyword(word: &[u8]) -> Option<Keyword>
         Some(Keyword::Process)
     } else if equal_bytes(word, b"label") {
         Some(Keyword::Label)
-    } else if equal_bytes(word, b"send") {
-        Some(Keyword::Send)
-    } else if equal_bytes(word, b"set") {
-        Some(Keyword::Set)
-    } else if equal_bytes(word, b"link") {
-        Some(Keyword::Link)
-    } else if equal_bytes(word, b"unlink") {
-        Some(Keyword::Unlink)
-    } else if equal_bytes(word, b"exit") {
-        Some(Keyword::Exit)
-    } else if equal_bytes(word, b"exit_to") {
-        Some(Keyword::ExitTo)
-    } else if equal_bytes(word, b"trap") {
-        Some(Keyword::Trap)
-    } else if equal_bytes(word, b"goto") {
-        Some(Keyword::Goto)
-    } else if equal_bytes(word, b"stop") {
-        Some(Keyword::Stop)
     } else if equal_bytes(word, b"receive") {
         Some(Keyword::Receive)
     } else if equal_bytes(word, b"on") {
@@ -61,7 +82,8 @@ pub fn read_keyword(word: &[u8]) -> Option<Keyword>
     } else if equal_bytes(word, b"end") {
         Some(Keyword::End)
     } else {
-        None
+        let verb = read_verb(word)?;
+        Some(Keyword::Do(verb))
     }
 }
 
@@ -73,20 +95,7 @@ impl Keyword {
         match self {
             Keyword::Turns => turns.is_none(),
             Keyword::Process => true,
-            Keyword::Label => false,
-            Keyword::Send => false,
-            Keyword::Set => false,
-            Keyword::Link => false,
-            Keyword::Unlink => false,
-            Keyword::Exit => false,
-            Keyword::ExitTo => false,
-            Keyword::Trap => false,
-            Keyword::Goto => false,
-            Keyword::Stop => false,
-            Keyword::Receive => false,
-            Keyword::On => false,
-            Keyword::After => false,
-            Keyword::End => false,
+            _ => false,
         }
     }
 
@@ -95,22 +104,11 @@ impl Keyword {
         ensures { result ≡ may_be_outside self }
     {
         match self {
-            Keyword::Turns => false,
             Keyword::Process => true,
             Keyword::Label => true,
-            Keyword::Send => true,
-            Keyword::Set => true,
-            Keyword::Link => true,
-            Keyword::Unlink => true,
-            Keyword::Exit => true,
-            Keyword::ExitTo => true,
-            Keyword::Trap => true,
-            Keyword::Goto => true,
-            Keyword::Stop => true,
+            Keyword::Do(_) => true,
             Keyword::Receive => true,
-            Keyword::On => false,
-            Keyword::After => false,
-            Keyword::End => false,
+            _ => false,
         }
     }
 
@@ -119,22 +117,10 @@ impl Keyword {
         ensures { result ≡ may_be_inside has_after self }
     {
         match self {
-            Keyword::Turns => false,
-            Keyword::Process => false,
-            Keyword::Label => false,
-            Keyword::Send => false,
-            Keyword::Set => false,
-            Keyword::Link => false,
-            Keyword::Unlink => false,
-            Keyword::Exit => false,
-            Keyword::ExitTo => false,
-            Keyword::Trap => false,
-            Keyword::Goto => false,
-            Keyword::Stop => false,
-            Keyword::Receive => false,
             Keyword::On => !has_after,
             Keyword::After => !has_after,
             Keyword::End => true,
+            _ => false,
         }
     }
 }

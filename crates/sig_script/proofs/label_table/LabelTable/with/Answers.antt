@@ -1,4 +1,4 @@
-use Rattle.std.proofs.Common.{◌≡◌, length, position, ap, sym, ◌∙◌}
+use Rattle.std.proofs.Common.{◌≡◌, length, position, ap, ◌∙◌}
 use Rattle.std.specs.Ordering.{nat_cmp}
 use Rattle.std.specs.Cmp.Lexicographic.{slice_cmp}
 use Rattle.std.specs.BTreeMap.{insert_entry}

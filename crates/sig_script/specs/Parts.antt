@@ -1,0 +1,59 @@
+-- The parts of an instruction, and the pids in them.
+use Rattle.std.specs.Prelude.{ℕ, List, [], ◌∷◌, ◌++◌, filter_map, option_to_list}
+use Rattle.std.specs.List.{concat}
+use Rattle.sig_patterns.specs.declared.clause.Clause.{Clause}
+use Rattle.sig_patterns.specs.declared.expression.Expr.{Expr}
+use Rattle.sig_patterns.specs.declared.expression.Expr.TheOpen.{Expr-F}
+use Rattle.sig_patterns.specs.declared.expression.Expr.TheOpen as expression
+use Rattle.sig_patterns.specs.declared.expression.Expr.TheFolds.{fold-Expr}
+use Rattle.sig_patterns.specs.declared.pattern.Pattern.{Pattern}
+use Rattle.sig_patterns.specs.declared.pattern.Pattern.TheOpen.{Pattern-F}
+use Rattle.sig_patterns.specs.declared.pattern.Pattern.TheOpen as pattern
+use Rattle.sig_patterns.specs.declared.pattern.Pattern.TheFolds.{fold-Pattern}
+use Rattle.sig_script.specs.declared.instruction.After.{After}
+use Rattle.sig_script.specs.declared.instruction.Instr.{Instr}
+use Rattle.sig_script.specs.declared.instruction.Instr.TheVariants.{Send, Set, Link, Unlink, Exit, ExitTo, Receive, Goto}
+
+-- the expressions of an instruction, in the order of its line
+abbrev pub exprs_of : Instr → List Expr
+exprs_of (Send to message) = to ∷ message ∷ []
+exprs_of (Set var value) = value ∷ []
+exprs_of (Link peer) = peer ∷ []
+exprs_of (Unlink peer) = peer ∷ []
+exprs_of (Exit reason) = reason ∷ []
+exprs_of (ExitTo target reason) = target ∷ reason ∷ []
+exprs_of _ = []
+
+-- the clauses of a receive
+abbrev pub clauses_of : Instr → List Clause
+clauses_of (Receive clauses after) = clauses
+clauses_of _ = []
+
+-- the labels at which a process may go on behind an instruction, by their places among its labels
+abbrev pub targets_of : Instr → List ℕ
+targets_of (Receive clauses after) = filter_map (λ (c : Clause). c.target) clauses ++ filter_map (λ (a : After). a.target) (option_to_list after)
+targets_of (Goto label) = label ∷ []
+targets_of _ = []
+
+-- the pids in one layer of an expression, where those of its elements are held
+abbrev pub expr_pids : Expr-F (List ℕ) → List ℕ
+expr_pids (expression.Pid p) = p.0 ∷ []
+expr_pids (expression.Tuple held) = concat held
+expr_pids (expression.List held) = concat held
+expr_pids _ = []
+
+-- the pids in an expression, from left to right
+abbrev pub pids_of : Expr → List ℕ
+pids_of e = fold-Expr (List ℕ) expr_pids e
+
+-- the same of a layer of a pattern
+abbrev pub pattern_pids : Pattern-F (List ℕ) → List ℕ
+pattern_pids (pattern.Pid p) = p.0 ∷ []
+pattern_pids (pattern.Tuple held) = concat held
+pattern_pids (pattern.List held) = concat held
+pattern_pids (pattern.Cons heads tail) = concat heads ++ tail
+pattern_pids _ = []
+
+-- the pids in a pattern, from left to right
+abbrev pub pids_of_pattern : Pattern → List ℕ
+pids_of_pattern p = fold-Pattern (List ℕ) pattern_pids p
