@@ -156,8 +156,11 @@ fn waited<L: Ledger>(
         return Err("too many clauses".into());
     }
     let first = queue.receive(&clauses, &env, None, &mut steps);
+    if queue.passed() != messages.len() {
+        return Err("not behind all".into());
+    }
     append(alloc, &mut queue, news[0])?;
-    if !queue.is_saved() || queue.passed() != messages.len() {
+    if !queue.is_saved() {
         return Err("no saved place".into());
     }
     let second = queue.resume(&clauses, &env, None, &mut steps);
