@@ -80,7 +80,7 @@ module _ (script : Program) (p : ℕ) (r t : Running) (e : IsEventOf script p r 
   event_applies = applies (rules_of script) (stamps_kept script.turns (slice_get script.procs)) m p r.state e.input e.effect state_at can_here (oldest_of e.input e.next)
 
   boxes_now : boxes_after (rules_of script) p e.effect.sends (only p r.outbox) ≡ only p t.outbox
-  boxes_now = fun_ext (λ q. elim (p == q) as (λ c. cond c (cond c r.outbox [] ++ outgoing (rules_of script) p e.effect.sends) (cond c r.outbox []) ≡ cond c t.outbox []) [ true ↦ sym e.outbox | false ↦ refl ])
+  boxes_now = fun_ext (λ q. elim (p == q) as (λ c. cond c (cond c r.outbox [] ++ outgoing (rules_of script) p e.effect.sends) (cond c r.outbox []) ≡ cond c t.outbox []) [ true ↦ sym (ap (λ (z : Running). z.outbox) e.is) | false ↦ refl ])
 
   point_same : (i : Input Signal) (a b : ℕ → ℕ → List Signal) (s q : ℕ) → a s q ≡ b s q →
       posted (rules_of script) p e.effect.sends (pulled (rules_of script) p i a) s q ≡ posted (rules_of script) p e.effect.sends (pulled (rules_of script) p i b) s q
@@ -95,11 +95,11 @@ module _ (script : Program) (p : ℕ) (r t : Running) (e : IsEventOf script p r 
       (record {
         states =
             ap (λ xs. slice_set xs p e.effect.state) w.states
-            ∙ ap (λ z. slice_set (map (λ (n : Mate). n.local.state) (members crew)) p z) (sym e.state)
+            ∙ ap (λ z. slice_set (map (λ (n : Mate). n.local.state) (members crew)) p z) (ap (λ (z : Running). z.state) (sym e.is))
             ∙ sym (map-set (λ (n : Mate). n.local.state) (members crew) p (member_of t));
         queued = λ s q lt.
             point_same e.input m.queued way s q (w.queued s q (subst (λ n. q < n) (length-set (members crew) p (member_of t)) lt))
-            ∙ sym (way_step (rules_of script) (members crew) (only p r.outbox) p (member_of r) here (record { input = e.input; effect = e.effect }) e.next (member_of t) e.own e.taken_in s q)
+            ∙ sym (way_step (rules_of script) (members crew) (only p r.outbox) p (member_of r) here (record { input = e.input; effect = e.effect }) e.next (member_of t) (ap (λ (z : Running). z.own) e.is) (ap (λ (z : Running). z.taken_in) e.is) s q)
             ∙ ap (λ b. on_way (rules_of script) (slice_set (members crew) p (member_of t)) b s q) boxes_now;
       })
 

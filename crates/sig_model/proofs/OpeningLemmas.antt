@@ -16,7 +16,7 @@ use Rattle.sig_model.specs.OneWorker.{opened_from, opened_crew, IsClear}
 use Rattle.sig_model.specs.SettledRun.{events_of}
 use Rattle.sig_model.proofs.EventLemmas.{member_of, IsKeptOf}
 use Rattle.sig_model.proofs.CrewLemmas.{Mate, members}
-use Rattle.sig_model.proofs.ReachLemmas.{IsResting}
+use Rattle.sig_model.proofs.ReachLemmas.{IsBetweenVisits}
 
 -- the process at each place of the opening
 opened_at : (pid count turns : ℕ) (ps : List Declared) (q : ℕ) → slice_get (opened_from pid count turns ps) q ≡ option_map (opened (pid + q) count turns) (slice_get ps q)
@@ -32,6 +32,10 @@ states_from pid count turns (p ∷ ps) = ap (λ z. opening_state pid count ∷ z
 clear_from : (pid count turns : ℕ) (ps : List Declared) → IsClear (opened_from pid count turns ps)
 clear_from pid count turns [] = All-nil (λ (r : Running). r.outbox ≡ [])
 clear_from pid count turns (p ∷ ps) = All-cons (λ (r : Running). r.outbox ≡ []) _ _ refl (clear_from (pid + 1) count turns ps)
+
+pub opened_length : (pid count turns : ℕ) (ps : List Declared) → length (opened_from pid count turns ps) ≡ length ps
+opened_length pid count turns [] = refl
+opened_length pid count turns (p ∷ ps) = ap suc (opened_length (pid + 1) count turns ps)
 
 module _ (script : Program) where
   abbrev count : ℕ
@@ -71,14 +75,15 @@ module _ (script : Program) where
       none_on_way s t (s == t) (slice_get script.procs t)
       ∙ sym (ap (λ o. cond (s == t) (own_part o) (taken_in_part (rules_of script) s o ++ addressed (rules_of script) t [])) (slice_get-map member_of (opened_crew script) t ∙ ap (λ o. option_map member_of o) (at_place t)))
 
-  pub opening_resting : IsResting script (opened_crew script) []
-  opening_resting = record {
+  pub opening_reached : IsBetweenVisits script (opened_crew script) []
+  opening_reached = record {
     reached = record {
       machine = opening_machine (opening_of script);
       run = refl;
       at_work = record { states = states_from 0 count script.turns script.procs; queued = λ s t lt. opening_way s t };
       told = λ q. no_events q (slice_get script.procs q) ∙ sym (ap (λ o. events_of o) (at_place q));
       kept = λ q r there. kept_opening q (slice_get script.procs q) r refl (sym (at_place q) ∙ there);
+      many = opened_length 0 count script.turns script.procs;
     };
     clear = clear_from 0 count script.turns script.procs;
   }

@@ -5,7 +5,7 @@ use Rattle.std.proofs.Math.Path.{fun_ext}
 use Rattle.std.proofs.Math.Seq.{map-set_same, drop-append_seam}
 use Rattle.std.proofs.lemmas.Bool.{eq-eqb, ne_eqb}
 use Rattle.std.proofs.lemmas.Bool.Decides.{eqb_tells}
-use Rattle.std.proofs.lemmas.List.{append-nil}
+use Rattle.std.proofs.lemmas.List.{append-nil, length-set}
 use Rattle.std.proofs.lemmas.List.Elements.{All-nil, All-cons, All-append, All-head, All-tail}
 use Rattle.std.proofs.lemmas.Option.{same_Some, slice_get_within, get_or_from_slice_get}
 use Rattle.sig_kinds.specs.declared.signal.Signal.{Signal}
@@ -34,6 +34,7 @@ pub record IsReached (script : Program) (boxes : ℕ → List Signal) (crew : Li
   pub at_work : IsAtWork script boxes (members crew) machine
   pub told : (q : ℕ) → events_by q events ≡ events_of (slice_get crew q)
   pub kept : (q : ℕ) (r : Running) → slice_get crew q ≡ Some r → IsKeptOf script q r
+  pub many : length crew ≡ length script.procs
 
 -- a list that is changed at one place
 pub set_here : (xs : List Running) (i : ℕ) (x : Running) → slice_get xs i ≡ Some x → slice_set xs i x ≡ xs
@@ -89,9 +90,10 @@ module _ (script : Program) where
           at_work = event_at_work script p r t e crew there g.machine g.at_work;
           told = told_set crew p r t there (λ q. events_by q es) (λ q. events_by q (es ++ a ∷ []))
               (λ q h. events_by-push q es a ∙ ap (λ c. events_by q es ++ cond c (a.event ∷ []) []) (ne_eqb p q h) ∙ append-nil (events_by q es))
-              (events_by-push p es a ∙ ap (λ c. events_by p es ++ cond c (a.event ∷ []) []) (eq-eqb p p refl) ∙ ap (λ z. z ++ a.event ∷ []) (g.told p ∙ ap (λ o. events_of o) there) ∙ sym e.events)
+              (events_by-push p es a ∙ ap (λ c. events_by p es ++ cond c (a.event ∷ []) []) (eq-eqb p p refl) ∙ ap (λ z. z ++ a.event ∷ []) (g.told p ∙ ap (λ o. events_of o) there) ∙ ap (λ (z : Running). z.events) (sym e.is))
               g.told;
           kept = kept_set crew p r t there (event_kept script.turns (slice_get script.procs) p r t e (g.kept p r there)) g.kept;
+          many = length-set crew p t ∙ g.many;
         }
 
     -- steps of the process that is visited add these events to its own and to those of the run
@@ -115,7 +117,7 @@ module _ (script : Program) where
         went_on u t later (slice_set crew p u) (es ++ made_by p a) (slice_get-set_same crew p u r there) (event_outgoing script.turns (slice_get script.procs) p r u e o) (step_reached r u crew es there e g) in
         record {
           more = a ++ rest.more;
-          grown = rest.grown ∙ ap (λ z. z ++ rest.more) e.events ∙ append_assoc r.events a rest.more;
+          grown = rest.grown ∙ ap (λ (z : Running). z.events ++ rest.more) e.is ∙ append_assoc r.events a rest.more;
           reached =
               subst (λ xs. IsReached script (only p t.outbox) (slice_set crew p t) xs) (append_assoc es (made_by p a) (made_by p rest.more))
               (subst (λ xs. IsReached script (only p t.outbox) xs ((es ++ made_by p a) ++ made_by p rest.more)) (set_twice crew p u t) rest.reached);
@@ -138,6 +140,7 @@ module _ (script : Program) where
             own_low = k.own_low;
             others = k.others;
           }) g.kept;
+          many = length-set crew p w ∙ g.many;
         }
 
     module _ (x : Signal) (xs : List Signal) (from : x.from.0 ≡ p) (to : x.to.0 ≢ p) (crew : List Running) (es : List (At Event)) (g : IsReached script (only p (x ∷ xs)) crew es) where
@@ -157,6 +160,10 @@ module _ (script : Program) where
       kept_after None e = g.kept
       kept_after (Some u) e = kept_set crew x.to.0 u (arrived u x) e (kept_arrived u (g.kept x.to.0 u e)) g.kept
 
+      many_after : (o : Option Running) → length (deliver_to o x crew) ≡ length script.procs
+      many_after None = g.many
+      many_after (Some u) = length-set crew x.to.0 (arrived u x) ∙ g.many
+
       -- one signal is delivered
       delivered : IsReached script (only p xs) (deliver_to (slice_get crew x.to.0) x crew) es
       delivered = record {
@@ -165,6 +172,7 @@ module _ (script : Program) where
         at_work = delivery_at_work script p x xs crew from to g.machine g.at_work;
         told = told_after (slice_get crew x.to.0) refl;
         kept = kept_after (slice_get crew x.to.0) refl;
+        many = many_after (slice_get crew x.to.0);
       }
 
     -- all signals of the outbox are delivered
@@ -202,19 +210,19 @@ module _ (script : Program) where
     visit_reached crew es clear g = visit_case_reached (slice_get crew p) crew es refl clear g
 
   -- a run with these events has led to a crew with empty outboxes
-  pub record IsResting (crew : List Running) (events : List (At Event)) : Type 0 where
+  pub record IsBetweenVisits (crew : List Running) (events : List (At Event)) : Type 0 where
     pub reached : IsReached script (λ q. []) crew events
     pub clear : IsClear crew
 
-  rest_visit : (at : ℕ) (crew : List Running) (es : List (At Event)) → IsResting crew es → IsResting (visit at crew) (es ++ made_in_visit at (slice_get crew at))
+  rest_visit : (at : ℕ) (crew : List Running) (es : List (At Event)) → IsBetweenVisits crew es → IsBetweenVisits (visit at crew) (es ++ made_in_visit at (slice_get crew at))
   rest_visit at crew es g = record { reached = visit_reached at crew es g.clear g.reached; clear = visit_clear at crew g.clear }
 
   -- a pass goes on with the run by the events that it makes
-  pub rest_pass : (n at : ℕ) (moved : Bool) (crew : List Running) (es : List (At Event)) → IsResting crew es → IsResting (pass_from n at moved crew).0 (es ++ made_in_pass n at crew)
+  pub rest_pass : (n at : ℕ) (moved : Bool) (crew : List Running) (es : List (At Event)) → IsBetweenVisits crew es → IsBetweenVisits (pass_from n at moved crew).0 (es ++ made_in_pass n at crew)
   unfolding pass_from made_in_pass
-  rest_pass zero at moved crew es g = subst (λ xs. IsResting crew xs) (sym (append-nil es)) g
+  rest_pass zero at moved crew es g = subst (λ xs. IsBetweenVisits crew xs) (sym (append-nil es)) g
   rest_pass (suc n) at moved crew es g =
       let one : List (At Event) = made_in_visit at (slice_get crew at) in
       let b : Bool = moved || has_moved at crew (visit at crew) in
-      subst (λ xs. IsResting (pass_from n (at + 1) b (visit at crew)).0 xs) (append_assoc es one (made_in_pass n (at + 1) (visit at crew)))
+      subst (λ xs. IsBetweenVisits (pass_from n (at + 1) b (visit at crew)).0 xs) (append_assoc es one (made_in_pass n (at + 1) (visit at crew)))
       (rest_pass n (at + 1) b (visit at crew) (es ++ one) (rest_visit at crew es g))

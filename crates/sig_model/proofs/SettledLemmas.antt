@@ -1,11 +1,14 @@
 -- The run of one worker is a settled run of the machine.
-use Rattle.std.proofs.Common.{◌≡◌, ℕ, suc, ◌≤◌, ◌^◌, ◌⊎◌, inl, inr, List, [], ◌∷◌, ◌++◌, map, length, Bool, true, false, cond, not, ◌&&◌, ◌||◌, Option, Some, None, refl, sym, ap, ◌∙◌, subst, append_assoc, arith, nat_le, is_none, is_some}
-use Rattle.std.specs.Prelude.{All, ◌==◌, slice_get}
+use Rattle.std.proofs.Common.{◌≡◌, ℕ, suc, ◌<◌, ◌≤◌, ◌^◌, ◌⊎◌, inl, inr, List, [], ◌∷◌, ◌++◌, map, length, Bool, true, false, cond, not, ◌&&◌, ◌||◌, Option, Some, None, refl, sym, ap, ◌∙◌, subst, append_assoc, arith, nat_le, is_none, is_some}
+use Rattle.std.specs.Prelude.{All, IsSome, ◌==◌, nat_lt, slice_get}
+use Rattle.std.specs.List.{list_any}
 use Rattle.std.specs.Option.{option_map}
 use Rattle.std.proofs.lemmas.Bool.{ne_eqb}
 use Rattle.std.proofs.lemmas.Bool.Decides.{nat_tests}
 use Rattle.std.proofs.lemmas.List.{append-nil}
+use Rattle.std.proofs.lemmas.List.Elements.{All-head}
 use Rattle.std.proofs.lemmas.Option.{slice_get-map, slice_get_within, same_Some}
+use Rattle.sig_terms.specs.declared.term.Term.{Term}
 use Rattle.sig_kinds.specs.declared.signal.Signal.{Signal}
 use Rattle.sig_runs.specs.Rules.{Effect}
 use Rattle.sig_runs.specs.Machine.{At, is_empty}
@@ -17,22 +20,29 @@ use Rattle.sig_runs.proofs.Delivery.{at_rest}
 use Rattle.sig_runs.proofs.Quiet.{quiet_at_rest}
 use Rattle.sig_script.specs.Scripts.{Program}
 use Rattle.sig_model.specs.declared.event.Event.{Event}
+use Rattle.sig_model.specs.declared.state.TheConstants.{LAST_STAMP}
 use Rattle.sig_model.specs.ProcessState.{ProcessState, is_cut}
+use Rattle.sig_model.specs.Bodies.{Body}
+use Rattle.sig_model.specs.Executing.{executing, IsWaiting}
+use Rattle.sig_model.specs.Finishing.{finished_exec}
 use Rattle.sig_model.specs.Machine.{rules_of, rules_with, execution, execution_of}
 use Rattle.sig_model.specs.Running.{Running, advanced, next_of, is_early, can_handle, can_exec, exec_next}
 use Rattle.sig_model.specs.OneWorker.{RunsTo, rests, goes, pass, opened_crew}
-use Rattle.sig_model.specs.SettledRun.{IsMachineOf, IsSettledRun}
+use Rattle.sig_model.specs.PrintedState.{is_late_signal, is_late}
+use Rattle.sig_model.specs.SettledRun.{IsMachineOf, IsResting, IsSettledRun}
 use Rattle.sig_model.specs.MadeEvents.{made_in_pass, Makes}
 use Rattle.sig_model.specs.MadeEvents.{none, passes}
 use Rattle.sig_model.proofs.StampLemmas.{stamps_kept}
+use Rattle.sig_model.proofs.Waiting.{waiting_iff}
+use Rattle.sig_model.proofs.Guards.{uncut_stamp, exec_due}
 use Rattle.sig_model.proofs.EventLemmas.{member_of, IsPartOf, IsKeptOf}
 use Rattle.sig_model.proofs.CrewLemmas.{Mate, members, at_member}
-use Rattle.sig_model.proofs.ReachLemmas.{IsReached, IsResting, rest_pass}
+use Rattle.sig_model.proofs.ReachLemmas.{IsReached, IsBetweenVisits, rest_pass}
 use Rattle.sig_model.proofs.StillLemmas.{IsStill, still_pass}
-use Rattle.sig_model.proofs.OpeningLemmas.{opening_resting}
+use Rattle.sig_model.proofs.OpeningLemmas.{opening_reached}
 
-is_high : (turns : ℕ) (s : ProcessState) → 2 ^ 62 ≤ s.stamp → is_cut turns s ≡ true
-is_high turns s h = or_high (is_none s.end && nat_le turns s.executed) (nat_le 4611686018427387904 s.stamp) (reaches 4611686018427387904 s.stamp h)
+is_high : (turns : ℕ) (s : ProcessState) → 2 ^ 62 ≤ s.counts.stamp → is_cut turns s ≡ true
+is_high turns s h = or_high (is_none s.tables.end && nat_le turns s.counts.executed) (nat_le LAST_STAMP s.counts.stamp) (reaches LAST_STAMP s.counts.stamp h)
   where
     or_high : (a b : Bool) → b ≡ true → (a || b) ≡ true
     or_high true b h = refl
@@ -40,6 +50,36 @@ is_high turns s h = or_high (is_none s.end && nat_le turns s.executed) (nat_le 4
 
     reaches : (a b : ℕ) → a ≤ b → nat_le a b ≡ true
     reaches a b h = grind (arith, nat_tests)
+
+is_below : (a b : ℕ) → a < b → nat_lt a b ≡ true
+is_below a b h = grind (arith, nat_tests)
+
+is_above : (a b : ℕ) → nat_lt a b ≡ false → nat_le b a ≡ true
+is_above a b h = grind (arith, nat_tests)
+
+can_exec_at : (r : Running) → r.state.tables.end ≡ None → is_cut r.turns r.state ≡ false → r.own ≡ [] → can_exec r ≡ true
+unfolding can_exec
+can_exec_at r e uncut own =
+    ap (λ o. is_none o && not (is_cut r.turns r.state) && length r.own == 0) e
+    ∙ ap (λ c. not c && length r.own == 0) uncut
+    ∙ ap (λ (xs : List Signal). length xs == 0) own
+
+not_early : (r : Running) → is_cut r.turns r.state ≡ false → can_handle r ≡ false → is_early (next_of r.own r.taken_in) ≡ false
+unfolding can_handle
+not_early r e h = ap (λ c. not c && is_early (next_of r.own r.taken_in)) (sym e) ∙ h
+
+-- the run from a crew is determined
+from_rest : (crew last : List Running) → (pass crew).1 ≡ false → RunsTo crew last → last ≡ (pass crew).0
+from_rest _ _ h (rests crew k) = refl
+from_rest _ last h (goes crew _ k more) = let f : true ≡ false = sym k ∙ h in absurd cc
+
+from_move : (crew last : List Running) → (pass crew).1 ≡ true → RunsTo crew last → RunsTo (pass crew).0 last
+from_move _ _ h (rests crew k) = let f : true ≡ false = sym h ∙ k in absurd cc
+from_move _ last h (goes crew _ k more) = more
+
+pub one_run : (crew a b : List Running) → RunsTo crew a → RunsTo crew b → a ≡ b
+one_run _ _ b (rests crew h) other = sym (from_rest crew b h other)
+one_run _ a b (goes crew _ h more) other = one_run (pass crew).0 a b more (from_move crew b h other)
 
 module _ (script : Program) where
   cuts_high : CutsHigh (rules_of script)
@@ -76,10 +116,10 @@ module _ (script : Program) where
     same_exec : may_exec (rules_of script) (member_of r) ≡ can_exec r
     unfolding rules_with can_exec
     same_exec =
-        ap (λ c. not (is_some r.state.end) && (not c && is_empty r.own)) same_cut
-        ∙ ap (λ b. not (is_some r.state.end) && (not (is_cut r.turns r.state) && b)) (same_empty r.own)
-        ∙ ap (λ a. a && (not (is_cut r.turns r.state) && length r.own == 0)) (same_alive r.state.end)
-        ∙ and_assoc (is_none r.state.end) (not (is_cut r.turns r.state)) (length r.own == 0)
+        ap (λ c. not (is_some r.state.tables.end) && (not c && is_empty r.own)) same_cut
+        ∙ ap (λ b. not (is_some r.state.tables.end) && (not (is_cut r.turns r.state) && b)) (same_empty r.own)
+        ∙ ap (λ a. a && (not (is_cut r.turns r.state) && length r.own == 0)) (same_alive r.state.tables.end)
+        ∙ and_assoc (is_none r.state.tables.end) (not (is_cut r.turns r.state)) (length r.own == 0)
 
     no_effect : (o : Option (Effect ProcessState Signal Event)) → option_map (advanced r) o ≡ None → o ≡ None
     no_effect None h = refl
@@ -102,6 +142,42 @@ module _ (script : Program) where
     quiet : IsQuiet (rules_of script) p (member_of r)
     unfolding rules_with
     quiet = record { no_handle = no_handle; no_exec = no_exec; from_others = k.others }
+
+  -- The process is at rest.
+  module _ (p : ℕ) (r : Running) (k : IsKeptOf script p r) (s : IsStill r) where
+    -- its own signals aren't late while it isn't cut
+    own_early : is_cut r.turns r.state ≡ false → (x : Signal) (own : List Signal) → r.own ≡ x ∷ own → nat_lt x.stamp LAST_STAMP ≡ true
+    own_early uncut x own o =
+        let first : x.stamp ≤ r.state.counts.stamp = All-head (λ (y : Signal). y.stamp ≤ r.state.counts.stamp) x own (subst (λ xs. All (λ (y : Signal). y.stamp ≤ r.state.counts.stamp) xs) o k.own_low) in
+        let last : r.state.counts.stamp < LAST_STAMP = uncut_stamp r.turns r.state uncut in
+        is_below x.stamp LAST_STAMP (omega (arith, first, last))
+
+    -- none waits, or the next one is late
+    queue_rests : (own taken : List Signal) → is_cut r.turns r.state ≡ false → r.own ≡ own → r.taken_in ≡ taken → is_early (next_of own taken) ≡ false →
+        (r.own ≡ []) × (((r.own ≡ []) × (r.taken_in ≡ [])) ⊎ (is_late r ≡ true))
+    queue_rests [] [] uncut o i h = (o, inl (o, i))
+    queue_rests (x ∷ own) taken uncut o i h = let f : true ≡ false = sym (own_early uncut x own o) ∙ h in absurd cc
+    queue_rests [] (x ∷ taken) uncut o i h =
+        let late : is_late_signal x ≡ true = is_above x.stamp LAST_STAMP h in
+        (o, inr (ap (λ xs. list_any is_late_signal xs || list_any is_late_signal r.taken_in) o ∙ ap (λ xs. list_any is_late_signal xs) i ∙ ap (λ c. c || list_any is_late_signal taken) late))
+
+    no_body : (o : Option Body) → option_map (advanced r) (option_map (finished_exec r.pid r.state) o) ≡ None → o ≡ None
+    no_body None h = refl
+    no_body (Some b) h = cc
+
+    -- it has ended, or waits
+    stops : (o : Option Term) → r.state.tables.end ≡ o → is_cut r.turns r.state ≡ false → r.own ≡ [] → IsSome r.state.tables.end ⊎ IsWaiting r.proc r.state
+    stops (Some reason) e uncut own = inl (ap (λ o. is_some o) e)
+    stops None e uncut own = inr ((waiting_iff r.proc r.state).0 (no_body (executing r.proc r.state) (sym (exec_due r (can_exec_at r e uncut own)) ∙ s.exec)))
+
+    rests_by : (c : Bool) → is_cut r.turns r.state ≡ c → IsResting r
+    rests_by true e = inl e
+    rests_by false e =
+        let queue : (r.own ≡ []) × (((r.own ≡ []) × (r.taken_in ≡ [])) ⊎ (is_late r ≡ true)) = queue_rests r.own r.taken_in e refl refl (not_early r e s.handle) in
+        inr (stops r.state.tables.end refl e queue.0, queue.1)
+
+    is_resting : IsResting r
+    is_resting = rests_by (is_cut r.turns r.state) refl
 
   low : (p : ℕ) (r : Running) → IsKeptOf script p r → All (λ (x : Signal). (rules_of script).stamp x ≤ (rules_of script).last r.state) r.own
   unfolding rules_with
@@ -140,7 +216,7 @@ module _ (script : Program) where
     reached : IsReached script (λ q. []) last (es ++ later)
     still : (q : ℕ) (r : Running) → slice_get last q ≡ Some r → IsStill r
 
-  run_ends : (crew last : List Running) (es : List (At Event)) → RunsTo crew last → IsResting script crew es → HasEnded crew last es
+  run_ends : (crew last : List Running) (es : List (At Event)) → RunsTo crew last → IsBetweenVisits script crew es → HasEnded crew last es
   run_ends _ _ es (rests crew h) g =
       let s : ((pass crew).0 ≡ crew) × ((q : ℕ) (r : Running) → 0 ≤ q → slice_get crew q ≡ Some r → IsStill r) = still_pass script (length crew) 0 false crew es g (omega arith) h in
       record {
@@ -171,12 +247,14 @@ module _ (script : Program) where
           record { pid = k.pid; turns = k.turns; proc = k.proc };
       told = e.reached.told;
       settled = settled last e.later e.reached e.still;
+      many = e.reached.many;
+      resting = λ p r there. is_resting p r (e.reached.kept p r there) (e.still p r there);
     }
 
   -- the run of one worker is a settled run of the script's machine, with the events in the order of the passes
   pub one_worker_made : (last : List Running) → RunsTo (opened_crew script) last → (run : IsSettledRun script last) × Makes (opened_crew script) run.events
   one_worker_made last h =
-      let e : HasEnded (opened_crew script) last [] = run_ends (opened_crew script) last [] h (opening_resting script) in
+      let e : HasEnded (opened_crew script) last [] = run_ends (opened_crew script) last [] h (opening_reached script) in
       (settled_run last e, e.made)
 
   pub one_worker_settled : (last : List Running) → RunsTo (opened_crew script) last → IsSettledRun script last

@@ -21,24 +21,24 @@ numbered_stamps pid stamp numbers [] = All-nil (λ (x : Signal). x.stamp ≡ sta
 numbered_stamps pid stamp numbers (p ∷ ps) =
     All-cons (λ (x : Signal). x.stamp ≡ stamp) _ _ refl (numbered_stamps pid stamp (drawn numbers p.to) ps)
 
-exec_stamped : (turns : ℕ) (part : ℕ → Option Declared) (pid : ℕ) (s : ProcessState) (body : Body) → IsStamped (rules_with turns part) (finished_exec pid s body) (s.stamp + 1) Exec
+exec_stamped : (turns : ℕ) (part : ℕ → Option Declared) (pid : ℕ) (s : ProcessState) (body : Body) → IsStamped (rules_with turns part) (finished_exec pid s body) (s.counts.stamp + 1) Exec
 unfolding rules_with
 exec_stamped turns part pid s body = record {
   event = refl;
   last = refl;
-  sends = numbered_stamps pid (s.stamp + 1) s.next_numbers body.posts;
+  sends = numbered_stamps pid (s.counts.stamp + 1) s.counts.next_numbers body.posts;
   told = refl;
 }
 
 body_stamped : (turns : ℕ) (part : ℕ → Option Declared) (pid : ℕ) (s : ProcessState) (o : Option Body) (effect : Effect ProcessState Signal Event) →
-    option_map (finished_exec pid s) o ≡ Some effect → IsStamped (rules_with turns part) effect (s.stamp + 1) Exec
+    option_map (finished_exec pid s) o ≡ Some effect → IsStamped (rules_with turns part) effect (s.counts.stamp + 1) Exec
 body_stamped turns part pid s None effect e = cc
 body_stamped turns part pid s (Some body) effect e =
     let same : finished_exec pid s body ≡ effect = cc in
-    subst (λ (x : Effect ProcessState Signal Event). IsStamped (rules_with turns part) x (s.stamp + 1) Exec) same (exec_stamped turns part pid s body)
+    subst (λ (x : Effect ProcessState Signal Event). IsStamped (rules_with turns part) x (s.counts.stamp + 1) Exec) same (exec_stamped turns part pid s body)
 
 process_stamped : (turns : ℕ) (part : ℕ → Option Declared) (pid : ℕ) (p : Option Declared) (s : ProcessState) (effect : Effect ProcessState Signal Event) →
-    execution_of pid p s ≡ Some effect → IsStamped (rules_with turns part) effect (s.stamp + 1) Exec
+    execution_of pid p s ≡ Some effect → IsStamped (rules_with turns part) effect (s.counts.stamp + 1) Exec
 process_stamped turns part pid None s effect e = cc
 process_stamped turns part pid (Some p) s effect e = body_stamped turns part pid s (executing p s) effect e
 
@@ -53,7 +53,7 @@ unfolding rules_with
 handled turns part pid s x = record {
   event = refl;
   last = refl;
-  sends = numbered_stamps pid (max s.stamp x.stamp + 1) s.next_numbers (handling pid s x).posts;
+  sends = numbered_stamps pid (max s.counts.stamp x.stamp + 1) s.counts.next_numbers (handling pid s x).posts;
   told = refl;
 }
 

@@ -1,5 +1,5 @@
 -- A pass without an event finds no process that could go on.
-use Rattle.std.proofs.Common.{◌≡◌, ◌≢◌, ℕ, zero, suc, ◌+◌, ◌<◌, ◌≤◌, List, [], ◌∷◌, length, length-append, Bool, true, false, cond, not, ◌&&◌, ◌||◌, ◌==◌, Option, Some, None, refl, sym, ap, ◌∙◌, subst, inl, inr, ◌⊎◌, arith}
+use Rattle.std.proofs.Common.{◌≡◌, ◌≢◌, ℕ, zero, suc, ◌+◌, ◌<◌, ◌≤◌, List, [], ◌∷◌, length, length-append, Bool, true, false, not, ◌||◌, ◌==◌, Option, Some, None, refl, sym, ap, ◌∙◌, subst, inl, inr, ◌⊎◌, arith}
 use Rattle.std.specs.Prelude.{slice_get, slice_set, unwrap_or}
 use Rattle.std.proofs.lemmas.Bool.Decides.{nat_tests, eqb_tells}
 use Rattle.std.proofs.lemmas.Option.{same_Some, slice_get_within}
@@ -8,13 +8,13 @@ use Rattle.sig_runs.specs.Machine.{At}
 use Rattle.sig_runs.proofs.Lists.{slice_get-set_same}
 use Rattle.sig_script.specs.Scripts.{Program}
 use Rattle.sig_model.specs.declared.event.Event.{Event}
-use Rattle.sig_model.specs.ProcessState.{is_cut}
-use Rattle.sig_model.specs.Running.{Running, can_handle, next_of, is_early, handled_one, handled_first, handle_next, exec_next}
+use Rattle.sig_model.specs.Running.{Running, can_handle, next_of, handled_one, handled_first, handle_next, exec_next}
 use Rattle.sig_model.specs.OneWorker.{or_stay, handle_all, exec_or_stay, visited, deliver_all, settled_visit, visit_at, visit, events_at, has_moved, pass_from}
 use Rattle.sig_model.proofs.CountLemmas.{events_get, delivered_events}
+use Rattle.sig_model.proofs.Guards.{CanHandle, can_handle_tells, handle_due, handle_refused}
 use Rattle.sig_model.proofs.EventLemmas.{IsKeptOf, IsEventOf, IsStep, step_event, event_kept}
 use Rattle.sig_model.proofs.GoingLemmas.{Goes, stays, on, goes_trans, goes_handle, goes_exec}
-use Rattle.sig_model.proofs.ReachLemmas.{set_here, clear_at, IsResting}
+use Rattle.sig_model.proofs.ReachLemmas.{set_here, clear_at, IsBetweenVisits}
 
 -- the process can do nothing: no signal may be handled, and no instruction executed
 pub record IsStill (r : Running) : Type 0 where
@@ -22,28 +22,16 @@ pub record IsStill (r : Running) : Type 0 where
   pub exec : exec_next r ≡ None
 
 -- handling that may happen happens
-first_there : (r : Running) (own taken : List Signal) → is_early (next_of own taken) ≡ true → (u : Running) × (handled_first r own taken ≡ Some u)
-first_there r (x ∷ own) taken h = (handled_one (record r { own = own }) x, refl)
-first_there r [] (x ∷ taken) h = (handled_one (record r { taken_in = taken }) x, refl)
-first_there r [] [] h = cc
-
-second : (a b : Bool) → (a && b) ≡ true → b ≡ true
-second true b h = h
-second false b h = cc
-
-early : (r : Running) → can_handle r ≡ true → is_early (next_of r.own r.taken_in) ≡ true
-unfolding can_handle
-early r h = second (not (is_cut r.turns r.state)) (is_early (next_of r.own r.taken_in)) h
+first_there : (r : Running) (own taken : List Signal) (x : Signal) → next_of own taken ≡ Some x → (u : Running) × (handled_first r own taken ≡ Some u)
+first_there r (y ∷ own) taken x h = (handled_one (record r { own = own }) y, refl)
+first_there r [] (y ∷ taken) x h = (handled_one (record r { taken_in = taken }) y, refl)
+first_there r [] [] x h = cc
 
 handles : (r : Running) → can_handle r ≡ true → (u : Running) × (handle_next r ≡ Some u)
-unfolding handle_next
 handles r h =
-    let w : (u : Running) × (handled_first r r.own r.taken_in ≡ Some u) = first_there r r.own r.taken_in (early r h) in
-    (w.0, ap (λ c. cond c (handled_first r r.own r.taken_in) None) h ∙ w.1)
-
-handles_not : (r : Running) → can_handle r ≡ false → handle_next r ≡ None
-unfolding handle_next
-handles_not r h = ap (λ c. cond c (handled_first r r.own r.taken_in) None) h
+    let can : CanHandle r = can_handle_tells r h in
+    let w : (u : Running) × (handled_first r r.own r.taken_in ≡ Some u) = first_there r r.own r.taken_in can.next can.is_next in
+    (w.0, handle_due r h ∙ w.1)
 
 stays_all : (n : ℕ) (r : Running) → handle_next r ≡ None → handle_all n r ≡ r
 unfolding handle_all
@@ -61,18 +49,18 @@ first_of_all zero r u lt h = (let f : ⊥ = omega (arith, lt) in absurd f)
 first_of_all (suc n) r u lt h = subst (λ o. Goes u (or_stay o r (λ t. handle_all n t))) (sym h) (goes_handle n u)
 
 -- the first handling of a visit, and then the rest of it
-first_of_visit : (r u : Running) (own taken : List Signal) → r.own ≡ own → r.taken_in ≡ taken → is_early (next_of own taken) ≡ true → handle_next r ≡ Some u → Goes u (visited r)
+first_of_visit : (r u : Running) (own taken : List Signal) → r.own ≡ own → r.taken_in ≡ taken → (x : Signal) → next_of r.own r.taken_in ≡ Some x → handle_next r ≡ Some u → Goes u (visited r)
 unfolding visited
-first_of_visit r u (x ∷ own) taken o i h e =
+first_of_visit r u (y ∷ own) taken o i x h e =
     let one : Running = handle_all (length r.own) r in
     let two : Running = handle_all (length r.taken_in) one in
     goes_trans u one (exec_or_stay two) (first_of_all (length r.own) r u (subst (λ xs. 0 < length xs) (sym o) (omega arith)) e) (goes_trans one two (exec_or_stay two) (goes_handle (length r.taken_in) one) (goes_exec two))
-first_of_visit r u [] (x ∷ taken) o i h e =
+first_of_visit r u [] (y ∷ taken) o i x h e =
     let one : Running = handle_all (length r.own) r in
     let two : Running = handle_all (length r.taken_in) one in
     let same : one ≡ r = none_all (length r.own) r (ap (λ (xs : List Signal). length xs) o) in
     goes_trans u two (exec_or_stay two) (subst (λ z. Goes u (handle_all (length r.taken_in) z)) (sym same) (first_of_all (length r.taken_in) r u (subst (λ xs. 0 < length xs) (sym i) (omega arith)) e)) (goes_exec two)
-first_of_visit r u [] [] o i h e = cc
+first_of_visit r u [] [] o i x h e = let f : None ≡ Some x = sym (ap (λ xs. next_of xs r.taken_in) o ∙ ap (λ xs. next_of [] xs) i) ∙ h in cc
 
 -- a visit of a process that handles nothing
 visited_exec : (r : Running) → handle_next r ≡ None → visited r ≡ exec_or_stay r
@@ -81,13 +69,13 @@ visited_exec r h =
     ap (λ z. exec_or_stay z) (ap (λ z. handle_all (length r.taken_in) z) (stays_all (length r.own) r h) ∙ stays_all (length r.taken_in) r h)
 
 visited_still : (r : Running) → IsStill r → visited r ≡ r
-visited_still r s = visited_exec r (handles_not r s.handle) ∙ ap (λ o. unwrap_or o r) s.exec
+visited_still r s = visited_exec r (handle_refused r s.handle) ∙ ap (λ o. unwrap_or o r) s.exec
 
 module _ (script : Program) (p : ℕ) where
   step_more : (r t : Running) → IsKeptOf script p r → IsStep r t → length t.events ≡ length r.events + 1
   step_more r t k step =
       let e : IsEventOf script p r t = step_event script.turns (slice_get script.procs) p r t k step in
-      ap (λ (es : List Event). length es) e.events ∙ length-append r.events (e.effect.event ∷ [])
+      ap (λ (z : Running). length z.events) e.is ∙ length-append r.events (e.effect.event ∷ [])
 
   goes_more : (r t : Running) → IsKeptOf script p r → Goes r t → length r.events ≤ length t.events
   goes_more r _ k (stays _) = omega arith
@@ -105,12 +93,13 @@ module _ (script : Program) (p : ℕ) where
     exec_or_still : (o : Option Running) → can_handle r ≡ false → exec_next r ≡ o → IsStill r ⊎ (length r.events < length (visited r).events)
     exec_or_still None h e = inl (record { handle = h; exec = e })
     exec_or_still (Some u) h e =
-        inr (step_first r u (visited r) k (inr e) (subst (λ z. Goes u z) (sym (visited_exec r (handles_not r h) ∙ ap (λ o. unwrap_or o r) e)) (stays u)))
+        inr (step_first r u (visited r) k (inr e) (subst (λ z. Goes u z) (sym (visited_exec r (handle_refused r h) ∙ ap (λ o. unwrap_or o r) e)) (stays u)))
 
     handle_or_still : (b : Bool) → can_handle r ≡ b → IsStill r ⊎ (length r.events < length (visited r).events)
     handle_or_still true h =
+        let can : CanHandle r = can_handle_tells r h in
         let w : (u : Running) × (handle_next r ≡ Some u) = handles r h in
-        inr (step_first r w.0 (visited r) k (inl w.1) (first_of_visit r w.0 r.own r.taken_in refl refl (early r h) w.1))
+        inr (step_first r w.0 (visited r) k (inl w.1) (first_of_visit r w.0 r.own r.taken_in refl refl can.next can.is_next w.1))
     handle_or_still false h = exec_or_still (exec_next r) h refl
 
     still_or_moved : IsStill r ⊎ (length r.events < length (visited r).events)
@@ -135,7 +124,7 @@ module _ (script : Program) where
   abbrev pub LeftStill : ℕ → List Running → List Running → Type 0
   LeftStill at crew after = (after ≡ crew) × ((r : Running) → slice_get crew at ≡ Some r → IsStill r)
 
-  still_case : (at : ℕ) (o : Option Running) (crew : List Running) (es : List (At Event)) → IsResting script crew es → slice_get crew at ≡ o → has_moved at crew (visit_at at o crew) ≡ false → LeftStill at crew (visit_at at o crew)
+  still_case : (at : ℕ) (o : Option Running) (crew : List Running) (es : List (At Event)) → IsBetweenVisits script crew es → slice_get crew at ≡ o → has_moved at crew (visit_at at o crew) ≡ false → LeftStill at crew (visit_at at o crew)
   still_case at None crew es g there h = (refl, λ r e. let f : None ≡ Some r = sym there ∙ e in absurd cc)
   still_case at (Some r) crew es g there h = go (still_or_moved script at r (g.reached.kept at r there))
     where
@@ -156,7 +145,7 @@ module _ (script : Program) where
           let was : events_at at crew ≡ length r.events = events_get crew at r there in
           absurd (still_not (events_at at crew) (events_at at (settled_visit at v crew)) h (omega (arith, now, was, lt)))
 
-  still_visit : (at : ℕ) (crew : List Running) (es : List (At Event)) → IsResting script crew es → has_moved at crew (visit at crew) ≡ false → LeftStill at crew (visit at crew)
+  still_visit : (at : ℕ) (crew : List Running) (es : List (At Event)) → IsBetweenVisits script crew es → has_moved at crew (visit at crew) ≡ false → LeftStill at crew (visit at crew)
   unfolding visit
   still_visit at crew es g h = still_case at (slice_get crew at) crew es g refl h
 
@@ -170,7 +159,7 @@ module _ (script : Program) where
   unmoved (suc n) at moved crew h = (neither moved (has_moved at crew (visit at crew)) (unmoved n (at + 1) (moved || has_moved at crew (visit at crew)) (visit at crew) h)).0
 
   -- a pass without an event leaves the crew, and each process is still
-  pub still_pass : (n at : ℕ) (moved : Bool) (crew : List Running) (es : List (At Event)) → IsResting script crew es → length crew ≤ at + n → (pass_from n at moved crew).1 ≡ false →
+  pub still_pass : (n at : ℕ) (moved : Bool) (crew : List Running) (es : List (At Event)) → IsBetweenVisits script crew es → length crew ≤ at + n → (pass_from n at moved crew).1 ≡ false →
       ((pass_from n at moved crew).0 ≡ crew) × ((q : ℕ) (r : Running) → at ≤ q → slice_get crew q ≡ Some r → IsStill r)
   unfolding pass_from
   still_pass zero at moved crew es g le h = (refl, λ q r from e. let lt : q < length crew = slice_get_within crew q r e in (let f : ⊥ = omega (arith, lt, from, le) in absurd f))

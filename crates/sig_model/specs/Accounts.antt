@@ -1,7 +1,7 @@
 -- What a process has sent, and what has come to it, as the lists that it keeps tell (Erlang Reference Manual, Processes,
 -- Delivery of Signals: signals of one process to another arrive in the order in which they were sent). That they are numbered
 -- is this project's own.
-use Rattle.std.specs.Prelude.{◌≡◌, ℕ, ◌+◌, ◌<◌, ◌==◌, List, ◌++◌, length, slice_index, All}
+use Rattle.std.specs.Prelude.{◌≡◌, ℕ, ◌+◌, ◌<◌, ◌==◌, List, ◌++◌, length, slice_index}
 use Rattle.std.specs.List.{filter}
 use Rattle.sig_kinds.specs.declared.signal.Signal.{Signal}
 use Rattle.sig_kinds.specs.Counting.{IsCounting}

@@ -1,5 +1,5 @@
 -- What one event does, before its stamp and the numbers of its signals are put in.
-use Rattle.std.specs.Prelude.{ℕ, ◌+◌, List, [], ◌∷◌, map, true, Option, Some, None, slice_get, codes}
+use Rattle.std.specs.Prelude.{ℕ, ◌+◌, List, [], map, true, Option, Some, None, slice_get, codes}
 use Rattle.std.specs.Option.{option_map_or}
 use Rattle.sig_terms.specs.declared.term.Term.{Term}
 use Rattle.sig_terms.specs.declared.term.Term.TheVariants as term
@@ -8,7 +8,7 @@ use Rattle.sig_kinds.specs.declared.signal.Kind.TheVariants as kind
 use Rattle.sig_kinds.specs.LinkRules.{LinkState, active_after}
 use Rattle.sig_kinds.specs.LinkRules.{ending as links_ending}
 use Rattle.sig_kinds.specs.WatchRules.{watch_ending}
-use Rattle.sig_patterns.specs.Inbox.{Inbox, arrived_in, emptied_inbox}
+use Rattle.sig_patterns.specs.Inbox.{arrived_in, emptied_inbox}
 use Rattle.sig_script.specs.declared.label.Label.{Label}
 use Rattle.sig_model.specs.declared.event.Outcome.{Outcome}
 use Rattle.sig_model.specs.declared.event.Outcome.TheVariants as outcome

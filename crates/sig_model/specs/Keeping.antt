@@ -1,12 +1,13 @@
 -- What every running process keeps.
-use Rattle.std.specs.Prelude.{◌≡◌, ◌≢◌, ℕ, ◌<◌, ◌≤◌, List, [], length, All, Some, slice_get}
+use Rattle.std.specs.Prelude.{◌≡◌, ◌≢◌, ℕ, ◌≤◌, List, [], length, All, Some, slice_get}
 use Rattle.sig_kinds.specs.declared.signal.Signal.{Signal}
 use Rattle.sig_kinds.specs.SignalNames.{IsSignalBelow}
+use Rattle.sig_script.specs.Scripts.{IsWithin}
 use Rattle.sig_runs.specs.Rules.{Rules}
 use Rattle.sig_runs.specs.LocalRun.{Local}
 use Rattle.sig_runs.specs.Replay.{RanAlone}
 use Rattle.sig_model.specs.declared.event.Event.{Event}
-use Rattle.sig_model.specs.declared.TheConstants.{LAST_STAMP}
+use Rattle.sig_model.specs.declared.state.TheConstants.{LAST_STAMP}
 use Rattle.sig_model.specs.ProcessState.{ProcessState, opening_state}
 use Rattle.sig_model.specs.Machine.{rules_with}
 use Rattle.sig_model.specs.Running.{Running}
@@ -50,7 +51,8 @@ pub record IsKeeping (r : Running) : Type 0 where
   -- from its opening it has executed an instruction or handled a signal at each of its events, and these signals are the ones
   -- that it handled (Erlang Reference Manual, Processes, Receiving Signals)
   pub ran : RanAlone (own_rules r) r.pid (opening_local r) r.events r.handled (local_of r)
-  -- how far its counts go
+  -- how far its part of the script and its counts go
+  pub within : IsWithin r.proc
   pub bounds : IsBounded r.proc r.state
   -- no stamp is above 2^62 (this project's own)
   pub low : r.state.counts.stamp ≤ LAST_STAMP

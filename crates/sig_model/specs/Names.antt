@@ -9,8 +9,9 @@ use Rattle.sig_patterns.specs.Environment.{Environment}
 use Rattle.sig_patterns.specs.Inbox.{Inbox, Mark}
 use Rattle.sig_patterns.specs.declared.expression.Expr.{Expr}
 use Rattle.sig_script.specs.declared.instruction.Instr.{Instr}
-use Rattle.sig_script.specs.Scripts.{Declared, exprs_of, pids_of, IsProcBelow}
-use Rattle.sig_model.specs.ProcessState.{Tables, ProcessState}
+use Rattle.sig_script.specs.Parts.{exprs_of, pids_of}
+use Rattle.sig_script.specs.Scripts.{Declared, IsProcBelow}
+use Rattle.sig_model.specs.ProcessState.{Tables}
 use Rattle.sig_model.specs.Bodies.{Post, Body}
 use Rattle.sig_model.specs.Running.{Running}
 

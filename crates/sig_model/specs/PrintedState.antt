@@ -5,7 +5,7 @@ use Rattle.sig_terms.specs.declared.term.Term.{Term}
 use Rattle.sig_kinds.specs.declared.signal.Signal.{Signal}
 use Rattle.sig_model.specs.declared.state.State.{State}
 use Rattle.sig_model.specs.declared.state.State.TheVariants.{Ended, Waiting, Cut}
-use Rattle.sig_model.specs.declared.TheConstants.{LAST_STAMP}
+use Rattle.sig_model.specs.declared.state.TheConstants.{LAST_STAMP}
 use Rattle.sig_model.specs.ProcessState.{is_cut}
 use Rattle.sig_model.specs.Running.{Running}
 

@@ -6,7 +6,7 @@ use Rattle.sig_kinds.specs.LinkRules.{LinkState, unlinked}
 use Rattle.sig_kinds.specs.WatchRules.{WatchState, unwatched}
 use Rattle.sig_patterns.specs.Environment.{Environment}
 use Rattle.sig_patterns.specs.Inbox.{Inbox, no_messages}
-use Rattle.sig_model.specs.declared.TheConstants.{LAST_STAMP}
+use Rattle.sig_model.specs.declared.state.TheConstants.{LAST_STAMP}
 
 -- What a process holds. Every name in its state stands here.
 pub record Tables : Type 0 where

@@ -3,11 +3,15 @@
 #![tactic(auto)]
 
 mod event;
+mod numbers;
+mod receives;
 mod settled;
 mod stamps;
 mod state;
 
 pub use event::{Did, Event, Events, Outcome};
+pub use numbers::signals_are_numbered;
+pub use receives::only_a_receive_waits;
 pub use settled::one_worker_run_is_settled;
 pub use stamps::stamps_are_kept;
 pub use state::{LAST_STAMP, State};

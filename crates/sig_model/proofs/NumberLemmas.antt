@@ -1,0 +1,157 @@
+-- The numbers of the signals that a process sends count up from 1, for each receiver.
+use Rattle.std.proofs.Common.{◌≡◌, ◌≢◌, ℕ, zero, suc, ◌+◌, ◌<◌, List, [], ◌∷◌, ◌++◌, length, set, true, false, cond, Option, Some, None, refl, sym, ap, ◌∙◌, subst, inl, inr, ◌⊎◌, arith, length-append, length-set}
+use Rattle.std.specs.Prelude.{◌==◌, slice_index, replicate}
+use Rattle.std.specs.Option.{option_map}
+use Rattle.std.proofs.lemmas.Bool.Decides.{eqb_tells}
+use Rattle.std.proofs.lemmas.List.{get_or-set_same, get_or-set_other}
+use Rattle.std.proofs.lemmas.List.Elements.{filter-append}
+use Rattle.std.proofs.lemmas.Option.{same_Some}
+use Rattle.sig_kinds.specs.declared.signal.Signal.{Signal}
+use Rattle.sig_kinds.specs.Counting.{IsCounting}
+use Rattle.sig_script.specs.Scripts.{Declared}
+use Rattle.sig_runs.specs.Rules.{Effect}
+use Rattle.sig_runs.specs.LocalRun.{Input, CanDo}
+use Rattle.sig_runs.specs.LocalRun.Input.{Execute, Handle}
+use Rattle.sig_runs.proofs.Replay.{one_more}
+use Rattle.sig_model.specs.declared.event.Event.{Event}
+use Rattle.sig_model.specs.ProcessState.{ProcessState}
+use Rattle.sig_model.specs.Bodies.{Post, Body}
+use Rattle.sig_model.specs.Executing.{executing}
+use Rattle.sig_model.specs.Handling.{handling}
+use Rattle.sig_model.specs.Finishing.{drawn, numbers_after, numbered, finished_exec}
+use Rattle.sig_model.specs.Machine.{rules_with}
+use Rattle.sig_model.specs.Running.{Running, opened, exec_next, handle_next}
+use Rattle.sig_model.specs.Keeping.{opening_local, local_of, IsKeeping}
+use Rattle.sig_model.specs.Accounts.{sent_by, bound_for, went, IsNumbered}
+use Rattle.sig_model.proofs.StampLemmas.{stamps_kept}
+use Rattle.sig_model.proofs.EventLemmas.{IsEvent, IsStep, step_event}
+use Rattle.sig_model.proofs.KeepLemmas.{part, rules, is_kept}
+
+pub counting-append : (n : ℕ) (xs ys : List Signal) → IsCounting n xs → IsCounting (n + length xs) ys → IsCounting n (xs ++ ys)
+counting-append n [] ys a b = subst (λ m. IsCounting m ys) (let e : n + 0 ≡ n = omega arith in e) b
+counting-append n (x ∷ xs) ys a b =
+    (a.0, counting-append (n + 1) xs ys a.1 (subst (λ m. IsCounting m ys) (let e : n + length (x ∷ xs) ≡ n + 1 + length xs = omega arith in e) b))
+
+length_numbers : (numbers : List ℕ) (posts : List Post) → length (numbers_after numbers posts) ≡ length numbers
+length_numbers numbers [] = refl
+length_numbers numbers (q ∷ posts) = length_numbers (drawn numbers q.to) posts ∙ length-set numbers q.to (slice_index numbers q.to + 1)
+
+-- the signals to p have the numbers from n on, and the next number for p is the one after them
+record Draws (p n : ℕ) (after : List ℕ) (sends : List Signal) : Type 0 where
+  counts : IsCounting n (bound_for p sends)
+  next : slice_index after p ≡ n + length (bound_for p sends)
+
+draws_more : (pid stamp p n : ℕ) (numbers : List ℕ) (q : Post) (posts : List Post) → p < length numbers → slice_index numbers p ≡ n →
+    ((m : ℕ) → slice_index (drawn numbers q.to) p ≡ m → Draws p m (numbers_after (drawn numbers q.to) posts) (numbered pid stamp (drawn numbers q.to) posts)) →
+    Draws p n (numbers_after numbers (q ∷ posts)) (numbered pid stamp numbers (q ∷ posts))
+draws_more pid stamp p n numbers q posts lt at rest = go (eqb_tells q.to p)
+  where
+    tail : List Signal
+    tail = numbered pid stamp (drawn numbers q.to) posts
+
+    first : Signal
+    first = record { from = record { 0 = pid }; to = record { 0 = q.to }; number = slice_index numbers q.to; stamp = stamp; kind = q.kind }
+
+    go : (((q.to == p) ≡ true) × (q.to ≡ p)) ⊎ (((q.to == p) ≡ false) × (q.to ≢ p)) → Draws p n (numbers_after numbers (q ∷ posts)) (numbered pid stamp numbers (q ∷ posts))
+    go (inl e) =
+        let here : slice_index (drawn numbers q.to) p ≡ n + 1 =
+        ap (λ z. slice_index (set numbers z (slice_index numbers z + 1)) p) e.1 ∙ get_or-set_same numbers p (slice_index numbers p + 1) 0 lt ∙ ap (λ z. z + 1) at in
+        let d : Draws p (n + 1) (numbers_after (drawn numbers q.to) posts) tail = rest (n + 1) here in
+        let all : bound_for p (first ∷ tail) ≡ first ∷ bound_for p tail = ap (λ c. cond c (first ∷ bound_for p tail) (bound_for p tail)) e.0 in
+        record {
+          counts = subst (IsCounting n) (sym all) (ap (λ z. slice_index numbers z) e.1 ∙ at, d.counts);
+          next = d.next ∙ (let k : n + 1 + length (bound_for p tail) ≡ n + length (first ∷ bound_for p tail) = omega arith in k) ∙ ap (λ z. n + length z) (sym all);
+        }
+    go (inr e) =
+        let here : slice_index (drawn numbers q.to) p ≡ n = get_or-set_other numbers q.to p (slice_index numbers q.to + 1) 0 (λ z. e.1 (sym z)) ∙ at in
+        let d : Draws p n (numbers_after (drawn numbers q.to) posts) tail = rest n here in
+        let all : bound_for p (first ∷ tail) ≡ bound_for p tail = ap (λ c. cond c (first ∷ bound_for p tail) (bound_for p tail)) e.0 in
+        record { counts = subst (IsCounting n) (sym all) d.counts; next = d.next ∙ ap (λ z. n + length z) (sym all) }
+
+draws : (pid stamp p n : ℕ) (numbers : List ℕ) (posts : List Post) → p < length numbers → slice_index numbers p ≡ n → Draws p n (numbers_after numbers posts) (numbered pid stamp numbers posts)
+draws pid stamp p n numbers [] lt at = record { counts = tt; next = at ∙ (let e : n ≡ n + 0 = omega arith in e) }
+draws pid stamp p n numbers (q ∷ posts) lt at =
+    draws_more pid stamp p n numbers q posts lt at (λ m here. draws pid stamp p m (drawn numbers q.to) posts (subst (λ z. p < z) (sym (length-set numbers q.to (slice_index numbers q.to + 1))) lt) here)
+
+-- what an event with this effect sends continues these numbers
+record IsDrawn (numbers : List ℕ) (f : Effect ProcessState Signal Event) : Type 0 where
+  long : length f.state.counts.next_numbers ≡ length numbers
+  draws : (p n : ℕ) → p < length numbers → slice_index numbers p ≡ n → Draws p n f.state.counts.next_numbers f.sends
+
+drawn_exec : (pid : ℕ) (s : ProcessState) (o : Option Body) (f : Effect ProcessState Signal Event) → option_map (finished_exec pid s) o ≡ Some f → IsDrawn s.counts.next_numbers f
+drawn_exec pid s None f h = cc
+drawn_exec pid s (Some body) f h =
+    subst (λ (z : Effect ProcessState Signal Event). IsDrawn s.counts.next_numbers z) (same_Some (finished_exec pid s body) f h)
+    (record { long = length_numbers s.counts.next_numbers body.posts; draws = λ p n lt at. draws pid _ p n s.counts.next_numbers body.posts lt at })
+
+drawn_by : (r : Running) (i : Input Signal) (f : Effect ProcessState Signal Event) → CanDo (rules r) r.pid (local_of r) i f → IsDrawn r.state.counts.next_numbers f
+unfolding rules_with
+drawn_by r Execute f can = drawn_exec r.pid r.state (executing r.proc r.state) f can.3
+drawn_by r (Handle x) f can =
+    subst (λ (z : Effect ProcessState Signal Event). IsDrawn r.state.counts.next_numbers z) can.3
+    (record {
+      long = length_numbers r.state.counts.next_numbers (handling r.pid r.state x).posts;
+      draws = λ p n lt at. draws r.pid _ p n r.state.counts.next_numbers (handling r.pid r.state x).posts lt at;
+    })
+
+module _ (r t : Running) (k : IsKeeping r) (e : IsEvent r.turns (part r) r.pid r t) where
+  sent_more : sent_by t ≡ sent_by r ++ e.effect.sends
+  unfolding sent_by
+  sent_more =
+      ap sent_by e.is
+      ∙ (one_more (rules r) (stamps_kept r.turns (part r)) r.pid (opening_local r) (local_of r) r.events r.handled (record { input = e.input; effect = e.effect }) k.ran e.can).sent_more
+
+  went_more : (p : ℕ) → went p t ≡ went p r ++ bound_for p e.effect.sends
+  went_more p = ap (λ z. bound_for p z) sent_more ∙ filter-append (λ (x : Signal). x.to.0 == p) (sent_by r) e.effect.sends
+
+  event_numbered : IsNumbered r → IsNumbered t
+  event_numbered n =
+      let d : IsDrawn r.state.counts.next_numbers e.effect = drawn_by r e.input e.effect e.can in
+      let count : t.count ≡ r.count = ap (λ (z : Running). z.count) e.is in
+      let next_is : t.state.counts.next_numbers ≡ e.effect.state.counts.next_numbers = ap (λ (z : Running). z.state.counts.next_numbers) e.is in
+      let at : (p : ℕ) → p < t.count → Draws p (length (went p r) + 1) e.effect.state.counts.next_numbers e.effect.sends =
+      λ p lt.
+      let below : p < r.count = subst (λ z. p < z) count lt in d.draws p (length (went p r) + 1) (subst (λ z. p < z) (sym n.many) below) (n.next p below) in
+      record {
+        many = ap (λ (z : List ℕ). length z) next_is ∙ d.long ∙ n.many ∙ sym count;
+        counted = λ p lt.
+            subst (IsCounting 1) (sym (went_more p)) (counting-append 1 (went p r) (bound_for p e.effect.sends) (n.counted p (subst (λ z. p < z) count lt))
+            (subst (λ m. IsCounting m (bound_for p e.effect.sends)) (let q : length (went p r) + 1 ≡ 1 + length (went p r) = omega arith in q) (at p lt).counts));
+        next = λ p lt.
+            ap (λ (z : List ℕ). slice_index z p) next_is ∙ (at p lt).next
+            ∙ (let q : length (went p r) + 1 + length (bound_for p e.effect.sends) ≡ length (went p r ++ bound_for p e.effect.sends) + 1 = omega (arith, length-append (went p r) (bound_for p e.effect.sends)) in q)
+            ∙ ap (λ z. length z + 1) (sym (went_more p));
+      }
+
+step_numbered : (r t : Running) → IsKeeping r → IsStep r t → IsNumbered r → IsNumbered t
+step_numbered r t k step n = event_numbered r t k (step_event r.turns (part r) r.pid r t (is_kept r k) step) n
+
+-- the next instruction is executed, or the next signal handled
+pub exec_numbered : (r t : Running) → IsKeeping r → IsNumbered r → exec_next r ≡ Some t → IsNumbered t
+exec_numbered r t k n e = step_numbered r t k (inr e) n
+
+pub handle_numbered : (r t : Running) → IsKeeping r → IsNumbered r → handle_next r ≡ Some t → IsNumbered t
+handle_numbered r t k n e = step_numbered r t k (inl e) n
+
+-- the process as the script opens it has sent nothing
+ones_long : (count : ℕ) → length {A = ℕ} (replicate count 1) ≡ count
+ones_long zero = refl
+ones_long (suc count) = ap suc (ones_long count)
+
+one_at : (count p : ℕ) → p < count → slice_index (replicate count 1) p ≡ 1
+one_at zero p lt = (let f : ⊥ = omega (arith, lt) in absurd f)
+one_at (suc count) zero lt = refl
+one_at (suc count) (suc p) lt = one_at count p (omega (arith, lt))
+
+pub opened_numbered : (pid count turns : ℕ) (p : Declared) → IsNumbered (opened pid count turns p)
+unfolding sent_by
+opened_numbered pid count turns p = record { many = ones_long count; counted = λ q lt. tt; next = λ q lt. one_at count q lt }
+
+-- signals that come to it, and signals that leave its outbox
+pub arrivals_numbered : (r : Running) (xs : List Signal) → IsNumbered r → IsNumbered (record r { taken_in = r.taken_in ++ xs })
+unfolding sent_by
+arrivals_numbered r xs n = record { many = n.many; counted = n.counted; next = n.next }
+
+pub outbox_numbered : (r : Running) (left : List Signal) → IsNumbered r → IsNumbered (record r { outbox = left })
+unfolding sent_by
+outbox_numbered r left n = record { many = n.many; counted = n.counted; next = n.next }
