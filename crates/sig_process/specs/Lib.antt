@@ -1,9 +1,4 @@
-pub mod Soundness
-pub mod Received
-pub mod Steps
-pub mod Tests
-pub mod Sending
-pub mod Handled
-pub mod PartsOf
-pub mod Whole
-pub mod Lending
+pub mod Standing
+pub mod Plans
+pub mod Progressing
+pub mod Planning

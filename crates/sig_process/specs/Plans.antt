@@ -1,8 +1,6 @@
 -- What a plan does to the state of a process.
-use Rattle.std.specs.Prelude.{ℕ, List, [], ◌∷◌, map, Option, Some, None}
+use Rattle.std.specs.Prelude.{map, Option, Some, None}
 use Rattle.std.specs.FinMap.{insert}
-use Rattle.std.specs.declared.vec.Vec.{Vec}
-use Rattle.std.specs.declared.alloc.Global.{Global}
 use Rattle.sig_terms.specs.declared.pid.Pid.{Pid}
 use Rattle.sig_kinds.specs.LinkRules.{link, unlink, on_link, on_unlink, on_ack, deactivated}
 use Rattle.sig_patterns.specs.Inbox.{arrived_in}

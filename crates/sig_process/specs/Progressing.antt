@@ -1,12 +1,11 @@
 -- What the fields of a process mean.
-use Rattle.std.specs.Prelude.{◌≡◌, ℕ, List, ◌++◌, [], ◌∷◌}
+use Rattle.std.specs.Prelude.{◌≡◌, ℕ, ◌++◌, [], ◌∷◌}
 use Rattle.sig_kinds.specs.declared.signal.Signal.{Signal}
 use Rattle.sig_kinds.specs.WatchRules.{unwatched}
 use Rattle.sig_script.specs.Scripts.{Declared}
 use Rattle.sig_runs.specs.Rules.{Effect}
-use Rattle.sig_inner.specs.InnerQueue.{InnerQueue}
 use Rattle.sig_model.specs.declared.event.Event.{Event}
-use Rattle.sig_model.specs.ProcessState.{Tables, Counts, ProcessState}
+use Rattle.sig_model.specs.ProcessState.{ProcessState}
 use Rattle.sig_model.specs.Running.{Running, to_itself, to_others}
 use Rattle.sig_process.specs.declared.progress.Progress.{Progress}
 
