@@ -1,5 +1,5 @@
 -- What an execution and a handling do to the fields of a process.
-use Rattle.std.specs.Prelude.{◌≡◌, ℕ, ◌+◌, ◌-◌, ◌<◌, ◌^◌, length, slice_get, Some, is_some, IsSomeAnd, false, if◌then◌else◌, Option}
+use Rattle.std.specs.Prelude.{◌≡◌, ℕ, ◌+◌, ◌-◌, ◌<◌, ◌^◌, length, slice_get, Some, None, is_some, IsSomeAnd, false, if◌then◌else◌, Option}
 use Rattle.sig_kinds.specs.declared.signal.Signal.{Signal}
 use Rattle.sig_script.specs.declared.instruction.Instr.{Instr}
 use Rattle.sig_script.specs.Scripts.{Declared, IsWithin}
@@ -24,6 +24,7 @@ pub record IsExecDue (proc : Declared) (p : Progress) : Type 0 where
   pub bounds : IsBounded proc (state_of p)
   pub stamp : p.counts.stamp < LAST_STAMP
   pub turns : p.counts.executed + 1 < 2 ^ 32
+  pub alive : p.tables.end ≡ None
   pub saved : IsSaved (slice_get proc.instrs (p.counts.place - 1)) p
 
 -- the next signal may be handled

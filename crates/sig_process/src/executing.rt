@@ -32,8 +32,8 @@ impl Progress {
         instr: Option<&Instr>,
     ) -> Result<(), AllocError>
         requires due { IsExecDue proc.now self.old }
-        requires instr { option_copied instr.entry ≡ slice_get proc.now.instrs (self.old.counts.place - 1) }
-        requires other { is_receive (option_copied instr.entry) ≡ false }
+        requires instr { option_copied instr ≡ slice_get proc.now.instrs (self.old.counts.place - 1) }
+        requires other { is_receive (option_copied instr) ≡ false }
         ensures { MatchResult result (λ _. HasExecuted pid.0 proc.now self.old self.new) (λ _. IsSame self.old self.new) }
     {
         let plan = self.plan_instr(alloc, proc, instr)?;

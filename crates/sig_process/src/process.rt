@@ -45,8 +45,7 @@ impl Model for Process {
     ghost use Rattle.sig_terms.specs.contracts.term.Term as term;
     ghost use Rattle.sig_patterns.specs.contracts.expression.Expr as expr;
     ghost use Rattle.sig_patterns.specs.contracts.pattern.Pattern as pattern;
-    ghost use Rattle.sig_inner.specs.Receiving.{passed};
-    ghost use Rattle.sig_process.specs.Progressing.{running_of};
+    ghost use Rattle.sig_process.specs.Progressing.{standing_of};
     ghost use Rattle.sig_process.specs.Soundness.{IsSound};
     ghost use Rattle.sig_process.specs.Standing.{Standing};
 
@@ -54,10 +53,7 @@ impl Model for Process {
 
     ghost coded = { Prim.hlevel (codes, term.the_row.coded, expr.the_row.coded, pattern.the_row.coded, map.code) };
 
-    ghost view = { λ p. record {
-      running = running_of p.pid.0 p.count p.turns p.proc p.progress;
-      saved = passed p.progress.tables.inner.queue.last;
-    } };
+    ghost view = { λ p. standing_of p.pid.0 p.count p.turns p.proc p.progress };
 
     ghost invariant = { λ p. IsSound p.pid.0 p.count p.turns p.proc p.progress };
 }
@@ -113,6 +109,7 @@ impl Process {
         let count = script.count();
         let progress = beginning(alloc, pid, count)?;
         let proc = proc.copy(alloc)?;
+        prove!(1 <= proc.count() + 1);
         Ok(Process {
             alloc,
             pid,

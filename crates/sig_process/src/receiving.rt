@@ -2,6 +2,7 @@ ghost use Rattle.std.specs.Prelude.{◌≡◌, ◌-◌, ◌+◌, ◌*◌, ◌<�
 ghost use Rattle.sig_inner.specs.declared.last_scan.LastScan.TheVariants.{Found};
 ghost use Rattle.sig_inner.specs.Receiving.{scanned, looked_in, answer_to, after_scan, is_saved, passed, HasPassed, IsScanWithin};
 ghost use Rattle.sig_model.specs.Bodies.{going_on, place_after};
+ghost use Rattle.sig_model.specs.Bounds.{IsBounded};
 ghost use Rattle.sig_model.specs.Executing.{head, hit_from, taking};
 ghost use Rattle.sig_model.specs.Finishing.{finished_exec};
 ghost use Rattle.sig_process.specs.Executions.{IsExecDue, HasGone, IsUnmoved};
@@ -14,7 +15,7 @@ use crate::plan::{Change, Plan};
 use crate::progress::Progress;
 use sig_base::Steps;
 use sig_inner::{Inner, Scan};
-use sig_model::Outcome;
+use sig_model::{LAST_STAMP, Outcome};
 use sig_patterns::{Clauses, Env};
 use sig_script::{After, Instr, Proc};
 use sig_terms::Pid;
@@ -56,7 +57,8 @@ impl Progress {
         clause: u32,
         looked: u64,
     ) -> Result<(), AllocError>
-        requires due { IsExecDue proc.now self.old }
+        requires stamp { self.old.counts.stamp < LAST_STAMP }
+        requires turns { self.old.counts.executed + 1 < 2 ^ 32 }
         requires inside { self.old.counts.place ≤ length proc.now.instrs }
         requires found { IsSomeAnd (hit_from head clauses.now (state_of self.old)) (λ h.
             (self.old.tables.inner.queue.last ≡ Found h.at) × (clause ≡ h.clause + 1) × (looked ≡ h.at + 1)) }
@@ -91,7 +93,9 @@ impl Progress {
         target: Option<u32>,
         looked: u64,
     ) -> Result<(), AllocError>
-        requires due { IsExecDue proc.now self.old }
+        requires bounds { IsBounded proc.now (state_of self.old) }
+        requires stamp { self.old.counts.stamp < LAST_STAMP }
+        requires turns { self.old.counts.executed + 1 < 2 ^ 32 }
         requires inside { self.old.counts.place ≤ length proc.now.instrs }
         ensures gone { MatchResult result
             (λ _. HasAdvanced pid.0 self.old self.new (finished_exec pid.0 (state_of self.old)

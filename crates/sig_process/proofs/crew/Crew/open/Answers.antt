@@ -12,7 +12,7 @@ loop-pid-preserved c =
     let procs = c.args.script.now.procs in
     let lt : c.loop-pid.pid < length procs = omega arith in
     rw c.in_ok-push.ensures.items
-    (opened_more procs c.loop-pid.pid (length procs) c.args.script.now.turns c.in_ok-process.process.running.proc c.in_ok-process.process c.loop-pid.procs.items lt c.in_ok-process.ensures
+    (opened_more procs c.loop-pid.pid (length procs) c.args.script.now.turns c.in_ok-process.process.running.proc c.in_ok-process.process c.loop-pid.procs.items lt c.in_ok-process.ensures.opened
     ∙ c.loop-pid.invariant)
 
 pub returns-clause-clear : goal.returns-clause-clear
