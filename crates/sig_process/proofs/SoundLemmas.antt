@@ -1,6 +1,6 @@
 -- What the calls of a process keep, and what they lead to.
 use Rattle.std.proofs.Common.{◌≡◌, ℕ, ◌+◌, ◌-◌, ◌<◌, ◌≤◌, ◌^◌, List, [], ◌∷◌, ◌++◌, length, Bool, true, false, Option, Some, None, refl, sym, ap, ◌∙◌, subst, arith}
-use Rattle.std.specs.Prelude.{All, IfSome, IsSome, IsSomeAnd, MatchOption, slice_get, is_some, if◌then◌else◌}
+use Rattle.std.specs.Prelude.{All, IfSome, IsSome, IsSomeAnd, MatchOption, MatchResult, OnOk, Result, Ok, Err, slice_get, is_some, if◌then◌else◌}
 use Rattle.std.specs.Option.{option_map}
 use Rattle.std.proofs.lemmas.List.Elements.{All-head, All-tail}
 use Rattle.std.proofs.lemmas.Option.{slice_get_within, get_or_from_slice_get}
@@ -24,6 +24,7 @@ use Rattle.sig_model.proofs.KeepLemmas.{opened_keeps, arrived_keeps, outbox_keep
 use Rattle.sig_process.specs.declared.executing.Exec.{Exec}
 use Rattle.sig_process.specs.declared.executing.Exec.TheVariants.{Stepped, Waiting}
 use Rattle.sig_process.specs.declared.progress.Progress.{Progress}
+use Rattle.sig_process.specs.Standing.{Standing}
 use Rattle.sig_process.specs.Progressing.{state_of, running_of, standing_of, IsSame, HasAdvanced}
 use Rattle.sig_process.specs.Committing.{HasHandled}
 use Rattle.sig_process.specs.Soundness.{IsSaved, IsSound, HasPassedAt}
@@ -179,3 +180,38 @@ module _ (pid count turns : ℕ) (proc : Declared) where
         ended = ended_unsaved after.tables.end (passed after.tables.inner.queue.last) (passed before.tables.inner.queue.last) s.saved;
       };
     }
+
+    -- the answers of both
+    abbrev pub HasHandledNext : Type 0
+    HasHandledNext = IfSome (next_of before.own.items before.taken_in.items) (λ x. HasHandled pid before after x (handling_of pid (state_of before) x))
+
+    pub exec_keeps_sound : {E : Type 0} (o : Result Exec E) → IsSound pid count turns proc before → can_exec (runs before) ≡ true →
+        MatchResult o (HasGone pid proc before after) (λ _. IsUnmoved before after) → IsSaved (here after) after → IsSound pid count turns proc after
+    exec_keeps_sound (Ok how) k h x s = exec_sound how k h x s
+    exec_keeps_sound (Err _) k h u s = unmoved_sound k u s
+
+    pub handle_keeps_sound : {T E : Type 0} (o : Result T E) → IsSound pid count turns proc before → can_handle (runs before) ≡ true →
+        MatchResult o (λ _. HasHandledNext) (λ _. IsSame before after) → OnOk o (KeepsSaved before after) → IsSound pid count turns proc after
+    handle_keeps_sound (Ok _) k h x s = handle_sound k h x s
+    handle_keeps_sound (Err _) k h same s = same_sound k same
+
+  -- what they tell of how the process stood
+  module _ {E : Type 0} (o : Result Exec E) (stood : Standing) (after : Progress) where
+    abbrev pub exec_answer : Type 0
+    exec_answer = MatchResult o (IsExec stood (standing_of pid count turns proc after)) (λ _. runs after ≡ stood.running)
+
+  module _ {T E : Type 0} (o : Result T E) (stood : Standing) (after : Progress) where
+    abbrev pub handle_answer : Type 0
+    handle_answer = MatchResult o (λ _. IsHandled stood (standing_of pid count turns proc after)) (λ _. standing_of pid count turns proc after ≡ stood)
+
+  module _ (before after : Progress) where
+    pub exec_tells_so : {E : Type 0} (o : Result Exec E) → can_exec (runs before) ≡ true → MatchResult o (HasGone pid proc before after) (λ _. IsUnmoved before after) →
+        exec_answer o (standing_of pid count turns proc before) after
+    exec_tells_so (Ok how) h x = exec_tells before after how h x
+    exec_tells_so (Err _) h u = unmoved_is before after u
+
+    pub handle_tells_so : {T E : Type 0} (o : Result T E) → can_handle (runs before) ≡ true →
+        MatchResult o (λ _. HasHandledNext before after) (λ _. IsSame before after) → OnOk o (KeepsSaved before after) →
+        handle_answer o (standing_of pid count turns proc before) after
+    handle_tells_so (Ok _) h x s = handle_tells before after h x s
+    handle_tells_so (Err _) h same s = same_is before after same
