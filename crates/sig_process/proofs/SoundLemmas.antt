@@ -2,10 +2,14 @@
 use Rattle.std.proofs.Common.{◌≡◌, ℕ, ◌+◌, ◌-◌, ◌<◌, ◌≤◌, ◌^◌, List, [], ◌∷◌, ◌++◌, length, Bool, true, false, Option, Some, None, refl, sym, ap, ◌∙◌, subst, arith}
 use Rattle.std.specs.Prelude.{All, IfSome, IsSome, IsSomeAnd, MatchOption, MatchResult, OnOk, Result, Ok, Err, slice_get, is_some, if◌then◌else◌}
 use Rattle.std.specs.Option.{option_map}
-use Rattle.std.proofs.lemmas.List.Elements.{All-head, All-tail}
+use Rattle.std.proofs.lemmas.List.Elements.{All-nil, All-head, All-tail}
 use Rattle.std.proofs.lemmas.Option.{slice_get_within, get_or_from_slice_get}
 use Rattle.sig_terms.specs.declared.term.Term.{Term}
 use Rattle.sig_kinds.specs.declared.signal.Signal.{Signal}
+use Rattle.sig_kinds.specs.declared.signals.Push.{Push}
+use Rattle.sig_kinds.specs.declared.signals.Push.TheVariants.{Added, Memory}
+use Rattle.sig_kinds.specs.Pushes.{IsPush}
+use Rattle.sig_kinds.specs.SignalList.{SignalList}
 use Rattle.sig_kinds.specs.SignalNames.{IsSignalBelow}
 use Rattle.sig_script.specs.declared.instruction.Instr.{Instr}
 use Rattle.sig_script.specs.Scripts.{Declared, Program, IsProcBelow, IsWithin, IsSound as IsSoundScript}
@@ -215,3 +219,41 @@ module _ (pid count turns : ℕ) (proc : Declared) where
         handle_answer o (standing_of pid count turns proc before) after
     handle_tells_so (Ok _) h x s = handle_tells before after h x s
     handle_tells_so (Err _) h same s = same_is before after same
+
+  -- a signal of another arrives, or there is no room and no memory for it
+  module _ (p : Progress) (k : IsSound pid count turns proc p) (left : SignalList) where
+    pub arrived_sound : (x : Signal) (o : Push) → IsArriving pid count x → IsPush p.taken_in left x o → IsSound pid count turns proc (record p { taken_in = left })
+    arrived_sound x Added h e = record {
+      keeps = rw e.0 (arrived_keeps (runs p) x k.keeps h);
+      owner = k.owner;
+      saved = record { none = k.saved.none; ended = k.saved.ended };
+    }
+    arrived_sound x (Memory back) h e = record {
+      keeps = rw e.0 k.keeps;
+      owner = k.owner;
+      saved = record { none = k.saved.none; ended = k.saved.ended };
+    }
+
+    -- the oldest signal to others is taken, where there is one
+    abbrev IsOut : Option Signal → Type 0
+    IsOut o = MatchOption o ((p.outbox.items ≡ []) × (left.items ≡ [])) (λ first. p.outbox.items ≡ first ∷ left.items)
+
+    all_left : (P : Signal → Type 0) (o : Option Signal) → IsOut o → All P p.outbox.items → All P left.items
+    all_left P None e all = subst (All P) (sym e.1) (All-nil P)
+    all_left P (Some x) e all = All-tail P x left.items (subst (All P) e all)
+
+    all_first : (P : Signal → Type 0) (o : Option Signal) → IsOut o → All P p.outbox.items → IfSome o P
+    all_first P None e all = tt
+    all_first P (Some x) e all = All-head P x left.items (subst (All P) e all)
+
+    pub out_sound : (o : Option Signal) → IsOut o → IsSound pid count turns proc (record p { outbox = left })
+    out_sound o e = record {
+      keeps =
+        outbox_keeps (runs p) left.items k.keeps (all_left (IsLeaving pid p.counts.stamp) o e k.keeps.outbox) (all_left (IsSignalBelow count) o e k.keeps.below.outbox);
+      owner = k.owner;
+      saved = record { none = k.saved.none; ended = k.saved.ended };
+    }
+
+    pub out_arrives : (o : Option Signal) → IsOut o → IfSome o (λ first. IsArriving first.to.0 count first)
+    out_arrives o e =
+        all_first (λ (x : Signal). IsArriving x.to.0 count x) o e (λ i d lt. leaving_arrives (runs p) _ k.keeps (k.keeps.outbox i d lt) (k.keeps.below.outbox i d lt))
