@@ -1,9 +1,11 @@
 -- Lists from a place on, and the processes of a crew.
-use Rattle.std.proofs.Common.{◌≡◌, ℕ, zero, suc, ◌+◌, ◌<◌, ◌≤◌, List, [], ◌∷◌, ◌++◌, length, drop, map, Option, Some, None, refl, sym, ◌∙◌, ap, append_assoc, Bool, ◌||◌}
-use Rattle.std.specs.Prelude.{slice_get, slice_set, IfSome}
+use Rattle.std.proofs.Common.{◌≡◌, ℕ, zero, suc, ◌+◌, ◌<◌, ◌≤◌, List, [], ◌∷◌, ◌++◌, length, drop, map, Option, Some, None, refl, sym, ◌∙◌, ap, append_assoc, Bool, ◌||◌, arith}
+use Rattle.std.specs.Prelude.{slice_get, slice_set, IfSome, MatchOption}
+use Rattle.std.specs.List.{IsItemAtMut}
+use Rattle.std.specs.Borrow.{MutBor}
 use Rattle.std.specs.List.{list_any}
 use Rattle.std.specs.Option.{option_map}
-use Rattle.std.proofs.lemmas.List.{append-nil, drop_more, drop_all}
+use Rattle.std.proofs.lemmas.List.{append-nil, drop_more, drop_all, length-map}
 use Rattle.std.proofs.lemmas.List.Elements.{All-nil, All-cons}
 use Rattle.std.proofs.lemmas.Option.{slice_get_within, get_or_from_slice_get, slice_get-get_or}
 use Rattle.sig_script.specs.Scripts.{Declared}
@@ -35,6 +37,16 @@ pub runnings_set : (xs : List Standing) (i : ℕ) (p : Standing) → runnings_of
 runnings_set [] i p = refl
 runnings_set (x ∷ xs) zero p = refl
 runnings_set (x ∷ xs) (suc i) p = ap (λ rs. x.running ∷ rs) (runnings_set xs i p)
+
+-- whatever it is replaced by
+pub runnings_set_all : (xs : List Standing) (i : ℕ) → ◌≡◌ {A = Standing → List Running} (λ p. runnings_of (slice_set xs i p)) (λ p. slice_set (runnings_of xs) i p.running)
+runnings_set_all xs i = λ k p. runnings_set xs i p k
+
+-- the process that is lent
+pub runnings_lent : (xs : List Standing) (i : ℕ) (o : Option (MutBor Standing)) → IsItemAtMut xs i o → MatchOption o (length (runnings_of xs) ≤ i) (λ p. slice_get (runnings_of xs) i ≡ Some p.now.running)
+runnings_lent xs i None e = let le : length xs ≤ i = e.3 in omega (arith, le, length-map xs (λ (p : Standing). p.running))
+runnings_lent xs i (Some p) e =
+    runnings_get xs i ∙ ap (option_map (λ (q : Standing). q.running)) (slice_get-get_or xs i p.now e.3.0 ∙ ap Some (sym e.1))
 
 opened_at : (procs : List Declared) (pid count turns : ℕ) (o : Option Declared) (d : Declared) (p : Running) (before : List Running) →
     o ≡ Some d → slice_get procs pid ≡ o → IfSome o (λ d. p ≡ opened pid count turns d) →
