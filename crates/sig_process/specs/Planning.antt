@@ -9,18 +9,18 @@ use Rattle.sig_process.specs.declared.values.ValueFault.TheVariants.{TooLarge, N
 use Rattle.sig_process.specs.declared.plan.Plan.{Plan}
 use Rattle.sig_process.specs.Plans.{body_of}
 
--- with this fault of a value the instruction does what the body says
+-- What the fault of a value tells of the body: it is the end with `system_limit`, or the end with `badarg`. A want of memory tells nothing.
 abbrev pub IsRefused : ProcessState → Option Body → ValueFault → Type 0
 IsRefused s body TooLarge = body ≡ Some (ending s system_limit)
 IsRefused s body NoPid = body ≡ Some (ending s badarg)
 IsRefused s body Memory = Unit {0}
 
--- the value that an instruction needs, which does `row go` where `go` says what it does with a value; or the fault of that value
+-- A value that an instruction needs, or its fault. `row go` is what the instruction does, where `go` is what it does with the value.
 abbrev pub IsUsed : {A : Type 0} → ProcessState → ((A → Body) → Body) → Result A ValueFault → Type 0
 IsUsed {A} s row (Ok value) = (go : A → Body) → row go ≡ go value
 IsUsed {A} s row (Err fault) = (go : A → Body) → IsRefused s (Some (row go)) fault
 
--- the plan of an instruction that does what the body says, or the fault of one of its values
+-- the plan does what the body says, or the fault of a value tells of the body
 abbrev pub IsPlanned : ProcessState → Option Body → Result Plan ValueFault → Type 0
 IsPlanned s body (Ok plan) = body ≡ Some (body_of s plan)
 IsPlanned s body (Err fault) = IsRefused s body fault
