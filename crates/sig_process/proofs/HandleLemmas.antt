@@ -58,17 +58,10 @@ relinked_steady pid s sender reason =
     record { env = k.env; place = k.place }
 
 live_steady : (pid : ℕ) (s : ProcessState) (sender : ℕ) (k : Kind) → IsSteady s (live_body pid s sender k)
-live_steady pid s sender (Message term) = record { env = refl; place = refl }
-live_steady pid s sender Link = record { env = refl; place = refl }
-live_steady pid s sender (Unlink id) = record { env = refl; place = refl }
-live_steady pid s sender (UnlinkAck id) = record { env = refl; place = refl }
 live_steady pid s sender (Exit reason true) =
     either s (is_active s.tables.links sender) _ _ (relinked_steady pid s sender reason) (record { env = refl; place = refl })
 live_steady pid s sender (Exit reason false) = either s (same_term reason kill) _ _ (record { env = refl; place = refl }) (rule_steady pid s sender reason)
-live_steady pid s sender (AliasMessage reference term) = record { env = refl; place = refl }
-live_steady pid s sender (Monitor reference) = record { env = refl; place = refl }
-live_steady pid s sender (Demonitor reference) = record { env = refl; place = refl }
-live_steady pid s sender (Down reference reason) = record { env = refl; place = refl }
+live_steady pid s sender _ = record { env = refl; place = refl }
 
 ended_steady : (s : ProcessState) (sender : ℕ) (k : Kind) → IsSteady s (ended_body s sender k)
 ended_steady s sender Link = record { env = refl; place = refl }
@@ -100,41 +93,18 @@ module _ (q : InnerQueue) (message : Term) where
 -- what a change keeps of the place
 module _ (q : InnerQueue) (within : passed q.last ≤ length q.inbox.messages) where
   changed_owner : (c : Change) → (queue_after q c).owner ≡ q.owner
-  changed_owner change.Nothing = refl
-  changed_owner (change.Bind var value) = refl
-  changed_owner (change.Link peer) = refl
-  changed_owner (change.Unlink peer) = refl
-  changed_owner (change.Trap on) = refl
   changed_owner (change.Append message) = refl
-  changed_owner (change.LinkUp peer) = refl
-  changed_owner (change.UnlinkBy peer) = refl
-  changed_owner (change.Acknowledge peer id) = refl
   changed_owner (change.End reason) = refl
+  changed_owner _ = refl
 
   changed_passes : (c : Change) (clauses : List Clause) (env : Environment) → HasPassed q clauses env → HasPassed (queue_after q c) clauses env
-  changed_passes change.Nothing clauses env k = k
-  changed_passes (change.Bind var value) clauses env k = k
-  changed_passes (change.Link peer) clauses env k = k
-  changed_passes (change.Unlink peer) clauses env k = k
-  changed_passes (change.Trap on) clauses env k = k
   changed_passes (change.Append message) clauses env k = appended_passes q message clauses env within k
-  changed_passes (change.LinkUp peer) clauses env k = k
-  changed_passes (change.UnlinkBy peer) clauses env k = k
-  changed_passes (change.Acknowledge peer id) clauses env k = k
   changed_passes (change.End reason) clauses env k = passed_unsaved clauses env (emptied q) refl
+  changed_passes _ clauses env k = k
 
   passes_at : (c : Change) (env : Environment) (i : Option Instr) → HasPassedAt i q env → HasPassedAt i (queue_after q c) env
-  passes_at c env None k = tt
-  passes_at c env (Some (instr.Send to message)) k = tt
-  passes_at c env (Some (instr.Set var value)) k = tt
-  passes_at c env (Some (instr.Link peer)) k = tt
-  passes_at c env (Some (instr.Unlink peer)) k = tt
-  passes_at c env (Some (instr.Exit reason)) k = tt
-  passes_at c env (Some (instr.ExitTo target reason)) k = tt
-  passes_at c env (Some (instr.Trap on)) k = tt
   passes_at c env (Some (instr.Receive clauses after)) k = changed_passes c clauses env k
-  passes_at c env (Some (instr.Goto label)) k = tt
-  passes_at c env (Some instr.Stop) k = tt
+  passes_at c env _ k = tt
 
   kept : (o : Option Term) (n : ℕ) → n ≡ passed q.last → (IsSome o → passed q.last ≡ 0) → n ≡ (if is_some o then 0 else passed q.last)
   kept (Some reason) n e ended = e ∙ ended refl
@@ -142,16 +112,9 @@ module _ (q : InnerQueue) (within : passed q.last ≤ length q.inbox.messages) w
 
   changed_place : (s : ProcessState) (c : Change) → (IsSome s.tables.end → passed q.last ≡ 0) →
       passed (queue_after q c).last ≡ (if is_some (changed s c).tables.end then 0 else passed q.last)
-  changed_place s change.Nothing ended = kept s.tables.end (passed q.last) refl ended
-  changed_place s (change.Bind var value) ended = kept s.tables.end (passed q.last) refl ended
-  changed_place s (change.Link peer) ended = kept s.tables.end (passed q.last) refl ended
-  changed_place s (change.Unlink peer) ended = kept s.tables.end (passed q.last) refl ended
-  changed_place s (change.Trap on) ended = kept s.tables.end (passed q.last) refl ended
   changed_place s (change.Append message) ended = kept s.tables.end (passed (appended q message).last) (appended_place q message) ended
-  changed_place s (change.LinkUp peer) ended = kept s.tables.end (passed q.last) refl ended
-  changed_place s (change.UnlinkBy peer) ended = kept s.tables.end (passed q.last) refl ended
-  changed_place s (change.Acknowledge peer id) ended = kept s.tables.end (passed q.last) refl ended
   changed_place s (change.End reason) ended = refl
+  changed_place s _ ended = kept s.tables.end (passed q.last) refl ended
 
 obeyed_end : (s : ProcessState) (peer : Option Pid) → (after_obeying s peer).tables.end ≡ s.tables.end
 obeyed_end s None = refl

@@ -18,14 +18,5 @@ unsaved_none (last.Passed count) e = cc
 
 -- whatever the instruction is
 pub unsaved_passes : (i : Option Instr) (q : InnerQueue) (env : Environment) → is_saved q.last ≡ false → HasPassedAt i q env
-unsaved_passes None q env e = tt
-unsaved_passes (Some (instr.Send to message)) q env e = tt
-unsaved_passes (Some (instr.Set var value)) q env e = tt
-unsaved_passes (Some (instr.Link peer)) q env e = tt
-unsaved_passes (Some (instr.Unlink peer)) q env e = tt
-unsaved_passes (Some (instr.Exit reason)) q env e = tt
-unsaved_passes (Some (instr.ExitTo target reason)) q env e = tt
-unsaved_passes (Some (instr.Trap on)) q env e = tt
 unsaved_passes (Some (instr.Receive clauses after)) q env e = passed_unsaved clauses env q e
-unsaved_passes (Some (instr.Goto label)) q env e = tt
-unsaved_passes (Some instr.Stop) q env e = tt
+unsaved_passes _ q env e = tt

@@ -23,3 +23,6 @@ pub use crew::Crew;
 pub use executing::Exec;
 pub use parts::Parts;
 pub use process::Process;
+
+#[cfg(test)]
+mod tests;

@@ -6,13 +6,12 @@
 //! `n` noproc, `?` any other.
 
 ghost use Rattle.std.specs.Prelude.{◌≡◌, ◌<◌};
-ghost use Rattle.sig_model.specs.Keeping.{IsArriving};
 
 use super::*;
 use sig_base::Steps;
-use sig_kinds::{Push, Signal, Signals};
+use sig_kinds::{Kind, Push, Signal, Signals};
 use sig_model::{Event, Outcome};
-use sig_script::read_script;
+use sig_script::{Script, read_script};
 use sig_terms::Pid;
 use std::alloc::Global;
 use std::marker::Brand;
@@ -57,19 +56,7 @@ fn handle(process: &mut Process) -> Result<(), Fail> {
     Ok(())
 }
 
-/// The process takes in a list of one signal.
-fn take_one(alloc: Global, signal: Signal, to: &mut Process) -> Result<(), Fail>
-    requires { IsArriving to.old.pid to.old.count signal }
-{
-    let mut signals = Signals::new(alloc);
-    if let Push::Memory { signal: _ } = signals.push(signal) {
-        return Err("no memory".into());
-    }
-    to.take_in(&mut signals)?;
-    Ok(())
-}
-
-fn deliver(alloc: Global, from: &mut Process, to: &mut Process) -> Result<(), Fail> {
+fn deliver(from: &mut Process, to: &mut Process) -> Result<(), Fail> {
     for _ in 0..100 {
         let Some(signal) = from.next_out() else {
             return Ok(());
@@ -77,13 +64,12 @@ fn deliver(alloc: Global, from: &mut Process, to: &mut Process) -> Result<(), Fa
         if signal.to != to.pid() || from.count() != to.count() {
             return Err("not a signal to the other process".into());
         }
-        take_one(alloc, signal, to)?;
+        to.arrive(signal)?;
     }
     Err("too many signals".into())
 }
 
 fn moved<L: Ledger>(
-    alloc: Global,
     sign: u8,
     first: &mut Process,
     second: &mut Process,
@@ -94,8 +80,8 @@ fn moved<L: Ledger>(
         b'b' => execute(second, steps),
         b'A' => handle(first),
         b'B' => handle(second),
-        b'>' => deliver(alloc, first, second),
-        _ => deliver(alloc, second, first),
+        b'>' => deliver(first, second),
+        _ => deliver(second, first),
     }
 }
 
@@ -117,7 +103,7 @@ fn play<L: Ledger>(
     steps: &mut Steps<L>,
 ) -> Result<(Vec<u8>, Vec<u8>), Fail> {
     for sign in moves {
-        moved(alloc, *sign, first, second, steps)?;
+        moved(*sign, first, second, steps)?;
     }
     Ok((outcomes(alloc, first)?, outcomes(alloc, second)?))
 }
@@ -200,11 +186,37 @@ fn a_crew_has_the_processes_of_its_script(rt: HostRuntime) -> Result<(), Fail> {
     let alloc = rt.alloc();
     let script = read_script(alloc, b"sigscript 1\nprocess a\nprocess b").map_err(|_| "refused")?;
     let mut crew = Crew::open(alloc, &script)?;
-    assert!(rt;
-        crew.get_mut(Pid(1))
-            .is_some_and(|p| p.pid() == Pid(1) && p.is_whole())
-    );
+    assert!(rt; crew.get_mut(Pid(1)).is_some_and(|p| p.pid() == Pid(1)));
     assert!(rt; crew.get_mut(Pid(2)).is_none());
+    Ok(())
+}
+
+/// How many signals wait for process 1 of the script, after a first one of process 0 was taken in.
+fn waiting_after_one(alloc: Global, script: &Script) -> Result<usize, Fail> {
+    if script.count() < 2 {
+        return Err("only one process".into());
+    }
+    let mut process = Process::open(alloc, script, Pid(1))?;
+    let mut signals = Signals::new(alloc);
+    let signal = Signal {
+        from: Pid(0),
+        to: Pid(1),
+        number: 1,
+        stamp: 1,
+        kind: Kind::Link,
+    };
+    if let Push::Memory { signal: _ } = signals.push(signal) {
+        return Err("no memory".into());
+    }
+    process.take_in(&mut signals)?;
+    Ok(process.taken_in_count())
+}
+
+#[test]
+fn a_signal_that_is_taken_in_waits(rt: HostRuntime) -> Result<(), Fail> {
+    let alloc = rt.alloc();
+    let script = read_script(alloc, b"sigscript 1\nprocess a\nprocess b").map_err(|_| "refused")?;
+    assert_eq!(rt; waiting_after_one(alloc, &script)?, 1);
     Ok(())
 }
 
