@@ -23,16 +23,7 @@ module _ (p : Declared) (s : ProcessState) where
   waits (Some (instr.Receive clauses after)) at e =
       let w : IsStuck after (hit_from head clauses s) = stuck after head (hit_from head clauses s) e in
       record { clauses = clauses; at = at ∙ ap (λ a. Some (instr.Receive clauses a)) w.0; none = w.1 }
-  waits None at e = cc
-  waits (Some (instr.Send to message)) at e = cc
-  waits (Some (instr.Set var value)) at e = cc
-  waits (Some (instr.Link peer)) at e = cc
-  waits (Some (instr.Unlink peer)) at e = cc
-  waits (Some (instr.Exit reason)) at e = cc
-  waits (Some (instr.ExitTo target reason)) at e = cc
-  waits (Some (instr.Trap on)) at e = cc
-  waits (Some (instr.Goto label)) at e = cc
-  waits (Some instr.Stop) at e = cc
+  waits _ at e = cc
 
   blocked : IsWaiting p s → executing p s ≡ None
   unfolding executing
