@@ -1,4 +1,4 @@
-ghost use Rattle.std.specs.Prelude.{◌≡◌, ◌++◌, length, take, OnOk, OnErr, decimal, codes};
+ghost use Rattle.std.specs.Prelude.{◌≡◌, ◌++◌, OnOk, OnErr, decimal};
 ghost use Rattle.std.specs.List.{flat_map};
 ghost use Rattle.sig_terms.specs.TermText.{reference_text};
 ghost use Rattle.sig_record.specs.Putting.{IsPut};
