@@ -1,4 +1,4 @@
-ghost use Rattle.std.specs.Prelude.{◌≡◌, ◌≢◌, ℕ, ◌≤◌, length, IfOk, Some, codes};
+ghost use Rattle.std.specs.Prelude.{◌≡◌, ◌≢◌, ◌≤◌, length, IfOk, Some};
 ghost use Rattle.sig_base.specs.Flow.{Rose, Adds};
 ghost use Rattle.sig_host.specs.Answers.{IsRecordOf, IsSourceRead, IsScriptRun, IsAnswer};
 ghost use Rattle.sig_host.specs.Told.{told_text};
@@ -9,12 +9,9 @@ use sig_base::{Gate, ReadAll, Sink, Source, Written, read_all, write_whole};
 use sig_model::one_worker_run_is_settled;
 use sig_process::Crew;
 use sig_record::{Record, print_record};
-use sig_script::{FaultKind, Script, ScriptError, read_script};
+use sig_script::{FaultKind, MOST_BYTES, Script, ScriptError, read_script};
 use sig_workers::run_one;
 use std::alloc::{AllocError, Global};
-
-/// The most bytes that a script has.
-const LIMIT: usize = 1048576;
 
 /// Reads the script that these bytes spell.
 fn read_bytes(alloc: Global, bytes: &[u8]) -> Result<Script, Status>
@@ -34,7 +31,7 @@ fn read_source<S: Source>(alloc: Global, source: &mut S) -> Result<Script, Statu
     ensures count { S.faults source.old ≤ S.faults source.new }
 {
     let mut bytes = Vec::new(alloc);
-    match read_all(source, LIMIT, &mut bytes) {
+    match read_all(source, MOST_BYTES, &mut bytes) {
         ReadAll::Whole => read_bytes(alloc, bytes.as_slice()),
         ReadAll::TooLong => Err(Status::BadScript {
             line: 0,
@@ -95,11 +92,12 @@ fn run_source<S: Source, O: Sink>(alloc: Global, script: &mut S, out: &mut O) ->
 /// and writes the text of the record to `out`. What the record tells is a settled run of the
 /// script's machine.
 ///
-/// `Usage` comes where there are words. `ReadFault` comes only where a read failed, and
-/// `WriteFault` only where a write to `out` failed, which then holds the beginning of the text.
-/// `BadScript` comes where the bytes spell no script, with the first line that is refused and why; it
-/// is line 0 where they are more than 1,048,576. Where there is memory, all else is `Done`. Before the first write nothing was written to `out`. What a status
-/// tells is written to `err`, and a fault of `err` changes no status.
+/// `Usage` comes exactly where there are words. `BadScript` comes only where the bytes spell no
+/// script, with the first line that is refused and why; it is line 0 where they are more than
+/// [`MOST_BYTES`]. `ReadFault` comes only where a read failed, and `WriteFault` only where a write
+/// to `out` failed, which has taken the beginning of the text then. With `Done` it has taken the
+/// whole text, and with any other status nothing. What a status tells is written to `err` where no
+/// write to it fails, and a fault of `err` changes no status.
 pub fn run<S: Source, O: Sink, E: Sink, G: Gate>(
     alloc: Global,
     words: &[String],

@@ -66,6 +66,32 @@ const UNLINKS: [(&[u8], &[u8]); 2] = [
     ),
 ];
 
+/// What comes to a process that is cut stays queued.
+const QUEUED: [(&[u8], &[u8]); 4] = [
+    (
+        b"turns 1\nprocess a\nset X 1\nprocess b\nlink @a\n",
+        b"process 0 a\n1 exec 1 set 1\nqueued 1 1 1 link\nstate cut\n\
+          process 1 b\n1 exec 1 done\nstate cut\n",
+    ),
+    (
+        b"turns 2\nprocess a\nset X 1\nset Y 2\nprocess b\nlink @a\nunlink @a\n",
+        b"process 0 a\n1 exec 1 set 1\n2 from 1 1 linked\n3 exec 2 set 2\n\
+          queued 1 2 2 unlink 1\nstate cut\n\
+          process 1 b\n1 exec 1 done\n2 exec 2 done\nstate cut\n",
+    ),
+    (
+        b"turns 2\nprocess a\nlink @b\nunlink @b\nprocess b\nreceive\non never\nend\n",
+        b"process 0 a\n1 exec 1 done\n2 exec 2 done\nqueued 1 1 3 unlink_ack 1\nstate cut\n\
+          process 1 b\n2 from 0 1 linked\n3 from 0 2 unlinked\nstate waiting\n",
+    ),
+    (
+        b"turns 2\nprocess a\nlink @b\nset X 1\n\
+          process b\nreceive\non never\nafter\nend\nexit boom\n",
+        b"process 0 a\n1 exec 1 done\n2 exec 2 set 1\nqueued 1 1 4 exit linked boom\nstate cut\n\
+          process 1 b\n2 from 0 1 linked\n3 exec 1 after 0\n4 exec 2 ended boom\nstate ended boom\n",
+    ),
+];
+
 #[test]
 fn a_link_signal_goes_where_there_is_no_link(rt: HostRuntime) -> Result<(), Fail> {
     let alloc = rt.alloc();
@@ -88,6 +114,15 @@ fn linked_processes_are_told_of_an_end(rt: HostRuntime) -> Result<(), Fail> {
 fn unlinked_processes_are_not_told(rt: HostRuntime) -> Result<(), Fail> {
     let alloc = rt.alloc();
     for (lines, record) in UNLINKS {
+        assert!(rt; gives(alloc, lines, record)?, "{lines:?}");
+    }
+    Ok(())
+}
+
+#[test]
+fn signals_of_links_stay_queued(rt: HostRuntime) -> Result<(), Fail> {
+    let alloc = rt.alloc();
+    for (lines, record) in QUEUED {
         assert!(rt; gives(alloc, lines, record)?, "{lines:?}");
     }
     Ok(())

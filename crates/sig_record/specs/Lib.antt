@@ -1,2 +1,3 @@
 pub mod RecordOf
 pub mod RecordText
+pub mod Putting

@@ -26,7 +26,7 @@ report_of count r = record {
   pid = record { 0 = r.pid };
   name = r.proc.name;
   events = r.events;
-  left = map left_of r.state.messages;
+  left = map left_of r.state.tables.inbox.messages;
   queued = queued_below count r.own r.taken_in;
   state = printed_state r;
 }

@@ -1,18 +1,18 @@
 ghost use Rattle.std.specs.Prelude.{◌≡◌, ◌+◌, ◌<◌, ◌++◌, [], ◌∷◌, IfOk, OnOk, map, filter, length, drop};
 ghost use Rattle.sig_model.specs.OneWorker.{IsClear};
-ghost use Rattle.sig_process.specs.PartsOf.{parts_of};
+ghost use Rattle.sig_process.specs.Standing.{runnings_of};
 ghost use Rattle.sig_record.specs.RecordOf.{left_of, is_from, queued_below, report_of};
 
-use crate::report::{Left, Lefts, Report};
+use crate::report::{Left, Lefts, Queued, Report};
 use sig_inner::Inner;
-use sig_kinds::{Push, Signal, Signals};
+use sig_kinds::{Signal, Signals};
 use sig_lists::Sequence;
 use sig_process::Process;
 use std::alloc::{AllocError, Global};
 
 /// What is left of the messages.
 fn lefts_of(alloc: Global, mut inner: Inner) -> Result<Lefts, AllocError>
-    ensures { IfOk result (λ lefts. lefts ≡ map left_of inner.messages) }
+    ensures { IfOk result (λ lefts. lefts ≡ map left_of inner.queue.inbox.messages) }
 {
     let mut lefts = Vec::new(alloc);
     while let Some((arrival, message)) = inner.pop_front() {
@@ -24,7 +24,7 @@ fn lefts_of(alloc: Global, mut inner: Inner) -> Result<Lefts, AllocError>
 /// Adds a copy of the signal, where it is of this sender.
 fn add_if_from(
     alloc: Global,
-    queued: &mut Signals,
+    queued: &mut Queued,
     signal: &Signal,
     sender: usize,
 ) -> Result<(), AllocError>
@@ -33,22 +33,19 @@ fn add_if_from(
     if signal.from.0 as usize != sender {
         return Ok(());
     }
-    match queued.push(signal.copy(alloc)?) {
-        Push::Added => Ok(()),
-        Push::Memory { signal: _ } => Err(AllocError),
-    }
+    queued.add(signal.copy(alloc)?)
 }
 
 /// Adds a copy of the signal at this place, where it is of this sender.
 fn add_at(
     alloc: Global,
-    queued: &mut Signals,
+    queued: &mut Queued,
     waiting: &Signals,
     at: usize,
     sender: usize,
 ) -> Result<(), AllocError>
-    requires { at < length waiting.now }
-    ensures { OnOk result (queued.new ++ filter (is_from sender) (drop (at + 1) waiting.now) ≡ queued.old ++ filter (is_from sender) (drop at waiting.now)) }
+    requires { at < length waiting.now.items }
+    ensures { OnOk result (queued.new ++ filter (is_from sender) (drop (at + 1) waiting.now.items) ≡ queued.old ++ filter (is_from sender) (drop at waiting.now.items)) }
 {
     match waiting.get(at) {
         Some(signal) => {
@@ -62,11 +59,11 @@ fn add_at(
 /// Adds copies of the signals of this sender, in their order.
 fn add_from(
     alloc: Global,
-    queued: &mut Signals,
+    queued: &mut Queued,
     waiting: &Signals,
     sender: usize,
 ) -> Result<(), AllocError>
-    ensures { OnOk result (queued.new ≡ queued.old ++ filter (is_from sender) waiting.now) }
+    ensures { OnOk result (queued.new ≡ queued.old ++ filter (is_from sender) waiting.now.items) }
 {
     for at in 0..waiting.len() {
         add_at(alloc, queued, waiting, at, sender)?;
@@ -81,10 +78,10 @@ fn queued_of(
     count: usize,
     own: &Signals,
     others: &Signals,
-) -> Result<Signals, AllocError>
-    ensures { IfOk result (λ queued. queued ≡ queued_below count own.now others.now) }
+) -> Result<Queued, AllocError>
+    ensures { IfOk result (λ queued. queued ≡ queued_below count own.now.items others.now.items) }
 {
-    let mut queued = Signals::new(alloc);
+    let mut queued = Sequence::new(alloc);
     for sender in 0..count {
         add_from(alloc, &mut queued, own, sender)?;
         add_from(alloc, &mut queued, others, sender)?;
@@ -94,8 +91,8 @@ fn queued_of(
 
 /// The report of a process, in a crew of so many.
 fn report(alloc: Global, count: usize, process: Process) -> Result<Report, AllocError>
-    requires { process.outbox ≡ [] }
-    ensures { IfOk result (λ report. report ≡ report_of count process) }
+    requires { process.running.outbox ≡ [] }
+    ensures { IfOk result (λ report. report ≡ report_of count process.running) }
 {
     let parts = process.into_parts();
     let left = lefts_of(alloc, parts.left)?;
@@ -112,8 +109,8 @@ fn report(alloc: Global, count: usize, process: Process) -> Result<Report, Alloc
 
 /// The reports of the processes.
 pub(crate) fn gather_all(alloc: Global, procs: Vec<Process>) -> Result<Vec<Report>, AllocError>
-    requires { IsClear procs.items }
-    ensures { IfOk result (λ reports. reports.items ≡ map (report_of (length procs.items)) procs.items) }
+    requires { IsClear (runnings_of procs.items) }
+    ensures { IfOk result (λ reports. reports.items ≡ map (report_of (length procs.items)) (runnings_of procs.items)) }
 {
     let count = procs.len();
     let mut reports = Vec::new(alloc);

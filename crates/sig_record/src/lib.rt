@@ -8,4 +8,4 @@ mod report;
 
 pub use printing::print_record;
 pub use record::Record;
-pub use report::{Left, Lefts, Report};
+pub use report::{Left, Lefts, Queued, Report};

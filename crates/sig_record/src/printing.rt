@@ -1,6 +1,7 @@
-ghost use Rattle.std.specs.Prelude.{◌≡◌, ◌+◌, ◌++◌, ◌<◌, length, OnOk, IfOk, decimal, codes, drop};
+ghost use Rattle.std.specs.Prelude.{◌≡◌, ◌++◌, OnOk, OnErr, decimal};
 ghost use Rattle.std.specs.List.{flat_map};
 ghost use Rattle.sig_terms.specs.TermText.{reference_text};
+ghost use Rattle.sig_record.specs.Putting.{IsPut};
 ghost use Rattle.sig_record.specs.RecordText.{
   did_text,
   outcome_text,
@@ -18,45 +19,49 @@ ghost use Rattle.sig_record.specs.RecordText.{
 use crate::record::Record;
 use crate::report::{Left, Report};
 use itoa::Buffer;
-use sig_kinds::{Kind, Signal, Signals};
+use sig_kinds::{Kind, Signal};
 use sig_model::{Did, Event, Outcome, State};
 use sig_terms::{Name, Ref};
 use std::alloc::AllocError;
 
 fn put(into: &mut Vec<u8>, text: &[u8]) -> Result<(), AllocError>
-    ensures { OnOk result (into.new.items ≡ into.old.items ++ text.now) }
+    ensures { IsPut into.old.items into.new.items text.now result }
 {
     into.extend_from_slice(text)
 }
 
 fn put_number(into: &mut Vec<u8>, n: u64) -> Result<(), AllocError>
-    ensures { OnOk result (into.new.items ≡ into.old.items ++ decimal n) }
+    ensures { IsPut into.old.items into.new.items (decimal n) result }
 {
     let mut buffer = Buffer::new();
     into.extend_from_slice(buffer.format(n).as_bytes())
 }
 
+fn put_numbered(into: &mut Vec<u8>, word: &[u8], number: u64) -> Result<(), AllocError>
+    ensures { IsPut into.old.items into.new.items (word.now ++ decimal number) result }
+{
+    put(into, word)?;
+    put_number(into, number)
+}
+
 fn put_did(into: &mut Vec<u8>, did: &Did) -> Result<(), AllocError>
-    ensures { OnOk result (into.new.items ≡ into.old.items ++ did_text did.now) }
+    ensures { IsPut into.old.items into.new.items (did_text did.now) result }
 {
     match did {
         Did::Exec { place } => {
-            put(into, b" exec ")?;
-            put_number(into, u64::from(*place))?;
+            put_numbered(into, b" exec ", u64::from(*place))?;
             put(into, b" ")
         }
         Did::From { from, number } => {
-            put(into, b" from ")?;
-            put_number(into, u64::from(from.0))?;
-            put(into, b" ")?;
-            put_number(into, *number)?;
+            put_numbered(into, b" from ", u64::from(from.0))?;
+            put_numbered(into, b" ", *number)?;
             put(into, b" ")
         }
     }
 }
 
 fn put_outcome(into: &mut Vec<u8>, outcome: &Outcome) -> Result<(), AllocError>
-    ensures { OnOk result (into.new.items ≡ into.old.items ++ outcome_text outcome.now) }
+    ensures { IsPut into.old.items into.new.items (outcome_text outcome.now) result }
 {
     match outcome {
         Outcome::Sent { to, message } => {
@@ -75,17 +80,12 @@ fn put_outcome(into: &mut Vec<u8>, outcome: &Outcome) -> Result<(), AllocError>
             looked,
             message,
         } => {
-            put(into, b"took ")?;
-            put_number(into, u64::from(*clause))?;
-            put(into, b" ")?;
-            put_number(into, *looked)?;
+            put_numbered(into, b"took ", u64::from(*clause))?;
+            put_numbered(into, b" ", *looked)?;
             put(into, b" ")?;
             message.print(into)
         }
-        Outcome::After { looked } => {
-            put(into, b"after ")?;
-            put_number(into, *looked)
-        }
+        Outcome::After { looked } => put_numbered(into, b"after ", *looked),
         Outcome::Ended { reason } => {
             put(into, b"ended ")?;
             reason.print(into)
@@ -104,7 +104,7 @@ fn put_outcome(into: &mut Vec<u8>, outcome: &Outcome) -> Result<(), AllocError>
 
 #[tactic(auto, unfolding(crate::specs::RecordText::event_text))]
 fn put_event(into: &mut Vec<u8>, event: &Event) -> Result<(), AllocError>
-    ensures { OnOk result (into.new.items ≡ into.old.items ++ event_text event.now) }
+    ensures { IsPut into.old.items into.new.items (event_text event.now) result }
 {
     put_number(into, event.stamp)?;
     put_did(into, &event.did)?;
@@ -112,8 +112,9 @@ fn put_event(into: &mut Vec<u8>, event: &Event) -> Result<(), AllocError>
     put(into, b"\n")
 }
 
+#[tactic(auto, using(crate::proofs::Fronts::kept_front))]
 fn put_events(into: &mut Vec<u8>, events: &[Event]) -> Result<(), AllocError>
-    ensures { OnOk result (into.new.items ≡ into.old.items ++ flat_map event_text events.now) }
+    ensures { IsPut into.old.items into.new.items (flat_map event_text events.now) result }
 {
     for event in events {
         put_event(into, event)?;
@@ -121,19 +122,20 @@ fn put_events(into: &mut Vec<u8>, events: &[Event]) -> Result<(), AllocError>
     Ok(())
 }
 
-#[tactic(auto, unfolding(crate::specs::RecordText::left_text))]
+#[tactic(auto, unfolding(crate::specs::RecordText::left_text), using(crate::proofs::Fronts::kept_front))]
 fn put_left(into: &mut Vec<u8>, left: &Left) -> Result<(), AllocError>
-    ensures { OnOk result (into.new.items ≡ into.old.items ++ left_text left.now) }
+    ensures { IsPut into.old.items into.new.items (left_text left.now) result }
 {
-    put(into, b"left ")?;
-    put_number(into, left.arrival)?;
+    put_numbered(into, b"left ", left.arrival)?;
     put(into, b" ")?;
     left.message.print(into)?;
-    put(into, b"\n")
+    put(into, b"\n")?;
+    Ok(())
 }
 
+#[tactic(auto, using(crate::proofs::Fronts::kept_front))]
 fn put_lefts(into: &mut Vec<u8>, lefts: &[Left]) -> Result<(), AllocError>
-    ensures { OnOk result (into.new.items ≡ into.old.items ++ flat_map left_text lefts.now) }
+    ensures { IsPut into.old.items into.new.items (flat_map left_text lefts.now) result }
 {
     for left in lefts {
         put_left(into, left)?;
@@ -147,22 +149,15 @@ fn link_word(linked: bool) -> &'static [u8]
     if linked { b"linked " } else { b"plain " }
 }
 
-fn put_id(into: &mut Vec<u8>, word: &[u8], id: u64) -> Result<(), AllocError>
-    ensures { OnOk result (into.new.items ≡ into.old.items ++ (word.now ++ decimal id)) }
-{
-    put(into, word)?;
-    put_number(into, id)
-}
-
 fn put_reference(into: &mut Vec<u8>, word: &[u8], reference: Ref) -> Result<(), AllocError>
-    ensures { OnOk result (into.new.items ≡ into.old.items ++ (word.now ++ reference_text reference)) }
+    ensures { IsPut into.old.items into.new.items (word.now ++ reference_text reference) result }
 {
     put(into, word)?;
     reference.print(into)
 }
 
 fn put_kind(into: &mut Vec<u8>, kind: &Kind) -> Result<(), AllocError>
-    ensures { OnOk result (into.new.items ≡ into.old.items ++ kind_text kind.now) }
+    ensures { IsPut into.old.items into.new.items (kind_text kind.now) result }
 {
     match kind {
         Kind::Message { term } => {
@@ -175,8 +170,8 @@ fn put_kind(into: &mut Vec<u8>, kind: &Kind) -> Result<(), AllocError>
             term.print(into)
         }
         Kind::Link => put(into, b"link"),
-        Kind::Unlink { id } => put_id(into, b"unlink ", *id),
-        Kind::UnlinkAck { id } => put_id(into, b"unlink_ack ", *id),
+        Kind::Unlink { id } => put_numbered(into, b"unlink ", *id),
+        Kind::UnlinkAck { id } => put_numbered(into, b"unlink_ack ", *id),
         Kind::Monitor { reference } => put_reference(into, b"monitor ", *reference),
         Kind::Demonitor { reference } => put_reference(into, b"demonitor ", *reference),
         Kind::Down { reference, reason } => {
@@ -192,51 +187,38 @@ fn put_kind(into: &mut Vec<u8>, kind: &Kind) -> Result<(), AllocError>
     }
 }
 
-#[tactic(auto, unfolding(crate::specs::RecordText::queued_text))]
+#[tactic(auto, unfolding(crate::specs::RecordText::queued_text), using(crate::proofs::Fronts::kept_front))]
 fn put_queued(into: &mut Vec<u8>, signal: &Signal) -> Result<(), AllocError>
-    ensures { OnOk result (into.new.items ≡ into.old.items ++ queued_text signal.now) }
+    ensures { IsPut into.old.items into.new.items (queued_text signal.now) result }
 {
-    put(into, b"queued ")?;
-    put_number(into, u64::from(signal.from.0))?;
-    put(into, b" ")?;
-    put_number(into, signal.number)?;
-    put(into, b" ")?;
-    put_number(into, signal.stamp)?;
+    put_numbered(into, b"queued ", u64::from(signal.from.0))?;
+    put_numbered(into, b" ", signal.number)?;
+    put_numbered(into, b" ", signal.stamp)?;
     put(into, b" ")?;
     put_kind(into, &signal.kind)?;
     put(into, b"\n")
 }
 
-fn put_queued_at(into: &mut Vec<u8>, signals: &Signals, at: usize) -> Result<(), AllocError>
-    requires { at < length signals.now }
-    ensures { OnOk result (into.new.items ++ flat_map queued_text (drop (at + 1) signals.now) ≡ into.old.items ++ flat_map queued_text (drop at signals.now)) }
+#[tactic(auto, using(crate::proofs::Fronts::kept_front))]
+fn put_all_queued(into: &mut Vec<u8>, signals: &[Signal]) -> Result<(), AllocError>
+    ensures { IsPut into.old.items into.new.items (flat_map queued_text signals.now) result }
 {
-    match signals.get(at) {
-        Some(signal) => {
-            put_queued(into, signal)?;
-            Ok(())
-        }
-        None => unreachable!(),
-    }
-}
-
-fn put_all_queued(into: &mut Vec<u8>, signals: &Signals) -> Result<(), AllocError>
-    ensures { OnOk result (into.new.items ≡ into.old.items ++ flat_map queued_text signals.now) }
-{
-    for at in 0..signals.len() {
-        put_queued_at(into, signals, at)?;
+    for signal in signals {
+        put_queued(into, signal)?;
     }
     Ok(())
 }
 
+#[tactic(auto, using(crate::proofs::Fronts::kept_front))]
 fn put_state(into: &mut Vec<u8>, state: &State) -> Result<(), AllocError>
-    ensures { OnOk result (into.new.items ≡ into.old.items ++ state_text state.now) }
+    ensures { IsPut into.old.items into.new.items (state_text state.now) result }
 {
     match state {
         State::Ended { reason } => {
             put(into, b"state ended ")?;
             reason.print(into)?;
-            put(into, b"\n")
+            put(into, b"\n")?;
+            Ok(())
         }
         State::Waiting => put(into, b"state waiting\n"),
         State::Cut => put(into, b"state cut\n"),
@@ -244,10 +226,9 @@ fn put_state(into: &mut Vec<u8>, state: &State) -> Result<(), AllocError>
 }
 
 fn put_head(into: &mut Vec<u8>, pid: u32, name: &Name) -> Result<(), AllocError>
-    ensures { OnOk result (into.new.items ≡ into.old.items ++ head_text pid name.now) }
+    ensures { IsPut into.old.items into.new.items (head_text pid name.now) result }
 {
-    put(into, b"process ")?;
-    put_number(into, u64::from(pid))?;
+    put_numbered(into, b"process ", u64::from(pid))?;
     put(into, b" ")?;
     put(into, name.bytes())?;
     put(into, b"\n")
@@ -255,17 +236,18 @@ fn put_head(into: &mut Vec<u8>, pid: u32, name: &Name) -> Result<(), AllocError>
 
 #[tactic(auto, unfolding(crate::specs::RecordText::report_text))]
 fn put_report(into: &mut Vec<u8>, report: &Report) -> Result<(), AllocError>
-    ensures { OnOk result (into.new.items ≡ into.old.items ++ report_text report.now) }
+    ensures { IsPut into.old.items into.new.items (report_text report.now) result }
 {
     put_head(into, report.pid.0, &report.name)?;
     put_events(into, report.events.as_slice())?;
     put_lefts(into, report.left.as_slice())?;
-    put_all_queued(into, &report.queued)?;
+    put_all_queued(into, report.queued.as_slice())?;
     put_state(into, &report.state)
 }
 
+#[tactic(auto, using(crate::proofs::Fronts::kept_front))]
 fn put_reports(into: &mut Vec<u8>, reports: &[Report]) -> Result<(), AllocError>
-    ensures { OnOk result (into.new.items ≡ into.old.items ++ flat_map report_text reports.now) }
+    ensures { IsPut into.old.items into.new.items (flat_map report_text reports.now) result }
 {
     for report in reports {
         put_report(into, report)?;
@@ -273,11 +255,25 @@ fn put_reports(into: &mut Vec<u8>, reports: &[Report]) -> Result<(), AllocError>
     Ok(())
 }
 
-/// Appends the record's text. Each record has one text.
-pub fn print_record(given: &Record, into: &mut Vec<u8>) -> Result<(), AllocError>
-    ensures { OnOk result (into.new.items ≡ into.old.items ++ record_text given.now) }
+#[tactic(auto, using(crate::proofs::Fronts::kept_front))]
+fn put_record(into: &mut Vec<u8>, reports: &[Report]) -> Result<(), AllocError>
+    ensures { IsPut into.old.items into.new.items (record_text reports.now) result }
 {
     put(into, b"sigrecord 1\n")?;
-    put_reports(into, given.reports())?;
+    put_reports(into, reports)?;
     Ok(())
+}
+
+/// Appends the record's text. Each record has one text. Where memory is refused, `into` is as
+/// before.
+pub fn print_record(given: &Record, into: &mut Vec<u8>) -> Result<(), AllocError>
+    ensures text { OnOk result (into.new.items ≡ into.old.items ++ record_text given.now) }
+    ensures err { OnErr result (into.new.items ≡ into.old.items) }
+{
+    let before = into.len();
+    let appended = put_record(into, given.reports());
+    if appended.is_err() {
+        into.truncate(before);
+    }
+    appended
 }

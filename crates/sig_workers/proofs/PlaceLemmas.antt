@@ -1,29 +1,21 @@
 -- Signals are delivered to the processes of a crew at their places.
-use Rattle.std.proofs.Common.{◌≡◌, ℕ, ◌<◌, List, [], ◌∷◌, length, Option, Some, None, refl, sym, ap, ◌∙◌, subst, slice_get, set}
-use Rattle.std.specs.Prelude.{All, IfOk, OnOk, Result, Ok, Err, get_or}
-use Rattle.std.proofs.lemmas.List.{length-set}
+use Rattle.std.proofs.Common.{◌≡◌, ℕ, ◌<◌, List, [], ◌∷◌, length, Some, refl, sym, ap, ◌∙◌, subst, slice_get, set}
+use Rattle.std.specs.Prelude.{All, IfOk, IfSome, OnOk, Result, Ok, Err, get_or}
+use Rattle.std.specs.Option.{option_map}
+use Rattle.std.proofs.lemmas.List.{length-map, map-set}
 use Rattle.std.proofs.lemmas.List.Elements.{All-head, All-tail}
-use Rattle.std.proofs.lemmas.Option.{slice_get-get_or}
+use Rattle.std.proofs.lemmas.Option.{slice_get-get_or, slice_get-map}
 use Rattle.sig_kinds.specs.declared.signal.Signal.{Signal}
+use Rattle.sig_kinds.specs.SignalList.{SignalList}
 use Rattle.sig_model.specs.Running.{Running}
 use Rattle.sig_model.specs.Keeping.{IsArriving, IsPlaced}
 use Rattle.sig_model.specs.OneWorker.{visited, arrived, deliver_to, deliver_all}
 use Rattle.sig_model.proofs.PlacedLemmas.{IsSame, visited_same, set_placed, deliver_placed}
+use Rattle.sig_process.specs.Standing.{Standing, runnings_of}
 
 -- signals that may arrive at their receivers, among so many processes
 abbrev pub AreArriving : ℕ → List Signal → Type 0
 AreArriving count signals = All (λ (x : Signal). IsArriving x.to.0 count x) signals
-
--- the process at the place of its receiver may take a signal in
-pub may_arrive : (crew : List Running) (x : Signal) (d : Running) → x.to.0 < length crew → IsPlaced crew → IsArriving x.to.0 (length crew) x →
-    IsArriving (get_or crew x.to.0 d).pid (get_or crew x.to.0 d).count x
-may_arrive crew x d lt placed h =
-    let r : Running = get_or crew x.to.0 d in
-    let at : (r.pid ≡ x.to.0) × (r.count ≡ length crew) = placed x.to.0 r (slice_get-get_or crew x.to.0 d lt) in
-    subst (λ n. IsArriving n r.count x) (sym at.0) (subst (λ n. IsArriving x.to.0 n x) (sym at.1) h)
-
-pub delivered_placed : (crew after : List Running) (x : Signal) → after ≡ deliver_to (slice_get crew x.to.0) x crew → IsPlaced crew → IsPlaced after
-delivered_placed crew after x e placed = subst IsPlaced (sym e) (deliver_placed x (slice_get crew x.to.0) crew refl placed)
 
 -- the signals behind the one that is delivered
 pub first_arriving : (count : ℕ) (x : Signal) (signals left : List Signal) → signals ≡ x ∷ left → AreArriving count signals → IsArriving x.to.0 count x
@@ -43,24 +35,52 @@ unfolding deliver_all
 delivered_rest crew after x signals left e d =
     ap (λ (ys : List Running). deliver_all left ys) d ∙ sym (ap (λ (xs : List Signal). deliver_all xs crew) e)
 
-length_case : (o : Option Running) (x : Signal) (crew : List Running) → length (deliver_to o x crew) ≡ length crew
-length_case None x crew = refl
-length_case (Some r) x crew = length-set crew x.to.0 (arrived r x)
+-- the process at a place is replaced
+module _ (procs : List Standing) (at : ℕ) (p : Standing) (lt : at < length procs) (is : p ≡ get_or procs at p) where
+  abbrev crew : List Running
+  crew = runnings_of procs
 
-pub delivered_length : (crew after : List Running) (x : Signal) → after ≡ deliver_to (slice_get crew x.to.0) x crew → length after ≡ length crew
-delivered_length crew after x d = ap (λ (ys : List Running). length ys) d ∙ length_case (slice_get crew x.to.0) x crew
+  there : slice_get crew at ≡ Some p.running
+  there =
+      slice_get-map (λ (q : Standing). q.running) procs at
+      ∙ ap (option_map (λ (q : Standing). q.running)) (slice_get-get_or procs at p lt ∙ ap (λ (q : Standing). Some q) (sym is))
 
--- the process at a place is visited
-module _ (crew : List Running) (at : ℕ) (r : Running) (lt : at < length crew) (is : r ≡ get_or crew at r) (placed : IsPlaced crew) where
-  there : slice_get crew at ≡ Some r
-  there = slice_get-get_or crew at r lt ∙ ap (λ (z : Running). Some z) (sym is)
+  replaced : (q : Standing) (r : Running) → q.running ≡ r → runnings_of (set procs at q) ≡ set crew at r
+  replaced q r e = map-set (λ (s : Standing). s.running) procs at q ∙ ap (λ (z : Running). set crew at z) e
 
-  pub visit_placed : {T E : Type 0} (o : Result T E) (v : Running) → OnOk o (v ≡ record (visited r) { outbox = [] }) → OnOk o (IsPlaced (set crew at v))
-  visit_placed (Ok t) v e =
-      let s : IsSame r (visited r) = visited_same r in
-      set_placed crew at r v there (record { pid = ap (λ (z : Running). z.pid) e ∙ s.pid; count = ap (λ (z : Running). z.count) e ∙ s.count }) placed
-  visit_placed (Err f) v e = tt
+  -- its pid is its place
+  here : IsPlaced crew → (p.running.pid ≡ at) × (p.running.count ≡ length procs)
+  here placed = let h : (p.running.pid ≡ at) × (p.running.count ≡ length crew) = placed at p.running there in (h.0, h.1 ∙ length-map procs (λ (q : Standing). q.running))
 
-  pub visit_arriving : {E : Type 0} (o : Result (List Signal) E) → IfOk o (AreArriving r.count) → IfOk o (AreArriving (length crew))
-  visit_arriving (Ok signals) h = subst (λ n. AreArriving n signals) (placed at r there).1 h
-  visit_arriving (Err f) h = tt
+  -- a signal may arrive at it
+  pub may_arrive : (x : Signal) → IsPlaced crew → IsArriving at (length procs) x → IsArriving p.running.pid p.running.count x
+  may_arrive x placed h = subst (λ n. IsArriving n p.running.count x) (sym (here placed).0) (subst (λ n. IsArriving at n x) (sym (here placed).1) h)
+
+  -- it was visited
+  pub visit_done : {E : Type 0} (o : Result SignalList E) (q : Standing) → OnOk o (q.running ≡ record (visited p.running) { outbox = [] }) → IfOk o (λ s. s.items ≡ (visited p.running).outbox) →
+      IfOk o (λ s. IfSome (slice_get crew at) (λ r. (runnings_of (set procs at q) ≡ set crew at (record (visited r) { outbox = [] })) × (s.items ≡ (visited r).outbox)))
+  visit_done (Ok s) q e h =
+      subst (λ o. IfSome o (λ r. (runnings_of (set procs at q) ≡ set crew at (record (visited r) { outbox = [] })) × (s.items ≡ (visited r).outbox))) (sym there)
+      (replaced q (record (visited p.running) { outbox = [] }) e, h)
+  visit_done (Err f) q e h = tt
+
+  pub visit_placed : {T E : Type 0} (o : Result T E) (q : Standing) → OnOk o (q.running ≡ record (visited p.running) { outbox = [] }) → IsPlaced crew → OnOk o (IsPlaced (runnings_of (set procs at q)))
+  visit_placed (Ok t) q e placed =
+      let s : IsSame p.running (visited p.running) = visited_same p.running in
+      subst IsPlaced (sym (replaced q (record (visited p.running) { outbox = [] }) e))
+      (set_placed crew at p.running (record (visited p.running) { outbox = [] }) there (record { pid = s.pid; count = s.count }) placed)
+  visit_placed (Err f) q e placed = tt
+
+  pub visit_arriving : {E : Type 0} (o : Result SignalList E) → IsPlaced crew → IfOk o (λ s. AreArriving p.running.count s.items) → IfOk o (λ s. AreArriving (length procs) s.items)
+  visit_arriving (Ok s) placed h = subst (λ n. AreArriving n s.items) (here placed).1 h
+  visit_arriving (Err f) placed h = tt
+
+-- the signal has arrived at its receiver
+module _ (procs : List Standing) (x : Signal) (p : Standing) (lt : x.to.0 < length procs) (is : p ≡ get_or procs x.to.0 p) (q : Standing) (e : q.running ≡ arrived p.running x) where
+  pub delivered : runnings_of (set procs x.to.0 q) ≡ deliver_to (slice_get (runnings_of procs) x.to.0) x (runnings_of procs)
+  delivered =
+      replaced procs x.to.0 p lt is q (arrived p.running x) e
+      ∙ sym (ap (λ o. deliver_to o x (runnings_of procs)) (there procs x.to.0 p lt is))
+
+  pub delivered_placed : IsPlaced (runnings_of procs) → IsPlaced (runnings_of (set procs x.to.0 q))
+  delivered_placed placed = subst IsPlaced (sym delivered) (deliver_placed x (slice_get (runnings_of procs) x.to.0) (runnings_of procs) refl placed)

@@ -1,20 +1,36 @@
 -- The run of one worker, step by step.
 use Rattle.std.proofs.Common.{◌≡◌, ℕ, zero, suc, ◌+◌, ◌-◌, ◌<◌, ◌≤◌, List, Bool, true, false, Some, None, refl, sym, ◌∙◌, ap, subst, arith, ◌||◌}
-use Rattle.sig_model.specs.Running.{Running, can_exec, can_handle, exec_next, handle_next}
+use Rattle.std.specs.Prelude.{unwrap_or}
+use Rattle.std.specs.Option.{option_map}
+use Rattle.sig_model.specs.Finishing.{finished_exec}
+use Rattle.sig_model.specs.Running.{Running, advanced, can_exec, can_handle, exec_next, handle_next}
 use Rattle.sig_model.specs.OneWorker.{handle_all, exec_or_stay, visit, has_moved, pass_from, pass, RunsTo, rests, goes}
+use Rattle.sig_model.proofs.Guards.{exec_due, exec_refused, handle_refused}
+use Rattle.sig_model.proofs.Waiting.{waiting_iff}
+use Rattle.sig_process.specs.declared.executing.Exec.{Exec}
+use Rattle.sig_process.specs.declared.executing.Exec.TheVariants.{Stepped, Waiting}
+use Rattle.sig_process.specs.Standing.{Standing}
+use Rattle.sig_process.specs.Steps.{IsExec}
 
-pub handle_refused : (r : Running) → can_handle r ≡ false → handle_next r ≡ None
-unfolding handle_next
-handle_refused r h = rw h refl
+pub exec_stays : (r : Running) → can_exec r ≡ false → exec_or_stay r ≡ r
+exec_stays r h = ap (λ o. unwrap_or o r) (exec_refused r h)
 
-pub exec_refused : (r : Running) → can_exec r ≡ false → exec_or_stay r ≡ r
-unfolding exec_next
-exec_refused r h = rw h refl
+-- an instruction was executed, or the process waits
+pub exec_goes : (before after : Standing) (e : Exec) → can_exec before.running ≡ true → IsExec before after e → after.running ≡ exec_or_stay before.running
+exec_goes before after Stepped can h = sym (ap (λ o. unwrap_or o before.running) h.0)
+exec_goes before after Waiting can h =
+    let r : Running = before.running in
+    let none : exec_next r ≡ None = exec_due r can ∙ ap (λ o. option_map (advanced r) (option_map (finished_exec r.pid r.state) o)) ((waiting_iff r.proc r.state).1 h.0) in
+    h.1 ∙ sym (ap (λ o. unwrap_or o r) none)
 
-pub handle_stops : (n : ℕ) (r : Running) → handle_next r ≡ None → handle_all n r ≡ r
+handle_stops : (n : ℕ) (r : Running) → handle_next r ≡ None → handle_all n r ≡ r
 unfolding handle_all
 handle_stops zero r h = refl
 handle_stops (suc n) r h = rw h refl
+
+-- no signal may be handled
+pub handle_stays : (n : ℕ) (r : Running) → can_handle r ≡ false → handle_all n r ≡ r
+handle_stays n r h = handle_stops n r (handle_refused r h)
 
 handle_goes : (n : ℕ) (r t : Running) → handle_next r ≡ Some t → handle_all (suc n) r ≡ handle_all n t
 unfolding handle_all

@@ -1,6 +1,7 @@
 ghost use Rattle.std.specs.Prelude.{◌≡◌, ◌<◌, IfOk, OnOk, true, vec_len};
 ghost use Rattle.sig_model.specs.Keeping.{IsPlaced};
 ghost use Rattle.sig_model.specs.OneWorker.{pass, RunsTo, IsClear};
+ghost use Rattle.sig_process.specs.Standing.{runnings_of};
 ghost use Rattle.sig_workers.specs.Room.{room};
 
 use crate::visiting::visit_counted;
@@ -12,11 +13,11 @@ use std::sync::ledger::{Blank, Ledger};
 
 /// A pass over all processes, by ascending pid. Tells whether it had an event.
 fn pass_all<L: Ledger>(procs: &mut Vec<Process>, steps: &mut Steps<L>) -> Result<bool, AllocError>
-    requires { IsPlaced procs.old.items }
-    ensures pass { IfOk result (λ moved. (procs.new.items, moved) ≡ pass procs.old.items) }
-    ensures placed { OnOk result (IsPlaced procs.new.items) }
-    ensures clear { IsClear procs.old.items → OnOk result (IsClear procs.new.items) }
-    ensures falls { IfOk result (λ moved. moved ≡ true → room procs.new.items < room procs.old.items) }
+    requires { IsPlaced (runnings_of procs.old.items) }
+    ensures pass { IfOk result (λ moved. (runnings_of procs.new.items, moved) ≡ pass (runnings_of procs.old.items)) }
+    ensures placed { OnOk result (IsPlaced (runnings_of procs.new.items)) }
+    ensures clear { IsClear (runnings_of procs.old.items) → OnOk result (IsClear (runnings_of procs.new.items)) }
+    ensures falls { IfOk result (λ moved. moved ≡ true → room (runnings_of procs.new.items) < room (runnings_of procs.old.items)) }
     ensures len { vec_len procs.new ≡ vec_len procs.old }
 {
     let mut moved = false;

@@ -1,6 +1,7 @@
-ghost use Rattle.std.specs.Prelude.{◌≡◌, ◌<◌, ◌+◌, [], length, All, OnOk, IfOk, IfSome, slice_get, slice_set, Some, vec_len};
+ghost use Rattle.std.specs.Prelude.{◌≡◌, ◌<◌, [], length, All, OnOk, IfOk, IfSome, slice_get, slice_set, Some, vec_len};
 ghost use Rattle.sig_model.specs.Keeping.{IsArriving, IsPlaced};
-ghost use Rattle.sig_model.specs.OneWorker.{handle_all, exec_or_stay, visited, deliver_all, deliver_to, settled_visit, visit, events_at, has_moved};
+ghost use Rattle.sig_model.specs.OneWorker.{handle_all, exec_or_stay, visited, deliver_all, deliver_to, visit, events_at, has_moved};
+ghost use Rattle.sig_process.specs.Standing.{runnings_of};
 
 use sig_base::Steps;
 use sig_kinds::{Signal, Signals};
@@ -10,7 +11,7 @@ use std::sync::ledger::Ledger;
 
 /// Handles signals as long as one may be handled, at most so many.
 fn handle_at_most(process: &mut Process, count: usize) -> Result<(), AllocError>
-    ensures { OnOk result (process.new ≡ handle_all count process.old) }
+    ensures { OnOk result (process.new.running ≡ handle_all count process.old.running) }
 {
     for _i in 0..count {
         if !process.can_handle() {
@@ -23,7 +24,7 @@ fn handle_at_most(process: &mut Process, count: usize) -> Result<(), AllocError>
 
 /// Executes the next instruction, where one may be executed.
 fn exec_once<L: Ledger>(process: &mut Process, steps: &mut Steps<L>) -> Result<(), AllocError>
-    ensures { OnOk result (process.new ≡ exec_or_stay process.old) }
+    ensures { OnOk result (process.new.running ≡ exec_or_stay process.old.running) }
 {
     if process.can_exec() {
         process.exec(steps)?;
@@ -34,7 +35,7 @@ fn exec_once<L: Ledger>(process: &mut Process, steps: &mut Steps<L>) -> Result<(
 /// Visits the process: it handles the signals that wait, and executes one instruction.
 #[tactic(auto, unfolding(sig_model::specs::OneWorker::visited))]
 fn visit_process<L: Ledger>(process: &mut Process, steps: &mut Steps<L>) -> Result<(), AllocError>
-    ensures { OnOk result (process.new ≡ visited process.old) }
+    ensures { OnOk result (process.new.running ≡ visited process.old.running) }
 {
     let own = process.own_count();
     let others = process.taken_in_count();
@@ -45,10 +46,11 @@ fn visit_process<L: Ledger>(process: &mut Process, steps: &mut Steps<L>) -> Resu
 
 /// The signal joins those that wait for its receiver.
 fn deliver_one(procs: &mut Vec<Process>, signal: Signal) -> Result<(), AllocError>
-    requires placed { IsPlaced procs.old.items }
+    requires placed { IsPlaced (runnings_of procs.old.items) }
     requires arriving { IsArriving signal.to.0 (length procs.old.items) signal }
-    ensures procs { OnOk result (procs.new.items ≡ deliver_to (slice_get procs.old.items signal.to.0) signal procs.old.items) }
-    ensures placed { OnOk result (IsPlaced procs.new.items) }
+    ensures procs { OnOk result (runnings_of procs.new.items ≡
+        deliver_to (slice_get (runnings_of procs.old.items) signal.to.0) signal (runnings_of procs.old.items)) }
+    ensures placed { OnOk result (IsPlaced (runnings_of procs.new.items)) }
     ensures len { vec_len procs.new ≡ vec_len procs.old }
 {
     let to = signal.to.0 as usize;
@@ -61,10 +63,10 @@ fn deliver_one(procs: &mut Vec<Process>, signal: Signal) -> Result<(), AllocErro
 /// Each of the signals joins those that wait for its receiver.
 #[tactic(auto, unfolding(sig_model::specs::OneWorker::deliver_all))]
 fn deliver_each(procs: &mut Vec<Process>, mut signals: Signals) -> Result<(), AllocError>
-    requires placed { IsPlaced procs.old.items }
-    requires arriving { All (λ x. IsArriving x.to.0 (length procs.old.items) x) signals }
-    ensures procs { OnOk result (procs.new.items ≡ deliver_all signals procs.old.items) }
-    ensures placed { OnOk result (IsPlaced procs.new.items) }
+    requires placed { IsPlaced (runnings_of procs.old.items) }
+    requires arriving { All (λ x. IsArriving x.to.0 (length procs.old.items) x) signals.items }
+    ensures procs { OnOk result (runnings_of procs.new.items ≡ deliver_all signals.items (runnings_of procs.old.items)) }
+    ensures placed { OnOk result (IsPlaced (runnings_of procs.new.items)) }
     ensures len { vec_len procs.new ≡ vec_len procs.old }
 {
     while let Some(signal) = signals.pop_front() {
@@ -78,9 +80,9 @@ fn visit_and_take<L: Ledger>(
     process: &mut Process,
     steps: &mut Steps<L>,
 ) -> Result<Signals, AllocError>
-    ensures process { OnOk result (process.new ≡ record (visited process.old) { outbox = [] }) }
-    ensures signals { IfOk result (λ signals. signals ≡ (visited process.old).outbox) }
-    ensures arriving { IfOk result (All (λ x. IsArriving x.to.0 process.old.count x)) }
+    ensures process { OnOk result (process.new.running ≡ record (visited process.old.running) { outbox = [] }) }
+    ensures signals { IfOk result (λ signals. signals.items ≡ (visited process.old.running).outbox) }
+    ensures arriving { IfOk result (λ signals. All (λ x. IsArriving x.to.0 process.old.running.count x) signals.items) }
 {
     visit_process(process, steps)?;
     Ok(process.take_outbox())
@@ -93,11 +95,11 @@ fn visit_at<L: Ledger>(
     steps: &mut Steps<L>,
 ) -> Result<Signals, AllocError>
     requires within { at < vec_len procs.old }
-    requires placed { IsPlaced procs.old.items }
-    ensures visit { IfOk result (λ signals. IfSome (slice_get procs.old.items at) (λ r.
-        (procs.new.items ≡ slice_set procs.old.items at (record (visited r) { outbox = [] })) × (signals ≡ (visited r).outbox))) }
-    ensures placed { OnOk result (IsPlaced procs.new.items) }
-    ensures arriving { IfOk result (All (λ x. IsArriving x.to.0 (length procs.old.items) x)) }
+    requires placed { IsPlaced (runnings_of procs.old.items) }
+    ensures visit { IfOk result (λ signals. IfSome (slice_get (runnings_of procs.old.items) at) (λ r.
+        (runnings_of procs.new.items ≡ slice_set (runnings_of procs.old.items) at (record (visited r) { outbox = [] })) × (signals.items ≡ (visited r).outbox))) }
+    ensures placed { OnOk result (IsPlaced (runnings_of procs.new.items)) }
+    ensures arriving { IfOk result (λ signals. All (λ x. IsArriving x.to.0 (length procs.old.items) x) signals.items) }
     ensures len { vec_len procs.new ≡ vec_len procs.old }
 {
     visit_and_take(&mut procs[at], steps)
@@ -111,9 +113,9 @@ fn visit_one<L: Ledger>(
     steps: &mut Steps<L>,
 ) -> Result<(), AllocError>
     requires within { at < vec_len procs.old }
-    requires placed { IsPlaced procs.old.items }
-    ensures visit { OnOk result (procs.new.items ≡ visit at procs.old.items) }
-    ensures placed { OnOk result (IsPlaced procs.new.items) }
+    requires placed { IsPlaced (runnings_of procs.old.items) }
+    ensures visit { OnOk result (runnings_of procs.new.items ≡ visit at (runnings_of procs.old.items)) }
+    ensures placed { OnOk result (IsPlaced (runnings_of procs.new.items)) }
     ensures len { vec_len procs.new ≡ vec_len procs.old }
 {
     let signals = visit_at(procs, at, steps)?;
@@ -121,7 +123,7 @@ fn visit_one<L: Ledger>(
 }
 
 fn count_events(procs: &[Process], at: usize) -> usize
-    ensures { result ≡ events_at at procs.now }
+    ensures { result ≡ events_at at (runnings_of procs.now) }
 {
     match procs.get(at) {
         None => 0,
@@ -136,10 +138,10 @@ pub(crate) fn visit_counted<L: Ledger>(
     steps: &mut Steps<L>,
 ) -> Result<bool, AllocError>
     requires within { at < vec_len procs.old }
-    requires placed { IsPlaced procs.old.items }
-    ensures visit { OnOk result (procs.new.items ≡ visit at procs.old.items) }
-    ensures placed { OnOk result (IsPlaced procs.new.items) }
-    ensures moved { IfOk result (λ moved. moved ≡ has_moved at procs.old.items procs.new.items) }
+    requires placed { IsPlaced (runnings_of procs.old.items) }
+    ensures visit { OnOk result (runnings_of procs.new.items ≡ visit at (runnings_of procs.old.items)) }
+    ensures placed { OnOk result (IsPlaced (runnings_of procs.new.items)) }
+    ensures moved { IfOk result (λ moved. moved ≡ has_moved at (runnings_of procs.old.items) (runnings_of procs.new.items)) }
     ensures len { vec_len procs.new ≡ vec_len procs.old }
 {
     let before = count_events(procs.as_slice(), at);

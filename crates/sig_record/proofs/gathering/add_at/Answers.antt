@@ -7,6 +7,6 @@ use Rattle.sig_record.proofs.gathering.add_at.Goals as goal
 
 pub returns : goal.returns
 returns c =
-    let rest : List Signal = filter (is_from c.args.sender) (drop (c.args.at + 1) c.args.waiting.now) in
+    let rest : List Signal = filter (is_from c.args.sender) (drop (c.args.at + 1) c.args.waiting.now.items) in
     ap (λ (signals : List Signal). signals ++ rest) c.in_ok-add_if_from-in-Some.ensures
-    ∙ filter_at (is_from c.args.sender) c.args.waiting.now c.args.at c.in-Some.signal.now c.args.queued.now (sym c.in-Some.ensures.value)
+    ∙ filter_at (is_from c.args.sender) c.args.waiting.now.items c.args.at c.in-Some.signal.now c.args.queued.now (sym c.in-Some.ensures.value)

@@ -5,4 +5,4 @@ use Rattle.sig_record.proofs.gathering.add_from.Given as goal
 
 -- with the signals that are left, it is the whole
 abbrev pub invariant-loop-at : goal.invariant-loop-at
-invariant-loop-at l = l.queued ++ filter (is_from l.sender) (drop l.at l.waiting) ≡ l.fn.queued ++ filter (is_from l.sender) l.waiting
+invariant-loop-at l = l.queued ++ filter (is_from l.sender) (drop l.at l.waiting.items) ≡ l.fn.queued ++ filter (is_from l.sender) l.waiting.items

@@ -4,7 +4,7 @@ use Rattle.sig_record.proofs.gathering.lefts_of.Given as goal
 
 -- those so far, and what is left of the others, are all
 abbrev pub invariant-loop-arrival : goal.invariant-loop-arrival
-invariant-loop-arrival l = l.lefts.items ++ map left_of l.inner.messages ≡ map left_of l.fn.inner.messages
+invariant-loop-arrival l = l.lefts.items ++ map left_of l.inner.queue.inbox.messages ≡ map left_of l.fn.inner.queue.inbox.messages
 
 abbrev pub decreases-loop-arrival : goal.decreases-loop-arrival
-decreases-loop-arrival l = length l.inner.messages
+decreases-loop-arrival l = length l.inner.queue.inbox.messages

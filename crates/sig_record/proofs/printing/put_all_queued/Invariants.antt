@@ -1,8 +1,7 @@
-use Rattle.std.proofs.Common.{◌≡◌, ◌++◌, drop}
+use Rattle.std.proofs.Common.{◌≡◌, ◌++◌, take}
 use Rattle.std.specs.List.{flat_map}
 use Rattle.sig_record.specs.RecordText.{queued_text}
 use Rattle.sig_record.proofs.printing.put_all_queued.Given as goal
 
--- with the texts that are left, it is the whole
-abbrev pub invariant-loop-at : goal.invariant-loop-at
-invariant-loop-at l = l.into.items ++ flat_map queued_text (drop l.at l.signals) ≡ l.fn.into.items ++ flat_map queued_text l.signals
+abbrev pub invariant-loop-signal : goal.invariant-loop-signal
+invariant-loop-signal l = l.into.items ≡ l.fn.into.items ++ flat_map queued_text (take l.signal-index l.signals)

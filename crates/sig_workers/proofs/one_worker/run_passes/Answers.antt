@@ -1,14 +1,15 @@
+use Rattle.sig_process.specs.Standing.{runnings_of}
 use Rattle.sig_workers.proofs.RunLemmas.{run_rests, run_goes}
 use Rattle.sig_workers.proofs.one_worker.run_passes.Goals as goal
 
 pub returns-then-not-branch-clause-run : goal.returns-then-not-branch-clause-run
 returns-then-not-branch-clause-run g c =
-    c.loop-procs.invariant.leads _ (run_rests c.loop-procs.procs.items c.pass_all.new.procs.items c.in_ok-pass_all.field-0 c.in_ok-pass_all.ensures.pass c.if-not-branch.true)
+    c.loop-procs.invariant.leads _ (run_rests (runnings_of c.loop-procs.procs.items) (runnings_of c.pass_all.new.procs.items) c.in_ok-pass_all.field-0 c.in_ok-pass_all.ensures.pass c.if-not-branch.true)
 
 pub loop-procs-preserved : goal.loop-procs-preserved
 loop-procs-preserved g c = record {
   leads = λ last r.
-      c.loop-procs.invariant.leads last (run_goes c.loop-procs.procs.items c.pass_all.new.procs.items last c.in_ok-pass_all.field-0 c.in_ok-pass_all.ensures.pass c.if-not-branch.false r);
+      c.loop-procs.invariant.leads last (run_goes (runnings_of c.loop-procs.procs.items) (runnings_of c.pass_all.new.procs.items) last c.in_ok-pass_all.field-0 c.in_ok-pass_all.ensures.pass c.if-not-branch.false r);
   placed = c.in_ok-pass_all.ensures.placed;
   clear = c.in_ok-pass_all.ensures.clear c.loop-procs.invariant.clear;
 }
