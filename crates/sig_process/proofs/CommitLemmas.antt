@@ -1,4 +1,4 @@
--- What a change leaves as it was, and what it makes of the state.
+-- What a commit has done when its event is noted, and when a message was taken.
 use Rattle.std.proofs.Common.{◌≡◌, ℕ, ◌+◌, ◌<◌, ◌++◌, List, [], ◌∷◌, Option, Some, None, refl, sym, ap, ◌∙◌, subst}
 use Rattle.std.specs.Prelude.{IfSome}
 use Rattle.std.specs.FinMap.{insert}
@@ -11,32 +11,13 @@ use Rattle.sig_inner.specs.InnerQueue.{InnerQueue, InnerTable, found_message, ta
 use Rattle.sig_model.specs.declared.event.Event.{Event}
 use Rattle.sig_model.specs.declared.event.Did.TheVariants as did
 use Rattle.sig_model.specs.declared.event.Outcome.{Outcome}
-use Rattle.sig_model.specs.ProcessState.{ProcessState, Counts}
-use Rattle.sig_model.specs.Bodies.{Post, at_place}
-use Rattle.sig_model.specs.Finishing.{numbers_after}
-use Rattle.sig_process.specs.declared.plan.Change.{Change}
-use Rattle.sig_process.specs.declared.plan.Change.TheVariants as change
+use Rattle.sig_model.specs.ProcessState.{ProcessState}
+use Rattle.sig_process.specs.declared.changing.Change.{Change}
+use Rattle.sig_process.specs.declared.changing.Change.TheVariants as change
 use Rattle.sig_process.specs.declared.progress.Progress.{Progress}
 use Rattle.sig_process.specs.Plans.{changed, after_obeying}
 use Rattle.sig_process.specs.Progressing.{state_of, IsSame}
-use Rattle.sig_process.specs.Committing.{HasRoom, HasBegun, IsBound, IsReady, queue_after, gone_on, HasTaken}
-
--- no change touches the counts
-pub changed_counts : (s : ProcessState) (c : Change) → (changed s c).counts ≡ s.counts
-changed_counts s change.Nothing = refl
-changed_counts s (change.Bind var value) = refl
-changed_counts s (change.Link peer) = refl
-changed_counts s (change.Unlink peer) = refl
-changed_counts s (change.Trap on) = refl
-changed_counts s (change.Append message) = refl
-changed_counts s (change.LinkUp peer) = refl
-changed_counts s (change.UnlinkBy peer) = refl
-changed_counts s (change.Acknowledge peer id) = refl
-changed_counts s (change.End reason) = refl
-
-pub obeyed_counts : (s : ProcessState) (peer : Option Pid) → (after_obeying s peer).counts ≡ s.counts
-obeyed_counts s None = refl
-obeyed_counts s (Some peer) = refl
+use Rattle.sig_process.specs.Committing.{HasRoom, HasBegun, IsBound, IsReady, queue_after, HasTaken}
 
 -- the event is noted, and nothing else than the room is other than before
 record IsNoted (posts : ℕ) (before noted : Progress) (e : Event) : Type 0 where
@@ -116,40 +97,13 @@ module _ (posts : ℕ) (before noted : Progress) (e : Event) (n : IsNoted posts 
   started (change.Bind var value) rest after h =
       subst (λ (p : Progress). HasBegun posts before (change.Bind var value) p rest e) (sym h.0)
       (subst (λ (d : Change). HasBegun posts before (change.Bind var value) (bound_by var value) d e) (sym h.1) (bound var value))
-  started change.Nothing rest after h = left change.Nothing rest after tt h
-  started (change.Link peer) rest after h = left (change.Link peer) rest after tt h
-  started (change.Unlink peer) rest after h = left (change.Unlink peer) rest after tt h
-  started (change.Trap on) rest after h = left (change.Trap on) rest after tt h
-  started (change.Append message) rest after h = left (change.Append message) rest after tt h
-  started (change.LinkUp peer) rest after h = left (change.LinkUp peer) rest after tt h
-  started (change.UnlinkBy peer) rest after h = left (change.UnlinkBy peer) rest after tt h
-  started (change.Acknowledge peer id) rest after h = left (change.Acknowledge peer id) rest after tt h
-  started (change.End reason) rest after h = left (change.End reason) rest after tt h
+  started c rest after h = left c rest after tt h
 
 -- room was made, the event was noted, and a variable was bound where the change says so
 pub begun : (posts : ℕ) (before roomy noted after : Progress) (e : Event) (c rest : Change) → IsSame before roomy → roomy.counts ≡ before.counts → HasRoom posts roomy → 0 < roomy.handled.spare →
     noted ≡ record roomy { events = roomy.events ++ e ∷ [] } → IsBound noted c after rest → HasBegun posts before c after rest e
 begun posts before roomy noted after e c rest same counts room handled is bind =
     started posts before noted e (subst (λ (p : Progress). IsNoted posts before p e) (sym is) (is_noted posts before roomy e same counts room handled)) c rest after bind
-
--- what was to be changed, and what is left of it, make the same state at the place where the process goes on
-module _ (s t : ProcessState) (obeyed : Option Pid) (c rest : Change) (place stamp executed : ℕ) (posts : List Post)
-    (same : changed (after_obeying t obeyed) rest ≡ changed (after_obeying s obeyed) c) (counts : t.counts ≡ s.counts) where
-  abbrev x : ProcessState
-  x = changed (after_obeying s obeyed) c
-
-  x_counts : x.counts ≡ s.counts
-  x_counts = changed_counts (after_obeying s obeyed) c ∙ obeyed_counts s obeyed
-
-  abbrev counted : Counts → Counts
-  counted k = record k { place = place; executed = executed; stamp = stamp; next_numbers = numbers_after k.next_numbers posts }
-
-  -- the state after the event, where it counts so many executed instructions
-  pub gone_is : record (gone_on (changed (after_obeying t obeyed) rest) place stamp posts) { counts = counted (gone_on (changed (after_obeying t obeyed) rest) place stamp []).counts }
-      ≡ record (at_place x place) { counts = record (at_place x place).counts { next_numbers = numbers_after s.counts.next_numbers posts; executed = executed; stamp = stamp } }
-  gone_is =
-      ap (λ (y : ProcessState). record y { counts = counted y.counts }) same
-      ∙ ap (λ (ns : List ℕ). record x { counts = record x.counts { place = place; executed = executed; stamp = stamp; next_numbers = numbers_after ns posts } }) (ap (λ (k : Counts). k.next_numbers) x_counts)
 
 -- what holds of the value, where there is one, by what else holds of it
 pub some_weaker : {A : Type 0} (P Q : A → Type 0) (o : Option A) → ((x : A) → P x → Q x) → IfSome o P → IfSome o Q

@@ -17,8 +17,8 @@ use Rattle.sig_model.specs.Bodies.{Post}
 use Rattle.sig_model.specs.Bounds.{posts_to}
 use Rattle.sig_model.specs.Finishing.{numbers_after}
 use Rattle.sig_model.specs.Running.{to_itself, to_others, next_of}
-use Rattle.sig_process.specs.declared.plan.Change.{Change}
-use Rattle.sig_process.specs.declared.plan.Change.TheVariants.{Nothing, Bind, Append, End}
+use Rattle.sig_process.specs.declared.changing.Change.{Change}
+use Rattle.sig_process.specs.declared.changing.Change.TheVariants.{Nothing, Bind, Append, End}
 use Rattle.sig_process.specs.declared.plan.Outgoing.{Outgoing}
 use Rattle.sig_process.specs.declared.progress.Progress.{Progress}
 use Rattle.sig_process.specs.Plans.{changed, after_obeying, post_of}

@@ -7,8 +7,8 @@ use Rattle.sig_patterns.specs.Inbox.{arrived_in}
 use Rattle.sig_model.specs.ProcessState.{ProcessState}
 use Rattle.sig_model.specs.Bodies.{Post, Body, at_place, with_tables, relinked, ended_tables}
 use Rattle.sig_process.specs.declared.plan.Outgoing.{Outgoing}
-use Rattle.sig_process.specs.declared.plan.Change.{Change}
-use Rattle.sig_process.specs.declared.plan.Change.TheVariants.{Nothing, Bind, Link, Unlink, Trap, Append, LinkUp, UnlinkBy, Acknowledge, End}
+use Rattle.sig_process.specs.declared.changing.Change.{Change}
+use Rattle.sig_process.specs.declared.changing.Change.TheVariants.{Nothing, Bind, Link, Unlink, Trap, Append, LinkUp, UnlinkBy, Acknowledge, End}
 use Rattle.sig_process.specs.declared.plan.Plan.{Plan}
 
 -- one equation for each change

@@ -5,11 +5,36 @@ ghost use Rattle.sig_process.specs.Committing.{HasRoom, IsBound, IsReady, KeepsL
 ghost use Rattle.sig_process.specs.Plans.{changed, after_obeying};
 ghost use Rattle.sig_process.specs.Progressing.{state_of, IsSame};
 
-use crate::plan::Change;
 use crate::progress::Progress;
 use sig_inner::Append;
+use sig_patterns::Var;
 use sig_terms::{Pid, Term};
 use std::alloc::AllocError;
+
+/// What an event changes in the tables of a process.
+#[derive(Drop)]
+pub(crate) enum Change {
+    /// Nothing.
+    Nothing,
+    /// The variable gets the value.
+    Bind { var: Var, value: Term },
+    /// By the rule for the call `link`.
+    Link { peer: Pid },
+    /// By the rule for the call `unlink`.
+    Unlink { peer: Pid },
+    /// The process traps exits, or traps them no more.
+    Trap { on: bool },
+    /// The message comes to the end of the list.
+    Append { message: Term },
+    /// By the rule for a link signal.
+    LinkUp { peer: Pid },
+    /// By the rule for an unlink signal.
+    UnlinkBy { peer: Pid },
+    /// By the rule for an acknowledgement with this id.
+    Acknowledge { peer: Pid, id: u64 },
+    /// The process ends with the reason.
+    End { reason: Term },
+}
 
 impl Progress {
     /// Makes room for all that an event may add, with so many signals to be sent.

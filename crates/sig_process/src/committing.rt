@@ -11,7 +11,8 @@ ghost use Rattle.sig_process.specs.Committing.{HasRoom, IsCommittable, IsReady, 
 ghost use Rattle.sig_process.specs.Plans.{changed, after_obeying, post_of, body_of};
 ghost use Rattle.sig_process.specs.Progressing.{state_of, IsSame, HasAdvanced};
 
-use crate::plan::{Change, Outgoing, Plan};
+use crate::changing::Change;
+use crate::plan::{Outgoing, Plan};
 use crate::posting::send_all;
 use crate::progress::Progress;
 use crate::waiting::{next_signal, pop_next};

@@ -5,7 +5,8 @@ ghost use Rattle.sig_model.specs.Bodies.{exits_to, ending};
 ghost use Rattle.sig_process.specs.Plans.{after_obeying, post_of, body_of};
 ghost use Rattle.sig_process.specs.Progressing.{state_of};
 
-use crate::plan::{Change, Outgoing, Plan};
+use crate::changing::Change;
+use crate::plan::{Outgoing, Plan};
 use crate::progress::Progress;
 use sig_kinds::Kind;
 use sig_model::Outcome;

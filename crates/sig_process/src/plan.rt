@@ -1,7 +1,7 @@
+use crate::changing::Change;
 use sig_kinds::Kind;
 use sig_model::Outcome;
-use sig_patterns::Var;
-use sig_terms::{Pid, Term};
+use sig_terms::Pid;
 
 /// A signal that an event sends, before it has its stamp and number.
 #[derive(Drop)]
@@ -10,31 +10,6 @@ pub(crate) struct Outgoing {
     pub to: Pid,
     /// What it says.
     pub kind: Kind,
-}
-
-/// What an event changes in the tables of a process.
-#[derive(Drop)]
-pub(crate) enum Change {
-    /// Nothing.
-    Nothing,
-    /// The variable gets the value.
-    Bind { var: Var, value: Term },
-    /// By the rule for the call `link`.
-    Link { peer: Pid },
-    /// By the rule for the call `unlink`.
-    Unlink { peer: Pid },
-    /// The process traps exits, or traps them no more.
-    Trap { on: bool },
-    /// The message comes to the end of the list.
-    Append { message: Term },
-    /// By the rule for a link signal.
-    LinkUp { peer: Pid },
-    /// By the rule for an unlink signal.
-    UnlinkBy { peer: Pid },
-    /// By the rule for an acknowledgement with this id.
-    Acknowledge { peer: Pid, id: u64 },
-    /// The process ends with the reason.
-    End { reason: Term },
 }
 
 /// What an event will do, with all that it needs. Nothing has happened yet.

@@ -6,7 +6,8 @@ ghost use Rattle.sig_process.specs.Planning.{IsPlanned, is_receive};
 ghost use Rattle.sig_process.specs.Plans.{changed, body_of};
 ghost use Rattle.sig_process.specs.Progressing.{state_of};
 
-use crate::plan::{Change, Outgoing, Plan};
+use crate::changing::Change;
+use crate::plan::{Outgoing, Plan};
 use crate::progress::Progress;
 use crate::values::ValueFault;
 use sig_kinds::Kind;

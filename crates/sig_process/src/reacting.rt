@@ -6,7 +6,8 @@ ghost use Rattle.sig_model.specs.Handling.{linking_up, unlinking_from, acknowled
 ghost use Rattle.sig_process.specs.Plans.{after_obeying, body_of};
 ghost use Rattle.sig_process.specs.Progressing.{state_of};
 
-use crate::plan::{Change, Plan};
+use crate::changing::Change;
+use crate::plan::Plan;
 use crate::progress::Progress;
 use sig_kinds::{Kind, Signal};
 use sig_lists::Sequence;
