@@ -1,7 +1,6 @@
 pub mod ByteKeyLemmas
 pub mod EnvironmentLemmas
 pub mod PastTheEnd
-pub mod SameSelf
 pub mod Bindings
 pub mod Walks
 pub mod Placing

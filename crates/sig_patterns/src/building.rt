@@ -19,8 +19,8 @@ pub const MOST_DEPTH: u64 = 64;
 /// Why a value was not built.
 #[derive(Clone, Copy, Debug, PartialEq, Eq)]
 pub enum BuildFault {
-    /// The value has more than 1024 nodes, or its depth is past 64. It comes before any memory is
-    /// taken. A number past the greatest `u64` is given as the greatest.
+    /// The value has more than [`MOST_NODES`] nodes, or its depth is past [`MOST_DEPTH`]. It
+    /// comes before any memory is taken. A number past the greatest `u64` is given as the greatest.
     TooLarge {
         /// How many nodes the value has.
         nodes: u64,
@@ -95,7 +95,7 @@ fn make(alloc: Global, expression: &Expr, env: &Env) -> Result<Term, AllocError>
 /// measure takes the time of the expression's nodes and of the values of its variables.
 /// (Erlang Reference Manual, Expressions, Terms and Variables.)
 ///
-/// - [`BuildFault::TooLarge`]: the value has more than 1024 nodes or a depth past 64.
+/// - [`BuildFault::TooLarge`]: the value has more than [`MOST_NODES`] nodes or a depth past [`MOST_DEPTH`].
 /// - [`BuildFault::Memory`]: it has not, and memory was refused.
 pub fn build(alloc: Global, expression: &Expr, env: &Env) -> Result<Term, BuildFault>
     ensures value { IfOk result (λ t. t ≡ value_of env.now expression.now) }

@@ -36,6 +36,7 @@ use Rattle.sig_script.specs.Grammar.{located, finished, taken_if, line_taken, bo
 use Rattle.sig_script.specs.Fitting.{IsSmall, IsFit, IsFewKnown}
 use Rattle.sig_script.proofs.FitLemmas.{all-last}
 use Rattle.sig_script.proofs.BoundTermLemmas.{Holds, anything, holds-of, holds-if, holds-on_ok, holds-then, holds-ends, IsTarget, IsMeantForm, said-meant}
+use Rattle.sig_script.specs.declared.script.TheConstants.{DEFAULT_TURNS, MOST_PROCESSES, MOST_TURNS}
 
 -- each item but the last
 all-front : {A : Type 0} (P : A → Type 0) (xs : List A) (x : A) → All P (xs ++ x ∷ []) → All P xs
@@ -77,7 +78,7 @@ small_labelled n p name h =
     holds-if (IsSmall (n + 1)) (list_any (λ (l : Label). bytes_eq l.name name) p.labels) _ _ (λ _. tt)
     (λ _. small_label n p (record { name = name; place = length p.instrs + 1 }) h)
 
-room_for_one : (n m : ℕ) → nat_le 64 n ≡ false → m ≡ n + 1 → m ≤ 64
+room_for_one : (n m : ℕ) → nat_le MOST_PROCESSES n ≡ false → m ≡ n + 1 → m ≤ MOST_PROCESSES
 room_for_one n m room e = grind (arith, nat_tests)
 
 fit_begun : (n : ℕ) (d : Draft) (name : List ℕ) → IsFit n d → Holds (IsFit (n + 1)) (begun d name)
@@ -85,7 +86,7 @@ fit_begun n d name h =
     let p : Declared = record { name = name; labels = []; instrs = [] } in
     let small : IsSmall (n + 1) p = record { instrs = omega arith; labels = omega arith } in
     holds-if (IsFit (n + 1)) (list_any (λ (p : Declared). bytes_eq p.name name) (all_procs d)) _ _ (λ _. tt)
-    (λ _. holds-if (IsFit (n + 1)) (nat_le 64 (length (all_procs d))) _ _ (λ _. tt)
+    (λ _. holds-if (IsFit (n + 1)) (nat_le MOST_PROCESSES (length (all_procs d))) _ _ (λ _. tt)
     (λ room. record {
       few = room_for_one (length (all_procs d)) (length (all_procs d ++ p ∷ [])) room (length-append (all_procs d) (p ∷ []));
       small = All-push (IsSmall (n + 1)) (all_procs d) p (all-later n (all_procs d) h.small) small;
@@ -94,7 +95,7 @@ fit_begun n d name h =
 fit_at : (n : ℕ) (turns : Option ℕ) (procs : List Declared) (place : Place) (f : Form) →
     IsFit n (record { turns = turns; procs = procs; place = place }) → Holds (IsFit (n + 1)) (taken_at (record { turns = turns; procs = procs; place = place }) place f)
 fit_at n turns procs Before (form.Turns m) h =
-    holds-if (IsFit (n + 1)) (nat_le m 20000) _ _ (λ _. fit_later n (record { turns = Some m; procs = procs; place = Before }) (record { few = h.few; small = h.small })) (λ _. tt)
+    holds-if (IsFit (n + 1)) (nat_le m MOST_TURNS) _ _ (λ _. fit_later n (record { turns = Some m; procs = procs; place = Before }) (record { few = h.few; small = h.small })) (λ _. tt)
 fit_at n turns procs Before (form.Process name) h = fit_begun n (record { turns = turns; procs = procs; place = Before }) name h
 fit_at n turns procs Before _ h = tt
 fit_at n turns procs (Outside p) (form.Process name) h = fit_begun n (record { turns = turns; procs = procs; place = Outside p }) name h
@@ -145,7 +146,7 @@ module _ (known : Known) (P : ℕ → Draft → Type 0) (Q : Program → Type 0)
 
 -- few processes, and few instructions and labels in each
 abbrev IsFew : ℕ → Program → Type 0
-IsFew m s = (length s.procs ≤ 64) × All (IsSmall m) s.procs
+IsFew m s = (length s.procs ≤ MOST_PROCESSES) × All (IsSmall m) s.procs
 
 small_more : (n m : ℕ) (p : Declared) → n ≤ m → IsSmall n p → IsSmall m p
 small_more n m p le h = record { instrs = omega (arith, h.instrs); labels = omega (arith, h.labels) }
@@ -290,7 +291,7 @@ begun-counted : (d : Draft) (name : List ℕ) → Holds (λ e. counts (all_procs
 begun-counted d name =
     let P : Draft → Type 0 = λ e. counts (all_procs e) ≡ counts (all_procs d) ++ 0 ∷ [] in
     holds-if P (list_any (λ (p : Declared). bytes_eq p.name name) (all_procs d)) _ _ (λ _. tt)
-    (λ _. holds-if P (nat_le 64 (length (all_procs d))) _ _ (λ _. tt) (λ _. counts-push (all_procs d) (record { name = name; labels = []; instrs = [] })))
+    (λ _. holds-if P (nat_le MOST_PROCESSES (length (all_procs d))) _ _ (λ _. tt) (λ _. counts-push (all_procs d) (record { name = name; labels = []; instrs = [] })))
 
 labelled-counted : (p : Declared) (name : List ℕ) → Holds (λ q. length q.labels ≡ length p.labels + 1) (labelled p name)
 labelled-counted p name =
@@ -302,7 +303,7 @@ CountedAs cs e = counts (all_procs e) ≡ cs
 
 taken_at-counted : (turns : Option ℕ) (procs : List Declared) (place : Place) (f : Form) →
     Holds (CountedAs (counted_form f (counts (procs ++ open_proc place)))) (taken_at (record { turns = turns; procs = procs; place = place }) place f)
-taken_at-counted turns procs Before (form.Turns m) = holds-if (CountedAs (counts (procs ++ []))) (nat_le m 20000) _ _ (λ _. refl) (λ _. tt)
+taken_at-counted turns procs Before (form.Turns m) = holds-if (CountedAs (counts (procs ++ []))) (nat_le m MOST_TURNS) _ _ (λ _. refl) (λ _. tt)
 taken_at-counted turns procs Before (form.Process name) = begun-counted (record { turns = turns; procs = procs; place = Before }) name
 taken_at-counted turns procs Before _ = tt
 taken_at-counted turns procs (Outside p) (form.Process name) = begun-counted (record { turns = turns; procs = procs; place = Outside p }) name
@@ -381,7 +382,7 @@ IsOpen s n here (Inside p clauses after) =
     × All (λ (c : Clause). IsPatternBelow (length s.procs) c.pattern) clauses × IfSome after (λ (a : After). IsTarget (length (labels_at here s.procs)) a.target)
 
 record IsMeantDraft (s : Program) (n : ℕ) (d : Draft) : Type 0 where
-  turns : IfSome d.turns (λ t. t ≤ 20000)
+  turns : IfSome d.turns (λ t. t ≤ MOST_TURNS)
   procs : Each (IsMeant s) 0 (all_procs d)
   receive : IsOpen s n (length d.procs) d.place
 
@@ -420,7 +421,7 @@ open-later s n here Before h = tt
 open-later s n here (Outside p) h = tt
 open-later s n here (Inside p clauses after) h = (omega (arith, h.0), h.1, h.2, h.3)
 
-few-turns : (n : ℕ) → nat_le n 20000 ≡ true → n ≤ 20000
+few-turns : (n : ℕ) → nat_le n MOST_TURNS ≡ true → n ≤ MOST_TURNS
 few-turns n h = grind (arith, nat_tests)
 
 begun-meant : (s : Program) (n : ℕ) (d : Draft) (name : List ℕ) → IsMeantDraft s n d → Holds (IsMeantDraft s (n + 1)) (begun d name)
@@ -428,7 +429,7 @@ begun-meant s n d name h =
     let p : Declared = record { name = name; labels = []; instrs = [] } in
     let place : length (all_procs d) ≡ 0 + length (all_procs d) = omega arith in
     holds-if (IsMeantDraft s (n + 1)) (list_any (λ (p : Declared). bytes_eq p.name name) (all_procs d)) _ _ (λ _. tt)
-    (λ _. holds-if (IsMeantDraft s (n + 1)) (nat_le 64 (length (all_procs d))) _ _ (λ _. tt)
+    (λ _. holds-if (IsMeantDraft s (n + 1)) (nat_le MOST_PROCESSES (length (all_procs d))) _ _ (λ _. tt)
     (λ _. record {
       turns = h.turns;
       procs = each-push (IsMeant s) 0 (length (all_procs d)) (all_procs d) p place h.procs (empty-meant s (length (all_procs d)) name);
@@ -458,7 +459,7 @@ receive-targets labels clauses after h k =
     (all-given (λ t. t < labels) behind (option_to_list after) (all-kept (λ a. IsTarget labels a.target) after k))
 
 -- from here on the names are those of a script, and n is a line of a text that isn't too long
-module _ (s : Program) (n : ℕ) (turns : Option ℕ) (procs : List Declared) (bounded : IfSome turns (λ t. t ≤ 20000)) where
+module _ (s : Program) (n : ℕ) (turns : Option ℕ) (procs : List Declared) (bounded : IfSome turns (λ t. t ≤ MOST_TURNS)) where
   here-is : length procs ≡ 0 + length procs
   here-is = omega arith
 
@@ -493,7 +494,7 @@ module _ (s : Program) (n : ℕ) (turns : Option ℕ) (procs : List Declared) (b
       IsMeantForm (length s.procs) (length (labels_at (length procs) s.procs)) f →
       Holds (IsMeantDraft s (n + 1)) (taken_at (record { turns = turns; procs = procs; place = place }) place f)
   taken_at-meant Before (form.Turns m) lt h o k =
-      holds-if (IsMeantDraft s (n + 1)) (nat_le m 20000) _ _ (λ e. record { turns = few-turns m e; procs = h; receive = tt }) (λ _. tt)
+      holds-if (IsMeantDraft s (n + 1)) (nat_le m MOST_TURNS) _ _ (λ e. record { turns = few-turns m e; procs = h; receive = tt }) (λ _. tt)
   taken_at-meant Before (form.Process name) lt h o k =
       begun-meant s n (record { turns = turns; procs = procs; place = Before }) name (record { turns = bounded; procs = h; receive = tt })
   taken_at-meant Before _ lt h o k = tt
@@ -528,9 +529,9 @@ line-meant s n d line lt h =
 
 -- the second walk
 abbrev IsMeantScript : Program → Program → Type 0
-IsMeantScript first s = (s.turns ≤ 20000) × Each (IsMeant first) 0 s.procs
+IsMeantScript first s = (s.turns ≤ MOST_TURNS) × Each (IsMeant first) 0 s.procs
 
-turns-or : (o : Option ℕ) → IfSome o (λ t. t ≤ 20000) → option_map_or (λ n. n) o 1000 ≤ 20000
+turns-or : (o : Option ℕ) → IfSome o (λ t. t ≤ MOST_TURNS) → option_map_or (λ n. n) o DEFAULT_TURNS ≤ MOST_TURNS
 turns-or None h = omega arith
 turns-or (Some n) h = h
 

@@ -34,6 +34,7 @@ use Rattle.sig_script.specs.Expressions.{expr_leaf, expr_by, expr_front, expr_at
 use Rattle.sig_script.specs.PatternTexts.{pattern_leaf, list_end, pin_at, pattern_by, pattern_front, pattern_at, pattern_of}
 use Rattle.sig_script.specs.Forms.{Operand, an_expr, a_label, AllSaid, operand_at, all_said, made_of, tokens_of, keyword_of, may_stand, ends, target_at, arrow_of, count_from, turns_of, whole_name, on_of, instr_of, form_of, form_behind, said_by, said}
 use Rattle.sig_script.proofs.PidLemmas.{int_pids, atom_pids, var_pids, pid_pids, tuple_pids, list_pids, any_pattern_pids, bind_pattern_pids, pin_pattern_pids, int_pattern_pids, atom_pattern_pids, pid_pattern_pids, tuple_pattern_pids, list_pattern_pids, cons_pattern_pids}
+use Rattle.sig_patterns.specs.declared.building.TheConstants.{MOST_NODES, MOST_DEPTH}
 
 -- what holds of a result that isn't a refusal
 abbrev pub Holds : {A E : Type 0} → (A → Type 0) → Result A E → Type 0
@@ -151,7 +152,7 @@ module _ (s : Program) (line : List ℕ) where
   pub expr_of-below : (ts : List Token) → Holds (λ (x : Expr × List Token). IsExprBelow (length s.procs) x.0) (expr_of (Among s) line ts)
   expr_of-below ts =
       holds-on_ok (λ (x : Expr × ℕ × List Token). IsExprBelow (length s.procs) x.0) (λ (x : Expr × List Token). IsExprBelow (length s.procs) x.0)
-      (λ x. (x.0, x.2)) (expr_at (Among s) line 64 1024 ts) (expr_at-below 64 1024 ts) (λ x h. h)
+      (λ x. (x.0, x.2)) (expr_at (Among s) line MOST_DEPTH MOST_NODES ts) (expr_at-below MOST_DEPTH MOST_NODES ts) (λ x h. h)
 
 -- the same with patterns
 module _ (s : Program) (line : List ℕ) where
@@ -217,7 +218,7 @@ module _ (s : Program) (line : List ℕ) where
   pub pattern_of-below : (ts : List Token) → Holds (λ (x : Pattern × List Token). IsPatternBelow (length s.procs) x.0) (pattern_of (Among s) line ts)
   pattern_of-below ts =
       holds-on_ok (λ (x : Pattern × ℕ × List Token). IsPatternBelow (length s.procs) x.0) (λ (x : Pattern × List Token). IsPatternBelow (length s.procs) x.0)
-      (λ x. (x.0, x.2)) (pattern_at (Among s) line 64 1024 ts) (pattern_at-below 64 1024 ts) (λ x h. h)
+      (λ x. (x.0, x.2)) (pattern_at (Among s) line MOST_DEPTH MOST_NODES ts) (pattern_at-below MOST_DEPTH MOST_NODES ts) (λ x h. h)
 
 -- nothing behind what was said
 pub holds-ends : {A : Type 0} (P : A → Type 0) (x : A) (ts : List Token) → P x → Holds P (ends x ts)

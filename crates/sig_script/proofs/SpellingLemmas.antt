@@ -11,6 +11,7 @@ use Rattle.sig_script.specs.declared.token.Sign as signs
 use Rattle.sig_script.specs.declared.token.Sign.TheVariants as sign
 use Rattle.sig_script.specs.declared.token.Token.{Token}
 use Rattle.sig_script.specs.Tokens.{text, front_run, process_at, minus_at, underscore_at, quote_at, sign_of, sign_at, front_token, is_token_in_range, IsSpelled, IsToken, AreTokens, AreWhole}
+use Rattle.sig_terms.specs.declared.bytes.TheConstants.{MOST_WORD_BYTES}
 
 -- the bytes at the front that pass a test pass it
 passes-front : (p : ℕ → Bool) (b : ℕ) (bs : List ℕ) (v : Bool) → p b ≡ v → list_all p (take_while p bs) ≡ true → list_all p (cond v (b ∷ take_while p bs) []) ≡ true
@@ -46,12 +47,12 @@ front-word p b bs =
     let one : 1 + front_run p bs ≡ suc (front_run p bs) = omega arith in
     ap (λ (n : ℕ). take n (b ∷ bs)) one ∙ ap (λ (n : ℕ). b ∷ take n bs) (length-prefix_len p bs)
 
-front-length : (p : ℕ → Bool) (b : ℕ) (bs : List ℕ) → nat_le (1 + front_run p bs) 255 ≡ true → nat_le (length (b ∷ take_while p bs)) 255 ≡ true
+front-length : (p : ℕ → Bool) (b : ℕ) (bs : List ℕ) → nat_le (1 + front_run p bs) MOST_WORD_BYTES ≡ true → nat_le (length (b ∷ take_while p bs)) MOST_WORD_BYTES ≡ true
 front-length p b bs h =
     let one : suc (front_run p bs) ≡ 1 + front_run p bs = omega arith in
-    ap (λ (n : ℕ). nat_le n 255) one ∙ h
+    ap (λ (n : ℕ). nat_le n MOST_WORD_BYTES) one ∙ h
 
-name-front : (b : ℕ) (bs : List ℕ) → is_lower b ≡ true → nat_le (1 + front_run is_name_byte bs) 255 ≡ true → IsSpelled Name (take (1 + front_run is_name_byte bs) (b ∷ bs))
+name-front : (b : ℕ) (bs : List ℕ) → is_lower b ≡ true → nat_le (1 + front_run is_name_byte bs) MOST_WORD_BYTES ≡ true → IsSpelled Name (take (1 + front_run is_name_byte bs) (b ∷ bs))
 name-front b bs low short =
     let passes = run-passes is_name_byte bs in
     let few = front-length is_name_byte b bs short in
@@ -63,7 +64,7 @@ or-second : (a : Bool) → (a || true) ≡ true
 or-second true = refl
 or-second false = refl
 
-variable-front : (b : ℕ) (bs : List ℕ) → is_upper b ≡ true → nat_le (1 + front_run is_variable_byte bs) 255 ≡ true → IsSpelled Variable (take (1 + front_run is_variable_byte bs) (b ∷ bs))
+variable-front : (b : ℕ) (bs : List ℕ) → is_upper b ≡ true → nat_le (1 + front_run is_variable_byte bs) MOST_WORD_BYTES ≡ true → IsSpelled Variable (take (1 + front_run is_variable_byte bs) (b ∷ bs))
 variable-front b bs up short =
     let passes = run-passes is_variable_byte bs in
     let few = front-length is_variable_byte b bs short in
@@ -87,7 +88,7 @@ either rest false x y f g = g
 process-good : (rest bs : List ℕ) → IsGood rest (process_at bs)
 process-good rest [] = tt
 process-good rest (b ∷ bs) =
-    either rest (is_lower b) _ _ (λ _. either rest (nat_le (1 + front_run is_name_byte bs) 255) (Some (Process, 1 + (1 + front_run is_name_byte bs))) None (λ _. tt) tt) tt
+    either rest (is_lower b) _ _ (λ _. either rest (nat_le (1 + front_run is_name_byte bs) MOST_WORD_BYTES) (Some (Process, 1 + (1 + front_run is_name_byte bs))) None (λ _. tt) tt) tt
 
 minus-good : (rest bs : List ℕ) → IsGood rest (minus_at bs)
 minus-good rest [] = tt
@@ -114,13 +115,13 @@ shorter-run p (suc m) (b ∷ bs) =
     let h = shorter-run p m bs in
     rw (take_while-cons p b (take m bs), take_while-cons p b bs) (shorter-front p b (take_while p (take m bs)) (take_while p bs) (p b) h)
 
-quoted-spelled : (b : ℕ) (bs : List ℕ) → nat_le (front_run is_atom_byte bs) 255 ≡ true → IsSpelled Quoted (take (2 + front_run is_atom_byte bs) (b ∷ bs))
+quoted-spelled : (b : ℕ) (bs : List ℕ) → nat_le (front_run is_atom_byte bs) MOST_WORD_BYTES ≡ true → IsSpelled Quoted (take (2 + front_run is_atom_byte bs) (b ∷ bs))
 quoted-spelled b bs short =
     let n : ℕ = front_run is_atom_byte bs in
     let two : 2 + n ≡ suc (suc n) = omega arith in
     let cut : take (2 + n) (b ∷ bs) ≡ b ∷ take (suc n) bs = ap (λ (m : ℕ). take m (b ∷ bs)) two in
     let few : length (take_while is_atom_byte (take (suc n) bs)) ≤ n = shorter-run is_atom_byte (suc n) bs in
-    let le : nat_le (length (take_while is_atom_byte (take (suc n) bs))) 255 ≡ true = grind (arith, nat_tests) in
+    let le : nat_le (length (take_while is_atom_byte (take (suc n) bs))) MOST_WORD_BYTES ≡ true = grind (arith, nat_tests) in
     let whole : is_atom (take_while is_atom_byte (take (suc n) bs)) ≡ true = rw (le, run-passes is_atom_byte (take (suc n) bs)) refl in
     subst (IsSpelled Quoted) (sym cut) whole
 
@@ -128,14 +129,14 @@ quote-good : (b : ℕ) (bs cs : List ℕ) → IsGood (b ∷ bs) (quote_at (front
 quote-good b bs [] = tt
 quote-good b bs (c ∷ cs) =
     let n : ℕ = front_run is_atom_byte bs in
-    either (b ∷ bs) (c == 39) _ None (λ _. either (b ∷ bs) (nat_le n 255) (Some (Quoted, 2 + n)) None (λ short. quoted-spelled b bs short) tt) tt
+    either (b ∷ bs) (c == 39) _ None (λ _. either (b ∷ bs) (nat_le n MOST_WORD_BYTES) (Some (Quoted, 2 + n)) None (λ short. quoted-spelled b bs short) tt) tt
 
 pub front-good : (rest : List ℕ) → IsGood rest (front_token rest)
 front-good [] = tt
 front-good (b ∷ bs) =
     let rest : List ℕ = b ∷ bs in
-    either rest (is_lower b) _ _ (λ low. either rest (nat_le (1 + front_run is_name_byte bs) 255) (Some (Name, 0 + (1 + front_run is_name_byte bs))) None (λ short. zero-front Name (1 + front_run is_name_byte bs) rest (name-front b bs low short)) tt)
-    (either rest (is_upper b) _ _ (λ up. either rest (nat_le (1 + front_run is_variable_byte bs) 255) (Some (Variable, 0 + (1 + front_run is_variable_byte bs))) None (λ short. zero-front Variable (1 + front_run is_variable_byte bs) rest (variable-front b bs up short)) tt)
+    either rest (is_lower b) _ _ (λ low. either rest (nat_le (1 + front_run is_name_byte bs) MOST_WORD_BYTES) (Some (Name, 0 + (1 + front_run is_name_byte bs))) None (λ short. zero-front Name (1 + front_run is_name_byte bs) rest (name-front b bs low short)) tt)
+    (either rest (is_upper b) _ _ (λ up. either rest (nat_le (1 + front_run is_variable_byte bs) MOST_WORD_BYTES) (Some (Variable, 0 + (1 + front_run is_variable_byte bs))) None (λ short. zero-front Variable (1 + front_run is_variable_byte bs) rest (variable-front b bs up short)) tt)
     (either rest (is_digit b) (Some (Integer, 1 + front_run is_digit bs)) _ (λ _. tt)
     (either rest (b == 64) _ _ (λ _. process-good rest bs)
     (either rest (b == 45) _ _ (λ _. minus-good rest bs)

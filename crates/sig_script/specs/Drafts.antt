@@ -15,6 +15,7 @@ use Rattle.sig_script.specs.declared.form.Form.{Form}
 use Rattle.sig_script.specs.declared.form.Form.TheVariants as form
 use Rattle.sig_script.specs.Scripts.{Declared, Program}
 use Rattle.sig_script.specs.Faults.{on_ok}
+use Rattle.sig_script.specs.declared.script.TheConstants.{DEFAULT_TURNS, MOST_PROCESSES, MOST_TURNS}
 
 -- before the first line
 abbrev pub blank : Draft
@@ -30,15 +31,15 @@ open_proc (Inside p clauses after) = p ∷ []
 abbrev pub all_procs : Draft → List Declared
 all_procs d = d.procs ++ open_proc d.place
 
--- each process may execute 1,000 instructions where nothing else is said
+-- each process may execute DEFAULT_TURNS instructions where nothing else is said
 abbrev pub program_of : Draft → Program
-program_of d = record { turns = option_map_or (λ n. n) d.turns 1000; procs = all_procs d }
+program_of d = record { turns = option_map_or (λ n. n) d.turns DEFAULT_TURNS; procs = all_procs d }
 
--- a process begins: its name is a new one, and there are at most 64 processes
+-- a process begins: its name is a new one, and there are at most MOST_PROCESSES processes
 abbrev pub begun : Draft → List ℕ → Result Draft FaultKind
 begun d name =
     if list_any (λ (p : Declared). bytes_eq p.name name) (all_procs d) then Err DuplicateName
-    else if nat_le 64 (length (all_procs d)) then Err TooManyProcesses
+    else if nat_le MOST_PROCESSES (length (all_procs d)) then Err TooManyProcesses
     else Ok (record d { procs = all_procs d; place = Outside (record { name = name; labels = []; instrs = [] }) })
 
 -- a label before the next instruction: its name is a new one in its process
@@ -53,7 +54,7 @@ with_instr p i = record p { instrs = p.instrs ++ i ∷ [] }
 
 -- a form behind what was read so far; a receive with all its lines is one instruction
 abbrev pub taken_at : Draft → Place → Form → Result Draft FaultKind
-taken_at d Before (form.Turns n) = if nat_le n 20000 then Ok (record d { turns = Some n }) else Err TooManyTurns
+taken_at d Before (form.Turns n) = if nat_le n MOST_TURNS then Ok (record d { turns = Some n }) else Err TooManyTurns
 taken_at d Before (form.Process name) = begun d name
 taken_at d (Outside p) (form.Process name) = begun d name
 taken_at d (Outside p) (form.Label name) = on_ok (λ q. record d { place = Outside q }) (labelled p name)

@@ -15,6 +15,7 @@ use Rattle.sig_script.specs.Numbers.{int_of}
 use Rattle.sig_script.specs.Names.{pid_of}
 use Rattle.sig_script.specs.Signs.{is_word, is_open_brace, is_open_bracket, closes}
 use Rattle.sig_script.specs.Operands.{Read, refusal_of, closed, enclosed}
+use Rattle.sig_patterns.specs.declared.building.TheConstants.{MOST_NODES, MOST_DEPTH}
 
 -- whether an expression may begin with the token
 abbrev pub begins_expr : TokenKind → Bool
@@ -46,6 +47,6 @@ unfoldable pub expr_at : Known → List ℕ → ℕ → ℕ → List Token → R
 expr_at known line zero nodes ts = Err (refusal_of begins_expr ts)
 expr_at known line (suc depth) nodes ts = expr_front known line (expr_at known line depth) nodes ts
 
--- an expression of at most 1,024 nodes and depth 64, and the tokens behind it
+-- an expression of at most MOST_NODES nodes and depth MOST_DEPTH, and the tokens behind it
 abbrev pub expr_of : Known → List ℕ → List Token → Result (Expr × List Token) FaultKind
-expr_of known line ts = on_ok (λ x. (x.0, x.2)) (expr_at known line 64 1024 ts)
+expr_of known line ts = on_ok (λ x. (x.0, x.2)) (expr_at known line MOST_DEPTH MOST_NODES ts)

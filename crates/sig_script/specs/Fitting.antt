@@ -5,6 +5,7 @@ use Rattle.sig_script.specs.declared.known.Known.TheVariants.{Any, Among}
 use Rattle.sig_script.specs.declared.draft.Draft.{Draft}
 use Rattle.sig_script.specs.Scripts.{Declared}
 use Rattle.sig_script.specs.Drafts.{all_procs}
+use Rattle.sig_script.specs.declared.script.TheConstants.{MOST_PROCESSES}
 
 -- a process has at most so many instructions and labels
 pub record IsSmall (n : ℕ) (p : Declared) : Type 0 where
@@ -14,9 +15,9 @@ pub record IsSmall (n : ℕ) (p : Declared) : Type 0 where
 -- the names that are known are so few that their places are numbers of 32 bits
 abbrev pub IsFewKnown : Known → Type 0
 IsFewKnown Any = Unit {0}
-IsFewKnown (Among script) = (length script.procs ≤ 64) × All (IsSmall (2 ^ 31)) script.procs
+IsFewKnown (Among script) = (length script.procs ≤ MOST_PROCESSES) × All (IsSmall (2 ^ 31)) script.procs
 
 -- the bounds before line n
 pub record IsFit (n : ℕ) (d : Draft) : Type 0 where
-  pub few : length (all_procs d) ≤ 64
+  pub few : length (all_procs d) ≤ MOST_PROCESSES
   pub small : All (IsSmall n) (all_procs d)

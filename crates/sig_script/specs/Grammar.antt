@@ -19,6 +19,7 @@ use Rattle.sig_script.specs.Tokens.{text}
 use Rattle.sig_script.specs.Numbers.{is_one}
 use Rattle.sig_script.specs.Forms.{tokens_of, said}
 use Rattle.sig_script.specs.Drafts.{blank, program_of, taken}
+use Rattle.sig_script.specs.declared.reader.TheConstants.{MOST_BYTES}
 
 -- a refusal of this line
 abbrev pub at_line : {A : Type 0} → ℕ → FaultKind → Result A Fault
@@ -77,6 +78,6 @@ unfoldable pub script_of_lines : List (List ℕ) → Result Program Fault
 script_of_lines [] = at_line 1 Header
 script_of_lines (first ∷ lines) = if is_header (tokens_of first) first then walk_twice lines else at_line 1 Header
 
--- the script that the text spells, or its refusal; a text of more than 1,048,576 bytes is refused as a whole
+-- the script that the text spells, or its refusal; a text of more than MOST_BYTES bytes is refused as a whole
 unfoldable pub script_of : List ℕ → Result Program Fault
-script_of bytes = if nat_le (length bytes) 1048576 then script_of_lines (lines_of bytes) else at_line 0 TooLong
+script_of bytes = if nat_le (length bytes) MOST_BYTES then script_of_lines (lines_of bytes) else at_line 0 TooLong

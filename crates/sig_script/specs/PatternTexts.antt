@@ -15,6 +15,7 @@ use Rattle.sig_script.specs.Numbers.{int_of}
 use Rattle.sig_script.specs.Names.{pid_of, variable_at}
 use Rattle.sig_script.specs.Signs.{is_word, is_open_brace, is_open_bracket, is_bar, is_caret, is_underscore, closes}
 use Rattle.sig_script.specs.Operands.{Read, refusal_of, closed, enclosed}
+use Rattle.sig_patterns.specs.declared.building.TheConstants.{MOST_NODES, MOST_DEPTH}
 
 -- whether a pattern may begin with the token
 abbrev pub begins_pattern : TokenKind → Bool
@@ -59,6 +60,6 @@ unfoldable pub pattern_at : Known → List ℕ → ℕ → ℕ → List Token �
 pattern_at known line zero nodes ts = Err (refusal_of begins_pattern ts)
 pattern_at known line (suc depth) nodes ts = pattern_front known line (pattern_at known line depth) nodes ts
 
--- a pattern of at most 1,024 nodes and depth 64, and the tokens behind it
+-- a pattern of at most MOST_NODES nodes and depth MOST_DEPTH, and the tokens behind it
 abbrev pub pattern_of : Known → List ℕ → List Token → Result (Pattern × List Token) FaultKind
-pattern_of known line ts = on_ok (λ x. (x.0, x.2)) (pattern_at known line 64 1024 ts)
+pattern_of known line ts = on_ok (λ x. (x.0, x.2)) (pattern_at known line MOST_DEPTH MOST_NODES ts)

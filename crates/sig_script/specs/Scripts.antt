@@ -6,6 +6,7 @@ use Rattle.sig_patterns.specs.declared.pattern.Pattern.{Pattern}
 use Rattle.sig_script.specs.declared.label.Label.{Label}
 use Rattle.sig_script.specs.declared.instruction.Instr.{Instr}
 use Rattle.sig_script.specs.Parts.{exprs_of, clauses_of, targets_of, pids_of, pids_of_pattern}
+use Rattle.sig_script.specs.declared.script.TheConstants.{MOST_PROCESSES, MOST_TURNS}
 
 -- a process: its name, its labels and what it does
 pub record Declared : Type 0 where
@@ -51,6 +52,6 @@ IsProcBelow count p = All (IsInstrBelow count) p.instrs
 
 -- the bounds that each script keeps
 pub record IsSound (s : Program) : Type 0 where
-  pub few : length s.procs ≤ 64
-  pub turns : s.turns ≤ 20000
+  pub few : length s.procs ≤ MOST_PROCESSES
+  pub turns : s.turns ≤ MOST_TURNS
   pub pids : All (IsProcBelow (length s.procs)) s.procs

@@ -8,6 +8,7 @@ use Rattle.sig_script.specs.declared.token.TokenKind.TheVariants.{Name, Variable
 use Rattle.sig_script.specs.declared.token.Sign.TheVariants as sign
 use Rattle.sig_script.specs.declared.token.Token.{Token}
 use Rattle.sig_script.specs.declared.token.Cut.{Cut}
+use Rattle.sig_terms.specs.declared.bytes.TheConstants.{MOST_WORD_BYTES}
 
 -- a space, a tab and a carriage return
 abbrev pub is_blank : ℕ → Bool
@@ -35,9 +36,9 @@ sign_at (Some s) = Some (Sign s, 1)
 abbrev pub front_run : (ℕ → Bool) → List ℕ → ℕ
 front_run test bytes = length (take_while test bytes)
 
--- a word of at most 255 bytes is a token, with so many bytes before and behind it; a longer one is none
+-- a word of at most MOST_WORD_BYTES bytes is a token, with so many bytes before and behind it; a longer one is none
 abbrev pub short_word : TokenKind → ℕ → ℕ → Option (TokenKind × ℕ)
-short_word kind around n = if nat_le n 255 then Some (kind, around + n) else None
+short_word kind around n = if nat_le n MOST_WORD_BYTES then Some (kind, around + n) else None
 
 -- behind `@`: a name
 abbrev pub process_at : List ℕ → Option (TokenKind × ℕ)

@@ -16,6 +16,7 @@ use crate::known::Known;
 use crate::label::Label;
 use crate::label_table::LabelTable;
 use crate::reader::ScriptError;
+use crate::script::{DEFAULT_TURNS, MOST_PROCESSES, MOST_TURNS};
 use sig_lists::{Pushed, Sequence};
 use sig_patterns::{Clause, Clauses, Pattern};
 use sig_terms::Name;
@@ -95,7 +96,7 @@ fn begin(
     if is_proc_among(procs.as_slice(), name.bytes()) {
         return Err(Stop::Fault(FaultKind::DuplicateName));
     }
-    if procs.len() >= 64 {
+    if procs.len() >= MOST_PROCESSES {
         return Err(Stop::Fault(FaultKind::TooManyProcesses));
     }
     let proc = DraftProc {
@@ -142,7 +143,7 @@ fn add_instr(proc: DraftProc, instr: Instr) -> Result<DraftProc, Stop>
 fn set_turns(procs: DraftProcs, turns: Option<u32>, n: u64) -> Result<Draft, Stop>
     ensures { Gives (λ d. d) result (taken_at (record { turns = turns; procs = procs; place = Place.Before }) Place.Before (Form.Turns n)) }
 {
-    if n <= 20000 {
+    if n <= u64::from(MOST_TURNS) {
         Ok(Draft {
             turns: Some(n as u32),
             procs,
@@ -296,7 +297,7 @@ pub fn finish(draft: Draft, n: u64) -> Result<DraftScript, ScriptError>
     }
     match close(draft.procs, draft.place) {
         Ok(procs) => Ok(DraftScript {
-            turns: draft.turns.unwrap_or(1000),
+            turns: draft.turns.unwrap_or(DEFAULT_TURNS),
             procs,
         }),
         Err(_) => Err(ScriptError::Memory),

@@ -1,6 +1,7 @@
 ghost use Rattle.std.specs.Prelude.{◌≡◌, ◌≤◌, ◌<◌, ◌^◌, length, position, IfSome};
 ghost use Rattle.std.specs.Str.{bytes_eq};
 ghost use Rattle.sig_script.specs.declared.label.Label.{Label};
+ghost use Rattle.sig_script.specs.declared.script.TheConstants.{MOST_PROCESSES};
 ghost use Rattle.sig_script.specs.Scripts.{Declared};
 ghost use Rattle.sig_script.specs.Names.{labels_at};
 
@@ -77,7 +78,7 @@ fn label_among(procs: &[DraftProc], here: usize, name: &[u8]) -> Option<u32>
 impl DraftScript {
     /// The pid of the process of this name. `None` exactly where no process has it.
     pub fn pid_of(&self, name: &[u8]) -> Option<u32>
-        requires { length self.now.procs ≤ 64 }
+        requires { length self.now.procs ≤ MOST_PROCESSES }
         ensures { result ≡ position (λ (p : Declared). bytes_eq p.name name.now) self.now.procs }
     {
         match place_of_proc(self.procs.as_slice(), name) {

@@ -16,15 +16,9 @@ use crate::line::text_of;
 use crate::number::read_int;
 use crate::token::{Sign, Token, TokenKind, behind_first, unquoted};
 use sig_lists::{Pushed, Sequence};
-use sig_patterns::{Expr, Exprs, Var};
+use sig_patterns::{Expr, Exprs, MOST_DEPTH, MOST_NODES, Var};
 use sig_terms::{Atom, Name, Pid};
 use std::alloc::Global;
-
-/// The depth up to which an expression is read.
-const EXPR_DEPTH: u64 = 64;
-
-/// The nodes up to which an expression is read.
-const EXPR_NODES: u64 = 1024;
 
 /// Whether an expression may begin with the token.
 fn begins(kind: TokenKind) -> bool
@@ -211,7 +205,7 @@ fn front<'t>(
     }
 }
 
-/// An expression of at most 1,024 nodes and depth 64, and the tokens behind it.
+/// An expression of at most [`MOST_NODES`] nodes and depth [`MOST_DEPTH`], and the tokens behind it.
 pub fn take_expr<'t>(
     alloc: Global,
     known: &Known,
@@ -223,6 +217,6 @@ pub fn take_expr<'t>(
     ensures value { Gives (λ x. (x.0, x.1.now)) result (expr_of known.now line.now tokens.now) }
     ensures whole { IfOk result (λ x. AreWhole line.now x.1.now) }
 {
-    let (value, _, rest) = front(alloc, known, EXPR_DEPTH, EXPR_NODES, line, tokens)?;
+    let (value, _, rest) = front(alloc, known, MOST_DEPTH, MOST_NODES, line, tokens)?;
     Ok((value, rest))
 }

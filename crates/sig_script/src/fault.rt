@@ -12,21 +12,21 @@ pub enum FaultKind {
     Syntax,
     /// An integer has more than 64 bits.
     IntRange,
-    /// An expression or a pattern has more than 1,024 nodes, or its depth is past 64.
+    /// An expression or a pattern has more than `MOST_NODES` nodes, or its depth is past `MOST_DEPTH`.
     TermTooLarge,
     /// A process has the name of an earlier one.
     DuplicateName,
-    /// It would be process 65.
+    /// There are [`MOST_PROCESSES`](crate::MOST_PROCESSES) processes before it.
     TooManyProcesses,
     /// A label of a process has the name of an earlier one.
     DuplicateLabel,
-    /// The turns are more than 20,000.
+    /// The turns are more than [`MOST_TURNS`](crate::MOST_TURNS).
     TooManyTurns,
     /// No process has the name behind an `@`.
     UnknownProcess,
     /// No label of the process has the name.
     UnknownLabel,
-    /// The text has more than 1,048,576 bytes.
+    /// The text has more than [`MOST_BYTES`](crate::MOST_BYTES) bytes.
     TooLong,
 }
 

@@ -24,8 +24,8 @@ pub use fault::FaultKind;
 pub use instruction::{After, Instr, Instrs};
 pub use label::{Label, Labels};
 pub use process::{Proc, Procs};
-pub use reader::{ScriptError, read_script};
-pub use script::Script;
+pub use reader::{MOST_BYTES, ScriptError, read_script};
+pub use script::{DEFAULT_TURNS, MOST_PROCESSES, MOST_TURNS, Script};
 
 #[cfg(test)]
 mod tests;

@@ -25,16 +25,10 @@ use crate::names::take_variable;
 use crate::number::read_int;
 use crate::token::{Sign, Token, TokenKind, behind_first, unquoted};
 use sig_lists::{Pushed, Sequence};
-use sig_patterns::{Pattern, Patterns, Var};
+use sig_patterns::{MOST_DEPTH, MOST_NODES, Pattern, Patterns, Var};
 use sig_terms::{Atom, Name, Pid};
 use sqlite_items::Boxed;
 use std::alloc::Global;
-
-/// The depth up to which a pattern is read.
-const PATTERN_DEPTH: u64 = 64;
-
-/// The nodes up to which a pattern is read.
-const PATTERN_NODES: u64 = 1024;
 
 /// Whether a pattern may begin with the token.
 fn begins(kind: TokenKind) -> bool
@@ -322,7 +316,7 @@ fn front<'t>(
     }
 }
 
-/// A pattern of at most 1,024 nodes and depth 64, and the tokens behind it.
+/// A pattern of at most [`MOST_NODES`] nodes and depth [`MOST_DEPTH`], and the tokens behind it.
 pub fn take_pattern<'t>(
     alloc: Global,
     known: &Known,
@@ -334,6 +328,6 @@ pub fn take_pattern<'t>(
     ensures value { Gives (λ x. (x.0, x.1.now)) result (pattern_of known.now line.now tokens.now) }
     ensures whole { IfOk result (λ x. AreWhole line.now x.1.now) }
 {
-    let (value, _, rest) = front(alloc, known, PATTERN_DEPTH, PATTERN_NODES, line, tokens)?;
+    let (value, _, rest) = front(alloc, known, MOST_DEPTH, MOST_NODES, line, tokens)?;
     Ok((value, rest))
 }

@@ -29,6 +29,9 @@ use sig_lists::Sequence;
 use sig_terms::bytes::equal_bytes;
 use std::alloc::{AllocError, Global};
 
+/// The most bytes of the text of a script.
+pub const MOST_BYTES: usize = 1048576;
+
 /// Why no script was read.
 #[derive(Clone, Copy, Debug, PartialEq, Eq)]
 pub enum ScriptError {
@@ -169,14 +172,14 @@ fn read_text(alloc: Global, bytes: &[u8]) -> Result<Script, ScriptError>
 }
 
 /// Reads the text of a script: the script that it spells. `Fault` exactly where it spells none, with
-/// the line and the kind of its first refusal; lines count from 1, and a text of more than 1,048,576
-/// bytes is refused at line 0. `Memory` only where memory is refused. (The language of scripts is
-/// this project's own.)
+/// the line and the kind of its first refusal; lines count from 1, and a text of more than
+/// [`MOST_BYTES`] bytes is refused at line 0. `Memory` only where memory is refused. (The language
+/// of scripts is this project's own.)
 #[tactic(auto, unfolding(crate::specs::Grammar::script_of))]
 pub fn read_script(alloc: Global, bytes: &[u8]) -> Result<Script, ScriptError>
     ensures { IsReading (script_of bytes.now) result }
 {
-    if bytes.len() > 1048576 {
+    if bytes.len() > MOST_BYTES {
         return Err(ScriptError::Fault {
             line: 0,
             kind: FaultKind::TooLong,

@@ -6,8 +6,18 @@ use crate::process::{Proc, Procs};
 use sig_terms::bytes::equal_bytes;
 use std::marker::Model;
 
-/// A script: at most 64 processes, each of which executes at most `turns` instructions, and these
-/// are at most 20,000. Each pid in it is below the count of processes.
+/// The most processes of a script.
+pub const MOST_PROCESSES: usize = 64;
+
+/// The most instructions that a script may let each of its processes execute.
+pub const MOST_TURNS: u32 = 20000;
+
+/// The instructions that each process may execute where the script doesn't say how many.
+pub const DEFAULT_TURNS: u32 = 1000;
+
+/// A script: at most [`MOST_PROCESSES`] processes, each of which executes at most `turns`
+/// instructions, and these are at most [`MOST_TURNS`]. Each pid in it is below the count of
+/// processes.
 #[derive(Debug, Drop)]
 pub struct Script {
     /// How many instructions each process may execute.
@@ -35,7 +45,7 @@ impl Script {
     /// How many processes there are.
     pub fn count(&self) -> u32
         ensures count { result ≡ length self.now.procs }
-        ensures few { length self.now.procs ≤ 64 }
+        ensures few { length self.now.procs ≤ MOST_PROCESSES }
         ensures sound { IsSound self.now }
     {
         self.procs.len() as u32
@@ -44,7 +54,7 @@ impl Script {
     /// How many instructions each process may execute.
     pub fn turns(&self) -> u32
         ensures turns { result ≡ self.now.turns }
-        ensures few { self.now.turns ≤ 20000 }
+        ensures few { self.now.turns ≤ MOST_TURNS }
     {
         self.turns
     }

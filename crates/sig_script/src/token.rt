@@ -25,8 +25,8 @@ ghost use Rattle.sig_script.specs.Signs as signs;
 
 use sig_lists::Sequence;
 use sig_terms::bytes::{
-    follows_in_name, follows_in_variable, is_digit_byte, is_lower_byte, is_upper_byte,
-    stands_in_atom,
+    MOST_WORD_BYTES, follows_in_name, follows_in_variable, is_digit_byte, is_lower_byte,
+    is_upper_byte, stands_in_atom,
 };
 
 /// A token that stands for itself.
@@ -209,7 +209,7 @@ fn short_token(kind: TokenKind, around: usize, n: usize) -> Option<(TokenKind, u
     ensures token { result ≡ short_word kind around n }
     ensures len { IfSome result (λ t. t.1 ≡ around + n) }
 {
-    if n <= 255 {
+    if n <= MOST_WORD_BYTES {
         Some((kind, around + n))
     } else {
         None

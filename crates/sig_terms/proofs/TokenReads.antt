@@ -16,6 +16,7 @@ use Rattle.sig_terms.specs.declared.reference.Ref.{Ref}
 use Rattle.sig_terms.specs.Tokens.{◌>>=◌, digits_on, number_at, int_at, after_text, name_at, quoted_at, pid_at, reference_at}
 use Rattle.sig_terms.proofs.Choices.{by_test, both_true}
 use Rattle.sig_terms.proofs.TokenTexts.{front_passes}
+use Rattle.sig_terms.specs.declared.bytes.TheConstants.{MOST_WORD_BYTES}
 
 -- the first byte, if there is one, fails the test
 abbrev pub StopsAt : (ℕ → Bool) → List ℕ → Type 0
@@ -217,12 +218,12 @@ passes_up_to p (x ∷ xs) ys h stops =
     let rest = passes_up_to p xs ys each.1 stops in
     rw each.0 (omega arith)
 
-name_is : (bytes : List ℕ) → let n = prefix_len is_name_byte (take 255 bytes) in name_at bytes ≡ Some (take n bytes, drop n bytes)
+name_is : (bytes : List ℕ) → let n = prefix_len is_name_byte (take MOST_WORD_BYTES bytes) in name_at bytes ≡ Some (take n bytes, drop n bytes)
 name_is bytes =
-    let n : ℕ = prefix_len is_name_byte (take 255 bytes) in
-    let bound = prefix_len-le-length is_name_byte (take 255 bytes) in
-    let short : nat_le (length (take n bytes)) 255 ≡ true = grind (arith, nat_tests, length-take n bytes, length-take 255 bytes) in
-    let stand : list_all is_atom_byte (take n bytes) ≡ true = name_bytes_stand (take n bytes) (front_passes is_name_byte 255 bytes) in
+    let n : ℕ = prefix_len is_name_byte (take MOST_WORD_BYTES bytes) in
+    let bound = prefix_len-le-length is_name_byte (take MOST_WORD_BYTES bytes) in
+    let short : nat_le (length (take n bytes)) MOST_WORD_BYTES ≡ true = grind (arith, nat_tests, length-take n bytes, length-take MOST_WORD_BYTES bytes) in
+    let stand : list_all is_atom_byte (take n bytes) ≡ true = name_bytes_stand (take n bytes) (front_passes is_name_byte MOST_WORD_BYTES bytes) in
     rw (short, stand) refl
 
 -- a name is read up to its end, or further
@@ -241,19 +242,19 @@ all_of_name (b ∷ bs) h =
 pub name_reaches : (name rest : List ℕ) → is_name name ≡ true → is_atom name ≡ true → ReachesName name rest
 name_reaches name rest named atom =
     let bytes : List ℕ = name ++ rest in
-    let n : ℕ = prefix_len is_name_byte (take 255 bytes) in
+    let n : ℕ = prefix_len is_name_byte (take MOST_WORD_BYTES bytes) in
     let each : list_all is_name_byte name ≡ true = all_of_name name named in
-    let test = both_true (nat_le (length name) 255) (list_all is_atom_byte name) atom in
-    let short : length name ≤ 255 = grind (arith, nat_tests, test.0) in
+    let test = both_true (nat_le (length name) MOST_WORD_BYTES) (list_all is_atom_byte name) atom in
+    let short : length name ≤ MOST_WORD_BYTES = grind (arith, nat_tests, test.0) in
     record {
       found = (take n bytes, drop n bytes);
       is = name_is bytes;
-      shorter = omega (arith, length-drop n bytes, length-append name rest, passes_more is_name_byte 255 name rest each short);
-      whole = λ stops. rw (passes_these is_name_byte 255 name rest each short stops, take_at name rest (length name) refl, drop_at name rest (length name) refl) refl;
+      shorter = omega (arith, length-drop n bytes, length-append name rest, passes_more is_name_byte MOST_WORD_BYTES name rest each short);
+      whole = λ stops. rw (passes_these is_name_byte MOST_WORD_BYTES name rest each short stops, take_at name rest (length name) refl, drop_at name rest (length name) refl) refl;
     }
 
 pub quoted_again : (body rest : List ℕ) → is_name body ≡ false → is_atom body ≡ true → quoted_at (body ++ (39 ∷ rest)) ≡ Some (body, rest)
 quoted_again body rest other atom =
-    let test = both_true (nat_le (length body) 255) (list_all is_atom_byte body) atom in
+    let test = both_true (nat_le (length body) MOST_WORD_BYTES) (list_all is_atom_byte body) atom in
     let front : prefix_len is_atom_byte (body ++ (39 ∷ rest)) ≡ length body = passes_up_to is_atom_byte body (39 ∷ rest) test.1 refl in
     rw (front, take_at body (39 ∷ rest) (length body) refl, drop_at body (39 ∷ rest) (length body) refl, other, atom) refl

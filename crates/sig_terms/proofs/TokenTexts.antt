@@ -15,6 +15,7 @@ use Rattle.sig_terms.specs.declared.pid.Pid.{Pid}
 use Rattle.sig_terms.specs.declared.reference.Ref.{Ref}
 use Rattle.sig_terms.specs.Tokens.{◌>>=◌, digits_on, number_at, int_at, after_text, atom_of, name_at, quoted_at, pid_at, reference_at}
 use Rattle.sig_terms.proofs.Choices.{by_test, if_bind, both_true}
+use Rattle.sig_terms.specs.declared.bytes.TheConstants.{MOST_WORD_BYTES}
 
 -- ---- numbers
 
@@ -141,7 +142,7 @@ name_front k b bs h =
 
 pub name_at_text : (b : ℕ) (bs : List ℕ) → is_lower b ≡ true → IfSome (name_at (b ∷ bs)) (IsReadAtom (b ∷ bs))
 name_at_text b bs h =
-    let n : ℕ = prefix_len is_name_byte (take 255 (b ∷ bs)) in
+    let n : ℕ = prefix_len is_name_byte (take MOST_WORD_BYTES (b ∷ bs)) in
     if_bind (λ a. (is_atom a ≡ true) × (a ≡ take n (b ∷ bs))) (IsReadAtom (b ∷ bs)) (atom_of (take n (b ∷ bs))) (λ name. Some (name, drop n (b ∷ bs))) (atom_of_is (take n (b ∷ bs))) (λ name a.
     let named : is_name name ≡ true = rw a.1 (name_front 254 b bs h) in
     (a.0, rw (named, a.1) (sym (take-append-drop n (b ∷ bs)))))

@@ -12,6 +12,7 @@ use Rattle.sig_terms.specs.declared.refusal.ReadTerm.TheVariants as refusal
 use Rattle.sig_terms.specs.Fronts.{Fails, term_at}
 use Rattle.sig_terms.proofs.FrontTexts.{IsFound, term_found}
 use Rattle.sig_terms.proofs.FrontReads.{reads}
+use Rattle.sig_terms.specs.declared.reading.TheConstants.{READ_DEPTH, READ_NODES}
 
 abbrev Found : Type 0
 Found = Term × ℕ × List ℕ
@@ -20,40 +21,40 @@ if_some_at : (P : Found → Type 0) (o : Option Found) (x : Found) → o ≡ Som
 if_some_at P None x e h = absurd (none-some x e)
 if_some_at P (Some y) x e h = subst P (same_Some y x e) h
 
-found_at : (bytes : List ℕ) (x : Found) → term_at 65 1029 bytes ≡ Some x → IsFound 65 1029 bytes x
-found_at bytes x e = if_some_at (IsFound 65 1029 bytes) (term_at 65 1029 bytes) x e (term_found 65 1029 bytes)
+found_at : (bytes : List ℕ) (x : Found) → term_at READ_DEPTH READ_NODES bytes ≡ Some x → IsFound READ_DEPTH READ_NODES bytes x
+found_at bytes x e = if_some_at (IsFound READ_DEPTH READ_NODES bytes) (term_at READ_DEPTH READ_NODES bytes) x e (term_found READ_DEPTH READ_NODES bytes)
 
 -- what is read is readable
-pub readable_at : (bytes : List ℕ) (x : Found) → term_at 65 1029 bytes ≡ Some x → IsReadable x.0
+pub readable_at : (bytes : List ℕ) (x : Found) → term_at READ_DEPTH READ_NODES bytes ≡ Some x → IsReadable x.0
 readable_at bytes x e =
     let f = found_at bytes x e in
     record { term = f.term; nodes = omega (arith, f.counted); depth = f.within }
 
 -- how many bytes it takes
-pub used_at : (bytes : List ℕ) (x : Found) → term_at 65 1029 bytes ≡ Some x → length x.2 ≤ length bytes
+pub used_at : (bytes : List ℕ) (x : Found) → term_at READ_DEPTH READ_NODES bytes ≡ Some x → length x.2 ≤ length bytes
 used_at bytes x e = let f = found_at bytes x e in omega (arith, ap length f.text, length-append (term_text x.0) x.2)
 
-pub text_at : (bytes : List ℕ) (x : Found) → term_at 65 1029 bytes ≡ Some x → take (length bytes - length x.2) bytes ≡ term_text x.0
+pub text_at : (bytes : List ℕ) (x : Found) → term_at READ_DEPTH READ_NODES bytes ≡ Some x → take (length bytes - length x.2) bytes ≡ term_text x.0
 text_at bytes x e =
     let f = found_at bytes x e in
     let used : length (term_text x.0) ≡ length bytes - length x.2 = omega (arith, ap length f.text, length-append (term_text x.0) x.2) in
     ap (take (length bytes - length x.2)) f.text ∙ take_at (term_text x.0) x.2 (length bytes - length x.2) used
 
 -- a readable term that stands at the front is read, or one that reaches further
-comes_at : (bytes : List ℕ) (t : Term) → IsReadable t → (b : Begins bytes t) → (found : Found) × (term_at 65 1029 bytes ≡ Some found) × (length found.2 ≤ length b.0)
+comes_at : (bytes : List ℕ) (t : Term) → IsReadable t → (b : Begins bytes t) → (found : Found) × (term_at READ_DEPTH READ_NODES bytes ≡ Some found) × (length found.2 ≤ length b.0)
 comes_at bytes t r b =
-    let left : ℕ = 1029 - node_count t in
-    let c = reads t r.term 65 left b.0 r.depth in
-    let count : 1029 ≡ node_count t + left = omega (arith, r.nodes) in
-    (c.found, ap (λ (n : ℕ). term_at 65 n bytes) count ∙ ap (term_at 65 (node_count t + left)) b.1 ∙ c.is, c.shorter)
+    let left : ℕ = READ_NODES - node_count t in
+    let c = reads t r.term READ_DEPTH left b.0 r.depth in
+    let count : READ_NODES ≡ node_count t + left = omega (arith, r.nodes) in
+    (c.found, ap (λ (n : ℕ). term_at READ_DEPTH n bytes) count ∙ ap (term_at READ_DEPTH (node_count t + left)) b.1 ∙ c.is, c.shorter)
 
-pub longest_at : (bytes : List ℕ) (x : Found) → term_at 65 1029 bytes ≡ Some x → (t : Term) → IsReadable t → Begins bytes t → length (term_text t) ≤ length bytes - length x.2
+pub longest_at : (bytes : List ℕ) (x : Found) → term_at READ_DEPTH READ_NODES bytes ≡ Some x → (t : Term) → IsReadable t → Begins bytes t → length (term_text t) ≤ length bytes - length x.2
 longest_at bytes x e t r b =
     let c = comes_at bytes t r b in
     let same : c.0 ≡ x = same_Some c.0 x (sym c.1 ∙ e) in
     omega (arith, c.2, ap (λ (y : Found). length y.2) same, ap length b.1, length-append (term_text t) b.0)
 
-pub bad_at : (bytes : List ℕ) → term_at 65 1029 bytes ≡ None → (t : Term) → IsReadable t → ¬ Begins bytes t
+pub bad_at : (bytes : List ℕ) → term_at READ_DEPTH READ_NODES bytes ≡ None → (t : Term) → IsReadable t → ¬ Begins bytes t
 bad_at bytes e t r b = let c = comes_at bytes t r b in none-some c.0 (sym e ∙ c.1)
 
 -- different terms have different texts

@@ -8,6 +8,7 @@ use Rattle.sig_terms.specs.declared.term.Term.{Term}
 use Rattle.sig_terms.specs.declared.term.Term.TheOpen.{Term-F}
 use Rattle.sig_terms.specs.declared.term.Term.TheOpen as layer
 use Rattle.sig_terms.specs.declared.term.Term.TheFolds.{fold-Term}
+use Rattle.sig_terms.specs.declared.reading.TheConstants.{READ_DEPTH, READ_NODES}
 
 -- an integer of 64 bits, signed
 abbrev pub is_wide : ℤ → Bool
@@ -30,11 +31,11 @@ is_term = fold-Term Bool is_term_step
 abbrev pub IsTerm : Term → Type 0
 IsTerm t = IsTrue (is_term t)
 
--- such a term of at most 1,029 nodes and depth 65
+-- such a term of at most READ_NODES nodes and depth READ_DEPTH
 pub record IsReadable (t : Term) : Type 0 where
   pub term : IsTerm t
-  pub nodes : node_count t ≤ 1029
-  pub depth : depth_of t ≤ 65
+  pub nodes : node_count t ≤ READ_NODES
+  pub depth : depth_of t ≤ READ_DEPTH
 
 -- the text of the term stands at the front of the bytes
 abbrev pub Begins : List ℕ → Term → Type 0

@@ -6,6 +6,7 @@ use Rattle.std.specs.Str.{bytes_eq}
 use Rattle.sig_terms.specs.Words.{is_digit, is_name_byte, is_name, is_atom_byte, is_atom}
 use Rattle.sig_terms.specs.declared.pid.Pid.{Pid}
 use Rattle.sig_terms.specs.declared.reference.Ref.{Ref}
+use Rattle.sig_terms.specs.declared.bytes.TheConstants.{MOST_WORD_BYTES}
 
 infixl 10 ◌>>=◌
 abbrev pub ◌>>=◌ : {A B : Type 0} → Option A → (A → Option B) → Option B
@@ -38,10 +39,10 @@ after_text text bytes = if bytes_eq (take (length text) bytes) text then Some (d
 abbrev pub atom_of : List ℕ → Option (List ℕ)
 atom_of bytes = if is_atom bytes then Some bytes else None
 
--- the bytes of a name, at most 255
+-- the bytes of a name, as many as it may have
 abbrev pub name_at : List ℕ → Option (List ℕ × List ℕ)
 name_at bytes =
-    let n = prefix_len is_name_byte (take 255 bytes) in
+    let n = prefix_len is_name_byte (take MOST_WORD_BYTES bytes) in
     atom_of (take n bytes) >>= λ name. Some (name, drop n bytes)
 
 -- behind the first quote, the bytes of an atom that is no name, and a second quote

@@ -2,6 +2,7 @@
 -- and digits are those of ASCII, and the bounds on lengths are this project's own.
 use Rattle.std.specs.Prelude.{ℕ, List, [], ◌∷◌, Bool, false, ◌&&◌, ◌||◌, not, nat_le, ◌==◌, length}
 use Rattle.std.specs.List.{list_all}
+use Rattle.sig_terms.specs.declared.bytes.TheConstants.{MOST_WORD_BYTES}
 
 abbrev pub is_lower : ℕ → Bool
 is_lower b = nat_le 97 b && nat_le b 122
@@ -32,7 +33,7 @@ is_variable (b ∷ bs) = is_upper b && list_all is_variable_byte bs
 
 -- a name token or a variable token
 abbrev pub is_token : List ℕ → Bool
-is_token bytes = nat_le (length bytes) 255 && (is_name bytes || is_variable bytes)
+is_token bytes = nat_le (length bytes) MOST_WORD_BYTES && (is_name bytes || is_variable bytes)
 
 -- 0x20 to 0x7E, and neither `'` nor `\`
 abbrev pub is_atom_byte : ℕ → Bool
@@ -40,4 +41,4 @@ is_atom_byte b = nat_le 32 b && nat_le b 126 && not (b == 39) && not (b == 92)
 
 -- the bytes of an atom
 abbrev pub is_atom : List ℕ → Bool
-is_atom bytes = nat_le (length bytes) 255 && list_all is_atom_byte bytes
+is_atom bytes = nat_le (length bytes) MOST_WORD_BYTES && list_all is_atom_byte bytes

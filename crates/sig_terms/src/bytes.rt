@@ -16,6 +16,9 @@ ghost use Rattle.sig_terms.specs.Words.{
   is_atom,
 };
 
+/// The most bytes of a name, a variable or an atom.
+pub const MOST_WORD_BYTES: usize = 255;
+
 /// Whether the byte is a lower-case letter of ASCII.
 pub fn is_lower_byte(b: u8) -> bool
     ensures { result ≡ is_lower b }
@@ -96,19 +99,20 @@ pub fn spells_variable(bytes: &[u8]) -> bool
     }
 }
 
-/// Whether the bytes are a name token or a variable token: a name or a variable of at most 255
-/// bytes.
+/// Whether the bytes are a name token or a variable token: a name or a variable of at most
+/// [`MOST_WORD_BYTES`] bytes.
 pub fn spells_token(bytes: &[u8]) -> bool
     ensures { result ≡ is_token bytes.now }
 {
-    bytes.len() <= 255 && (spells_name(bytes) || spells_variable(bytes))
+    bytes.len() <= MOST_WORD_BYTES && (spells_name(bytes) || spells_variable(bytes))
 }
 
-/// Whether the bytes are those of an atom: at most 255, each of which may stand in one.
+/// Whether the bytes are those of an atom: at most [`MOST_WORD_BYTES`], each of which
+/// may stand in one.
 pub fn spells_atom(bytes: &[u8]) -> bool
     ensures { result ≡ is_atom bytes.now }
 {
-    bytes.len() <= 255 && all_stand_in_atom(bytes)
+    bytes.len() <= MOST_WORD_BYTES && all_stand_in_atom(bytes)
 }
 
 /// Whether the two have the same bytes in the same order.

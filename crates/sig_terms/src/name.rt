@@ -5,8 +5,8 @@ use crate::bytes::spells_token;
 use std::alloc::{AllocError, Global};
 use std::marker::Model;
 
-/// A name token or a variable token of a script: a letter and what may follow it, at most 255
-/// bytes.
+/// A name token or a variable token of a script: a letter and what may follow it, at most
+/// `MOST_WORD_BYTES` bytes.
 #[derive(Debug, Drop)]
 pub struct Name {
     bytes: Vec<u8>,

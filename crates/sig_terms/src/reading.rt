@@ -11,11 +11,11 @@ use crate::refusal::ReadTerm;
 use crate::term::Term;
 use std::alloc::Global;
 
-/// The depth up to which a term is read.
-const READ_DEPTH: u64 = 65;
+/// The greatest depth of a term that is read.
+pub const READ_DEPTH: u64 = 65;
 
-/// The nodes up to which a term is read.
-const READ_NODES: u64 = 1029;
+/// The most nodes of a term that is read.
+pub const READ_NODES: u64 = 1029;
 
 /// A term at the front of bytes.
 #[derive(Debug, Drop)]
@@ -27,8 +27,8 @@ pub struct Front {
 }
 
 /// The term whose text is the longest front of the bytes that is the text of a term of at most
-/// 1,029 nodes and depth 65. `BadTerm` exactly where no front is such a text, `Memory` only where
-/// memory ran out. (Erlang Reference Manual, Data Types.)
+/// [`READ_NODES`] nodes and depth [`READ_DEPTH`]. `BadTerm` exactly where no front is such a text,
+/// `Memory` only where memory ran out. (Erlang Reference Manual, Data Types.)
 pub fn read_front(alloc: Global, bytes: &[u8]) -> Result<Front, ReadTerm>
     ensures readable { IfOk result (λ f. IsReadable f.term) }
     ensures text { IfOk result (λ f. (f.used ≤ length bytes.now) × (take f.used bytes.now ≡ term_text f.term)) }
@@ -43,7 +43,7 @@ pub fn read_front(alloc: Global, bytes: &[u8]) -> Result<Front, ReadTerm>
 }
 
 /// The term of which the bytes are the text. `BadTerm` exactly where they are the text of no term
-/// of at most 1,029 nodes and depth 65, `Memory` only where memory ran out.
+/// of at most [`READ_NODES`] nodes and depth [`READ_DEPTH`], `Memory` only where memory ran out.
 /// (Erlang Reference Manual, Data Types.)
 pub fn read(alloc: Global, bytes: &[u8]) -> Result<Term, ReadTerm>
     ensures found { IfOk result (λ t. IsReadable t × (bytes.now ≡ term_text t)) }

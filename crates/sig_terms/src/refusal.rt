@@ -9,7 +9,7 @@ use thiserror::Error;
 /// Why a reader gave no term.
 #[derive(Clone, Copy, Debug, PartialEq, Eq, Error)]
 pub enum ReadTerm {
-    /// The bytes are the text of no term of at most 1,029 nodes and depth 65.
+    /// The bytes are the text of no term of at most `READ_NODES` nodes and depth `READ_DEPTH`.
     #[error("no term")]
     BadTerm,
     /// Memory ran out.

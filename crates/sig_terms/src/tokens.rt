@@ -9,7 +9,9 @@ ghost use Rattle.sig_terms.specs.Tokens.{digits_on, number_at, int_at, after_tex
 ghost use Rattle.sig_terms.specs.Fronts.{Gives, leaf_at};
 
 use crate::atom::Atom;
-use crate::bytes::{follows_in_name, is_digit_byte, is_lower_byte, spells_name, stands_in_atom};
+use crate::bytes::{
+    MOST_WORD_BYTES, follows_in_name, is_digit_byte, is_lower_byte, spells_name, stands_in_atom,
+};
 use crate::pid::Pid;
 use crate::reference::Ref;
 use crate::refusal::ReadTerm;
@@ -104,14 +106,14 @@ fn reference(bytes: &[u8]) -> Option<(Ref, &[u8])>
     Some((Ref { owner, serial }, rest))
 }
 
-/// How many bytes at the front may follow in a name, up to 255.
+/// How many bytes at the front may follow in a name, up to [`MOST_WORD_BYTES`].
 fn name_length(bytes: &[u8]) -> usize
-    ensures length { result ≡ prefix_len is_name_byte (take 255 bytes.now) }
+    ensures length { result ≡ prefix_len is_name_byte (take MOST_WORD_BYTES bytes.now) }
     ensures within { result ≤ length bytes.now }
 {
     bytes
         .iter()
-        .take(255)
+        .take(MOST_WORD_BYTES)
         .take_while(|b| follows_in_name(**b))
         .count()
 }
