@@ -28,16 +28,19 @@ use crate::token::{Token, TokenKind};
 use sig_lists::Sequence;
 use sig_terms::bytes::equal_bytes;
 use std::alloc::{AllocError, Global};
+use thiserror::Error;
 
 /// The most bytes of the text of a script.
 pub const MOST_BYTES: usize = 1048576;
 
 /// Why no script was read.
-#[derive(Clone, Copy, Debug, PartialEq, Eq)]
+#[derive(Clone, Copy, Debug, PartialEq, Eq, Error)]
 pub enum ScriptError {
     /// The text spells no script: its first line that is refused, and why.
+    #[error("line {line}: {kind:?}")]
     Fault { line: u64, kind: FaultKind },
     /// There was no memory.
+    #[error("out of memory")]
     Memory,
 }
 
