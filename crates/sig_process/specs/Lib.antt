@@ -1,4 +1,11 @@
 pub mod Standing
 pub mod Plans
+pub mod Planning
 pub mod Progressing
 pub mod Committing
+pub mod Soundness
+pub mod Executions
+pub mod Steps
+pub mod Tests
+pub mod PartsOf
+pub mod Lending

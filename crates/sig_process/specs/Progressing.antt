@@ -6,8 +6,10 @@ use Rattle.sig_script.specs.Scripts.{Declared}
 use Rattle.sig_runs.specs.Rules.{Effect}
 use Rattle.sig_model.specs.declared.event.Event.{Event}
 use Rattle.sig_model.specs.ProcessState.{ProcessState}
+use Rattle.sig_inner.specs.Receiving.{passed}
 use Rattle.sig_model.specs.Running.{Running, to_itself, to_others}
 use Rattle.sig_process.specs.declared.progress.Progress.{Progress}
+use Rattle.sig_process.specs.Standing.{Standing}
 
 -- the state of the process
 abbrev pub state_of : Progress → ProcessState
@@ -43,6 +45,10 @@ running_of pid count turns proc p = record {
   taken_in = p.taken_in.items;
   outbox = p.outbox.items;
 }
+
+-- how it stands
+abbrev pub standing_of : ℕ → ℕ → ℕ → Declared → Progress → Standing
+standing_of pid count turns proc p = record { running = running_of pid count turns proc p; saved = passed p.tables.inner.queue.last }
 
 -- all but the room is as before
 pub record IsSame (before after : Progress) : Type 0 where

@@ -3,7 +3,26 @@
 
 mod changing;
 mod committing;
+mod crew;
+mod ending;
+mod executing;
+mod handling;
+mod parts;
 mod plan;
+mod planning;
 mod posting;
+mod process;
 mod progress;
+mod queues;
+mod reacting;
+mod receiving;
+mod values;
 mod waiting;
+
+pub use crew::Crew;
+pub use executing::Exec;
+pub use parts::Parts;
+pub use process::Process;
+
+#[cfg(test)]
+mod tests;

@@ -1,0 +1,31 @@
+-- What planning an instruction answers.
+use Rattle.std.specs.Prelude.{◌≡◌, Bool, true, false, Option, Some, Result, Ok, Err}
+use Rattle.sig_script.specs.declared.instruction.Instr.{Instr}
+use Rattle.sig_script.specs.declared.instruction.Instr.TheVariants as instr
+use Rattle.sig_model.specs.ProcessState.{ProcessState}
+use Rattle.sig_model.specs.Bodies.{Body, ending, badarg, system_limit}
+use Rattle.sig_process.specs.declared.values.ValueFault.{ValueFault}
+use Rattle.sig_process.specs.declared.values.ValueFault.TheVariants.{TooLarge, NoPid, Memory}
+use Rattle.sig_process.specs.declared.plan.Plan.{Plan}
+use Rattle.sig_process.specs.Plans.{body_of}
+
+-- What the fault of a value tells of the body: it is the end with `system_limit`, or the end with `badarg`. A want of memory tells nothing.
+abbrev pub IsRefused : ProcessState → Option Body → ValueFault → Type 0
+IsRefused s body TooLarge = body ≡ Some (ending s system_limit)
+IsRefused s body NoPid = body ≡ Some (ending s badarg)
+IsRefused s body Memory = Unit {0}
+
+-- A value that an instruction needs, or its fault. `row go` is what the instruction does, where `go` is what it does with the value.
+abbrev pub IsUsed : {A : Type 0} → ProcessState → ((A → Body) → Body) → Result A ValueFault → Type 0
+IsUsed {A} s row (Ok value) = (go : A → Body) → row go ≡ go value
+IsUsed {A} s row (Err fault) = (go : A → Body) → IsRefused s (Some (row go)) fault
+
+-- the plan does what the body says, or the fault of a value tells of the body
+abbrev pub IsPlanned : ProcessState → Option Body → Result Plan ValueFault → Type 0
+IsPlanned s body (Ok plan) = body ≡ Some (body_of s plan)
+IsPlanned s body (Err fault) = IsRefused s body fault
+
+-- the instruction is a receive
+abbrev pub is_receive : Option Instr → Bool
+is_receive (Some (instr.Receive clauses after)) = true
+is_receive _ = false

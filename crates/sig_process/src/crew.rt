@@ -1,0 +1,60 @@
+ghost use Rattle.std.specs.Prelude.{◌≡◌, ◌<◌, ◌≤◌, Some, IfOk, IfSome, MatchOption, slice_get, option_copied, length};
+ghost use Rattle.std.specs.Borrow.{sem};
+ghost use Rattle.sig_process.specs.Lending.{LendsProcess};
+ghost use Rattle.sig_model.specs.Running.{opened};
+ghost use Rattle.sig_model.specs.OneWorker.{opened_crew, IsClear};
+ghost use Rattle.sig_model.specs.Keeping.{IsPlaced};
+
+use crate::process::Process;
+use sig_script::Script;
+use sig_terms::Pid;
+use std::alloc::{AllocError, Global};
+use std::marker::Model;
+
+/// The processes of a script, by pid.
+#[derive(Drop)]
+pub struct Crew {
+    /// The process at place p, from 0, has the pid p.
+    pub procs: Vec<Process>,
+}
+
+impl Model for Crew {
+    ghost use Rattle.std.specs.Coded.{codes};
+    ghost use Rattle.std.specs.FinMap as map;
+    ghost use Rattle.std.specs.Prelude.{List};
+    ghost use Rattle.sig_terms.specs.contracts.term.Term as term;
+    ghost use Rattle.sig_patterns.specs.contracts.expression.Expr as expr;
+    ghost use Rattle.sig_patterns.specs.contracts.pattern.Pattern as pattern;
+    ghost use Rattle.sig_model.specs.Running.{Running};
+    ghost use Rattle.sig_process.specs.Standing.{runnings_of};
+
+    ghost Value = { List Running };
+
+    ghost coded = { Prim.hlevel (codes, term.the_row.coded, expr.the_row.coded, pattern.the_row.coded, map.code) };
+
+    ghost view = { λ c. runnings_of c.procs.items };
+}
+
+impl Crew {
+    /// The processes of the script, each as the script opens it. The error is want of memory.
+    pub fn open(alloc: Global, script: &Script) -> Result<Crew, AllocError>
+        ensures opened { IfOk result (λ c. c ≡ opened_crew script.now) }
+        ensures clear { IfOk result IsClear }
+        ensures placed { IfOk result IsPlaced }
+    {
+        let mut procs = Vec::new(alloc);
+        for pid in 0..script.count() {
+            let process = Process::open(alloc, script, Pid(pid))?;
+            procs.push(process)?;
+        }
+        Ok(Crew { procs })
+    }
+
+    /// The process of this pid. `None` exactly where there is none.
+    pub fn get_mut(&mut self, pid: Pid) -> Option<&mut Process>
+        ensures* lends { sem 𝓛 (LendsProcess self.entry pid.0 result) }
+        ensures process { MatchOption result (length self.old ≤ pid.0) (λ p. slice_get self.old pid.0 ≡ Some p.now.running) }
+    {
+        self.procs.get_mut(pid.0 as usize)
+    }
+}

@@ -1,0 +1,36 @@
+ghost use Rattle.std.specs.Prelude.{◌≡◌, ◌≤◌, IfSome, MatchResult, OnOk};
+ghost use Rattle.sig_model.specs.Machine.{handling_of};
+ghost use Rattle.sig_model.specs.Running.{next_of};
+ghost use Rattle.sig_process.specs.Committing.{HasHandled};
+ghost use Rattle.sig_process.specs.Executions.{IsHandleDue, KeepsSaved};
+ghost use Rattle.sig_process.specs.Progressing.{state_of, IsSame};
+ghost use Rattle.sig_script.specs.Scripts.{Declared};
+
+use crate::progress::Progress;
+use crate::waiting::next_signal;
+use sig_script::Proc;
+use sig_terms::Pid;
+use std::alloc::{AllocError, Global};
+
+impl Progress {
+    /// Handles the next signal.
+    pub(crate) fn handle(
+        &mut self,
+        alloc: Global,
+        pid: Pid,
+        proc: &Proc,
+    ) -> Result<(), AllocError>
+        requires due { IsHandleDue proc.now self.old }
+        ensures handled { MatchResult result
+            (λ _. IfSome (next_of self.old.own.items self.old.taken_in.items) (λ x. HasHandled pid.0 self.old self.new x (handling_of pid.0 (state_of self.old) x)))
+            (λ _. IsSame self.old self.new) }
+        ensures saved { OnOk result (KeepsSaved self.old self.new) }
+    {
+        prove!(self.tables.inner.passed() <= self.tables.inner.len());
+        let Some(signal) = next_signal(&self.own, &self.taken_in) else {
+            unreachable!()
+        };
+        let plan = self.plan_signal(alloc, pid, signal)?;
+        self.commit_handle(pid, plan)
+    }
+}

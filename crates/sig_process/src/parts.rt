@@ -1,0 +1,95 @@
+ghost use Rattle.std.specs.Prelude.{◌≡◌, ◌+◌, ◌<◌, [], ◌||◌, length, drop};
+ghost use Rattle.std.specs.List.{list_any};
+ghost use Rattle.sig_model.specs.PrintedState.{is_late_signal, is_late, state_of, printed_state};
+ghost use Rattle.sig_process.specs.PartsOf.{IsPartsOf};
+
+use crate::process::Process;
+use sig_inner::Inner;
+use sig_kinds::{Signal, Signals};
+use sig_model::{Events, LAST_STAMP, State};
+use sig_terms::{Name, Pid, Term};
+
+/// What a record tells of a process.
+#[derive(Debug, Drop)]
+pub struct Parts {
+    /// The process.
+    pub pid: Pid,
+    /// Its name in the script.
+    pub name: Name,
+    /// Its events, in their order.
+    pub events: Events,
+    /// The messages that no receive has taken, each with its arrival number, the oldest first.
+    pub left: Inner,
+    /// The signals to itself that it has not handled, the oldest first.
+    pub own: Signals,
+    /// The signals of others that it has not handled, the oldest first.
+    pub taken_in: Signals,
+    /// How it stands.
+    pub state: State,
+}
+
+fn is_late(signal: &Signal) -> bool
+    ensures { result ≡ is_late_signal signal.now }
+{
+    LAST_STAMP <= signal.stamp
+}
+
+fn is_late_at(signals: &Signals, at: usize) -> bool
+    requires { at < length signals.now.items }
+    ensures { (result || list_any is_late_signal (drop (at + 1) signals.now.items)) ≡ list_any is_late_signal (drop at signals.now.items) }
+{
+    match signals.get(at) {
+        Some(signal) => is_late(signal),
+        None => unreachable!(),
+    }
+}
+
+fn any_late(signals: &Signals) -> bool
+    ensures { result ≡ list_any is_late_signal signals.now.items }
+{
+    for at in 0..signals.len() {
+        if is_late_at(signals, at) {
+            return true;
+        }
+    }
+    false
+}
+
+fn state_of(end: Option<Term>, cut: bool) -> State
+    ensures { result ≡ state_of end cut }
+{
+    match end {
+        Some(reason) => State::Ended { reason },
+        None => { if cut { State::Cut } else { State::Waiting } }
+    }
+}
+
+impl Process {
+    fn has_late(&self) -> bool
+        ensures { result ≡ is_late self.now.running }
+    {
+        any_late(&self.progress.own) || any_late(&self.progress.taken_in)
+    }
+
+    /// The process's part of a record.
+    pub fn into_parts(self) -> Parts
+        requires { self.running.outbox ≡ [] }
+        ensures { IsPartsOf self.running result }
+    {
+        let cut = self.is_cut() || self.has_late();
+        let progress = self.progress;
+        let proc = self.proc;
+        let tables = progress.tables;
+        let mut left = tables.inner;
+        left.forget();
+        Parts {
+            pid: self.pid,
+            name: proc.name,
+            events: progress.events,
+            left,
+            own: progress.own,
+            taken_in: progress.taken_in,
+            state: state_of(tables.end, cut),
+        }
+    }
+}

@@ -1,0 +1,204 @@
+ghost use Rattle.std.specs.Prelude.{ℕ, ◌≡◌, ◌+◌, ◌<◌, ◌≤◌, true, length, IfOk, IfSome, MatchResult, slice_get, replicate};
+ghost use Rattle.sig_inner.specs.InnerQueue.{opened as no_queue};
+ghost use Rattle.sig_script.specs.Scripts.{Declared};
+ghost use Rattle.sig_model.specs.ProcessState.{is_cut};
+ghost use Rattle.sig_model.specs.Running.{opened, can_exec, can_handle, next_of, is_early};
+ghost use Rattle.sig_process.specs.Progressing.{running_of};
+ghost use Rattle.sig_process.specs.Steps.{IsExec, IsHandled};
+ghost use Rattle.sig_process.specs.Tests.{most_tests};
+
+use crate::executing::Exec;
+use crate::progress::{Counts, Progress, Tables};
+use crate::waiting::next_signal;
+use sig_base::Steps;
+use sig_inner::Inner;
+use sig_kinds::Signals;
+use sig_links::Links;
+use sig_lists::Sequence;
+use sig_model::{Events, LAST_STAMP};
+use sig_patterns::Env;
+use sig_script::{Proc, Script};
+use sig_terms::Pid;
+use std::alloc::{AllocError, Global};
+use std::marker::Model;
+use std::sync::ledger::Ledger;
+
+/// A process: its state, its events, and the signals that wait for it or that it has sent. It keeps
+/// what every running process keeps. A call that fails for want of memory leaves it as before, but
+/// for the saved place of a receive, so that the same call may be made again. (Erlang Reference
+/// Manual, Processes.)
+#[derive(Drop)]
+pub struct Process {
+    pub(crate) alloc: Global,
+    pub(crate) pid: Pid,
+    /// How many processes the script has.
+    pub(crate) count: u32,
+    /// How many instructions the process may execute.
+    pub(crate) turns: u32,
+    pub(crate) proc: Proc,
+    pub(crate) progress: Progress,
+}
+
+impl Model for Process {
+    ghost use Rattle.std.specs.Coded.{codes};
+    ghost use Rattle.std.specs.FinMap as map;
+    ghost use Rattle.sig_terms.specs.contracts.term.Term as term;
+    ghost use Rattle.sig_patterns.specs.contracts.expression.Expr as expr;
+    ghost use Rattle.sig_patterns.specs.contracts.pattern.Pattern as pattern;
+    ghost use Rattle.sig_process.specs.Progressing.{standing_of};
+    ghost use Rattle.sig_process.specs.Soundness.{IsSound};
+    ghost use Rattle.sig_process.specs.Standing.{Standing};
+
+    ghost Value = { Standing };
+
+    ghost coded = { Prim.hlevel (codes, term.the_row.coded, expr.the_row.coded, pattern.the_row.coded, map.code) };
+
+    ghost view = { λ p. standing_of p.pid.0 p.count p.turns p.proc p.progress };
+
+    ghost invariant = { λ p. IsSound p.pid.0 p.count p.turns p.proc p.progress };
+}
+
+/// The first numbers for all peers.
+fn first_numbers(alloc: Global, count: u32) -> Result<Vec<u64>, AllocError>
+    ensures { IfOk result (λ numbers. numbers.items ≡ replicate count 1) }
+{
+    vec![in alloc; 1; count as usize]
+}
+
+/// What a process begins with: place 1, and all else empty.
+fn beginning(alloc: Global, pid: Pid, count: u32) -> Result<Progress, AllocError>
+    ensures running { IfOk result (λ p. (turns : ℕ) (proc : Declared) → running_of pid.0 count turns proc p ≡ opened pid.0 count turns proc) }
+    ensures queue { IfOk result (λ p. p.tables.inner.queue ≡ no_queue pid.0) }
+{
+    let tables = Tables {
+        env: Env::new(alloc),
+        inner: Inner::open(alloc, pid)?,
+        links: Links::open(alloc, pid),
+        end: None,
+    };
+    let counts = Counts {
+        place: 1,
+        executed: 0,
+        stamp: 0,
+        next_numbers: first_numbers(alloc, count)?,
+    };
+    Ok(Progress {
+        tables,
+        traps: false,
+        counts,
+        events: Sequence::new(alloc),
+        handled: Signals::new(alloc),
+        own: Signals::new(alloc),
+        taken_in: Signals::new(alloc),
+        outbox: Signals::new(alloc),
+    })
+}
+
+impl Process {
+    /// The process of this pid, as the script opens it: at its first instruction, with all else
+    /// empty.
+    pub fn open(alloc: Global, script: &Script, pid: Pid) -> Result<Process, AllocError>
+        requires { pid.0 < length script.now.procs }
+        ensures opened { IfOk result (λ p. IfSome (slice_get script.now.procs pid.0) (λ d.
+            p.running ≡ opened pid.0 (length script.now.procs) script.now.turns d)) }
+        ensures saved { IfOk result (λ p. p.saved ≡ 0) }
+    {
+        let Some(proc) = script.proc(pid.0) else {
+            unreachable!()
+        };
+        let count = script.count();
+        let progress = beginning(alloc, pid, count)?;
+        let proc = proc.copy(alloc)?;
+        prove!(1 <= proc.count() + 1);
+        Ok(Process {
+            alloc,
+            pid,
+            count,
+            turns: script.turns(),
+            proc,
+            progress,
+        })
+    }
+
+    /// Its pid.
+    pub fn pid(&self) -> Pid
+        ensures { result ≡ record { 0 = self.now.running.pid } }
+    {
+        self.pid
+    }
+
+    /// How many processes its script has.
+    pub fn count(&self) -> u32
+        ensures { result ≡ self.now.running.count }
+    {
+        self.count
+    }
+
+    /// The events, in their order.
+    pub fn events(&self) -> &Events
+        ensures { result.now ≡ self.now.running.events }
+    {
+        &self.progress.events
+    }
+
+    /// Whether the process is cut: it isn't ended and has executed its turns, or its last stamp is
+    /// at least 2^62.
+    pub(crate) fn is_cut(&self) -> bool
+        ensures { result ≡ is_cut self.now.running.turns self.now.running.state }
+    {
+        let counts = &self.progress.counts;
+        let is_alive = self.progress.tables.end.is_none();
+        (is_alive && self.turns <= counts.executed) || LAST_STAMP <= counts.stamp
+    }
+
+    /// Whether an instruction may be executed: the process is neither ended nor cut, and has no
+    /// own signal to handle.
+    #[tactic(auto, unfolding(sig_model::specs::Running::can_exec))]
+    pub fn can_exec(&self) -> bool
+        ensures { result ≡ can_exec self.now.running }
+    {
+        self.progress.tables.end.is_none() && !self.is_cut() && self.own_count() == 0
+    }
+
+    /// Executes the next instruction. `Waiting` exactly where it is a receive without `after` and
+    /// no message matches; then the process is as before, and the next execution looks only at the
+    /// messages that come behind. A receive makes at most as many tests of a message as it has
+    /// clauses, for each message that it looks at. The error is want of memory; then the process is
+    /// as before, but for the saved place. (Erlang Reference Manual, Expressions.)
+    pub fn exec<L: Ledger>(&mut self, steps: &mut Steps<L>) -> Result<Exec, AllocError>
+        requires { can_exec self.old.running ≡ true }
+        ensures exec { MatchResult result (IsExec self.old self.new) (λ _. self.new.running ≡ self.old.running) }
+        ensures ticks { steps.new ≤ steps.old + most_tests self.old }
+    {
+        self.progress.exec(self.alloc, self.pid, &self.proc, steps)
+    }
+
+    /// Whether the next signal has a stamp below 2^62.
+    fn next_is_early(&self) -> bool
+        ensures { result ≡ is_early (next_of self.now.running.own self.now.running.taken_in) }
+    {
+        match next_signal(&self.progress.own, &self.progress.taken_in) {
+            None => false,
+            Some(signal) => signal.stamp < LAST_STAMP,
+        }
+    }
+
+    /// Whether the next signal may be handled: the process isn't cut, and its oldest own signal, or
+    /// where there is none its oldest signal of another, has a stamp below 2^62.
+    #[tactic(auto, unfolding(sig_model::specs::Running::can_handle))]
+    pub fn can_handle(&self) -> bool
+        ensures { result ≡ can_handle self.now.running }
+    {
+        !self.is_cut() && self.next_is_early()
+    }
+
+    /// Handles the next signal: the oldest own one, or where there is none the oldest of another.
+    /// The error is want of memory; then the process is as before. (Erlang Reference Manual,
+    /// Processes, Receiving Signals.)
+    pub fn handle(&mut self) -> Result<(), AllocError>
+        requires { can_handle self.old.running ≡ true }
+        ensures { MatchResult result (λ _. IsHandled self.old self.new) (λ _. self.new ≡ self.old) }
+    {
+        self.progress.handle(self.alloc, self.pid, &self.proc)
+    }
+}

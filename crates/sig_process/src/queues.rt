@@ -1,0 +1,92 @@
+//! The signals that come to a process, and those that leave it.
+
+ghost use Rattle.std.specs.Prelude.{◌≡◌, ◌++◌, [], ◌∷◌, length, All, IfSome, MatchOption, MatchResult, slice_index};
+ghost use Rattle.sig_model.specs.Accounts.{Continues};
+ghost use Rattle.sig_model.specs.Keeping.{IsArriving, IsLeaving};
+ghost use Rattle.sig_model.specs.OneWorker.{arrived};
+
+use crate::process::Process;
+use sig_kinds::{Push, Signal, Signals};
+use sig_terms::Pid;
+use std::alloc::AllocError;
+use std::mem;
+
+/// The next number for this peer.
+fn number_for(numbers: &[u64], peer: Pid) -> u64
+    ensures { result ≡ slice_index numbers.now peer.0 }
+{
+    match numbers.get(peer.0 as usize) {
+        None => 0,
+        Some(next) => *next,
+    }
+}
+
+impl Process {
+    /// How many signals to itself it has not handled.
+    pub fn own_count(&self) -> usize
+        ensures { result ≡ length self.now.running.own }
+    {
+        self.progress.own.len()
+    }
+
+    /// How many signals of others it has not handled.
+    pub fn taken_in_count(&self) -> usize
+        ensures { result ≡ length self.now.running.taken_in }
+    {
+        self.progress.taken_in.len()
+    }
+
+    /// The number that the next signal to this process will have.
+    pub fn next_number(&self, to: Pid) -> u64
+        ensures { result ≡ slice_index self.now.running.state.counts.next_numbers to.0 }
+    {
+        number_for(self.progress.counts.next_numbers.as_slice(), to)
+    }
+
+    /// A signal of another process joins those that wait for this one. The error is want of memory;
+    /// then the process is as before.
+    pub fn arrive(&mut self, signal: Signal) -> Result<(), AllocError>
+        requires { IsArriving self.old.running.pid self.old.running.count signal }
+        ensures { MatchResult result (λ _. self.new ≡ record self.old { running = arrived self.old.running signal }) (λ _. self.new ≡ self.old) }
+    {
+        match self.progress.taken_in.push(signal) {
+            Push::Added => Ok(()),
+            Push::Memory { signal: _ } => Err(AllocError),
+        }
+    }
+
+    /// Signals of other processes join those that wait for this one. They go on with the numbers of
+    /// those of their senders that came before. The error is want of memory; then the process and
+    /// the signals are as before.
+    pub fn take_in(&mut self, signals: &mut Signals) -> Result<(), AllocError>
+        requires arriving { All (IsArriving self.old.running.pid self.old.running.count) signals.old.items }
+        requires continues { Continues self.old.running signals.old.items }
+        ensures { MatchResult result
+            (λ _. (self.new ≡ record self.old { running = record self.old.running { taken_in = self.old.running.taken_in ++ signals.old.items } }) × (signals.new.items ≡ []))
+            (λ _. (self.new ≡ self.old) × (signals.new.items ≡ signals.old.items)) }
+    {
+        self.progress.taken_in.append(signals)
+    }
+
+    /// Takes the oldest of the signals that it has sent to others, which may arrive at its
+    /// receiver. `None` exactly where there is none.
+    pub fn next_out(&mut self) -> Option<Signal>
+        ensures next { MatchOption result
+            ((self.old.running.outbox ≡ []) × (self.new ≡ self.old))
+            (λ first. self.old ≡ record self.new { running = record self.new.running { outbox = first ∷ self.new.running.outbox } }) }
+        ensures leaving { IfSome result (IsLeaving self.old.running.pid self.old.running.state.counts.stamp) }
+        ensures arriving { IfSome result (λ first. IsArriving first.to.0 self.old.running.count first) }
+    {
+        self.progress.outbox.pop_front()
+    }
+
+    /// Takes the signals that it has sent to others, the oldest first. Each may arrive at its
+    /// receiver.
+    pub fn take_outbox(&mut self) -> Signals
+        ensures signals { result.items ≡ self.old.running.outbox }
+        ensures rest { self.new ≡ record self.old { running = record self.old.running { outbox = [] } } }
+        ensures arriving { All (λ signal. IsArriving signal.to.0 self.old.running.count signal) result.items }
+    {
+        mem::replace(&mut self.progress.outbox, Signals::new(self.alloc))
+    }
+}

@@ -1,0 +1,142 @@
+ghost use Rattle.std.specs.Prelude.{◌≡◌, ◌-◌, ◌+◌, ◌*◌, ◌<◌, ◌≤◌, ◌^◌, length, slice_get, Some, None, false, IfSome, IsSomeAnd, MatchResult, OnOk};
+ghost use Rattle.sig_inner.specs.declared.last_scan.LastScan.TheVariants.{Found};
+ghost use Rattle.sig_inner.specs.Receiving.{scanned, looked_in, answer_to, after_scan, is_saved, passed, HasPassed, IsScanWithin};
+ghost use Rattle.sig_model.specs.Bodies.{going_on, place_after};
+ghost use Rattle.sig_model.specs.Bounds.{IsBounded};
+ghost use Rattle.sig_model.specs.Executing.{head, hit_from, taking};
+ghost use Rattle.sig_model.specs.Finishing.{finished_exec};
+ghost use Rattle.sig_process.specs.Executions.{IsExecDue, HasGone, IsUnmoved};
+ghost use Rattle.sig_process.specs.Progressing.{state_of, IsSame, HasAdvanced};
+ghost use Rattle.sig_process.specs.Soundness.{IsSaved};
+ghost use Rattle.sig_process.specs.Tests.{tests_of};
+
+use crate::executing::Exec;
+use crate::plan::{Change, Plan};
+use crate::progress::Progress;
+use sig_base::Steps;
+use sig_inner::{Inner, Scan};
+use sig_model::{LAST_STAMP, Outcome};
+use sig_patterns::{Clauses, Env};
+use sig_script::{After, Instr, Proc};
+use sig_terms::Pid;
+use std::alloc::{AllocError, Global};
+use std::sync::ledger::Ledger;
+
+/// Scans the messages: behind the saved place, where there is one.
+#[tactic(auto, using(crate::proofs::SavedPlace::unsaved_none))]
+fn scan_messages<L: Ledger>(
+    inner: &mut Inner,
+    clauses: &Clauses,
+    env: &Env,
+    steps: &mut Steps<L>,
+) -> Scan
+    requires few { length clauses.now < 2 ^ 32 }
+    requires passed { HasPassed inner.old.queue clauses.now env.now }
+    ensures answer { result ≡ answer_to inner.old.queue (scanned inner.old.queue clauses.now env.now) }
+    ensures left { inner.new.queue ≡ after_scan inner.old.queue (scanned inner.old.queue clauses.now env.now) }
+    ensures within { IsScanWithin (length clauses.now) (length inner.old.queue.inbox.messages) result }
+    ensures passed { HasPassed inner.new.queue clauses.now env.now }
+    ensures ticks { steps.new ≤ steps.old + length clauses.now * (looked_in inner.old.queue (scanned inner.old.queue clauses.now env.now) - passed inner.old.queue.last) }
+{
+    if inner.is_saved() {
+        inner.resume(clauses, env, None, steps)
+    } else {
+        inner.receive(clauses, env, None, steps)
+    }
+}
+
+impl Progress {
+    /// Takes the message of the last scan, with the first clause that matches it, and goes on where
+    /// the clause says.
+    fn take_found(
+        &mut self,
+        alloc: Global,
+        pid: Pid,
+        proc: &Proc,
+        clauses: &Clauses,
+        clause: u32,
+        looked: u64,
+    ) -> Result<(), AllocError>
+        requires stamp { self.old.counts.stamp < LAST_STAMP }
+        requires turns { self.old.counts.executed + 1 < 2 ^ 32 }
+        requires inside { self.old.counts.place ≤ length proc.now.instrs }
+        requires found { IsSomeAnd (hit_from head clauses.now (state_of self.old)) (λ h.
+            (self.old.tables.inner.queue.last ≡ Found h.at) × (clause ≡ h.clause + 1) × (looked ≡ h.at + 1)) }
+        ensures taken { MatchResult result
+            (λ _. IfSome (hit_from head clauses.now (state_of self.old)) (λ h.
+                HasAdvanced pid.0 self.old self.new (finished_exec pid.0 (state_of self.old) (taking proc.now (state_of self.old) head h))))
+            (λ _. self.new ≡ self.old) }
+        ensures unsaved { OnOk result (is_saved self.new.tables.inner.queue.last ≡ false) }
+    {
+        let Some(chosen) = clauses.get(clause as usize - 1) else {
+            unreachable!()
+        };
+        let Some(message) = self.tables.inner.found() else {
+            unreachable!()
+        };
+        let message = message.copy(alloc)?;
+        let outcome = Outcome::Took {
+            clause,
+            looked,
+            message,
+        };
+        let place = self.place_after(proc, chosen.target);
+        self.commit_take(alloc, place, outcome, &chosen.pattern)
+    }
+
+    /// Goes on with the `after` part of a receive.
+    fn go_by(
+        &mut self,
+        alloc: Global,
+        pid: Pid,
+        proc: &Proc,
+        target: Option<u32>,
+        looked: u64,
+    ) -> Result<(), AllocError>
+        requires bounds { IsBounded proc.now (state_of self.old) }
+        requires stamp { self.old.counts.stamp < LAST_STAMP }
+        requires turns { self.old.counts.executed + 1 < 2 ^ 32 }
+        requires inside { self.old.counts.place ≤ length proc.now.instrs }
+        ensures gone { MatchResult result
+            (λ _. HasAdvanced pid.0 self.old self.new (finished_exec pid.0 (state_of self.old)
+                (going_on (state_of self.old) (place_after proc.now.labels target self.old.counts.place) (Outcome.After looked))))
+            (λ _. IsSame self.old self.new) }
+        ensures unsaved { OnOk result (is_saved self.new.tables.inner.queue.last ≡ false) }
+    {
+        let place = self.place_after(proc, target);
+        let plan = Plan::silent(alloc, Change::Nothing, place, Outcome::After { looked });
+        self.commit_exec(pid, plan)
+    }
+
+    /// Executes a receive. Where it waits, the place behind all messages is saved.
+    pub(crate) fn receive<L: Ledger>(
+        &mut self,
+        alloc: Global,
+        pid: Pid,
+        proc: &Proc,
+        clauses: &Clauses,
+        after: &Option<After>,
+        steps: &mut Steps<L>,
+    ) -> Result<Exec, AllocError>
+        requires due { IsExecDue proc.now self.old }
+        requires few { length clauses.now < 2 ^ 32 }
+        requires here { slice_get proc.now.instrs (self.old.counts.place - 1) ≡ Some (Instr.Receive clauses.now after.now) }
+        ensures gone { MatchResult result (HasGone pid.0 proc.now self.old self.new) (λ _. IsUnmoved self.old self.new) }
+        ensures saved { IsSaved (slice_get proc.now.instrs (self.new.counts.place - 1)) self.new }
+        ensures ticks { steps.new ≤ steps.old + tests_of (state_of self.old) (passed self.old.tables.inner.queue.last) (Some (Instr.Receive clauses.now after.now)) }
+    {
+        match scan_messages(&mut self.tables.inner, clauses, &self.tables.env, steps) {
+            Scan::Found { clause, looked } => {
+                self.take_found(alloc, pid, proc, clauses, clause, looked)?;
+                Ok(Exec::Stepped)
+            }
+            Scan::None { looked } => match after {
+                None => Ok(Exec::Waiting),
+                Some(after) => {
+                    self.go_by(alloc, pid, proc, after.target, looked)?;
+                    Ok(Exec::Stepped)
+                }
+            },
+        }
+    }
+}
