@@ -42,8 +42,8 @@ module _ (proc : Declared) (p : Progress) (plan : Plan) (k : IsBounded proc (sta
     arrivals = omega (arith, k.arrivals, lt, low);
     ids = omega (arith, k.ids, lt, low);
     numbers = λ peer.
-      let none : posts_to peer (map post_of plan.posts.items) ≡ 0 = ap (posts_to peer) e in
-      omega (arith, k.numbers peer, none, lt, low);
+        let none : posts_to peer (map post_of plan.posts.items) ≡ 0 = ap (posts_to peer) e in
+        omega (arith, k.numbers peer, none, lt, low);
   }
 
 -- the next instruction

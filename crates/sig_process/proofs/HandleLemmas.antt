@@ -138,9 +138,9 @@ module _ (pid : ℕ) (before after : Progress) (plan : Plan) (x : Signal) (plann
         owner = ap (λ (r : InnerQueue). r.owner) queue ∙ changed_owner q within plan.change;
         place = ap (λ (s : ProcessState). s.counts.place) done.state ∙ steady.place;
         saved =
-          ap (λ (r : InnerQueue). passed r.last) queue
-          ∙ changed_place q within obeyed plan.change (λ some. ended (subst IsSome (obeyed_end (state_of before) plan.obeyed) some))
-          ∙ ap (λ (o : Option Term). if is_some o then 0 else passed q.last) (sym end);
+            ap (λ (r : InnerQueue). passed r.last) queue
+            ∙ changed_place q within obeyed plan.change (λ some. ended (subst IsSome (obeyed_end (state_of before) plan.obeyed) some))
+            ∙ ap (λ (o : Option Term). if is_some o then 0 else passed q.last) (sym end);
         none = λ i k. rw (queue, env) (passes_at q within plan.change before.tables.env i k);
       }
 

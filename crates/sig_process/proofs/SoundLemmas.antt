@@ -249,7 +249,7 @@ module _ (pid count turns : ℕ) (proc : Declared) where
     pub out_sound : (o : Option Signal) → IsOut o → IsSound pid count turns proc (record p { outbox = left })
     out_sound o e = record {
       keeps =
-        outbox_keeps (runs p) left.items k.keeps (all_left (IsLeaving pid p.counts.stamp) o e k.keeps.outbox) (all_left (IsSignalBelow count) o e k.keeps.below.outbox);
+          outbox_keeps (runs p) left.items k.keeps (all_left (IsLeaving pid p.counts.stamp) o e k.keeps.outbox) (all_left (IsSignalBelow count) o e k.keeps.below.outbox);
       owner = k.owner;
       saved = record { none = k.saved.none; ended = k.saved.ended };
     }

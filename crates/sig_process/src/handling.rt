@@ -14,12 +14,7 @@ use std::alloc::{AllocError, Global};
 
 impl Progress {
     /// Handles the next signal.
-    pub(crate) fn handle(
-        &mut self,
-        alloc: Global,
-        pid: Pid,
-        proc: &Proc,
-    ) -> Result<(), AllocError>
+    pub(crate) fn handle(&mut self, alloc: Global, pid: Pid, proc: &Proc) -> Result<(), AllocError>
         requires due { IsHandleDue proc.now self.old }
         ensures handled { MatchResult result
             (λ _. IfSome (next_of self.old.own.items self.old.taken_in.items) (λ x. HasHandled pid.0 self.old self.new x (handling_of pid.0 (state_of self.old) x)))

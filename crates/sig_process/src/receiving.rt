@@ -64,7 +64,7 @@ impl Progress {
             (self.old.tables.inner.queue.last ≡ Found h.at) × (clause ≡ h.clause + 1) × (looked ≡ h.at + 1)) }
         ensures taken { MatchResult result
             (λ _. IfSome (hit_from head clauses.now (state_of self.old)) (λ h.
-                HasAdvanced pid.0 self.old self.new (finished_exec pid.0 (state_of self.old) (taking proc.now (state_of self.old) head h))))
+            HasAdvanced pid.0 self.old self.new (finished_exec pid.0 (state_of self.old) (taking proc.now (state_of self.old) head h))))
             (λ _. self.new ≡ self.old) }
         ensures unsaved { OnOk result (is_saved self.new.tables.inner.queue.last ≡ false) }
     {
@@ -99,7 +99,7 @@ impl Progress {
         requires inside { self.old.counts.place ≤ length proc.now.instrs }
         ensures gone { MatchResult result
             (λ _. HasAdvanced pid.0 self.old self.new (finished_exec pid.0 (state_of self.old)
-                (going_on (state_of self.old) (place_after proc.now.labels target self.old.counts.place) (Outcome.After looked))))
+            (going_on (state_of self.old) (place_after proc.now.labels target self.old.counts.place) (Outcome.After looked))))
             (λ _. IsSame self.old self.new) }
         ensures unsaved { OnOk result (is_saved self.new.tables.inner.queue.last ≡ false) }
     {

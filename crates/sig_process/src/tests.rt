@@ -9,7 +9,7 @@ ghost use Rattle.std.specs.Prelude.{◌≡◌, ◌<◌};
 
 use super::*;
 use sig_base::Steps;
-use sig_kinds::{Kind, Push, Signal, Signals};
+use sig_kinds::{Kind, Signal, Signals};
 use sig_model::{Event, Outcome};
 use sig_script::{Script, read_script};
 use sig_terms::Pid;
@@ -205,9 +205,8 @@ fn waiting_after_one(alloc: Global, script: &Script) -> Result<usize, Fail> {
         stamp: 1,
         kind: Kind::Link,
     };
-    if let Push::Memory { signal: _ } = signals.push(signal) {
-        return Err("no memory".into());
-    }
+    signals.room(1)?;
+    signals.add(signal);
     process.take_in(&mut signals)?;
     Ok(process.taken_in_count())
 }
