@@ -1,14 +1,11 @@
 -- What a planned event needs so that it may happen.
-use Rattle.std.proofs.Common.{◌≡◌, ℕ, ◌+◌, ◌-◌, ◌<◌, ◌≤◌, ◌^◌, List, [], length, map, Option, Some, refl, sym, ap, ◌∙◌, subst, arith}
-use Rattle.std.specs.Prelude.{IfSome, slice_get, slice_index}
+use Rattle.std.proofs.Common.{◌≡◌, ℕ, ◌+◌, ◌-◌, ◌<◌, ◌^◌, [], map, Option, Some, refl, ap, ◌∙◌, subst, arith}
+use Rattle.std.specs.Prelude.{IfSome, slice_get}
 use Rattle.std.specs.Option.{option_map}
 use Rattle.sig_kinds.specs.declared.signal.Signal.{Signal}
 use Rattle.sig_script.specs.Scripts.{Declared}
-use Rattle.sig_runs.specs.Rules.{Effect}
-use Rattle.sig_model.specs.declared.event.Event.{Event}
 use Rattle.sig_model.specs.declared.state.TheConstants.{LAST_STAMP}
-use Rattle.sig_model.specs.ProcessState.{ProcessState}
-use Rattle.sig_model.specs.Bodies.{Post, Body}
+use Rattle.sig_model.specs.Bodies.{Body}
 use Rattle.sig_model.specs.Bounds.{IsBounded, IsBoundedBody, posts_to}
 use Rattle.sig_model.specs.Executing.{executing, exec_body}
 use Rattle.sig_model.specs.Handling.{handling}

@@ -1,11 +1,11 @@
 -- What the handling of a signal keeps of the saved place.
-use Rattle.std.proofs.Common.{◌≡◌, ℕ, ◌+◌, ◌≤◌, List, [], ◌∷◌, ◌++◌, length, take, Bool, true, false, Option, Some, None, refl, sym, ap, ◌∙◌, subst, arith}
-use Rattle.std.specs.Prelude.{IfSome, IsSome, IsSomeAnd, MatchResult, OnOk, Result, Ok, Err, is_some, not, ◌&&◌, ◌==◌, if◌then◌else◌, map}
+use Rattle.std.proofs.Common.{◌≡◌, ℕ, ◌≤◌, List, [], ◌∷◌, ◌++◌, length, take, Bool, true, false, Option, Some, None, refl, sym, ap, ◌∙◌, subst, arith}
+use Rattle.std.specs.Prelude.{IfSome, IsSome, MatchResult, OnOk, Result, Ok, Err, is_some, not, ◌&&◌, ◌==◌, if◌then◌else◌}
 use Rattle.std.proofs.lemmas.List.{take-append-le, length-map, map-append}
 use Rattle.sig_terms.specs.declared.term.Term.{Term}
 use Rattle.sig_terms.specs.TermTest.{same_term}
 use Rattle.sig_kinds.specs.declared.signal.Kind.{Kind}
-use Rattle.sig_kinds.specs.declared.signal.Kind.TheVariants.{Message, AliasMessage, Link, Unlink, UnlinkAck, Monitor, Demonitor, Exit, Down}
+use Rattle.sig_kinds.specs.declared.signal.Kind.TheVariants.{Link, Exit}
 use Rattle.sig_kinds.specs.declared.signal.Signal.{Signal}
 use Rattle.sig_kinds.specs.LinkRules.{is_active, deactivated}
 use Rattle.sig_terms.specs.declared.pid.Pid.{Pid}
@@ -21,7 +21,7 @@ use Rattle.sig_inner.specs.Receiving.{passed, HasPassed}
 use Rattle.sig_script.specs.declared.instruction.Instr.{Instr}
 use Rattle.sig_script.specs.declared.instruction.Instr.TheVariants as instr
 use Rattle.sig_model.specs.ProcessState.{ProcessState}
-use Rattle.sig_model.specs.Bodies.{Body, relinked, normal, kill, killed}
+use Rattle.sig_model.specs.Bodies.{Body, relinked, normal, kill}
 use Rattle.sig_model.specs.ExitRule.{exit_rule}
 use Rattle.sig_model.specs.Finishing.{finished_handle}
 use Rattle.sig_model.specs.Machine.{handling_of}

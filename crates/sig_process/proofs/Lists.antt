@@ -1,5 +1,5 @@
 -- Lists from a place on, and the processes of a crew.
-use Rattle.std.proofs.Common.{◌≡◌, ℕ, zero, suc, ◌+◌, ◌<◌, ◌≤◌, List, [], ◌∷◌, ◌++◌, length, drop, map, Option, Some, None, refl, sym, ◌∙◌, ap, append_assoc, Bool, ◌||◌, arith}
+use Rattle.std.proofs.Common.{◌≡◌, ℕ, zero, suc, ◌+◌, ◌<◌, ◌≤◌, List, [], ◌∷◌, ◌++◌, length, drop, Option, Some, None, refl, sym, ◌∙◌, ap, append_assoc, Bool, ◌||◌, arith}
 use Rattle.std.specs.Prelude.{slice_get, slice_set, IfSome, MatchOption}
 use Rattle.std.specs.List.{IsItemAtMut}
 use Rattle.std.specs.Borrow.{MutBor}

@@ -11,11 +11,9 @@ use Rattle.sig_patterns.specs.Inbox.{terms_of}
 use Rattle.sig_patterns.specs.Matching.{match_of}
 use Rattle.sig_patterns.specs.Scanning.{Hit, places_of}
 use Rattle.sig_patterns.proofs.HitLemmas.{IsByClause, hit_message, hit_clause}
-use Rattle.sig_inner.specs.declared.last_scan.LastScan.{LastScan}
 use Rattle.sig_inner.specs.declared.last_scan.LastScan.TheVariants as last
-use Rattle.sig_inner.specs.InnerQueue.{InnerQueue, InnerTable, found_place, found_message, taken}
+use Rattle.sig_inner.specs.InnerQueue.{InnerQueue, InnerTable, found_place, found_message}
 use Rattle.sig_inner.specs.Receiving.{scanned, after_scan, forgotten, is_saved, HasPassed}
-use Rattle.sig_script.specs.declared.instruction.Instr.{Instr}
 use Rattle.sig_script.specs.declared.instruction.Instr.TheVariants as instr
 use Rattle.sig_script.specs.declared.instruction.After.{After}
 use Rattle.sig_script.specs.Scripts.{Declared}
@@ -30,9 +28,7 @@ use Rattle.sig_model.specs.Bounds.{IsBounded}
 use Rattle.sig_model.specs.Executing.{head, hit_from, taking, receiving, exec_body}
 use Rattle.sig_model.specs.Finishing.{finished_exec}
 use Rattle.sig_model.specs.Machine.{execution}
-use Rattle.sig_process.specs.declared.plan.Plan.{Plan}
 use Rattle.sig_process.specs.declared.progress.Progress.{Progress}
-use Rattle.sig_process.specs.Plans.{body_of}
 use Rattle.sig_process.specs.Progressing.{state_of, IsSame, HasAdvanced}
 use Rattle.sig_process.specs.Committing.{HasTaken}
 use Rattle.sig_process.specs.Soundness.{IsSaved}

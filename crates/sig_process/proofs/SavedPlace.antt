@@ -1,5 +1,5 @@
 -- What a queue without a saved place says of an instruction.
-use Rattle.std.proofs.Common.{◌≡◌, false, Option, Some, None, refl}
+use Rattle.std.proofs.Common.{◌≡◌, false, Option, Some, refl}
 use Rattle.sig_patterns.specs.Environment.{Environment}
 use Rattle.sig_inner.specs.declared.last_scan.LastScan.{LastScan}
 use Rattle.sig_inner.specs.declared.last_scan.LastScan.TheVariants as last

@@ -1,5 +1,5 @@
 -- What the calls of a process keep, and what they lead to.
-use Rattle.std.proofs.Common.{◌≡◌, ℕ, ◌+◌, ◌-◌, ◌<◌, ◌≤◌, ◌^◌, List, [], ◌∷◌, ◌++◌, length, Bool, true, false, Option, Some, None, refl, sym, ap, ◌∙◌, subst, arith}
+use Rattle.std.proofs.Common.{◌≡◌, ℕ, ◌-◌, ◌<◌, ◌^◌, List, [], ◌∷◌, length, true, false, Option, Some, None, refl, sym, ap, ◌∙◌, subst, arith}
 use Rattle.std.specs.Prelude.{All, IfSome, IsSome, IsSomeAnd, MatchOption, MatchResult, OnOk, Result, Ok, Err, slice_get, is_some, if◌then◌else◌}
 use Rattle.std.specs.Option.{option_map}
 use Rattle.std.proofs.lemmas.List.Elements.{All-nil, All-head, All-tail}
@@ -19,9 +19,8 @@ use Rattle.sig_inner.specs.Receiving.{is_saved, passed}
 use Rattle.sig_model.specs.declared.event.Event.{Event}
 use Rattle.sig_model.specs.declared.state.TheConstants.{LAST_STAMP}
 use Rattle.sig_model.specs.ProcessState.{ProcessState}
-use Rattle.sig_model.specs.Machine.{execution, handling_of}
+use Rattle.sig_model.specs.Machine.{handling_of}
 use Rattle.sig_model.specs.Running.{Running, opened, advanced, can_exec, can_handle, exec_next, handle_next, handled_first, next_of}
-use Rattle.sig_model.specs.OneWorker.{arrived}
 use Rattle.sig_model.specs.Keeping.{IsArriving, IsLeaving, IsKeeping}
 use Rattle.sig_model.proofs.Guards.{CanExec, CanHandle, can_exec_tells, can_handle_tells, exec_due, handle_due}
 use Rattle.sig_model.proofs.KeepLemmas.{opened_keeps, arrived_keeps, outbox_keeps, leaving_arrives, exec_keeps, handle_keeps}
@@ -31,8 +30,8 @@ use Rattle.sig_process.specs.declared.progress.Progress.{Progress}
 use Rattle.sig_process.specs.Standing.{Standing}
 use Rattle.sig_process.specs.Progressing.{state_of, running_of, standing_of, IsSame, HasAdvanced}
 use Rattle.sig_process.specs.Committing.{HasHandled}
-use Rattle.sig_process.specs.Soundness.{IsSaved, IsSound, HasPassedAt}
-use Rattle.sig_process.specs.Executions.{IsExecDue, IsHandleDue, IsUnmoved, HasExecuted, HasWaited, HasGone, KeepsSaved}
+use Rattle.sig_process.specs.Soundness.{IsSaved, IsSound}
+use Rattle.sig_process.specs.Executions.{IsExecDue, IsHandleDue, IsUnmoved, HasExecuted, HasGone, KeepsSaved}
 use Rattle.sig_process.specs.Steps.{IsExec, IsHandled}
 use Rattle.sig_process.proofs.SavedPlace.{unsaved_none, unsaved_passes}
 

@@ -1,5 +1,5 @@
 -- What holds of every process.
-use Rattle.std.specs.Prelude.{◌≡◌, ℕ, ◌-◌, ◌≤◌, length, slice_get, Option, Some, None, IsSome}
+use Rattle.std.specs.Prelude.{◌≡◌, ℕ, ◌-◌, slice_get, Option, Some, IsSome}
 use Rattle.sig_patterns.specs.Environment.{Environment}
 use Rattle.sig_inner.specs.InnerQueue.{InnerQueue}
 use Rattle.sig_inner.specs.Receiving.{HasPassed, passed}

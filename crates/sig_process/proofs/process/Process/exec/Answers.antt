@@ -1,4 +1,4 @@
-use Rattle.std.proofs.Common.{◌≡◌, true, sym, ap, ◌∙◌, subst}
+use Rattle.std.proofs.Common.{ap, ◌∙◌, subst}
 use Rattle.sig_model.specs.Running.{can_exec}
 use Rattle.sig_process.specs.Standing.{Standing}
 use Rattle.sig_process.proofs.SoundLemmas.{exec_is_due, exec_answer, exec_tells_so, exec_keeps_sound}

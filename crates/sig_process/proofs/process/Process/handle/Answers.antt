@@ -1,4 +1,4 @@
-use Rattle.std.proofs.Common.{◌≡◌, true, sym, ap, ◌∙◌, subst}
+use Rattle.std.proofs.Common.{ap, ◌∙◌, subst}
 use Rattle.sig_model.specs.Running.{can_handle}
 use Rattle.sig_process.specs.Standing.{Standing}
 use Rattle.sig_process.proofs.SoundLemmas.{handle_is_due, handle_answer, handle_tells_so, handle_keeps_sound}

@@ -1,4 +1,4 @@
-use Rattle.std.proofs.Common.{sym, ap}
+use Rattle.std.proofs.Common.{ap}
 use Rattle.sig_model.specs.Bodies.{Body}
 use Rattle.sig_process.proofs.DueLemmas.{silent_committable}
 use Rattle.sig_process.specs.Progressing.{state_of}

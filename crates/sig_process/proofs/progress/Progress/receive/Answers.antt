@@ -1,4 +1,3 @@
-use Rattle.std.proofs.Common.{◌≡◌, sym, ap, ◌∙◌, Some, None}
 use Rattle.sig_inner.specs.Receiving.{scanned}
 use Rattle.sig_inner.proofs.Answering.{answered_found, answered_none}
 use Rattle.sig_process.proofs.ReceiveLemmas.{with_inner, inside, bounds_kept, scan_saved, hit_none, hit_some, takes, goes_by}

@@ -1,6 +1,6 @@
 use Rattle.std.proofs.Common.{sym, ap, ◌∙◌, Some}
 use Rattle.std.specs.Prelude.{option_copied}
-use Rattle.sig_process.proofs.ReceiveLemmas.{IsHit, hit_of, clause_there, chosen_matches, taken_found}
+use Rattle.sig_process.proofs.ReceiveLemmas.{hit_of, clause_there, chosen_matches, taken_found}
 use Rattle.sig_process.proofs.progress.Progress.take_found.Goals as goal
 
 pub unreachable-requires : goal.unreachable-requires
