@@ -1,4 +1,4 @@
-use Rattle.std.proofs.Common.{◌≡◌, ℕ, ◌+◌, ◌<◌, ◌≤◌, List, [], ◌∷◌, ◌++◌, length, Bool, true, false, cond, Option, Some, None, refl, sym, ap, ◌∙◌, subst, arith}
+use Rattle.std.proofs.Common.{◌≡◌, ℕ, ◌<◌, List, [], ◌∷◌, ◌++◌, length, Bool, true, false, cond, Option, Some, None, refl, sym, ap, ◌∙◌, subst, arith}
 use Rattle.std.specs.Prelude.{All, IfSome, ◌==◌, slice_get}
 use Rattle.std.proofs.lemmas.List.Elements.{All-nil, All-cons}
 use Rattle.std.proofs.lemmas.Option.{slice_get-get_or}
@@ -7,7 +7,7 @@ use Rattle.sig_kinds.specs.declared.signal.Signal.{Signal}
 use Rattle.sig_kinds.specs.declared.signal.Kind.TheVariants.{Link}
 use Rattle.sig_kinds.specs.Counting.{IsCounting}
 use Rattle.sig_script.specs.Scripts.{Declared}
-use Rattle.sig_model.specs.Accounts.{Continues, came, coming_from}
+use Rattle.sig_model.specs.Accounts.{Continues}
 use Rattle.sig_model.specs.Keeping.{IsArriving}
 use Rattle.sig_model.specs.Running.{Running, opened}
 use Rattle.sig_process.proofs.tests.waiting_after_one.Goals as goal
