@@ -9,6 +9,8 @@ pub use host::run;
 pub use status::Status;
 
 #[cfg(test)]
+mod document_tests;
+#[cfg(test)]
 mod exit_tests;
 #[cfg(test)]
 mod link_tests;
