@@ -1,20 +1,21 @@
 -- A run leaves no signal in an outbox.
 use Rattle.std.proofs.Common.{◌≡◌, ℕ, List, [], ◌∷◌, Option, Some, None, refl, subst, sym, slice_get, set}
 use Rattle.std.proofs.lemmas.List.Elements.{All-set}
-use Rattle.std.proofs.lemmas.Option.{slice_get_within, get_or_from_slice_get}
+use Rattle.std.proofs.lemmas.Option.{MatchOption-at_some}
 use Rattle.sig_kinds.specs.declared.signal.Signal.{Signal}
 use Rattle.sig_model.specs.Running.{Running}
 use Rattle.sig_model.specs.OneWorker.{IsClear, arrived, deliver_to, deliver_all, visited, visit_at, visit}
+use Rattle.sig_model.proofs.Lookups.{at_place}
 
 abbrev HasNone : Running → Type 0
 HasNone r = r.outbox ≡ []
 
-at : (xs : List Running) (i : ℕ) (r : Running) → slice_get xs i ≡ Some r → IsClear xs → HasNone r
-at xs i r e clear = subst HasNone (get_or_from_slice_get xs i r r e) (clear i r (slice_get_within xs i r e))
+pub clear_at : (xs : List Running) (i : ℕ) (r : Running) → slice_get xs i ≡ Some r → IsClear xs → HasNone r
+clear_at xs i r e clear = MatchOption-at_some (Unit {0}) HasNone r e (at_place HasNone xs i clear)
 
 one_clear : (o : Option Running) (x : Signal) (xs : List Running) → slice_get xs x.to.0 ≡ o → IsClear xs → IsClear (deliver_to o x xs)
 one_clear None x xs e clear = clear
-one_clear (Some r) x xs e clear = All-set HasNone xs x.to.0 (arrived r x) (at xs x.to.0 r e clear) clear
+one_clear (Some r) x xs e clear = All-set HasNone xs x.to.0 (arrived r x) (clear_at xs x.to.0 r e clear) clear
 
 all_clear : (signals : List Signal) (xs : List Running) → IsClear xs → IsClear (deliver_all signals xs)
 unfolding deliver_all

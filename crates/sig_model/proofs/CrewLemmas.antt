@@ -1,5 +1,5 @@
 -- The machine of a crew at work: an event of a process is a step of it, and a delivery is none.
-use Rattle.std.proofs.Common.{◌≡◌, ◌≢◌, ℕ, zero, suc, ◌<◌, List, [], ◌∷◌, ◌++◌, drop, map, length, true, false, cond, ◌&&◌, Option, Some, None, refl, sym, ap, ◌∙◌, subst, arith}
+use Rattle.std.proofs.Common.{◌≡◌, ◌≢◌, ℕ, zero, suc, ◌<◌, List, [], ◌∷◌, ◌++◌, drop, map, length, true, false, cond, ◌&&◌, Some, None, refl, sym, ap, ◌∙◌, subst, arith}
 use Rattle.std.specs.Prelude.{◌==◌, slice_get, slice_set, if◌then◌else◌}
 use Rattle.std.specs.Option.{option_map}
 use Rattle.std.proofs.Math.Path.{fun_ext}
@@ -21,7 +21,7 @@ use Rattle.sig_model.specs.declared.event.Event.{Event}
 use Rattle.sig_model.specs.ProcessState.{ProcessState}
 use Rattle.sig_model.specs.Machine.{rules_of, rules_with}
 use Rattle.sig_model.specs.Running.{Running}
-use Rattle.sig_model.specs.OneWorker.{arrived, deliver_to}
+use Rattle.sig_model.specs.OneWorker.{arrived}
 use Rattle.sig_model.proofs.StampLemmas.{stamps_kept}
 use Rattle.sig_model.proofs.EventLemmas.{member_of, IsEventOf}
 
@@ -113,7 +113,7 @@ module _ (script : Program) (p : ℕ) (x : Signal) (xs : List Signal) (crew : Li
   elsewhere : slice_get crew x.to.0 ≡ None → (q : ℕ) → q < length (members crew) → x.to.0 ≢ q
   elsewhere none q lt e = absent crew q (subst (λ n. slice_get crew n ≡ None) e none) lt
 
-  lost : slice_get crew x.to.0 ≡ None → IsAtWork script (only p xs) (members crew) m
+  pub lost : slice_get crew x.to.0 ≡ None → IsAtWork script (only p xs) (members crew) m
   unfolding rules_with
   lost none = record {
     states = w.states;
@@ -129,7 +129,8 @@ module _ (script : Program) (p : ℕ) (x : Signal) (xs : List Signal) (crew : Li
   boxes_left : boxes_with p xs (only p (x ∷ xs)) ≡ only p xs
   boxes_left = fun_ext (λ q. elim (p == q) as (λ c. cond c xs (cond c (x ∷ xs) []) ≡ cond c xs []) [ true ↦ refl | false ↦ refl ])
 
-  given : (u : Running) → slice_get crew x.to.0 ≡ Some u → IsAtWork script (only p xs) (members (slice_set crew x.to.0 (arrived u x))) m
+  -- a delivery is no step
+  pub given : (u : Running) → slice_get crew x.to.0 ≡ Some u → IsAtWork script (only p xs) (members (slice_set crew x.to.0 (arrived u x))) m
   unfolding rules_with
   given u there =
       let here : slice_get (members crew) x.to.0 ≡ Some (member_of u) = at_member crew x.to.0 u there in
@@ -144,11 +145,3 @@ module _ (script : Program) (p : ℕ) (x : Signal) (xs : List Signal) (crew : Li
             ∙ sym (ap (λ f. f s q) (delivery_keeps_way (rules_of script) (members crew) (only p (x ∷ xs)) p x.to.0 (λ e. to (sym e)) x xs (ap (λ c. cond c (x ∷ xs) []) (eq-eqb p p refl)) from refl (member_of u) here n refl refl))
             ∙ ap (λ b. on_way (rules_of script) (slice_set (members crew) x.to.0 n) b s q) boxes_left;
       })
-
-  deliver_case : (o : Option Running) → slice_get crew x.to.0 ≡ o → IsAtWork script (only p xs) (members (deliver_to o x crew)) m
-  deliver_case None e = lost e
-  deliver_case (Some u) e = given u e
-
-  -- a delivery is no step
-  pub delivery_at_work : IsAtWork script (only p xs) (members (deliver_to (slice_get crew x.to.0) x crew)) m
-  delivery_at_work = deliver_case (slice_get crew x.to.0) refl

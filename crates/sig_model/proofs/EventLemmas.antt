@@ -1,48 +1,43 @@
 -- One event of a process that runs is one event of the machine's process.
-use Rattle.std.proofs.Common.{◌≡◌, ◌≢◌, ℕ, ◌<◌, ◌≤◌, List, [], ◌∷◌, ◌++◌, drop, true, false, cond, not, Option, Some, refl, sym, ap, ◌∙◌, subst, inl, inr, ◌⊎◌, arith, is_some}
+use Rattle.std.proofs.Common.{◌≡◌, ◌≢◌, ℕ, ◌<◌, List, [], ◌∷◌, ◌++◌, drop, Bool, true, false, cond, not, IfSome, Option, Some, refl, sym, ap, ◌∙◌, subst, inl, inr, ◌⊎◌, arith, is_some}
 use Rattle.std.specs.Prelude.{All, ◌==◌, slice_get}
 use Rattle.std.specs.Bool.{MatchBool}
-use Rattle.std.proofs.lemmas.Bool.{eq-eqb, ne_eqb}
+use Rattle.std.proofs.lemmas.Bool.{eq-eqb, ne_eqb, eqb-true, eqb-false, not-true}
 use Rattle.std.proofs.lemmas.List.{append-nil}
 use Rattle.std.proofs.lemmas.List.Elements.{All-append, All-filter, All-weaker, All-head, All-drop, filter_passes}
 use Rattle.sig_kinds.specs.declared.signal.Signal.{Signal}
 use Rattle.sig_runs.specs.Rules.{Effect, addressed}
-use Rattle.sig_runs.specs.LocalRun.{Local, Input, CanDo, own_left, handled_in}
+use Rattle.sig_runs.specs.LocalRun.{Input, CanDo, own_left, handled_in}
 use Rattle.sig_runs.specs.LocalRun.Input.{Execute, Handle}
 use Rattle.sig_runs.specs.Crew.{Member}
 use Rattle.sig_runs.specs.OnTheWay.{IsHandledNext, outgoing, taken_in_left}
-use Rattle.sig_runs.proofs.Steps.{act_sends, act_stamp}
 use Rattle.sig_script.specs.Scripts.{Declared, Program}
 use Rattle.sig_model.specs.declared.event.Event.{Event}
 use Rattle.sig_model.specs.ProcessState.{ProcessState, is_cut}
+use Rattle.sig_model.specs.Bodies.{Body}
+use Rattle.sig_model.specs.Executing.{executing}
 use Rattle.sig_model.specs.Machine.{execution_of, handling_of, rules_with}
 use Rattle.sig_model.specs.Running.{Running, advanced, exec_next, handled_one, handle_next}
-use Rattle.sig_model.proofs.StampLemmas.{stamps_kept}
-use Rattle.sig_model.proofs.SenderLemmas.{AreFrom, handling_from, execution_from}
-use Rattle.sig_model.proofs.Guards.{Executed, HandledOwn, HandledOther, exec_next_tells, handle_next_tells}
+use Rattle.sig_model.specs.Keeping.{IsToItself, IsLeaving}
+use Rattle.sig_model.proofs.Lookups.{some_any}
+use Rattle.sig_model.proofs.StampLemmas.{IsFinished, act_finished, numbered_sent}
+use Rattle.sig_model.proofs.Guards.{Executed, Handled, exec_next_tells, handle_next_tells}
 
 -- the process as the theory of merged runs has it
 abbrev pub member_of : Running → Member ProcessState Signal Event
 member_of r = record { local = record { state = r.state; own = r.own }; taken_in = r.taken_in; acts = [] }
 
 -- the process with this pid runs its part, and has this bound on its turns
-pub record IsPartOf (limit : ℕ) (part : ℕ → Option Declared) (p : ℕ) (r : Running) : Type 0 where
-  pub pid : r.pid ≡ p
-  pub turns : r.turns ≡ limit
-  pub proc : part p ≡ Some r.proc
+abbrev pub IsPartOf : ℕ → (ℕ → Option Declared) → ℕ → Running → Type 0
+IsPartOf limit part p r = (r.pid ≡ p) × (r.turns ≡ limit) × (part p ≡ Some r.proc)
 
--- What a process keeps: it runs its part; its own signals come from it, and are not later than its last
+-- What a process keeps: it runs its part; its own signals and those in its outbox come from it, and are not later than its last
 -- event; those that it has taken in come from others.
 pub record IsKept (limit : ℕ) (part : ℕ → Option Declared) (p : ℕ) (r : Running) : Type 0 where
   pub process : IsPartOf limit part p r
-  pub own_from : AreFrom p r.own
-  pub own_low : All (λ (x : Signal). x.stamp ≤ r.state.counts.stamp) r.own
+  pub own : All (IsToItself p r.state.counts.stamp) r.own
   pub others : All (λ (x : Signal). x.from.0 ≢ p) r.taken_in
-
--- what lies in the outbox of p comes from it and goes to others
-pub record IsOutgoing (p : ℕ) (signals : List Signal) : Type 0 where
-  pub from : AreFrom p signals
-  pub to : All (λ (x : Signal). x.to.0 ≢ p) signals
+  pub outbox : All (IsLeaving p r.state.counts.stamp) r.outbox
 
 -- r after one event, of the process p
 abbrev pub with_event : ℕ → (ℕ → Option Declared) → ℕ → Running → Input Signal → Effect ProcessState Signal Event → Running
@@ -61,7 +56,6 @@ pub record IsEvent (limit : ℕ) (part : ℕ → Option Declared) (p : ℕ) (r t
   pub effect : Effect ProcessState Signal Event
   pub can : CanDo (rules_with limit part) p (record { state = r.state; own = r.own }) input effect
   pub next : IsHandledNext (rules_with limit part) p (member_of r) input
-  pub sent : AreFrom p effect.sends
   pub is : t ≡ with_event limit part p r input effect
 
 -- of the processes of a script
@@ -71,52 +65,39 @@ IsKeptOf script p r = IsKept script.turns (slice_get script.procs) p r
 abbrev pub IsEventOf : Program → ℕ → Running → Running → Type 0
 IsEventOf script p r t = IsEvent script.turns (slice_get script.procs) p r t
 
-pub other_than : (a b : ℕ) → not (a == b) ≡ true → a ≢ b
-other_than a b h e = let f : not (a == b) ≡ false = ap (λ c. not c) (eq-eqb a b e) in let g : true ≡ false = sym h ∙ f in absurd cc
-
 module _ (limit : ℕ) (part : ℕ → Option Declared) (r : Running) (k : IsKept limit part r.pid r) where
   uncut_at : is_cut r.turns r.state ≡ false → (rules_with limit part).is_cut r.state ≡ false
   unfolding rules_with
-  uncut_at h = subst (λ n. is_cut n r.state ≡ false) k.process.turns h
+  uncut_at h = subst (λ n. is_cut n r.state ≡ false) k.process.1 h
 
-  -- after the handling of this signal, where these wait
-  abbrev made : Signal → List Signal → List Signal → Running
-  made x own taken = handled_one (record r { own = own; taken_in = taken }) x
+  -- what the machine asks of a signal x that is handled, where it is the process's own and where it isn't, and what is left then
+  abbrev Turn : Signal → Running → Bool → Type 0
+  Turn x left c =
+      MatchBool c ((rest : List Signal) × (r.own ≡ x ∷ rest)) (r.own ≡ [])
+      × MatchBool c ((rest : List Signal) × (r.own ≡ x ∷ rest)) ((rest : List Signal) × (r.taken_in ≡ x ∷ rest))
+      × (left ≡ record r { own = cond c (drop 1 r.own) r.own; taken_in = cond c r.taken_in (drop 1 r.taken_in) })
 
-  -- the oldest of its own signals is handled
-  own_event : (t : Running) → HandledOwn r t → IsEvent limit part r.pid r t
+  turn : (x : Signal) (mine : Bool) (rest : List Signal) → MatchBool mine (r.own ≡ x ∷ rest) ((r.own ≡ []) × (r.taken_in ≡ x ∷ rest)) →
+      Turn x (record r { own = cond mine rest r.own; taken_in = cond mine r.taken_in rest }) (x.from.0 == r.pid)
+  turn x true rest o =
+      let first : IsToItself r.pid r.state.counts.stamp x = All-head (IsToItself r.pid r.state.counts.stamp) x rest (subst (λ xs. All (IsToItself r.pid r.state.counts.stamp) xs) o k.own) in
+      subst (Turn x (record r { own = rest })) (sym (eq-eqb x.from.0 r.pid first.from)) ((rest, o), (rest, o), ap (λ (xs : List Signal). record r { own = drop 1 xs }) (sym o))
+  turn x false rest w =
+      let first : x.from.0 ≢ r.pid = All-head (λ (y : Signal). y.from.0 ≢ r.pid) x rest (subst (λ xs. All (λ (y : Signal). y.from.0 ≢ r.pid) xs) w.1 k.others) in
+      subst (Turn x (record r { taken_in = rest })) (sym (ne_eqb x.from.0 r.pid first)) (w.0, (rest, w.1), ap (λ (xs : List Signal). record r { taken_in = drop 1 xs }) (sym w.1))
+
+  -- its next signal is handled
+  handled_event : (t : Running) → Handled r t → IsEvent limit part r.pid r t
   unfolding rules_with
-  own_event t h =
+  handled_event t h =
       let x : Signal = h.signal in
-      let mine : (x.from.0 == r.pid) ≡ true = eq-eqb x.from.0 r.pid (All-head (λ (y : Signal). y.from.0 ≡ r.pid) x h.rest (subst (λ xs. AreFrom r.pid xs) h.there k.own_from)) in
+      let w : Turn x (record r { own = cond h.mine h.rest r.own; taken_in = cond h.mine r.taken_in h.rest }) (x.from.0 == r.pid) = turn x h.mine h.rest h.first in
       record {
         input = Handle x;
         effect = handling_of r.pid r.state x;
-        can = (
-          uncut_at h.can.uncut,
-          h.early,
-          subst (λ c. MatchBool c ((rest : List Signal) × (r.own ≡ x ∷ rest)) (r.own ≡ [])) (sym mine) (h.rest, h.there),
-          refl,
-        );
-        next = subst (λ c. MatchBool c ((rest : List Signal) × (r.own ≡ x ∷ rest)) ((rest : List Signal) × (r.taken_in ≡ x ∷ rest))) (sym mine) (h.rest, h.there);
-        sent = handling_from r.pid r.state x;
-        is = sym h.is ∙ ap (λ o. made x (drop 1 o) r.taken_in) (sym h.there) ∙ ap (λ c. made x (cond c (drop 1 r.own) r.own) (cond c r.taken_in (drop 1 r.taken_in))) (sym mine);
-      }
-
-  -- the oldest of those that it has taken in is handled
-  other_event : (t : Running) → HandledOther r t → IsEvent limit part r.pid r t
-  unfolding rules_with
-  other_event t h =
-      let x : Signal = h.signal in
-      let apart : (x.from.0 == r.pid) ≡ false =
-      ne_eqb x.from.0 r.pid (All-head (λ (y : Signal). y.from.0 ≢ r.pid) x h.rest (subst (λ xs. All (λ (y : Signal). y.from.0 ≢ r.pid) xs) h.there k.others)) in
-      record {
-        input = Handle x;
-        effect = handling_of r.pid r.state x;
-        can = (uncut_at h.can.uncut, h.early, subst (λ c. MatchBool c ((rest : List Signal) × (r.own ≡ x ∷ rest)) (r.own ≡ [])) (sym apart) h.alone, refl);
-        next = subst (λ c. MatchBool c ((rest : List Signal) × (r.own ≡ x ∷ rest)) ((rest : List Signal) × (r.taken_in ≡ x ∷ rest))) (sym apart) (h.rest, h.there);
-        sent = handling_from r.pid r.state x;
-        is = sym h.is ∙ ap (λ i. made x r.own (drop 1 i)) (sym h.there) ∙ ap (λ c. made x (cond c (drop 1 r.own) r.own) (cond c r.taken_in (drop 1 r.taken_in))) (sym apart);
+        can = (uncut_at h.can.uncut, h.early, w.0, refl);
+        next = w.1;
+        is = sym h.is ∙ ap (λ (z : Running). handled_one z x) w.2;
       }
 
   -- its next instruction is executed
@@ -127,15 +108,10 @@ module _ (limit : ℕ) (part : ℕ → Option Declared) (r : Running) (k : IsKep
       record {
         input = Execute;
         effect = h.effect;
-        can = (alive, uncut_at h.can.uncut, h.can.alone, ap (λ o. execution_of r.pid o r.state) k.process.proc ∙ h.is_effect);
+        can = (alive, uncut_at h.can.uncut, h.can.alone, ap (λ o. execution_of r.pid o r.state) k.process.2 ∙ h.is_effect);
         next = tt;
-        sent = execution_from r.pid r.proc r.state h.effect h.is_effect;
         is = sym h.is ∙ ap (λ z. record (advanced r h.effect) { handled = z }) (sym (append-nil r.handled));
       }
-
-  handled_event : (t : Running) → HandledOwn r t ⊎ HandledOther r t → IsEvent limit part r.pid r t
-  handled_event t (inl h) = own_event t h
-  handled_event t (inr h) = other_event t h
 
 -- one step of a process: it handles its next signal, or executes its next instruction
 abbrev pub IsStep : Running → Running → Type 0
@@ -147,7 +123,7 @@ step_here limit part r t k (inr e) = executed_event limit part r k t (exec_next_
 
 -- a step is an event
 pub step_event : (limit : ℕ) (part : ℕ → Option Declared) (p : ℕ) (r t : Running) → IsKept limit part p r → IsStep r t → IsEvent limit part p r t
-step_event limit part p r t k e = subst (λ q. IsKept limit part q r → IsEvent limit part q r t) k.process.pid (λ j. step_here limit part r t j e) k
+step_event limit part p r t k e = subst (λ q. IsKept limit part q r → IsEvent limit part q r t) k.process.0 (λ j. step_here limit part r t j e) k
 
 module _ (limit : ℕ) (part : ℕ → Option Declared) (p : ℕ) (r t : Running) (e : IsEvent limit part p r t) where
   pub own_left_all : (P : Signal → Type 0) (i : Input Signal) (own : List Signal) → All P own → All P (own_left (rules_with limit part) p i own)
@@ -158,41 +134,44 @@ module _ (limit : ℕ) (part : ℕ → Option Declared) (p : ℕ) (r t : Running
   taken_in_all P Execute xs h = h
   taken_in_all P (Handle x) xs h = elim ((rules_with limit part).from x == p) as (λ c. All P (cond c xs (drop 1 xs))) [ true ↦ h | false ↦ All-drop P 1 xs h ]
 
-  abbrev alone : Local ProcessState Signal
-  alone = record { state = r.state; own = r.own }
+  abbrev last : ℕ
+  last = e.effect.state.counts.stamp
 
-  -- its stamp is that of the state after it, and above that of the state before
-  pub event_stamps : (e.effect.event.stamp ≡ e.effect.state.counts.stamp) × (r.state.counts.stamp < e.effect.event.stamp)
-  unfolding rules_with
-  event_stamps = act_stamp (rules_with limit part) (stamps_kept limit part) p alone e.input e.effect e.can
+  finished : IsFinished (λ (b : Body). Unit {0}) p r.state e.effect
+  finished =
+      act_finished limit part p r.state r.own (λ (b : Body). Unit {0}) e.effect e.input
+      (some_any (λ (q : Declared). IfSome (executing q r.state) (λ (b : Body). Unit {0})) (part p) (λ q. some_any (λ (b : Body). Unit {0}) (executing q r.state) (λ b. tt))) (λ i d lt. tt) e.can
 
-  -- the signals that it sends have it
-  pub sent_low : All (λ (x : Signal). x.stamp ≤ e.effect.state.counts.stamp) e.effect.sends
-  unfolding rules_with
-  sent_low =
-      All-weaker (λ x. x.stamp ≡ e.effect.event.stamp) (λ x. x.stamp ≤ e.effect.state.counts.stamp) (λ x q. omega (arith, q, event_stamps.0)) e.effect.sends
-      (act_sends (rules_with limit part) (stamps_kept limit part) p alone e.input e.effect e.can)
+  later : r.state.counts.stamp < last
+  later = subst (λ (z : Effect ProcessState Signal Event). r.state.counts.stamp < z.state.counts.stamp) finished.is finished.later
+
+  -- the signals that it sends come from it, and have its stamp
+  sent : All (λ (x : Signal). (x.from.0 ≡ p) × (x.stamp ≡ last)) e.effect.sends
+  sent =
+      subst (λ (z : Effect ProcessState Signal Event). All (λ (x : Signal). (x.from.0 ≡ p) × (x.stamp ≡ z.state.counts.stamp)) z.sends) finished.is
+      (numbered_sent p finished.stamp r.state.counts.next_numbers finished.body.posts)
 
   -- an event keeps what a process keeps
-  pub event_kept : IsKept limit part p r → IsKept limit part p t
+  pub event_keeps : IsKept limit part p r → IsKept limit part p (with_event limit part p r e.input e.effect)
   unfolding rules_with
-  event_kept k =
-      let low : All (λ (x : Signal). x.stamp ≤ e.effect.state.counts.stamp) r.own =
-      All-weaker (λ x. x.stamp ≤ r.state.counts.stamp) (λ x. x.stamp ≤ e.effect.state.counts.stamp) (λ x q. omega (arith, q, event_stamps.0, event_stamps.1)) r.own k.own_low in
-      subst (λ z. IsKept limit part p z) (sym e.is)
-      (record {
-        process = record { pid = k.process.pid; turns = k.process.turns; proc = k.process.proc };
-        own_from = All-append (λ (x : Signal). x.from.0 ≡ p) _ _ (own_left_all (λ x. x.from.0 ≡ p) e.input r.own k.own_from) (All-filter (λ (x : Signal). x.to.0 == p) (λ x. x.from.0 ≡ p) e.effect.sends e.sent);
-        own_low = All-append (λ (x : Signal). x.stamp ≤ e.effect.state.counts.stamp) _ _ (own_left_all (λ x. x.stamp ≤ e.effect.state.counts.stamp) e.input r.own low)
-            (All-filter (λ (x : Signal). x.to.0 == p) (λ x. x.stamp ≤ e.effect.state.counts.stamp) e.effect.sends sent_low);
+  event_keeps k =
+      let own : All (IsToItself p last) r.own =
+      All-weaker (IsToItself p r.state.counts.stamp) (IsToItself p last) (λ x h. record { from = h.from; to = h.to; stamp = omega (arith, h.stamp, later) }) r.own k.own in
+      let out : All (IsLeaving p last) r.outbox =
+      All-weaker (IsLeaving p r.state.counts.stamp) (IsLeaving p last) (λ x h. record { from = h.from; to = h.to; stamp = omega (arith, h.stamp, later) }) r.outbox k.outbox in
+      let here : Signal → Bool = λ x. x.to.0 == p in
+      let away : Signal → Bool = λ x. not (x.to.0 == p) in
+      let is_sent : Signal → Type 0 = λ x. (x.from.0 ≡ p) × (x.stamp ≡ last) in
+      let mine : All is_sent (addressed (rules_with limit part) p e.effect.sends) = All-filter here is_sent e.effect.sends sent in
+      let gone : All is_sent (outgoing (rules_with limit part) p e.effect.sends) = All-filter away is_sent e.effect.sends sent in
+      record {
+        process = k.process;
+        own = All-append (IsToItself p last) _ _ (own_left_all (IsToItself p last) e.input r.own own)
+            (λ i d lt. record { from = (mine i d lt).0; to = eqb-true _ p (filter_passes here e.effect.sends i d lt); stamp = omega (arith, (mine i d lt).1) });
         others = taken_in_all (λ x. x.from.0 ≢ p) e.input r.taken_in k.others;
-      })
+        outbox = All-append (IsLeaving p last) r.outbox _ out
+            (λ i d lt. record { from = (gone i d lt).0; to = eqb-false _ p (not-true _ (filter_passes away e.effect.sends i d lt)); stamp = omega (arith, (gone i d lt).1) });
+      }
 
-  -- and its signals to others join those in the outbox
-  pub event_outgoing : IsOutgoing p r.outbox → IsOutgoing p t.outbox
-  unfolding rules_with
-  event_outgoing o = subst (λ (z : Running). IsOutgoing p z.outbox) (sym e.is) (record {
-    from = All-append (λ (x : Signal). x.from.0 ≡ p) r.outbox _ o.from (All-filter (λ (x : Signal). not (x.to.0 == p)) (λ x. x.from.0 ≡ p) e.effect.sends e.sent);
-    to = All-append (λ (x : Signal). x.to.0 ≢ p) r.outbox _ o.to
-        (All-weaker (λ x. not (x.to.0 == p) ≡ true) (λ x. x.to.0 ≢ p) (λ x q. other_than x.to.0 p q) _ (filter_passes (λ (x : Signal). not (x.to.0 == p)) e.effect.sends));
-  })
+  pub event_kept : IsKept limit part p r → IsKept limit part p t
+  event_kept k = subst (λ z. IsKept limit part p z) (sym e.is) (event_keeps k)

@@ -1,10 +1,11 @@
 -- What holds of every name in the values of the variables, and of those in the term that is matched, holds of all that a match binds:
 -- each bound term is a part of that term.
-use Rattle.std.proofs.Common.{ℕ, List, [], ◌∷◌, map, Bool, true, false, cond, All, IfSome, Option, Some, None, option_and_then, sym, subst}
+use Rattle.std.proofs.Common.{ℕ, List, [], ◌∷◌, map, All, IfSome, Option, Some, None, option_and_then, sym, subst}
 use Rattle.std.specs.Option.{option_map, option_or}
 use Rattle.std.specs.Ordering.{nat_cmp, eq_by_cmp}
 use Rattle.std.specs.Cmp.Lexicographic.{slice_cmp, nat_list_cmp_total}
 use Rattle.std.specs.FinMap.{empty, get, insert, get-empty, get-insert}
+use Rattle.std.proofs.lemmas.Bool.{cond_both}
 use Rattle.std.proofs.lemmas.List.Elements.{All-nil, All-cons, All-head, All-tail}
 use Rattle.sig_terms.specs.TermTest.{same_term}
 use Rattle.sig_terms.specs.declared.term.Term.{Term, out-Term}
@@ -24,11 +25,11 @@ use Rattle.sig_patterns.specs.Scanning.{Hit, hit_by, behind_clause, behind_messa
 use Rattle.sig_model.specs.Names.{EnvironmentNames}
 
 -- what holds of the value, where there is one, through a step that may fail, and through a function
-pub some_then : {A B : Type 0} (P : A → Type 0) (Q : B → Type 0) (f : A → Option B) (o : Option A) → IfSome o P → ((x : A) → P x → IfSome (f x) Q) → IfSome (option_and_then f o) Q
+some_then : {A B : Type 0} (P : A → Type 0) (Q : B → Type 0) (f : A → Option B) (o : Option A) → IfSome o P → ((x : A) → P x → IfSome (f x) Q) → IfSome (option_and_then f o) Q
 some_then P Q f None h g = tt
 some_then P Q f (Some x) h g = g x h
 
-pub some_mapped : {A B : Type 0} (P : A → Type 0) (Q : B → Type 0) (f : A → B) (o : Option A) → IfSome o P → ((x : A) → P x → Q (f x)) → IfSome (option_map f o) Q
+some_mapped : {A B : Type 0} (P : A → Type 0) (Q : B → Type 0) (f : A → B) (o : Option A) → IfSome o P → ((x : A) → P x → Q (f x)) → IfSome (option_map f o) Q
 some_mapped P Q f None h g = tt
 some_mapped P Q f (Some x) h g = g x h
 
@@ -40,15 +41,11 @@ module _ (P : Named → Type 0) where
   pub empty_names : EnvironmentNames P empty
   empty_names var = subst (λ o. IfSome o (AllNames P)) (sym (get-empty {X = Term} (slice_cmp nat_cmp) var)) tt
 
-  inserted : (b : Bool) (t : Term) (o : Option Term) → AllNames P t → IfSome o (AllNames P) → IfSome (cond b (Some t) o) (AllNames P)
-  inserted true t o h k = h
-  inserted false t o h k = k
-
   -- a variable gets a value
   pub insert_names : (env : Environment) (var : List ℕ) (t : Term) → EnvironmentNames P env → AllNames P t → EnvironmentNames P (insert env var t)
   insert_names env var t names h q =
       subst (λ o. IfSome o (AllNames P)) (sym (get-insert nat_list_cmp_total env var t q))
-      (inserted (eq_by_cmp (slice_cmp nat_cmp) q var) t (get env q) h (names q))
+      (cond_both (eq_by_cmp (slice_cmp nat_cmp) q var) (Some t) (get env q) (λ o. IfSome o (AllNames P)) (λ e. h) (λ e. names q))
 
   -- the terms that are bound
   abbrev BoundNames : Bindings → Type 0
@@ -64,12 +61,8 @@ module _ (P : Named → Type 0) where
   abbrev MatcherNames : Matcher → Type 0
   MatcherNames m = (t : Term) (bound : Bindings) → AllNames P t → BoundNames bound → IfSome (m t bound) BoundNames
 
-  asked : (b : Bool) (bound : Bindings) → BoundNames bound → IfSome (cond b (Some bound) None) BoundNames
-  asked true bound h = h
-  asked false bound h = tt
-
   asking_names : (wanted : Term) → MatcherNames (asking wanted)
-  asking_names wanted t bound k h = asked (same_term wanted t) bound h
+  asking_names wanted t bound k h = cond_both (same_term wanted t) (Some bound) None (λ o. IfSome o BoundNames) (λ e. h) (λ e. tt)
 
   binding_names : (o : Option Term) (var : List ℕ) → MatcherNames (binding o var)
   binding_names None var t bound k h = All-cons (λ (b : List ℕ × Term). AllNames P b.1) (var, t) bound k h

@@ -1,29 +1,25 @@
 -- The numbers of the signals that a process sends count up from 1, for each receiver.
-use Rattle.std.proofs.Common.{◌≡◌, ◌≢◌, ℕ, zero, suc, ◌+◌, ◌<◌, List, [], ◌∷◌, ◌++◌, length, set, true, false, cond, Option, Some, None, refl, sym, ap, ◌∙◌, subst, inl, inr, ◌⊎◌, arith, length-append, length-set}
+use Rattle.std.proofs.Common.{◌≡◌, ◌≢◌, ℕ, ◌+◌, ◌<◌, List, [], ◌∷◌, ◌++◌, length, set, true, false, cond, refl, sym, ap, ◌∙◌, subst, inl, inr, ◌⊎◌, arith, length-append, length-set}
 use Rattle.std.specs.Prelude.{◌==◌, slice_index, replicate}
-use Rattle.std.specs.Option.{option_map}
 use Rattle.std.proofs.lemmas.Bool.Decides.{eqb_tells}
-use Rattle.std.proofs.lemmas.List.{get_or-set_same, get_or-set_other}
+use Rattle.std.proofs.lemmas.List.{get_or-set_same, get_or-set_other, length-replicate, get_or-replicate}
 use Rattle.std.proofs.lemmas.List.Elements.{filter-append}
-use Rattle.std.proofs.lemmas.Option.{same_Some}
 use Rattle.sig_kinds.specs.declared.signal.Signal.{Signal}
 use Rattle.sig_kinds.specs.Counting.{IsCounting}
 use Rattle.sig_script.specs.Scripts.{Declared}
 use Rattle.sig_runs.specs.Rules.{Effect}
 use Rattle.sig_runs.specs.LocalRun.{Input, CanDo}
-use Rattle.sig_runs.specs.LocalRun.Input.{Execute, Handle}
 use Rattle.sig_runs.proofs.Replay.{one_more}
 use Rattle.sig_model.specs.declared.event.Event.{Event}
 use Rattle.sig_model.specs.ProcessState.{ProcessState}
 use Rattle.sig_model.specs.Bodies.{Post, Body}
 use Rattle.sig_model.specs.Executing.{executing}
-use Rattle.sig_model.specs.Handling.{handling}
-use Rattle.sig_model.specs.Finishing.{drawn, numbers_after, numbered, finished_exec}
-use Rattle.sig_model.specs.Machine.{rules_with}
-use Rattle.sig_model.specs.Running.{Running, opened, exec_next, handle_next}
+use Rattle.sig_model.specs.Finishing.{drawn, numbers_after, numbered}
+use Rattle.sig_model.specs.Running.{Running, opened}
 use Rattle.sig_model.specs.Keeping.{opening_local, local_of, IsKeeping}
 use Rattle.sig_model.specs.Accounts.{sent_by, bound_for, went, IsNumbered}
-use Rattle.sig_model.proofs.StampLemmas.{stamps_kept}
+use Rattle.sig_model.proofs.Lookups.{some_any}
+use Rattle.sig_model.proofs.StampLemmas.{IsFinished, act_finished, stamps_kept}
 use Rattle.sig_model.proofs.EventLemmas.{IsEvent, IsStep, step_event}
 use Rattle.sig_model.proofs.KeepLemmas.{part, rules, is_kept}
 
@@ -78,20 +74,14 @@ record IsDrawn (numbers : List ℕ) (f : Effect ProcessState Signal Event) : Typ
   long : length f.state.counts.next_numbers ≡ length numbers
   draws : (p n : ℕ) → p < length numbers → slice_index numbers p ≡ n → Draws p n f.state.counts.next_numbers f.sends
 
-drawn_exec : (pid : ℕ) (s : ProcessState) (o : Option Body) (f : Effect ProcessState Signal Event) → option_map (finished_exec pid s) o ≡ Some f → IsDrawn s.counts.next_numbers f
-drawn_exec pid s None f h = cc
-drawn_exec pid s (Some body) f h =
-    subst (λ (z : Effect ProcessState Signal Event). IsDrawn s.counts.next_numbers z) (same_Some (finished_exec pid s body) f h)
-    (record { long = length_numbers s.counts.next_numbers body.posts; draws = λ p n lt at. draws pid _ p n s.counts.next_numbers body.posts lt at })
-
 drawn_by : (r : Running) (i : Input Signal) (f : Effect ProcessState Signal Event) → CanDo (rules r) r.pid (local_of r) i f → IsDrawn r.state.counts.next_numbers f
-unfolding rules_with
-drawn_by r Execute f can = drawn_exec r.pid r.state (executing r.proc r.state) f can.3
-drawn_by r (Handle x) f can =
-    subst (λ (z : Effect ProcessState Signal Event). IsDrawn r.state.counts.next_numbers z) can.3
+drawn_by r i f can =
+    let d : IsFinished (λ (b : Body). Unit {0}) r.pid r.state f =
+    act_finished r.turns (part r) r.pid r.state r.own (λ (b : Body). Unit {0}) f i (some_any (λ (b : Body). Unit {0}) (executing r.proc r.state) (λ b. tt)) (λ j d lt. tt) can in
+    subst (λ (z : Effect ProcessState Signal Event). IsDrawn r.state.counts.next_numbers z) d.is
     (record {
-      long = length_numbers r.state.counts.next_numbers (handling r.pid r.state x).posts;
-      draws = λ p n lt at. draws r.pid _ p n r.state.counts.next_numbers (handling r.pid r.state x).posts lt at;
+      long = length_numbers r.state.counts.next_numbers d.body.posts;
+      draws = λ p n lt at. draws r.pid d.stamp p n r.state.counts.next_numbers d.body.posts lt at;
     })
 
 module _ (r t : Running) (k : IsKeeping r) (e : IsEvent r.turns (part r) r.pid r t) where
@@ -123,35 +113,16 @@ module _ (r t : Running) (k : IsKeeping r) (e : IsEvent r.turns (part r) r.pid r
             ∙ ap (λ z. length z + 1) (sym (went_more p));
       }
 
-step_numbered : (r t : Running) → IsKeeping r → IsStep r t → IsNumbered r → IsNumbered t
-step_numbered r t k step n = event_numbered r t k (step_event r.turns (part r) r.pid r t (is_kept r k) step) n
-
 -- the next instruction is executed, or the next signal handled
-pub exec_numbered : (r t : Running) → IsKeeping r → IsNumbered r → exec_next r ≡ Some t → IsNumbered t
-exec_numbered r t k n e = step_numbered r t k (inr e) n
-
-pub handle_numbered : (r t : Running) → IsKeeping r → IsNumbered r → handle_next r ≡ Some t → IsNumbered t
-handle_numbered r t k n e = step_numbered r t k (inl e) n
+pub step_numbered : (r t : Running) → IsKeeping r → IsNumbered r → IsStep r t → IsNumbered t
+step_numbered r t k n step = event_numbered r t k (step_event r.turns (part r) r.pid r t (is_kept r k) step) n
 
 -- the process as the script opens it has sent nothing
-ones_long : (count : ℕ) → length {A = ℕ} (replicate count 1) ≡ count
-ones_long zero = refl
-ones_long (suc count) = ap suc (ones_long count)
-
-one_at : (count p : ℕ) → p < count → slice_index (replicate count 1) p ≡ 1
-one_at zero p lt = (let f : ⊥ = omega (arith, lt) in absurd f)
-one_at (suc count) zero lt = refl
-one_at (suc count) (suc p) lt = one_at count p (omega (arith, lt))
-
 pub opened_numbered : (pid count turns : ℕ) (p : Declared) → IsNumbered (opened pid count turns p)
 unfolding sent_by
-opened_numbered pid count turns p = record { many = ones_long count; counted = λ q lt. tt; next = λ q lt. one_at count q lt }
+opened_numbered pid count turns p = record { many = length-replicate count 1; counted = λ q lt. tt; next = λ q lt. get_or-replicate count q 1 0 lt }
 
 -- signals that come to it, and signals that leave its outbox
-pub arrivals_numbered : (r : Running) (xs : List Signal) → IsNumbered r → IsNumbered (record r { taken_in = r.taken_in ++ xs })
+pub lists_numbered : (r : Running) (taken out : List Signal) → IsNumbered r → IsNumbered (record r { taken_in = taken; outbox = out })
 unfolding sent_by
-arrivals_numbered r xs n = record { many = n.many; counted = n.counted; next = n.next }
-
-pub outbox_numbered : (r : Running) (left : List Signal) → IsNumbered r → IsNumbered (record r { outbox = left })
-unfolding sent_by
-outbox_numbered r left n = record { many = n.many; counted = n.counted; next = n.next }
+lists_numbered r taken out n = record { many = n.many; counted = n.counted; next = n.next }

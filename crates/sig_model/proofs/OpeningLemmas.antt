@@ -1,9 +1,9 @@
 -- The crew as a script opens it is the opening of the machine.
-use Rattle.std.proofs.Common.{◌≡◌, ◌≢◌, ℕ, zero, suc, ◌+◌, ◌≤◌, List, [], ◌∷◌, ◌++◌, map, length, Bool, true, false, cond, Option, Some, None, refl, sym, ap, ◌∙◌, subst, arith}
+use Rattle.std.proofs.Common.{◌≡◌, ◌≢◌, ℕ, zero, suc, ◌+◌, List, [], ◌∷◌, ◌++◌, map, length, Bool, true, false, cond, Option, Some, None, refl, sym, ap, ◌∙◌, subst, arith}
 use Rattle.std.specs.Prelude.{◌==◌, slice_get}
 use Rattle.std.specs.Option.{option_map}
 use Rattle.std.proofs.lemmas.List.Elements.{All-nil, All-cons}
-use Rattle.std.proofs.lemmas.Option.{slice_get-map, same_Some}
+use Rattle.std.proofs.lemmas.Option.{slice_get-map}
 use Rattle.sig_kinds.specs.declared.signal.Signal.{Signal}
 use Rattle.sig_runs.specs.Rules.{addressed}
 use Rattle.sig_runs.specs.Crew.{opening_machine}
@@ -13,7 +13,9 @@ use Rattle.sig_model.specs.ProcessState.{opening_state}
 use Rattle.sig_model.specs.Machine.{rules_of, opening_from, opening_of}
 use Rattle.sig_model.specs.Running.{Running, opened}
 use Rattle.sig_model.specs.OneWorker.{opened_from, opened_crew, IsClear}
+use Rattle.sig_model.specs.Keeping.{IsToItself, IsLeaving}
 use Rattle.sig_model.specs.SettledRun.{events_of}
+use Rattle.sig_model.proofs.Lookups.{mapped_tells}
 use Rattle.sig_model.proofs.EventLemmas.{member_of, IsKeptOf}
 use Rattle.sig_model.proofs.CrewLemmas.{Mate, members}
 use Rattle.sig_model.proofs.ReachLemmas.{IsBetweenVisits}
@@ -44,23 +46,29 @@ module _ (script : Program) where
   abbrev of_place : ℕ → Option Declared → Option Running
   of_place q o = option_map (opened (0 + q) count script.turns) o
 
-  pub at_place : (q : ℕ) → slice_get (opened_crew script) q ≡ of_place q (slice_get script.procs q)
+  at_place : (q : ℕ) → slice_get (opened_crew script) q ≡ of_place q (slice_get script.procs q)
   at_place q = opened_at 0 count script.turns script.procs q
 
   no_events : (q : ℕ) (o : Option Declared) → [] ≡ events_of (of_place q o)
   no_events q None = refl
   no_events q (Some p) = refl
 
-  kept_opening : (q : ℕ) (o : Option Declared) (r : Running) → slice_get script.procs q ≡ o → of_place q o ≡ Some r → IsKeptOf script q r
-  kept_opening q None r there e = cc
-  kept_opening q (Some p) r there e =
-      subst (λ z. IsKeptOf script q z) (same_Some (opened (0 + q) count script.turns p) r e)
-      (record {
-        process = record { pid = (let f : 0 + q ≡ q = omega arith in f); turns = refl; proc = there };
-        own_from = All-nil (λ (x : Signal). x.from.0 ≡ q);
-        own_low = All-nil (λ (x : Signal). x.stamp ≤ 0);
-        others = All-nil (λ (x : Signal). x.from.0 ≢ q);
-      })
+  -- the process at q is that part of the script, opened
+  pub record IsOpened (q : ℕ) (r : Running) : Type 0 where
+    pub part : Declared
+    pub there : slice_get script.procs q ≡ Some part
+    pub is : opened q count script.turns part ≡ r
+
+  pub opened_tells : (q : ℕ) (r : Running) → slice_get (opened_crew script) q ≡ Some r → IsOpened q r
+  opened_tells q r e =
+      let w : (p : Declared) × (slice_get script.procs q ≡ Some p) × (opened (0 + q) count script.turns p ≡ r) = mapped_tells (opened (0 + q) count script.turns) (slice_get script.procs q) r (sym (at_place q) ∙ e) in
+      record { part = w.0; there = w.1; is = ap (λ n. opened n count script.turns w.0) (let f : q ≡ 0 + q = omega arith in f) ∙ w.2 }
+
+  kept_opening : (q : ℕ) (r : Running) → slice_get (opened_crew script) q ≡ Some r → IsKeptOf script q r
+  kept_opening q r e =
+      let o : IsOpened q r = opened_tells q r e in
+      subst (λ z. IsKeptOf script q z) o.is
+      (record { process = (refl, refl, o.there); own = All-nil (IsToItself q 0); others = All-nil (λ (x : Signal). x.from.0 ≢ q); outbox = All-nil (IsLeaving q 0) })
 
   none_on_way : (s t : ℕ) (c : Bool) (o : Option Declared) →
       [] ≡ cond c (own_part (option_map member_of (of_place t o))) (taken_in_part (rules_of script) s (option_map member_of (of_place t o)) ++ addressed (rules_of script) t [])
@@ -82,7 +90,7 @@ module _ (script : Program) where
       run = refl;
       at_work = record { states = states_from 0 count script.turns script.procs; queued = λ s t lt. opening_way s t };
       told = λ q. no_events q (slice_get script.procs q) ∙ sym (ap (λ o. events_of o) (at_place q));
-      kept = λ q r there. kept_opening q (slice_get script.procs q) r refl (sym (at_place q) ∙ there);
+      kept = kept_opening;
       many = opened_length 0 count script.turns script.procs;
     };
     clear = clear_from 0 count script.turns script.procs;

@@ -1,5 +1,5 @@
 -- How many of the signals that one event sends are to one peer, and what they do to the next number for it.
-use Rattle.std.proofs.Common.{◌≡◌, ℕ, zero, suc, ◌+◌, ◌≤◌, ◌<◌, List, [], ◌∷◌, ◌++◌, map, length, Bool, true, false, cond, ◌&&◌, ◌==◌, nat_lt, None, refl, sym, ap, subst, ◌∙◌, arith}
+use Rattle.std.proofs.Common.{◌≡◌, ℕ, zero, suc, ◌+◌, ◌≤◌, ◌<◌, List, [], ◌∷◌, map, length, Bool, true, false, cond, ◌&&◌, ◌==◌, nat_lt, None, refl, sym, subst, ◌∙◌, arith}
 use Rattle.std.specs.Prelude.{T, slice_index, slice_set}
 use Rattle.std.specs.declared.cmp.Ordering.TheVariants.{Less, Equal, Greater}
 use Rattle.std.specs.Ordering.{nat_cmp, is_lt}
@@ -7,8 +7,7 @@ use Rattle.std.specs.FinMap.{entries, entries_sorted, is_sorted}
 use Rattle.std.specs.FinMap.Entries.{below_all}
 use Rattle.std.proofs.lemmas.Bool.{ltb-true, eqb-true}
 use Rattle.std.proofs.lemmas.Bool.Decides.{nat_tests}
-use Rattle.std.proofs.lemmas.List.{get_or-set_other, length-append}
-use Rattle.std.proofs.lemmas.List.Elements.{filter-append}
+use Rattle.std.proofs.lemmas.List.{get_or-set_other}
 use Rattle.sig_terms.specs.declared.term.Term.{Term}
 use Rattle.sig_kinds.specs.declared.signal.Kind.TheVariants.{Exit}
 use Rattle.sig_kinds.specs.LinkRules.{LinkState, active_after}
@@ -53,13 +52,6 @@ numbers_grow numbers (p ∷ ps) peer =
     let later : slice_index (numbers_after (drawn numbers p.to) ps) peer ≤ slice_index (drawn numbers p.to) peer + posts_to peer ps = numbers_grow (drawn numbers p.to) ps peer in
     let count : posts_to peer (p ∷ ps) ≡ cond (p.to == peer) 1 0 + posts_to peer ps = posts_to-cons peer p ps in
     omega (arith, first, later, count)
-
--- while only some of the signals are sent too
-pub numbers_grow_within : (numbers : List ℕ) (sent left : List Post) (peer : ℕ) → slice_index (numbers_after numbers sent) peer ≤ slice_index numbers peer + posts_to peer (sent ++ left)
-numbers_grow_within numbers sent left peer =
-    let grown : slice_index (numbers_after numbers sent) peer ≤ slice_index numbers peer + posts_to peer sent = numbers_grow numbers sent peer in
-    let both : posts_to peer (sent ++ left) ≡ posts_to peer sent + posts_to peer left = ap length (filter-append (λ (q : Post). q.to == peer) sent left) ∙ length-append _ _ in
-    omega (arith, grown, both)
 
 -- a process that ends tells each peer once, since no two keys of a map are equal
 below : (b c : Bool) → T (is_lt (cond b Less (cond c Equal Greater))) → b ≡ true

@@ -1,16 +1,14 @@
 -- The run of one worker is a settled run of the machine.
-use Rattle.std.proofs.Common.{◌≡◌, ℕ, suc, ◌<◌, ◌≤◌, ◌^◌, ◌⊎◌, inl, inr, List, [], ◌∷◌, ◌++◌, map, length, Bool, true, false, cond, not, ◌&&◌, ◌||◌, Option, Some, None, refl, sym, ap, ◌∙◌, subst, append_assoc, arith, nat_le, is_none, is_some}
+use Rattle.std.proofs.Common.{◌≡◌, ℕ, suc, ◌<◌, ◌≤◌, ◌⊎◌, inl, inr, List, [], ◌∷◌, ◌++◌, map, length, Bool, true, false, not, ◌&&◌, ◌||◌, Option, Some, None, refl, sym, ap, ◌∙◌, subst, append_assoc, arith, nat_le, is_none, is_some}
 use Rattle.std.specs.Prelude.{All, IsSome, ◌==◌, nat_lt, slice_get}
 use Rattle.std.specs.List.{list_any}
 use Rattle.std.specs.Option.{option_map}
-use Rattle.std.proofs.lemmas.Bool.{ne_eqb}
-use Rattle.std.proofs.lemmas.Bool.Decides.{nat_tests}
+use Rattle.std.proofs.lemmas.Bool.{ne_eqb, le-leb, lt-ltb, ltb-false, or_right, cases_Bool}
 use Rattle.std.proofs.lemmas.List.{append-nil}
-use Rattle.std.proofs.lemmas.List.Elements.{All-head}
+use Rattle.std.proofs.lemmas.List.Elements.{All-head, All-weaker}
 use Rattle.std.proofs.lemmas.Option.{slice_get-map, slice_get_within, same_Some}
 use Rattle.sig_terms.specs.declared.term.Term.{Term}
 use Rattle.sig_kinds.specs.declared.signal.Signal.{Signal}
-use Rattle.sig_runs.specs.Rules.{Effect}
 use Rattle.sig_runs.specs.Machine.{At, is_empty}
 use Rattle.sig_runs.specs.Settled.{IsAtRest, IsSettled}
 use Rattle.sig_runs.specs.Quiet.{IsQuiet, CutsHigh, next_signal, is_low}
@@ -22,16 +20,17 @@ use Rattle.sig_script.specs.Scripts.{Program}
 use Rattle.sig_model.specs.declared.event.Event.{Event}
 use Rattle.sig_model.specs.declared.state.TheConstants.{LAST_STAMP}
 use Rattle.sig_model.specs.ProcessState.{ProcessState, is_cut}
-use Rattle.sig_model.specs.Bodies.{Body}
 use Rattle.sig_model.specs.Executing.{executing, IsWaiting}
 use Rattle.sig_model.specs.Finishing.{finished_exec}
 use Rattle.sig_model.specs.Machine.{rules_of, rules_with, execution, execution_of}
-use Rattle.sig_model.specs.Running.{Running, advanced, next_of, is_early, can_handle, can_exec, exec_next}
+use Rattle.sig_model.specs.Running.{Running, advanced, next_of, is_early, can_handle, can_exec}
 use Rattle.sig_model.specs.OneWorker.{RunsTo, rests, goes, pass, opened_crew}
 use Rattle.sig_model.specs.PrintedState.{is_late_signal, is_late}
 use Rattle.sig_model.specs.SettledRun.{IsMachineOf, IsResting, IsSettledRun}
 use Rattle.sig_model.specs.MadeEvents.{made_in_pass, Makes}
 use Rattle.sig_model.specs.MadeEvents.{none, passes}
+use Rattle.sig_model.specs.Keeping.{IsToItself}
+use Rattle.sig_model.proofs.Lookups.{mapped_none}
 use Rattle.sig_model.proofs.StampLemmas.{stamps_kept}
 use Rattle.sig_model.proofs.Waiting.{waiting_iff}
 use Rattle.sig_model.proofs.Guards.{uncut_stamp, exec_due}
@@ -40,22 +39,6 @@ use Rattle.sig_model.proofs.CrewLemmas.{Mate, members, at_member}
 use Rattle.sig_model.proofs.ReachLemmas.{IsReached, IsBetweenVisits, rest_pass}
 use Rattle.sig_model.proofs.StillLemmas.{IsStill, still_pass}
 use Rattle.sig_model.proofs.OpeningLemmas.{opening_reached}
-
-is_high : (turns : ℕ) (s : ProcessState) → 2 ^ 62 ≤ s.counts.stamp → is_cut turns s ≡ true
-is_high turns s h = or_high (is_none s.tables.end && nat_le turns s.counts.executed) (nat_le LAST_STAMP s.counts.stamp) (reaches LAST_STAMP s.counts.stamp h)
-  where
-    or_high : (a b : Bool) → b ≡ true → (a || b) ≡ true
-    or_high true b h = refl
-    or_high false b h = h
-
-    reaches : (a b : ℕ) → a ≤ b → nat_le a b ≡ true
-    reaches a b h = grind (arith, nat_tests)
-
-is_below : (a b : ℕ) → a < b → nat_lt a b ≡ true
-is_below a b h = grind (arith, nat_tests)
-
-is_above : (a b : ℕ) → nat_lt a b ≡ false → nat_le b a ≡ true
-is_above a b h = grind (arith, nat_tests)
 
 can_exec_at : (r : Running) → r.state.tables.end ≡ None → is_cut r.turns r.state ≡ false → r.own ≡ [] → can_exec r ≡ true
 unfolding can_exec
@@ -84,7 +67,7 @@ one_run _ a b (goes crew _ h more) other = one_run (pass crew).0 a b more (from_
 module _ (script : Program) where
   cuts_high : CutsHigh (rules_of script)
   unfolding rules_with
-  cuts_high s h = is_high script.turns s h
+  cuts_high s h = or_right (is_none s.tables.end && nat_le script.turns s.counts.executed) (nat_le LAST_STAMP s.counts.stamp) (le-leb LAST_STAMP s.counts.stamp h)
 
   same_next : (own taken : List Signal) → is_low (rules_of script) (next_signal own taken) ≡ is_early (next_of own taken)
   unfolding rules_with
@@ -107,7 +90,7 @@ module _ (script : Program) where
   module _ (p : ℕ) (r : Running) (k : IsKeptOf script p r) (s : IsStill r) where
     same_cut : (rules_of script).is_cut r.state ≡ is_cut r.turns r.state
     unfolding rules_with
-    same_cut = ap (λ n. is_cut n r.state) (sym k.process.turns)
+    same_cut = ap (λ n. is_cut n r.state) (sym k.process.1)
 
     no_handle : may_handle (rules_of script) (member_of r) ≡ false
     unfolding can_handle
@@ -121,36 +104,33 @@ module _ (script : Program) where
         ∙ ap (λ a. a && (not (is_cut r.turns r.state) && length r.own == 0)) (same_alive r.state.tables.end)
         ∙ and_assoc (is_none r.state.tables.end) (not (is_cut r.turns r.state)) (length r.own == 0)
 
-    no_effect : (o : Option (Effect ProcessState Signal Event)) → option_map (advanced r) o ≡ None → o ≡ None
-    no_effect None h = refl
-    no_effect (Some e) h = cc
+    -- an instruction that it may execute can't be executed
+    idle : can_exec r ≡ true → executing r.proc r.state ≡ None
+    idle h =
+        mapped_none (finished_exec r.pid r.state) (executing r.proc r.state)
+        (mapped_none (advanced r) (execution r.pid r.proc r.state) (sym (exec_due r h) ∙ s.exec))
 
     executes : (rules_of script).exec p r.state ≡ execution r.pid r.proc r.state
     unfolding rules_with
-    executes = ap (λ o. execution_of p o r.state) k.process.proc ∙ ap (λ q. execution q r.proc r.state) (sym k.process.pid)
-
-    exec_case : (b : Bool) → can_exec r ≡ b → cond b (option_map (advanced r) (execution r.pid r.proc r.state)) None ≡ None →
-        (may_exec (rules_of script) (member_of r) ≡ false) ⊎ ((rules_of script).exec p r.state ≡ None)
-    exec_case true h e = inr (executes ∙ no_effect (execution r.pid r.proc r.state) e)
-    exec_case false h e = inl (same_exec ∙ h)
+    executes = ap (λ o. execution_of p o r.state) k.process.2 ∙ ap (λ q. execution q r.proc r.state) (sym k.process.0)
 
     no_exec : (may_exec (rules_of script) (member_of r) ≡ false) ⊎ ((rules_of script).exec p r.state ≡ None)
-    unfolding exec_next
-    no_exec = exec_case (can_exec r) refl s.exec
+    no_exec = elim (cases_Bool (can_exec r)) [
+      | inl h ↦ inr (executes ∙ ap (λ o. option_map (finished_exec r.pid r.state) o) (idle h))
+      | inr h ↦ inl (same_exec ∙ h)
+    ]
 
     -- it can do nothing as the machine's process either
     quiet : IsQuiet (rules_of script) p (member_of r)
     unfolding rules_with
     quiet = record { no_handle = no_handle; no_exec = no_exec; from_others = k.others }
 
-  -- The process is at rest.
-  module _ (p : ℕ) (r : Running) (k : IsKeptOf script p r) (s : IsStill r) where
     -- its own signals aren't late while it isn't cut
     own_early : is_cut r.turns r.state ≡ false → (x : Signal) (own : List Signal) → r.own ≡ x ∷ own → nat_lt x.stamp LAST_STAMP ≡ true
     own_early uncut x own o =
-        let first : x.stamp ≤ r.state.counts.stamp = All-head (λ (y : Signal). y.stamp ≤ r.state.counts.stamp) x own (subst (λ xs. All (λ (y : Signal). y.stamp ≤ r.state.counts.stamp) xs) o k.own_low) in
+        let first : IsToItself p r.state.counts.stamp x = All-head (IsToItself p r.state.counts.stamp) x own (subst (λ xs. All (IsToItself p r.state.counts.stamp) xs) o k.own) in
         let last : r.state.counts.stamp < LAST_STAMP = uncut_stamp r.turns r.state uncut in
-        is_below x.stamp LAST_STAMP (omega (arith, first, last))
+        lt-ltb x.stamp LAST_STAMP (omega (arith, first.stamp, last))
 
     -- none waits, or the next one is late
     queue_rests : (own taken : List Signal) → is_cut r.turns r.state ≡ false → r.own ≡ own → r.taken_in ≡ taken → is_early (next_of own taken) ≡ false →
@@ -158,17 +138,13 @@ module _ (script : Program) where
     queue_rests [] [] uncut o i h = (o, inl (o, i))
     queue_rests (x ∷ own) taken uncut o i h = let f : true ≡ false = sym (own_early uncut x own o) ∙ h in absurd cc
     queue_rests [] (x ∷ taken) uncut o i h =
-        let late : is_late_signal x ≡ true = is_above x.stamp LAST_STAMP h in
+        let late : is_late_signal x ≡ true = le-leb LAST_STAMP x.stamp (ltb-false x.stamp LAST_STAMP h) in
         (o, inr (ap (λ xs. list_any is_late_signal xs || list_any is_late_signal r.taken_in) o ∙ ap (λ xs. list_any is_late_signal xs) i ∙ ap (λ c. c || list_any is_late_signal taken) late))
-
-    no_body : (o : Option Body) → option_map (advanced r) (option_map (finished_exec r.pid r.state) o) ≡ None → o ≡ None
-    no_body None h = refl
-    no_body (Some b) h = cc
 
     -- it has ended, or waits
     stops : (o : Option Term) → r.state.tables.end ≡ o → is_cut r.turns r.state ≡ false → r.own ≡ [] → IsSome r.state.tables.end ⊎ IsWaiting r.proc r.state
     stops (Some reason) e uncut own = inl (ap (λ o. is_some o) e)
-    stops None e uncut own = inr ((waiting_iff r.proc r.state).0 (no_body (executing r.proc r.state) (sym (exec_due r (can_exec_at r e uncut own)) ∙ s.exec)))
+    stops None e uncut own = inr ((waiting_iff r.proc r.state).0 (idle (can_exec_at r e uncut own)))
 
     rests_by : (c : Bool) → is_cut r.turns r.state ≡ c → IsResting r
     rests_by true e = inl e
@@ -181,7 +157,7 @@ module _ (script : Program) where
 
   low : (p : ℕ) (r : Running) → IsKeptOf script p r → All (λ (x : Signal). (rules_of script).stamp x ≤ (rules_of script).last r.state) r.own
   unfolding rules_with
-  low p r k = k.own_low
+  low p r k = All-weaker (IsToItself p r.state.counts.stamp) (λ (x : Signal). x.stamp ≤ r.state.counts.stamp) (λ x h. h.stamp) r.own k.own
 
   same_states : (crew : List Running) → map (λ (n : Mate). n.local.state) (members crew) ≡ map (λ (r : Running). r.state) crew
   same_states [] = refl
@@ -218,7 +194,7 @@ module _ (script : Program) where
 
   run_ends : (crew last : List Running) (es : List (At Event)) → RunsTo crew last → IsBetweenVisits script crew es → HasEnded crew last es
   run_ends _ _ es (rests crew h) g =
-      let s : ((pass crew).0 ≡ crew) × ((q : ℕ) (r : Running) → 0 ≤ q → slice_get crew q ≡ Some r → IsStill r) = still_pass script (length crew) 0 false crew es g (omega arith) h in
+      let s : ((pass crew).0 ≡ crew) × ((q : ℕ) (r : Running) → 0 ≤ q → slice_get crew q ≡ Some r → IsStill r) = still_pass (length crew) 0 false crew g.clear (omega arith) h in
       record {
         later = [];
         made = none crew h;
@@ -244,7 +220,7 @@ module _ (script : Program) where
       shown = shown last e.later e.reached;
       processes = λ p r there.
           let k : IsPartOf script.turns (slice_get script.procs) p r = (e.reached.kept p r there).process in
-          record { pid = k.pid; turns = k.turns; proc = k.proc };
+          record { pid = k.0; turns = k.1; proc = k.2 };
       told = e.reached.told;
       settled = settled last e.later e.reached e.still;
       many = e.reached.many;

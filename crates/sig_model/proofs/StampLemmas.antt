@@ -1,61 +1,106 @@
--- The stamps of the rules.
-use Rattle.std.proofs.Common.{◌≡◌, ℕ, ◌+◌, max, List, [], ◌∷◌, Option, Some, None, refl, subst}
-use Rattle.std.specs.Prelude.{All}
-use Rattle.std.specs.Option.{option_map}
-use Rattle.std.proofs.lemmas.List.Elements.{All-nil, All-cons}
+-- What one event gives: its stamp, and the signals that it sends.
+use Rattle.std.proofs.Common.{◌≡◌, ℕ, ◌+◌, ◌≤◌, ◌<◌, max, List, [], ◌∷◌, All, IfSome, Option, Some, None, refl, subst, arith}
+use Rattle.std.specs.Prelude.{slice_index}
+use Rattle.std.proofs.lemmas.List.Elements.{All-nil, All-cons, All-head, All-tail}
+use Rattle.std.proofs.lemmas.Option.{MatchOption-at_some}
 use Rattle.sig_kinds.specs.declared.signal.Signal.{Signal}
 use Rattle.sig_runs.specs.Rules.{Effect, IsStamped, KeepStamps}
 use Rattle.sig_runs.specs.Rules.Did.{Exec, From}
+use Rattle.sig_runs.specs.LocalRun.{Input, CanDo, handled_in}
+use Rattle.sig_runs.specs.LocalRun.Input.{Execute, Handle}
 use Rattle.sig_script.specs.Scripts.{Declared}
 use Rattle.sig_model.specs.declared.event.Event.{Event}
+use Rattle.sig_model.specs.declared.event.Did.{Did}
+use Rattle.sig_model.specs.declared.event.Did.TheVariants as did
+use Rattle.sig_model.specs.declared.state.TheConstants.{LAST_STAMP}
 use Rattle.sig_model.specs.ProcessState.{ProcessState}
 use Rattle.sig_model.specs.Bodies.{Post, Body}
 use Rattle.sig_model.specs.Executing.{executing}
 use Rattle.sig_model.specs.Handling.{handling}
-use Rattle.sig_model.specs.Finishing.{drawn, numbered, finished_exec}
+use Rattle.sig_model.specs.Finishing.{drawn, numbered, finished, finished_exec}
 use Rattle.sig_model.specs.Machine.{execution_of, rules_with}
+use Rattle.sig_model.proofs.Lookups.{mapped_tells}
+use Rattle.sig_model.proofs.Guards.{uncut_stamp}
 
--- each signal of an event has its stamp
-numbered_stamps : (pid stamp : ℕ) (numbers : List ℕ) (posts : List Post) → All (λ (x : Signal). x.stamp ≡ stamp) (numbered pid stamp numbers posts)
-numbered_stamps pid stamp numbers [] = All-nil (λ (x : Signal). x.stamp ≡ stamp)
-numbered_stamps pid stamp numbers (p ∷ ps) =
-    All-cons (λ (x : Signal). x.stamp ≡ stamp) _ _ refl (numbered_stamps pid stamp (drawn numbers p.to) ps)
+module _ (pid stamp : ℕ) where
+  -- what holds of a signal to be sent, with each number, holds of all that are sent
+  pub numbered_all : (P : Signal → Type 0) (Q : Post → Type 0) →
+      ((q : Post) (n : ℕ) → Q q → P (record { from = record { 0 = pid }; to = record { 0 = q.to }; number = n; stamp = stamp; kind = q.kind })) →
+      (numbers : List ℕ) (posts : List Post) → All Q posts → All P (numbered pid stamp numbers posts)
+  numbered_all P Q each numbers [] h = All-nil P
+  numbered_all P Q each numbers (q ∷ qs) h =
+      All-cons P _ _ (each q (slice_index numbers q.to) (All-head Q q qs h)) (numbered_all P Q each (drawn numbers q.to) qs (All-tail Q q qs h))
 
-exec_stamped : (turns : ℕ) (part : ℕ → Option Declared) (pid : ℕ) (s : ProcessState) (body : Body) → IsStamped (rules_with turns part) (finished_exec pid s body) (s.counts.stamp + 1) Exec
-unfolding rules_with
-exec_stamped turns part pid s body = record {
-  event = refl;
-  last = refl;
-  sends = numbered_stamps pid (s.counts.stamp + 1) s.counts.next_numbers body.posts;
-  told = refl;
-}
+  -- they have this sender and this stamp
+  pub numbered_sent : (numbers : List ℕ) (posts : List Post) → All (λ (x : Signal). (x.from.0 ≡ pid) × (x.stamp ≡ stamp)) (numbered pid stamp numbers posts)
+  numbered_sent numbers posts =
+      numbered_all (λ (x : Signal). (x.from.0 ≡ pid) × (x.stamp ≡ stamp)) (λ (q : Post). Unit {0}) (λ q n h. (refl, refl)) numbers posts (λ i d lt. tt)
 
-body_stamped : (turns : ℕ) (part : ℕ → Option Declared) (pid : ℕ) (s : ProcessState) (o : Option Body) (effect : Effect ProcessState Signal Event) →
-    option_map (finished_exec pid s) o ≡ Some effect → IsStamped (rules_with turns part) effect (s.counts.stamp + 1) Exec
-body_stamped turns part pid s None effect e = cc
-body_stamped turns part pid s (Some body) effect e =
-    let same : finished_exec pid s body ≡ effect = cc in
-    subst (λ (x : Effect ProcessState Signal Event). IsStamped (rules_with turns part) x (s.counts.stamp + 1) Exec) same (exec_stamped turns part pid s body)
+-- an effect of the process pid at s: that of a body of which Q holds, with a later stamp, which is at most 2^62
+pub record IsFinished (Q : Body → Type 0) (pid : ℕ) (s : ProcessState) (e : Effect ProcessState Signal Event) : Type 0 where
+  pub body : Body
+  pub holds : Q body
+  pub executed : ℕ
+  pub stamp : ℕ
+  pub what : Did
+  pub later : s.counts.stamp < stamp
+  pub low : stamp ≤ LAST_STAMP
+  pub is : finished pid s executed stamp what body ≡ e
 
-process_stamped : (turns : ℕ) (part : ℕ → Option Declared) (pid : ℕ) (p : Option Declared) (s : ProcessState) (effect : Effect ProcessState Signal Event) →
-    execution_of pid p s ≡ Some effect → IsStamped (rules_with turns part) effect (s.counts.stamp + 1) Exec
-process_stamped turns part pid None s effect e = cc
-process_stamped turns part pid (Some p) s effect e = body_stamped turns part pid s (executing p s) effect e
+-- what an act does, where Q holds of what the instruction does, if it can be executed, and of what the signal does
+module _ (limit : ℕ) (part : ℕ → Option Declared) (pid : ℕ) (s : ProcessState) (own : List Signal) (Q : Body → Type 0) (e : Effect ProcessState Signal Event) where
+  exec_finished : (o : Option Declared) → IfSome o (λ p. IfSome (executing p s) Q) → s.counts.stamp < LAST_STAMP → execution_of pid o s ≡ Some e → IsFinished Q pid s e
+  exec_finished None h low is = cc
+  exec_finished (Some p) h low is =
+      let w : (body : Body) × (executing p s ≡ Some body) × (finished_exec pid s body ≡ e) = mapped_tells (finished_exec pid s) (executing p s) e is in
+      record {
+        body = w.0;
+        holds = MatchOption-at_some (Unit {0}) Q w.0 w.1 h;
+        executed = s.counts.executed + 1;
+        stamp = s.counts.stamp + 1;
+        what = did.Exec s.counts.place;
+        later = omega arith;
+        low = omega (arith, low);
+        is = w.2;
+      }
 
-executed : (turns : ℕ) (part : ℕ → Option Declared) (pid : ℕ) (s : ProcessState) (effect : Effect ProcessState Signal Event) →
-    (rules_with turns part).exec pid s ≡ Some effect → IsStamped (rules_with turns part) effect ((rules_with turns part).last s + 1) Exec
-unfolding rules_with
-executed turns part pid s effect e = process_stamped turns part pid (part pid) s effect e
+  pub act_finished : (i : Input Signal) → IfSome (part pid) (λ p. IfSome (executing p s) Q) → All (λ (x : Signal). Q (handling pid s x)) (handled_in i) →
+      CanDo (rules_with limit part) pid (record { state = s; own = own }) i e → IsFinished Q pid s e
+  unfolding rules_with
+  act_finished Execute h g can = exec_finished (part pid) h (uncut_stamp limit s can.1) can.3
+  act_finished (Handle x) h g can =
+      let low : s.counts.stamp < LAST_STAMP = uncut_stamp limit s can.0 in
+      let early : x.stamp < LAST_STAMP = can.1 in
+      record {
+        body = handling pid s x;
+        holds = All-head (λ (y : Signal). Q (handling pid s y)) x [] g;
+        executed = s.counts.executed;
+        stamp = max s.counts.stamp x.stamp + 1;
+        what = did.From x.from x.number;
+        later = omega arith;
+        low = omega (arith, low, early);
+        is = can.3;
+      }
 
-handled : (turns : ℕ) (part : ℕ → Option Declared) (pid : ℕ) (s : ProcessState) (x : Signal) →
-    IsStamped (rules_with turns part) ((rules_with turns part).handle pid s x) (max ((rules_with turns part).last s) ((rules_with turns part).stamp x) + 1) (From ((rules_with turns part).from x))
-unfolding rules_with
-handled turns part pid s x = record {
-  event = refl;
-  last = refl;
-  sends = numbered_stamps pid (max s.counts.stamp x.stamp + 1) s.counts.next_numbers (handling pid s x).posts;
-  told = refl;
-}
+-- the stamps of the rules
+module _ (turns : ℕ) (part : ℕ → Option Declared) where
+  exec_stamped : (pid : ℕ) (o : Option Declared) (s : ProcessState) (effect : Effect ProcessState Signal Event) →
+      execution_of pid o s ≡ Some effect → IsStamped (rules_with turns part) effect (s.counts.stamp + 1) Exec
+  unfolding rules_with
+  exec_stamped pid None s effect e = cc
+  exec_stamped pid (Some p) s effect e =
+      let w : (body : Body) × (executing p s ≡ Some body) × (finished_exec pid s body ≡ effect) = mapped_tells (finished_exec pid s) (executing p s) effect e in
+      subst (λ (x : Effect ProcessState Signal Event). IsStamped (rules_with turns part) x (s.counts.stamp + 1) Exec) w.2
+      (record { event = refl; last = refl; sends = λ i d lt. (numbered_sent pid (s.counts.stamp + 1) s.counts.next_numbers w.0.posts i d lt).1; told = refl })
 
-pub stamps_kept : (turns : ℕ) (part : ℕ → Option Declared) → KeepStamps (rules_with turns part)
-stamps_kept turns part = record { executed = executed turns part; handled = handled turns part }
+  pub stamps_kept : KeepStamps (rules_with turns part)
+  unfolding rules_with
+  stamps_kept = record {
+    executed = λ pid s effect e. exec_stamped pid (part pid) s effect e;
+    handled = λ pid s x. record {
+      event = refl;
+      last = refl;
+      sends = λ i d lt. (numbered_sent pid (max s.counts.stamp x.stamp + 1) s.counts.next_numbers (handling pid s x).posts i d lt).1;
+      told = refl;
+    };
+  }

@@ -1,20 +1,19 @@
 -- A pass without an event finds no process that could go on.
-use Rattle.std.proofs.Common.{◌≡◌, ◌≢◌, ℕ, zero, suc, ◌+◌, ◌<◌, ◌≤◌, List, [], ◌∷◌, length, length-append, Bool, true, false, not, ◌||◌, ◌==◌, Option, Some, None, refl, sym, ap, ◌∙◌, subst, inl, inr, ◌⊎◌, arith}
+use Rattle.std.proofs.Common.{◌≡◌, ℕ, zero, suc, ◌+◌, ◌<◌, ◌≤◌, List, [], ◌∷◌, length, length-append, Bool, true, false, ◌||◌, Option, Some, None, refl, sym, ap, ◌∙◌, subst, inl, inr, ◌⊎◌, arith}
 use Rattle.std.specs.Prelude.{slice_get, slice_set, unwrap_or}
-use Rattle.std.proofs.lemmas.Bool.Decides.{nat_tests, eqb_tells}
+use Rattle.std.proofs.lemmas.Bool.{eqb-true, not-false, or_parts}
+use Rattle.std.proofs.lemmas.Bool.Decides.{eqb_tells}
 use Rattle.std.proofs.lemmas.Option.{same_Some, slice_get_within}
 use Rattle.sig_kinds.specs.declared.signal.Signal.{Signal}
-use Rattle.sig_runs.specs.Machine.{At}
 use Rattle.sig_runs.proofs.Lists.{slice_get-set_same}
-use Rattle.sig_script.specs.Scripts.{Program}
-use Rattle.sig_model.specs.declared.event.Event.{Event}
 use Rattle.sig_model.specs.Running.{Running, can_handle, next_of, handled_one, handled_first, handle_next, exec_next}
-use Rattle.sig_model.specs.OneWorker.{or_stay, handle_all, exec_or_stay, visited, deliver_all, settled_visit, visit_at, visit, events_at, has_moved, pass_from}
+use Rattle.sig_model.specs.OneWorker.{or_stay, handle_all, exec_or_stay, visited, deliver_all, settled_visit, visit_at, visit, events_at, has_moved, pass_from, IsClear}
+use Rattle.sig_model.proofs.ClearLemmas.{clear_at}
 use Rattle.sig_model.proofs.CountLemmas.{events_get, delivered_events}
-use Rattle.sig_model.proofs.Guards.{CanHandle, can_handle_tells, handle_due, handle_refused}
-use Rattle.sig_model.proofs.EventLemmas.{IsKeptOf, IsEventOf, IsStep, step_event, event_kept}
+use Rattle.sig_model.proofs.Guards.{CanHandle, Executed, Handled, can_handle_tells, handle_due, handle_refused, exec_next_tells, handle_next_tells}
+use Rattle.sig_model.proofs.EventLemmas.{IsStep}
 use Rattle.sig_model.proofs.GoingLemmas.{Goes, stays, on, goes_trans, goes_handle, goes_exec}
-use Rattle.sig_model.proofs.ReachLemmas.{set_here, clear_at, IsBetweenVisits}
+use Rattle.sig_model.proofs.ReachLemmas.{set_here}
 
 -- the process can do nothing: no signal may be handled, and no instruction executed
 pub record IsStill (r : Running) : Type 0 where
@@ -71,47 +70,37 @@ visited_exec r h =
 visited_still : (r : Running) → IsStill r → visited r ≡ r
 visited_still r s = visited_exec r (handle_refused r s.handle) ∙ ap (λ o. unwrap_or o r) s.exec
 
-module _ (script : Program) (p : ℕ) where
-  step_more : (r t : Running) → IsKeptOf script p r → IsStep r t → length t.events ≡ length r.events + 1
-  step_more r t k step =
-      let e : IsEventOf script p r t = step_event script.turns (slice_get script.procs) p r t k step in
-      ap (λ (z : Running). length z.events) e.is ∙ length-append r.events (e.effect.event ∷ [])
+-- steps add events
+step_more : (r t : Running) → IsStep r t → length t.events ≡ length r.events + 1
+step_more r t (inl e) =
+    let h : Handled r t = handle_next_tells r t e in
+    ap (λ (z : Running). length z.events) (sym h.is) ∙ length-append r.events _
+step_more r t (inr e) =
+    let h : Executed r t = exec_next_tells r t e in
+    ap (λ (z : Running). length z.events) (sym h.is) ∙ length-append r.events (h.effect.event ∷ [])
 
-  goes_more : (r t : Running) → IsKeptOf script p r → Goes r t → length r.events ≤ length t.events
-  goes_more r _ k (stays _) = omega arith
-  goes_more r _ k (on _ u t step later) =
-      let more : length u.events ≤ length t.events = goes_more u t (event_kept script.turns (slice_get script.procs) p r u (step_event script.turns (slice_get script.procs) p r u k step) k) later in
-      omega (arith, step_more r u k step, more)
+goes_more : (r t : Running) → Goes r t → length r.events ≤ length t.events
+goes_more r _ (stays _) = omega arith
+goes_more r _ (on _ u t step later) = let more : length u.events ≤ length t.events = goes_more u t later in omega (arith, step_more r u step, more)
 
-  step_first : (r u t : Running) → IsKeptOf script p r → IsStep r u → Goes u t → length r.events < length t.events
-  step_first r u t k step later =
-      let more : length u.events ≤ length t.events = goes_more u t (event_kept script.turns (slice_get script.procs) p r u (step_event script.turns (slice_get script.procs) p r u k step) k) later in
-      omega (arith, step_more r u k step, more)
+step_first : (r u t : Running) → IsStep r u → Goes u t → length r.events < length t.events
+step_first r u t step later = omega (arith, step_more r u step, goes_more u t later)
 
-  -- a process that a visit finds is still, or it has an event
-  module _ (r : Running) (k : IsKeptOf script p r) where
-    exec_or_still : (o : Option Running) → can_handle r ≡ false → exec_next r ≡ o → IsStill r ⊎ (length r.events < length (visited r).events)
-    exec_or_still None h e = inl (record { handle = h; exec = e })
-    exec_or_still (Some u) h e =
-        inr (step_first r u (visited r) k (inr e) (subst (λ z. Goes u z) (sym (visited_exec r (handle_refused r h) ∙ ap (λ o. unwrap_or o r) e)) (stays u)))
+-- a process that a visit finds is still, or it has an event
+module _ (r : Running) where
+  exec_or_still : (o : Option Running) → can_handle r ≡ false → exec_next r ≡ o → IsStill r ⊎ (length r.events < length (visited r).events)
+  exec_or_still None h e = inl (record { handle = h; exec = e })
+  exec_or_still (Some u) h e =
+      inr (step_first r u (visited r) (inr e) (subst (λ z. Goes u z) (sym (visited_exec r (handle_refused r h) ∙ ap (λ o. unwrap_or o r) e)) (stays u)))
 
-    handle_or_still : (b : Bool) → can_handle r ≡ b → IsStill r ⊎ (length r.events < length (visited r).events)
-    handle_or_still true h =
-        let can : CanHandle r = can_handle_tells r h in
-        let w : (u : Running) × (handle_next r ≡ Some u) = handles r h in
-        inr (step_first r w.0 (visited r) k (inl w.1) (first_of_visit r w.0 r.own r.taken_in refl refl can.next can.is_next w.1))
-    handle_or_still false h = exec_or_still (exec_next r) h refl
-
-    still_or_moved : IsStill r ⊎ (length r.events < length (visited r).events)
-    still_or_moved = handle_or_still (can_handle r) refl
+  handle_or_still : (b : Bool) → can_handle r ≡ b → IsStill r ⊎ (length r.events < length (visited r).events)
+  handle_or_still true h =
+      let can : CanHandle r = can_handle_tells r h in
+      let w : (u : Running) × (handle_next r ≡ Some u) = handles r h in
+      inr (step_first r w.0 (visited r) (inl w.1) (first_of_visit r w.0 r.own r.taken_in refl refl can.next can.is_next w.1))
+  handle_or_still false h = exec_or_still (exec_next r) h refl
 
 -- where a visit has no event, it leaves the crew, and the process is still
-still_not : (a b : ℕ) → not (a == b) ≡ false → a < b → ⊥
-still_not a b h lt = grind (arith, nat_tests)
-
-apart_above : (a b : ℕ) → a ≤ b → a ≢ b → a + 1 ≤ b
-apart_above a b le ne = omega (arith, le, ne)
-
 leaves : (at : ℕ) (r : Running) (crew : List Running) → slice_get crew at ≡ Some r → r.outbox ≡ [] → settled_visit at r crew ≡ crew
 unfolding deliver_all
 leaves at r crew there empty =
@@ -119,58 +108,55 @@ leaves at r crew there empty =
     ∙ ap (λ (b : List Signal). slice_set crew at (record r { outbox = b })) (sym empty)
     ∙ set_here crew at r there
 
-module _ (script : Program) where
-  -- what a visit without an event tells
-  abbrev pub LeftStill : ℕ → List Running → List Running → Type 0
-  LeftStill at crew after = (after ≡ crew) × ((r : Running) → slice_get crew at ≡ Some r → IsStill r)
+-- what a visit without an event tells
+abbrev pub LeftStill : ℕ → List Running → List Running → Type 0
+LeftStill at crew after = (after ≡ crew) × ((r : Running) → slice_get crew at ≡ Some r → IsStill r)
 
-  still_case : (at : ℕ) (o : Option Running) (crew : List Running) (es : List (At Event)) → IsBetweenVisits script crew es → slice_get crew at ≡ o → has_moved at crew (visit_at at o crew) ≡ false → LeftStill at crew (visit_at at o crew)
-  still_case at None crew es g there h = (refl, λ r e. let f : None ≡ Some r = sym there ∙ e in absurd cc)
-  still_case at (Some r) crew es g there h = go (still_or_moved script at r (g.reached.kept at r there))
-    where
-      v : Running
-      v = visited r
+still_case : (at : ℕ) (o : Option Running) (crew : List Running) → IsClear crew → slice_get crew at ≡ o → has_moved at crew (visit_at at o crew) ≡ false → LeftStill at crew (visit_at at o crew)
+still_case at None crew clear there h = (refl, λ r e. let f : None ≡ Some r = sym there ∙ e in absurd cc)
+still_case at (Some r) crew clear there h = go (handle_or_still r (can_handle r) refl)
+  where
+    v : Running
+    v = visited r
 
-      after : List Running
-      after = slice_set crew at (record v { outbox = [] })
+    after : List Running
+    after = slice_set crew at (record v { outbox = [] })
 
-      go : IsStill r ⊎ (length r.events < length v.events) → LeftStill at crew (visit_at at (Some r) crew)
-      go (inl s) = (
-        ap (λ z. settled_visit at z crew) (visited_still r s) ∙ leaves at r crew there (clear_at crew at r there g.clear),
-        λ u e. subst IsStill (same_Some r u (sym there ∙ e)) s,
-      )
-      go (inr lt) =
-          let now : events_at at (settled_visit at v crew) ≡ length v.events =
-          delivered_events v.outbox after at ∙ events_get after at (record v { outbox = [] }) (slice_get-set_same crew at (record v { outbox = [] }) r there) in
-          let was : events_at at crew ≡ length r.events = events_get crew at r there in
-          absurd (still_not (events_at at crew) (events_at at (settled_visit at v crew)) h (omega (arith, now, was, lt)))
+    go : IsStill r ⊎ (length r.events < length v.events) → LeftStill at crew (visit_at at (Some r) crew)
+    go (inl s) = (
+      ap (λ z. settled_visit at z crew) (visited_still r s) ∙ leaves at r crew there (clear_at crew at r there clear),
+      λ u e. subst IsStill (same_Some r u (sym there ∙ e)) s,
+    )
+    go (inr lt) =
+        let now : events_at at (settled_visit at v crew) ≡ length v.events =
+        delivered_events v.outbox after at ∙ events_get after at (record v { outbox = [] }) (slice_get-set_same crew at (record v { outbox = [] }) r there) in
+        let was : events_at at crew ≡ length r.events = events_get crew at r there in
+        let same : events_at at crew ≡ events_at at (settled_visit at v crew) = eqb-true _ _ (not-false _ h) in
+        let f : ⊥ = omega (arith, now, was, lt, same) in
+        absurd f
 
-  still_visit : (at : ℕ) (crew : List Running) (es : List (At Event)) → IsBetweenVisits script crew es → has_moved at crew (visit at crew) ≡ false → LeftStill at crew (visit at crew)
-  unfolding visit
-  still_visit at crew es g h = still_case at (slice_get crew at) crew es g refl h
+still_visit : (at : ℕ) (crew : List Running) → IsClear crew → has_moved at crew (visit at crew) ≡ false → LeftStill at crew (visit at crew)
+unfolding visit
+still_visit at crew clear h = still_case at (slice_get crew at) crew clear refl h
 
-  neither : (a b : Bool) → (a || b) ≡ false → (a ≡ false) × (b ≡ false)
-  neither true b h = cc
-  neither false b h = (refl, h)
+unmoved : (n at : ℕ) (moved : Bool) (crew : List Running) → (pass_from n at moved crew).1 ≡ false → moved ≡ false
+unfolding pass_from
+unmoved zero at moved crew h = h
+unmoved (suc n) at moved crew h = (or_parts moved (has_moved at crew (visit at crew)) (unmoved n (at + 1) (moved || has_moved at crew (visit at crew)) (visit at crew) h)).0
 
-  unmoved : (n at : ℕ) (moved : Bool) (crew : List Running) → (pass_from n at moved crew).1 ≡ false → moved ≡ false
-  unfolding pass_from
-  unmoved zero at moved crew h = h
-  unmoved (suc n) at moved crew h = (neither moved (has_moved at crew (visit at crew)) (unmoved n (at + 1) (moved || has_moved at crew (visit at crew)) (visit at crew) h)).0
-
-  -- a pass without an event leaves the crew, and each process is still
-  pub still_pass : (n at : ℕ) (moved : Bool) (crew : List Running) (es : List (At Event)) → IsBetweenVisits script crew es → length crew ≤ at + n → (pass_from n at moved crew).1 ≡ false →
-      ((pass_from n at moved crew).0 ≡ crew) × ((q : ℕ) (r : Running) → at ≤ q → slice_get crew q ≡ Some r → IsStill r)
-  unfolding pass_from
-  still_pass zero at moved crew es g le h = (refl, λ q r from e. let lt : q < length crew = slice_get_within crew q r e in (let f : ⊥ = omega (arith, lt, from, le) in absurd f))
-  still_pass (suc n) at moved crew es g le h =
-      let b : Bool = moved || has_moved at crew (visit at crew) in
-      let s : LeftStill at crew (visit at crew) = still_visit at crew es g (neither moved (has_moved at crew (visit at crew)) (unmoved n (at + 1) b (visit at crew) h)).1 in
-      let rest : ((pass_from n (at + 1) b crew).0 ≡ crew) × ((q : ℕ) (r : Running) → at + 1 ≤ q → slice_get crew q ≡ Some r → IsStill r) =
-      still_pass n (at + 1) b crew es g (omega (arith, le)) (subst (λ xs. (pass_from n (at + 1) b xs).1 ≡ false) s.0 h) in (
-        ap (λ xs. (pass_from n (at + 1) b xs).0) s.0 ∙ rest.0,
-        λ q r from e. elim (eqb_tells at q) [
-          | inl w ↦ s.1 r (subst (λ z. slice_get crew z ≡ Some r) (sym w.1) e)
-          | inr w ↦ rest.1 q r (apart_above at q from w.1) e
-        ],
-      )
+-- a pass without an event leaves the crew, and each process is still
+pub still_pass : (n at : ℕ) (moved : Bool) (crew : List Running) → IsClear crew → length crew ≤ at + n → (pass_from n at moved crew).1 ≡ false →
+    ((pass_from n at moved crew).0 ≡ crew) × ((q : ℕ) (r : Running) → at ≤ q → slice_get crew q ≡ Some r → IsStill r)
+unfolding pass_from
+still_pass zero at moved crew clear le h = (refl, λ q r from e. let lt : q < length crew = slice_get_within crew q r e in (let f : ⊥ = omega (arith, lt, from, le) in absurd f))
+still_pass (suc n) at moved crew clear le h =
+    let b : Bool = moved || has_moved at crew (visit at crew) in
+    let s : LeftStill at crew (visit at crew) = still_visit at crew clear (or_parts moved (has_moved at crew (visit at crew)) (unmoved n (at + 1) b (visit at crew) h)).1 in
+    let rest : ((pass_from n (at + 1) b crew).0 ≡ crew) × ((q : ℕ) (r : Running) → at + 1 ≤ q → slice_get crew q ≡ Some r → IsStill r) =
+    still_pass n (at + 1) b crew clear (omega (arith, le)) (subst (λ xs. (pass_from n (at + 1) b xs).1 ≡ false) s.0 h) in (
+      ap (λ xs. (pass_from n (at + 1) b xs).0) s.0 ∙ rest.0,
+      λ q r from e. elim (eqb_tells at q) [
+        | inl w ↦ s.1 r (subst (λ z. slice_get crew z ≡ Some r) (sym w.1) e)
+        | inr w ↦ rest.1 q r (omega (arith, from, w.1)) e
+      ],
+    )

@@ -1,4 +1,4 @@
--- How far the counts of a process go (this project's own).
+-- How far the counts of a process go. The bounds are this project's own; stamps are Lamport's logical clocks.
 use Rattle.std.specs.Prelude.{ℕ, ◌+◌, ◌≤◌, ◌==◌, List, length, slice_index}
 use Rattle.std.specs.List.{filter}
 use Rattle.sig_script.specs.Scripts.{Declared}

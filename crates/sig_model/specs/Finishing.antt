@@ -1,6 +1,7 @@
--- Stamps and numbers. The stamp of an execution is the process's last stamp plus 1; that of a handling is 1 plus the greater
--- of the last stamp and the signal's. A signal has the stamp of the event that sends it, and the next number for its
--- receiver. (This project's own; that signals of one pair keep their order is Processes, Delivery of Signals.)
+-- Stamps and numbers. Stamps are Lamport's logical clocks: that of an execution is the process's last stamp plus 1, that of a
+-- handling 1 plus the greater of the last stamp and the signal's, and a signal has the stamp of the event that sends it. It has
+-- the next number for its receiver too. That signals of one pair keep their order is of the manual (Processes, Delivery of
+-- Signals); that they are numbered is this project's own.
 use Rattle.std.specs.Prelude.{ℕ, ◌+◌, max, List, [], ◌∷◌, slice_index, slice_set}
 use Rattle.sig_kinds.specs.declared.signal.Signal.{Signal}
 use Rattle.sig_runs.specs.Rules.{Effect}

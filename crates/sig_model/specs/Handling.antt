@@ -38,14 +38,14 @@ acknowledging s (awaited, links) = record {
 -- at the live process pid, a signal of this sender
 abbrev pub live_body : ℕ → ProcessState → ℕ → Kind → Body
 live_body pid s sender (Message term) = appending s term
+live_body pid s sender (AliasMessage reference term) = dropping s
 live_body pid s sender Link = linking_up s (on_link s.tables.links sender)
 live_body pid s sender (Unlink id) = unlinking_from s sender id (on_unlink s.tables.links sender)
 live_body pid s sender (UnlinkAck id) = acknowledging s (on_ack s.tables.links sender id)
-live_body pid s sender (Exit reason true) = linked_exit pid s sender reason
-live_body pid s sender (Exit reason false) = plain_exit pid s sender reason
-live_body pid s sender (AliasMessage reference term) = dropping s
 live_body pid s sender (Monitor reference) = dropping s
 live_body pid s sender (Demonitor reference) = dropping s
+live_body pid s sender (Exit reason true) = linked_exit pid s sender reason
+live_body pid s sender (Exit reason false) = plain_exit pid s sender reason
 live_body pid s sender (Down reference reason) = dropping s
 
 -- there is no such process any more: the sender of a link signal gets an exit signal of the link

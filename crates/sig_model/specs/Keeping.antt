@@ -54,7 +54,7 @@ pub record IsKeeping (r : Running) : Type 0 where
   -- how far its part of the script and its counts go
   pub within : IsWithin r.proc
   pub bounds : IsBounded r.proc r.state
-  -- no stamp is above 2^62 (this project's own)
+  -- no stamp is above 2^62 (the limit is this project's own)
   pub low : r.state.counts.stamp ≤ LAST_STAMP
   -- the signals that wait for it, and those that it sent to others (Processes, Delivery of Signals)
   pub own : All (IsToItself r.pid r.state.counts.stamp) r.own

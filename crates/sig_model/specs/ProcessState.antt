@@ -1,4 +1,5 @@
--- The state of one process (Erlang Reference Manual, Processes). Stamps, turns, and being cut are this project's own.
+-- The state of one process (Erlang Reference Manual, Processes). Stamps are Lamport's logical clocks; turns, and being cut, are
+-- this project's own.
 use Rattle.std.specs.Prelude.{ℕ, List, Bool, false, ◌&&◌, ◌||◌, nat_le, Option, None, is_none, replicate}
 use Rattle.std.specs.FinMap as map
 use Rattle.sig_terms.specs.declared.term.Term.{Term}

@@ -174,14 +174,14 @@ fn put_kind(into: &mut Vec<u8>, kind: &Kind) -> Result<(), AllocError>
         Kind::UnlinkAck { id } => put_numbered(into, b"unlink_ack ", *id),
         Kind::Monitor { reference } => put_reference(into, b"monitor ", *reference),
         Kind::Demonitor { reference } => put_reference(into, b"demonitor ", *reference),
-        Kind::Down { reference, reason } => {
-            put_reference(into, b"down ", *reference)?;
-            put(into, b" ")?;
-            reason.print(into)
-        }
         Kind::Exit { reason, linked } => {
             put(into, b"exit ")?;
             put(into, link_word(*linked))?;
+            reason.print(into)
+        }
+        Kind::Down { reference, reason } => {
+            put_reference(into, b"down ", *reference)?;
+            put(into, b" ")?;
             reason.print(into)
         }
     }

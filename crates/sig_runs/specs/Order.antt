@@ -29,7 +29,7 @@ stamp_of rules (Some a) = rules.event_stamp a.effect.event
 abbrev pub stamp_at : {S X E : Type 0} → Rules S X E → List (Member S X E) → Place → ℕ
 stamp_at rules crew a = stamp_of rules (act_at crew a)
 
--- This project's own: the lower stamp comes first, of equal stamps the lower pid, of one process the earlier place.
+-- Lamport's order of all events: the lower stamp comes first, of equal stamps the lower pid, of one process the earlier place.
 abbrev pub IsBefore : {S X E : Type 0} → Rules S X E → List (Member S X E) → Place → Place → Type 0
 IsBefore rules crew a b =
     (stamp_at rules crew a < stamp_at rules crew b) ⊎ ((stamp_at rules crew a ≡ stamp_at rules crew b) × ((a.pid < b.pid) ⊎ ((a.pid ≡ b.pid) × (a.place < b.place))))

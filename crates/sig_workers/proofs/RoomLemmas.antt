@@ -1,5 +1,5 @@
 -- Each event raises a stamp: a pass with an event leaves less room below the last stamp.
-use Rattle.std.proofs.Common.{◌≡◌, ℕ, zero, suc, ◌+◌, ◌<◌, ◌≤◌, List, [], ◌∷◌, length, Bool, true, false, not, ◌||◌, ◌==◌, Option, Some, None, refl, sym, ◌∙◌, ap, subst, arith, slice_get, set, inl, inr, ◌⊎◌}
+use Rattle.std.proofs.Common.{◌≡◌, ℕ, zero, suc, ◌+◌, ◌<◌, ◌≤◌, List, [], ◌∷◌, length, Bool, true, false, cond, not, ◌||◌, ◌==◌, Option, Some, None, refl, sym, ◌∙◌, ap, subst, arith, slice_get, set, inl, inr, ◌⊎◌}
 use Rattle.std.specs.Option.{option_map}
 use Rattle.std.proofs.lemmas.Bool.Decides.{nat_tests, eqb_tells}
 use Rattle.std.proofs.lemmas.List.Sums.{sum_by-set}
@@ -15,7 +15,7 @@ use Rattle.sig_model.specs.Finishing.{finished_exec}
 use Rattle.sig_model.specs.Running.{Running, advanced, handled_one}
 use Rattle.sig_model.specs.OneWorker.{visited, arrived, deliver_to, deliver_all, visit_at, visit, events_at, has_moved}
 use Rattle.sig_model.proofs.CountLemmas.{events_get, delivered_events}
-use Rattle.sig_model.proofs.Guards.{Executed, HandledOwn, HandledOther, exec_next_tells, handle_next_tells}
+use Rattle.sig_model.proofs.Guards.{Executed, Handled, exec_next_tells, handle_next_tells}
 use Rattle.sig_model.proofs.EventLemmas.{IsStep}
 use Rattle.sig_model.proofs.GoingLemmas.{Goes, stays, on, goes_visited}
 use Rattle.sig_workers.specs.Room.{room_of, room}
@@ -41,11 +41,10 @@ later_trans r t u p q = record {
 advance : (r t : Running) → r.state.counts.stamp < LAST_STAMP → r.state.counts.stamp < t.state.counts.stamp → IsLater r t
 advance r t h k = record { room = omega (arith, h, k); moved = λ _. omega (arith, h, k) }
 
-handled_later : (r t : Running) → HandledOwn r t ⊎ HandledOther r t → IsLater r t
-handled_later r t (inl h) =
-    subst (λ (z : Running). IsLater r z) h.is (advance r (handled_one (record r { own = h.rest }) h.signal) h.can.stamp (omega arith))
-handled_later r t (inr h) =
-    subst (λ (z : Running). IsLater r z) h.is (advance r (handled_one (record r { taken_in = h.rest }) h.signal) h.can.stamp (omega arith))
+handled_later : (r t : Running) → Handled r t → IsLater r t
+handled_later r t h =
+    subst (λ (z : Running). IsLater r z) h.is
+    (advance r (handled_one (record r { own = cond h.mine h.rest r.own; taken_in = cond h.mine r.taken_in h.rest }) h.signal) h.can.stamp (omega arith))
 
 exec_stamp : (pid : ℕ) (s : ProcessState) (o : Option Body) (e : Effect ProcessState Signal Event) → option_map (finished_exec pid s) o ≡ Some e →
     e.state.counts.stamp ≡ s.counts.stamp + 1

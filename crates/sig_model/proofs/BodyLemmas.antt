@@ -1,0 +1,125 @@
+-- What holds of every name in a process holds of every name in what an event does, and the event moves the counts no further than
+-- it may: the bodies that executions and handlings share.
+use Rattle.std.proofs.Common.{◌≡◌, ℕ, ◌+◌, ◌≤◌, List, [], ◌∷◌, ◌++◌, length, Bool, true, false, cond, ◌||◌, ◌==◌, is_some, All, Some, None, refl, arith}
+use Rattle.std.specs.Prelude.{nat_eq}
+use Rattle.std.specs.Option.{option_eq}
+use Rattle.std.proofs.lemmas.List.Elements.{All-nil, All-cons, All-push, All-map, All-weaker}
+use Rattle.sig_terms.specs.declared.term.Term.{Term}
+use Rattle.sig_terms.specs.declared.term.Term.TheVariants as term
+use Rattle.sig_terms.specs.Names.{Named, process, names_of_ref, AllNames}
+use Rattle.sig_terms.proofs.NameLemmas.{atom_names}
+use Rattle.sig_kinds.specs.declared.signal.Kind.TheVariants as kind
+use Rattle.sig_kinds.specs.LinkRules.{LinkState, is_active, awaited_from, link, unlink, on_link, on_ack, active_after}
+use Rattle.sig_kinds.specs.SignalNames.{names_of_kind, LinkNames}
+use Rattle.sig_kinds.proofs.LinkNameLemmas.{peers_names}
+use Rattle.sig_kinds.proofs.LinkNameLemmas.{ending_names as links_ending_names}
+use Rattle.sig_kinds.proofs.WatchNameLemmas.{watch_ending_names}
+use Rattle.sig_patterns.specs.Inbox.{Inbox, Mark}
+use Rattle.sig_script.specs.Scripts.{Declared}
+use Rattle.sig_model.specs.declared.event.Outcome.{Outcome}
+use Rattle.sig_model.specs.ProcessState.{ProcessState}
+use Rattle.sig_model.specs.Bodies.{Post, Body, relinked, appending, dropping, exits_to, ending}
+use Rattle.sig_model.specs.Bounds.{IsBoundedBody, posts_to}
+use Rattle.sig_model.specs.Names.{InboxNames, TableNames, PostNames, BodyNames}
+use Rattle.sig_model.proofs.PostCounts.{one_post_to, peers_told_once}
+
+-- the ids of unlinks, after each of the link rules
+either_id : {A : Type 0} (n : ℕ) (b : Bool) (x y : A × LinkState) → x.1.next_id ≤ n + 1 → y.1.next_id ≤ n + 1 → (cond b x y).1.next_id ≤ n + 1
+either_id n true x y h g = h
+either_id n false x y h g = g
+
+module _ (links : LinkState) (peer : ℕ) where
+  pub link_id : (link links peer).1.next_id ≤ links.next_id + 1
+  link_id = either_id _ (peer == links.owner || is_active links peer) _ _ (omega arith) (omega arith)
+
+  pub unlink_id : (unlink links peer).1.next_id ≤ links.next_id + 1
+  unlink_id = either_id _ (is_active links peer) _ _ (omega arith) (omega arith)
+
+  pub on_link_id : (on_link links peer).1.next_id ≤ links.next_id + 1
+  on_link_id = either_id _ (is_some (awaited_from links peer) || is_active links peer) _ _ (omega arith) (omega arith)
+
+  pub on_ack_id : (id : ℕ) → (on_ack links peer id).1.next_id ≤ links.next_id + 1
+  on_ack_id id = either_id _ (option_eq nat_eq (awaited_from links peer) (Some id)) _ _ (omega arith) (omega arith)
+
+-- the place of an instruction, or the one behind the last
+abbrev pub IsAt : Declared → ℕ → Type 0
+IsAt p place = (1 ≤ place) × (place ≤ length p.instrs + 1)
+
+module _ (P : Named → Type 0) where
+  -- the signals that an event sends, of which at most one is to a peer
+  pub record ArePosts (posts : List Post) : Type 0 where
+    pub names : All (PostNames P) posts
+    pub few : (peer : ℕ) → posts_to peer posts ≤ 1
+
+  pub no_posts : ArePosts []
+  no_posts = record { names = All-nil (PostNames P); few = λ peer. omega arith }
+
+  pub one_post : (p : Post) → P (process p.to) → All P (names_of_kind p.kind) → ArePosts (p ∷ [])
+  one_post p h k = record { names = All-cons (PostNames P) p [] (record { to = h; kind = k }) (All-nil (PostNames P)); few = λ peer. one_post_to peer p }
+
+  exits : (peers : List ℕ) (reason : Term) → All (λ (peer : ℕ). P (process peer)) peers → AllNames P reason → All (PostNames P) (exits_to peers reason)
+  exits peers reason h k =
+      All-map (PostNames P) (λ (peer : ℕ). record { to = peer; kind = kind.Exit reason true }) peers
+      (All-weaker (λ (peer : ℕ). P (process peer)) (λ (peer : ℕ). PostNames P (record { to = peer; kind = kind.Exit reason true })) (λ peer g. record { to = g; kind = k }) peers h)
+
+  pub empty_inbox : (next : ℕ) → InboxNames P (record { messages = []; next_arrival = next; reserve = None; marks = [] })
+  empty_inbox next = record { messages = All-nil (λ (m : ℕ × Term). AllNames P m.1); marks = All-nil (λ (m : Mark). All P (names_of_ref m.reference)) }
+
+  -- what an event of a process of this declaration does at s
+  pub record IsKeptBody (p : Declared) (s : ProcessState) (b : Body) : Type 0 where
+    pub names : BodyNames P b
+    pub bounds : IsBoundedBody p s b
+
+  module _ (p : Declared) (s : ProcessState) where
+    -- it leaves the monitors, or gives them up
+    row : (b : Body) → TableNames P b.state.tables → IsAt p b.state.counts.place → b.state.tables.inbox.next_arrival ≤ s.tables.inbox.next_arrival + 1 → b.state.tables.links.next_id ≤ s.tables.links.next_id + 1
+        → length b.state.tables.watch.borne ≤ length s.tables.watch.borne → ArePosts b.posts → IsKeptBody p s b
+    row b tables at arrivals ids borne posts = record {
+      names = record { tables = tables; posts = posts.names };
+      bounds = record {
+        first = at.0;
+        within = at.1;
+        arrivals = arrivals;
+        ids = ids;
+        posts = λ peer. let one : posts_to peer b.posts ≤ 1 = posts.few peer in omega (arith, one, borne);
+      };
+    }
+
+    -- it leaves the arrivals, the links and the monitors
+    pub moving : (b : Body) → TableNames P b.state.tables → IsAt p b.state.counts.place → b.state.tables.inbox.next_arrival ≡ s.tables.inbox.next_arrival → b.state.tables.links ≡ s.tables.links
+        → b.state.tables.watch ≡ s.tables.watch → ArePosts b.posts → IsKeptBody p s b
+    moving b tables at arrivals links watch posts = row b tables at (omega (arith, arrivals)) (rw links (omega arith)) (rw watch (omega arith)) posts
+
+    module _ (k : TableNames P s.tables) where
+      -- it changes the links, and goes on at this place
+      pub relinking : (place : ℕ) (links : LinkState) (how : Outcome) (posts : List Post) → IsAt p place → LinkNames P links → links.next_id ≤ s.tables.links.next_id + 1 → ArePosts posts
+          → IsKeptBody p s (record { state = record (relinked s links) { counts = record s.counts { place = place } }; outcome = how; posts = posts })
+      relinking place links how posts at h ids sent =
+          row _ (record { env = k.env; inbox = k.inbox; links = h; watch = k.watch; end = k.end }) at (omega arith) ids (omega arith) sent
+
+      module _ (here : IsAt p s.counts.place) where
+        pub dropping_kept : IsKeptBody p s (dropping s)
+        dropping_kept = moving (dropping s) k here refl refl refl no_posts
+
+        pub appending_kept : (message : Term) → AllNames P message → IsKeptBody p s (appending s message)
+        appending_kept message h =
+            let inbox : Inbox = s.tables.inbox in
+            let all : All (λ (m : ℕ × Term). AllNames P m.1) (inbox.messages ++ (inbox.next_arrival, message) ∷ []) = All-push (λ (m : ℕ × Term). AllNames P m.1) inbox.messages (inbox.next_arrival, message) k.inbox.messages h in
+            row (appending s message) (record { env = k.env; inbox = record { messages = all; marks = k.inbox.marks }; links = k.links; watch = k.watch; end = k.end }) here (omega arith) (omega arith) (omega arith) no_posts
+
+        pub ending_kept : (reason : Term) → AllNames P reason → IsKeptBody p s (ending s reason)
+        ending_kept reason h =
+            row (ending s reason)
+            (record {
+              env = k.env;
+              inbox = empty_inbox s.tables.inbox.next_arrival;
+              links = links_ending_names P s.tables.links k.links;
+              watch = watch_ending_names P s.tables.watch k.watch;
+              end = h;
+            })
+            here (omega arith) (omega arith) (omega arith)
+            (record { names = exits (active_after s.tables.links None) reason (peers_names P s.tables.links k.links) h; few = peers_told_once s.tables.links reason })
+
+        -- the reason is an atom
+        pub ending_atom : (a : List ℕ) → IsKeptBody p s (ending s (term.Atom a))
+        ending_atom a = ending_kept (term.Atom a) (atom_names P a)
