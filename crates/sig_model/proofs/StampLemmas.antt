@@ -5,7 +5,7 @@ use Rattle.std.proofs.lemmas.List.Elements.{All-nil, All-cons, All-head, All-tai
 use Rattle.std.proofs.lemmas.Option.{MatchOption-at_some}
 use Rattle.sig_kinds.specs.declared.signal.Signal.{Signal}
 use Rattle.sig_runs.specs.Rules.{Effect, IsStamped, KeepStamps}
-use Rattle.sig_runs.specs.Rules.Did.{Exec, From}
+use Rattle.sig_runs.specs.Rules.Did.{Exec}
 use Rattle.sig_runs.specs.LocalRun.{Input, CanDo, handled_in}
 use Rattle.sig_runs.specs.LocalRun.Input.{Execute, Handle}
 use Rattle.sig_script.specs.Scripts.{Declared}
