@@ -72,7 +72,8 @@ module _ (P : Named → Type 0) where
 
   module _ (p : Declared) (s : ProcessState) where
     -- it leaves the monitors, or gives them up
-    row : (b : Body) → TableNames P b.state.tables → IsAt p b.state.counts.place → b.state.tables.inbox.next_arrival ≤ s.tables.inbox.next_arrival + 1 → b.state.tables.links.next_id ≤ s.tables.links.next_id + 1
+    row : (b : Body) → TableNames P b.state.tables → IsAt p b.state.counts.place
+        → b.state.tables.inbox.next_arrival ≤ s.tables.inbox.next_arrival + 1 → b.state.tables.links.next_id ≤ s.tables.links.next_id + 1
         → length b.state.tables.watch.borne ≤ length s.tables.watch.borne → ArePosts b.posts → IsKeptBody p s b
     row b tables at arrivals ids borne posts = record {
       names = record { tables = tables; posts = posts.names };
@@ -86,13 +87,15 @@ module _ (P : Named → Type 0) where
     }
 
     -- it leaves the arrivals, the links and the monitors
-    pub moving : (b : Body) → TableNames P b.state.tables → IsAt p b.state.counts.place → b.state.tables.inbox.next_arrival ≡ s.tables.inbox.next_arrival → b.state.tables.links ≡ s.tables.links
+    pub moving : (b : Body) → TableNames P b.state.tables → IsAt p b.state.counts.place
+        → b.state.tables.inbox.next_arrival ≡ s.tables.inbox.next_arrival → b.state.tables.links ≡ s.tables.links
         → b.state.tables.watch ≡ s.tables.watch → ArePosts b.posts → IsKeptBody p s b
     moving b tables at arrivals links watch posts = row b tables at (omega (arith, arrivals)) (rw links (omega arith)) (rw watch (omega arith)) posts
 
     module _ (k : TableNames P s.tables) where
       -- it changes the links, and goes on at this place
-      pub relinking : (place : ℕ) (links : LinkState) (how : Outcome) (posts : List Post) → IsAt p place → LinkNames P links → links.next_id ≤ s.tables.links.next_id + 1 → ArePosts posts
+      pub relinking : (place : ℕ) (links : LinkState) (how : Outcome) (posts : List Post) → IsAt p place → LinkNames P links
+          → links.next_id ≤ s.tables.links.next_id + 1 → ArePosts posts
           → IsKeptBody p s (record { state = record (relinked s links) { counts = record s.counts { place = place } }; outcome = how; posts = posts })
       relinking place links how posts at h ids sent =
           row _ (record { env = k.env; inbox = k.inbox; links = h; watch = k.watch; end = k.end }) at (omega arith) ids (omega arith) sent
@@ -104,8 +107,10 @@ module _ (P : Named → Type 0) where
         pub appending_kept : (message : Term) → AllNames P message → IsKeptBody p s (appending s message)
         appending_kept message h =
             let inbox : Inbox = s.tables.inbox in
-            let all : All (λ (m : ℕ × Term). AllNames P m.1) (inbox.messages ++ (inbox.next_arrival, message) ∷ []) = All-push (λ (m : ℕ × Term). AllNames P m.1) inbox.messages (inbox.next_arrival, message) k.inbox.messages h in
-            row (appending s message) (record { env = k.env; inbox = record { messages = all; marks = k.inbox.marks }; links = k.links; watch = k.watch; end = k.end }) here (omega arith) (omega arith) (omega arith) no_posts
+            let all : All (λ (m : ℕ × Term). AllNames P m.1) (inbox.messages ++ (inbox.next_arrival, message) ∷ []) =
+            All-push (λ (m : ℕ × Term). AllNames P m.1) inbox.messages (inbox.next_arrival, message) k.inbox.messages h in
+            row (appending s message)
+            (record { env = k.env; inbox = record { messages = all; marks = k.inbox.marks }; links = k.links; watch = k.watch; end = k.end }) here (omega arith) (omega arith) (omega arith) no_posts
 
         pub ending_kept : (reason : Term) → AllNames P reason → IsKeptBody p s (ending s reason)
         ending_kept reason h =

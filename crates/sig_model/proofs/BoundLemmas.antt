@@ -47,14 +47,16 @@ module _ (p : Declared) (s : ProcessState) (k : IsBounded p s) where
   handling_bounded pid x = (handling_kept Any p s (any_tables s.tables) k pid x (record { from = tt; to = tt; kind = λ i d lt. tt })).bounds
 
   -- with the stamp and the numbers
-  pub finished_bounded : (pid executed stamp : ℕ) (what : Did) (b : Body) → IsBoundedBody p s b → s.counts.stamp < stamp → IsBounded p (finished pid s executed stamp what b).state
+  pub finished_bounded : (pid executed stamp : ℕ) (what : Did) (b : Body) → IsBoundedBody p s b → s.counts.stamp < stamp
+      → IsBounded p (finished pid s executed stamp what b).state
   finished_bounded pid executed stamp what b h later = record {
     first = h.first;
     within = h.within;
     arrivals = omega (arith, h.arrivals, k.arrivals, later);
     ids = omega (arith, h.ids, k.ids, later);
     numbers = λ peer.
-        let grown : slice_index (numbers_after s.counts.next_numbers b.posts) peer ≤ slice_index s.counts.next_numbers peer + posts_to peer b.posts = numbers_grow s.counts.next_numbers b.posts peer in
+        let grown : slice_index (numbers_after s.counts.next_numbers b.posts) peer ≤ slice_index s.counts.next_numbers peer + posts_to peer b.posts =
+        numbers_grow s.counts.next_numbers b.posts peer in
         let before : slice_index s.counts.next_numbers peer + length s.tables.watch.borne ≤ s.counts.stamp + 1 = k.numbers peer in
         let sent : posts_to peer b.posts + length b.state.tables.watch.borne ≤ length s.tables.watch.borne + 1 = h.posts peer in
         omega (arith, grown, before, sent, later);

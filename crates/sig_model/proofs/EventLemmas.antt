@@ -80,18 +80,23 @@ module _ (limit : ℕ) (part : ℕ → Option Declared) (r : Running) (k : IsKep
   turn : (x : Signal) (mine : Bool) (rest : List Signal) → MatchBool mine (r.own ≡ x ∷ rest) ((r.own ≡ []) × (r.taken_in ≡ x ∷ rest)) →
       Turn x (record r { own = cond mine rest r.own; taken_in = cond mine r.taken_in rest }) (x.from.0 == r.pid)
   turn x true rest o =
-      let first : IsToItself r.pid r.state.counts.stamp x = All-head (IsToItself r.pid r.state.counts.stamp) x rest (subst (λ xs. All (IsToItself r.pid r.state.counts.stamp) xs) o k.own) in
-      subst (Turn x (record r { own = rest })) (sym (eq-eqb x.from.0 r.pid first.from)) ((rest, o), (rest, o), ap (λ (xs : List Signal). record r { own = drop 1 xs }) (sym o))
+      let first : IsToItself r.pid r.state.counts.stamp x =
+      All-head (IsToItself r.pid r.state.counts.stamp) x rest (subst (λ xs. All (IsToItself r.pid r.state.counts.stamp) xs) o k.own) in
+      subst (Turn x (record r { own = rest })) (sym (eq-eqb x.from.0 r.pid first.from))
+      ((rest, o), (rest, o), ap (λ (xs : List Signal). record r { own = drop 1 xs }) (sym o))
   turn x false rest w =
-      let first : x.from.0 ≢ r.pid = All-head (λ (y : Signal). y.from.0 ≢ r.pid) x rest (subst (λ xs. All (λ (y : Signal). y.from.0 ≢ r.pid) xs) w.1 k.others) in
-      subst (Turn x (record r { taken_in = rest })) (sym (ne_eqb x.from.0 r.pid first)) (w.0, (rest, w.1), ap (λ (xs : List Signal). record r { taken_in = drop 1 xs }) (sym w.1))
+      let first : x.from.0 ≢ r.pid =
+      All-head (λ (y : Signal). y.from.0 ≢ r.pid) x rest (subst (λ xs. All (λ (y : Signal). y.from.0 ≢ r.pid) xs) w.1 k.others) in
+      subst (Turn x (record r { taken_in = rest })) (sym (ne_eqb x.from.0 r.pid first))
+      (w.0, (rest, w.1), ap (λ (xs : List Signal). record r { taken_in = drop 1 xs }) (sym w.1))
 
   -- its next signal is handled
   handled_event : (t : Running) → Handled r t → IsEvent limit part r.pid r t
   unfolding rules_with
   handled_event t h =
       let x : Signal = h.signal in
-      let w : Turn x (record r { own = cond h.mine h.rest r.own; taken_in = cond h.mine r.taken_in h.rest }) (x.from.0 == r.pid) = turn x h.mine h.rest h.first in
+      let w : Turn x (record r { own = cond h.mine h.rest r.own; taken_in = cond h.mine r.taken_in h.rest }) (x.from.0 == r.pid) =
+      turn x h.mine h.rest h.first in
       record {
         input = Handle x;
         effect = handling_of r.pid r.state x;
@@ -156,9 +161,11 @@ module _ (limit : ℕ) (part : ℕ → Option Declared) (p : ℕ) (r t : Running
   unfolding rules_with
   event_keeps k =
       let own : All (IsToItself p last) r.own =
-      All-weaker (IsToItself p r.state.counts.stamp) (IsToItself p last) (λ x h. record { from = h.from; to = h.to; stamp = omega (arith, h.stamp, later) }) r.own k.own in
+      All-weaker (IsToItself p r.state.counts.stamp) (IsToItself p last)
+      (λ x h. record { from = h.from; to = h.to; stamp = omega (arith, h.stamp, later) }) r.own k.own in
       let out : All (IsLeaving p last) r.outbox =
-      All-weaker (IsLeaving p r.state.counts.stamp) (IsLeaving p last) (λ x h. record { from = h.from; to = h.to; stamp = omega (arith, h.stamp, later) }) r.outbox k.outbox in
+      All-weaker (IsLeaving p r.state.counts.stamp) (IsLeaving p last)
+      (λ x h. record { from = h.from; to = h.to; stamp = omega (arith, h.stamp, later) }) r.outbox k.outbox in
       let here : Signal → Bool = λ x. x.to.0 == p in
       let away : Signal → Bool = λ x. not (x.to.0 == p) in
       let is_sent : Signal → Type 0 = λ x. (x.from.0 ≡ p) × (x.stamp ≡ last) in

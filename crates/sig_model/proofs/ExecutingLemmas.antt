@@ -79,38 +79,51 @@ module _ (P : Named → Type 0) where
       target_place None = behind
       target_place (Some label) = label_place (slice_get p.labels label) (at_place (IsPlace (length p.instrs)) p.labels label w.places)
 
-      linked_by_kept : (peer : Pid) (answer : Bool × LinkState) → P (process peer.0) → LinkNames P answer.1 → answer.1.next_id ≤ s.tables.links.next_id + 1 → Kept (linked_by s peer answer)
+      linked_by_kept : (peer : Pid) (answer : Bool × LinkState) → P (process peer.0) → LinkNames P answer.1
+          → answer.1.next_id ≤ s.tables.links.next_id + 1 → Kept (linked_by s peer answer)
       linked_by_kept peer (sends, links) g h ids =
-          relinking P p s k _ links _ _ behind h ids (cond_both sends (record { to = peer.0; kind = kind.Link } ∷ []) [] (ArePosts P) (λ e. one_post P _ g (All-nil P)) (λ e. no_posts P))
+          relinking P p s k _ links _ _ behind h ids
+          (cond_both sends (record { to = peer.0; kind = kind.Link } ∷ []) [] (ArePosts P) (λ e. one_post P _ g (All-nil P)) (λ e. no_posts P))
 
       unlink_sent : (peer : Pid) (id : Option ℕ) → P (process peer.0) → ArePosts P (unlink_posts peer id)
       unlink_sent peer None g = no_posts P
       unlink_sent peer (Some id) g = one_post P (record { to = peer.0; kind = kind.Unlink id }) g (All-nil P)
 
-      unlinked_by_kept : (peer : Pid) (answer : Option ℕ × LinkState) → P (process peer.0) → LinkNames P answer.1 → answer.1.next_id ≤ s.tables.links.next_id + 1 → Kept (unlinked_by s peer answer)
+      unlinked_by_kept : (peer : Pid) (answer : Option ℕ × LinkState) → P (process peer.0) → LinkNames P answer.1
+          → answer.1.next_id ≤ s.tables.links.next_id + 1 → Kept (unlinked_by s peer answer)
       unlinked_by_kept peer (id, links) g h ids = relinking P p s k _ links _ _ behind h ids (unlink_sent peer id g)
 
-      receiving_kept : (after : Option After) (start : ℕ) (o : Option Hit) → IfSome o (λ h. EnvironmentNames P h.env) → IfSome (receiving p s after start o) Kept
+      receiving_kept : (after : Option After) (start : ℕ) (o : Option Hit) → IfSome o (λ h. EnvironmentNames P h.env)
+          → IfSome (receiving p s after start o) Kept
       receiving_kept after start (Some h) g =
           let messages : List (ℕ × Term) = s.tables.inbox.messages in
           let left : All (λ (m : ℕ × Term). AllNames P m.1) (take (start + h.at) messages ++ drop (suc (start + h.at)) messages) =
-          All-append (λ (m : ℕ × Term). AllNames P m.1) _ _ (All-take (λ (m : ℕ × Term). AllNames P m.1) (start + h.at) messages k.inbox.messages) (All-drop (λ (m : ℕ × Term). AllNames P m.1) (suc (start + h.at)) messages k.inbox.messages) in
-          moving P p s _ (record { env = g; inbox = record { messages = left; marks = k.inbox.marks }; links = k.links; watch = k.watch; end = k.end }) (target_place h.target) refl refl refl (no_posts P)
+          All-append (λ (m : ℕ × Term). AllNames P m.1) _ _
+          (All-take (λ (m : ℕ × Term). AllNames P m.1) (start + h.at) messages k.inbox.messages)
+          (All-drop (λ (m : ℕ × Term). AllNames P m.1) (suc (start + h.at)) messages k.inbox.messages) in
+          moving P p s _
+          (record { env = g; inbox = record { messages = left; marks = k.inbox.marks }; links = k.links; watch = k.watch; end = k.end })
+          (target_place h.target) refl refl refl (no_posts P)
       receiving_kept (Some after) start None g = moving P p s _ k (target_place after.target) refl refl refl (no_posts P)
       receiving_kept None start None g = tt
 
       instr_kept : (i : Instr) → InstrNames i → IfSome (exec_body p s (Some i)) Kept
       instr_kept (instr.Send to message) h =
-          with_value_kept to _ (first to message h) (λ t g. with_value_kept message _ (second to message h) (λ m f. with_pid_kept t _ g (λ q e. moving P p s _ k behind refl refl refl (one_post P _ e f))))
+          with_value_kept to _ (first to message h)
+          (λ t g. with_value_kept message _ (second to message h) (λ m f. with_pid_kept t _ g (λ q e. moving P p s _ k behind refl refl refl (one_post P _ e f))))
       instr_kept (instr.Set var value) h =
-          with_value_kept value _ (only value h) (λ v g. moving P p s _ (record { env = insert_names P s.tables.env var.0 v k.env g; inbox = k.inbox; links = k.links; watch = k.watch; end = k.end }) behind refl refl refl (no_posts P))
+          with_value_kept value _ (only value h)
+          (λ v g. moving P p s _ (record { env = insert_names P s.tables.env var.0 v k.env g; inbox = k.inbox; links = k.links; watch = k.watch; end = k.end }) behind refl refl refl (no_posts P))
       instr_kept (instr.Link peer) h =
-          with_peer_kept peer _ (only peer h) (λ q g. linked_by_kept q (link s.tables.links q.0) g (link_names P s.tables.links k.links q.0 g) (link_id s.tables.links q.0))
+          with_peer_kept peer _ (only peer h)
+          (λ q g. linked_by_kept q (link s.tables.links q.0) g (link_names P s.tables.links k.links q.0 g) (link_id s.tables.links q.0))
       instr_kept (instr.Unlink peer) h =
-          with_peer_kept peer _ (only peer h) (λ q g. unlinked_by_kept q (unlink s.tables.links q.0) g (unlink_names P s.tables.links k.links q.0 g) (unlink_id s.tables.links q.0))
+          with_peer_kept peer _ (only peer h)
+          (λ q g. unlinked_by_kept q (unlink s.tables.links q.0) g (unlink_names P s.tables.links k.links q.0 g) (unlink_id s.tables.links q.0))
       instr_kept (instr.Exit reason) h = with_value_kept reason _ (only reason h) (ending_kept P p s k here)
       instr_kept (instr.ExitTo target reason) h =
-          with_value_kept target _ (first target reason h) (λ t g. with_value_kept reason _ (second target reason h) (λ r f. with_pid_kept t _ g (λ q e. moving P p s _ k behind refl refl refl (one_post P _ e f))))
+          with_value_kept target _ (first target reason h)
+          (λ t g. with_value_kept reason _ (second target reason h) (λ r f. with_pid_kept t _ g (λ q e. moving P p s _ k behind refl refl refl (one_post P _ e f))))
       instr_kept (instr.Trap on) h = moving P p s _ k behind refl refl refl (no_posts P)
       instr_kept (instr.Goto label) h = moving P p s _ k (target_place (Some label)) refl refl refl (no_posts P)
       instr_kept instr.Stop h = ending_atom P p s k here (codes "normal")
@@ -125,7 +138,8 @@ module _ (P : Named → Type 0) where
         let lt : s.counts.place - 1 < length p.instrs = slice_get_within p.instrs (s.counts.place - 1) i e in instr_kept w (omega (arith, lt, here.0)) i h
 
 -- what the next instruction does, where it can be executed
-pub executing_kept : (P : Named → Type 0) (p : Declared) (s : ProcessState) → TableNames P s.tables → IsBounded p s → IsWithin p → ScriptNames P p → IfSome (executing p s) (IsKeptBody P p s)
+pub executing_kept : (P : Named → Type 0) (p : Declared) (s : ProcessState) → TableNames P s.tables → IsBounded p s → IsWithin p
+    → ScriptNames P p → IfSome (executing p s) (IsKeptBody P p s)
 unfolding executing
 executing_kept P p s k b w h =
     body_kept P p s k (b.first, b.within) w (slice_get p.instrs (s.counts.place - 1)) refl (at_place (InstrNames P) p.instrs (s.counts.place - 1) h)

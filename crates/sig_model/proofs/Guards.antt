@@ -47,7 +47,8 @@ can_exec_tells r h =
     let alive : Bool = is_none r.state.tables.end in
     let spent : Bool = nat_le r.turns r.state.counts.executed in
     let high : Bool = nat_le LAST_STAMP r.state.counts.stamp in
-    let w : ((alive && not ((alive && spent) || high)) ≡ true) × ((length r.own == 0) ≡ true) = and_parts (alive && not ((alive && spent) || high)) (length r.own == 0) h in
+    let w : ((alive && not ((alive && spent) || high)) ≡ true) × ((length r.own == 0) ≡ true) =
+    and_parts (alive && not ((alive && spent) || high)) (length r.own == 0) h in
     let v : (alive ≡ true) × (not ((alive && spent) || high) ≡ true) = and_parts alive (not ((alive && spent) || high)) w.0 in
     let uncut : ((alive && spent) || high) ≡ false = not-true ((alive && spent) || high) v.1 in
     record {
@@ -65,7 +66,8 @@ early_signal (Some x) h = (x, refl, ltb-true x.stamp LAST_STAMP h)
 pub can_handle_tells : (r : Running) → can_handle r ≡ true → CanHandle r
 unfolding can_handle
 can_handle_tells r h =
-    let w : (not (is_cut r.turns r.state) ≡ true) × (is_early (next_of r.own r.taken_in) ≡ true) = and_parts (not (is_cut r.turns r.state)) (is_early (next_of r.own r.taken_in)) h in
+    let w : (not (is_cut r.turns r.state) ≡ true) × (is_early (next_of r.own r.taken_in) ≡ true) =
+    and_parts (not (is_cut r.turns r.state)) (is_early (next_of r.own r.taken_in)) h in
     let uncut : is_cut r.turns r.state ≡ false = not-true (is_cut r.turns r.state) w.0 in
     let due : (x : Signal) × (next_of r.own r.taken_in ≡ Some x) × (x.stamp < LAST_STAMP) = early_signal (next_of r.own r.taken_in) w.1 in
     record { uncut = uncut; stamp = uncut_stamp r.turns r.state uncut; next = due.0; is_next = due.1; early = due.2 }
@@ -108,7 +110,8 @@ pub record Handled (r t : Running) : Type 0 where
 
 executed_by : (b : Bool) (r t : Running) → can_exec r ≡ b → cond b (option_map (advanced r) (execution r.pid r.proc r.state)) None ≡ Some t → Executed r t
 executed_by true r t h e =
-    let w : (f : Effect ProcessState Signal Event) × (execution r.pid r.proc r.state ≡ Some f) × (advanced r f ≡ t) = mapped_tells (advanced r) (execution r.pid r.proc r.state) t e in
+    let w : (f : Effect ProcessState Signal Event) × (execution r.pid r.proc r.state ≡ Some f) × (advanced r f ≡ t) =
+    mapped_tells (advanced r) (execution r.pid r.proc r.state) t e in
     record { can = can_exec_tells r h; effect = w.0; is_effect = w.1; is = w.2 }
 executed_by false r t h e = absurd (none-some t e)
 

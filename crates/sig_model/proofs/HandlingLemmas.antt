@@ -32,7 +32,8 @@ module _ (P : Named → Type 0) (p : Declared) (pid sender : ℕ) (from : P (pro
       (All-cons (AllNames P) named (reason ∷ []) (pid_names P (record { 0 = sender }) from)
       (All-cons (AllNames P) reason [] h (All-nil (AllNames P)))))
 
-  exit_rule_kept : (s : ProcessState) → TableNames P s.tables → IsAt p s.counts.place → (reason : Term) → AllNames P reason → IsKeptBody P p s (exit_rule pid s sender reason)
+  exit_rule_kept : (s : ProcessState) → TableNames P s.tables → IsAt p s.counts.place → (reason : Term) → AllNames P reason
+      → IsKeptBody P p s (exit_rule pid s sender reason)
   exit_rule_kept s k here reason h =
       cond_both s.traps _ _ (IsKeptBody P p s) (λ e. appending_kept P p s k here (exit_message sender reason) (exit_message_names reason h))
       (λ e. cond_both (same_term reason normal && not (sender == pid)) _ _ (IsKeptBody P p s) (λ f. dropping_kept P p s k here) (λ f. ending_kept P p s k here reason h))
@@ -44,22 +45,29 @@ module _ (P : Named → Type 0) (p : Declared) (pid sender : ℕ) (from : P (pro
         record { names = h.names; bounds = record { first = h.bounds.first; within = h.bounds.within; arrivals = h.bounds.arrivals; ids = h.bounds.ids; posts = h.bounds.posts } }
 
     plain_exit_kept : (reason : Term) → AllNames P reason → IsKeptBody P p s (plain_exit pid s sender reason)
-    plain_exit_kept reason h = cond_both (same_term reason kill) _ _ (IsKeptBody P p s) (λ e. ending_atom P p s k here (codes "killed")) (λ e. exit_rule_kept s k here reason h)
+    plain_exit_kept reason h =
+        cond_both (same_term reason kill) _ _ (IsKeptBody P p s) (λ e. ending_atom P p s k here (codes "killed"))
+        (λ e. exit_rule_kept s k here reason h)
 
     linked_exit_kept : (reason : Term) → AllNames P reason → IsKeptBody P p s (linked_exit pid s sender reason)
     linked_exit_kept reason h =
         let after : LinkState = deactivated s.tables.links sender in
-        let tables : TableNames P (relinked s after).tables = record { env = k.env; inbox = k.inbox; links = deactivated_names P s.tables.links k.links sender; watch = k.watch; end = k.end } in
+        let tables : TableNames P (relinked s after).tables =
+        record { env = k.env; inbox = k.inbox; links = deactivated_names P s.tables.links k.links sender; watch = k.watch; end = k.end } in
         cond_both (is_active s.tables.links sender) (exit_rule pid (relinked s after) sender reason) (dropping s) (IsKeptBody P p s)
         (λ e. unlinked_kept _ (exit_rule_kept (relinked s after) tables here reason h)) (λ e. dropping_kept P p s k here)
 
-    linking_up_kept : (answer : Bool × LinkState) → LinkNames P answer.1 → answer.1.next_id ≤ s.tables.links.next_id + 1 → IsKeptBody P p s (linking_up s answer)
+    linking_up_kept : (answer : Bool × LinkState) → LinkNames P answer.1 → answer.1.next_id ≤ s.tables.links.next_id + 1
+        → IsKeptBody P p s (linking_up s answer)
     linking_up_kept (linked, links) h ids = relinking P p s k s.counts.place links _ [] here h ids (no_posts P)
 
-    unlinking_from_kept : (id : ℕ) (answer : Bool × LinkState) → LinkNames P answer.1 → answer.1.next_id ≤ s.tables.links.next_id + 1 → IsKeptBody P p s (unlinking_from s sender id answer)
-    unlinking_from_kept id (ended, links) h ids = relinking P p s k s.counts.place links _ _ here h ids (one_post P (record { to = sender; kind = UnlinkAck id }) from (All-nil P))
+    unlinking_from_kept : (id : ℕ) (answer : Bool × LinkState) → LinkNames P answer.1 → answer.1.next_id ≤ s.tables.links.next_id + 1
+        → IsKeptBody P p s (unlinking_from s sender id answer)
+    unlinking_from_kept id (ended, links) h ids =
+        relinking P p s k s.counts.place links _ _ here h ids (one_post P (record { to = sender; kind = UnlinkAck id }) from (All-nil P))
 
-    acknowledging_kept : (answer : Bool × LinkState) → LinkNames P answer.1 → answer.1.next_id ≤ s.tables.links.next_id + 1 → IsKeptBody P p s (acknowledging s answer)
+    acknowledging_kept : (answer : Bool × LinkState) → LinkNames P answer.1 → answer.1.next_id ≤ s.tables.links.next_id + 1
+        → IsKeptBody P p s (acknowledging s answer)
     acknowledging_kept (awaited, links) h ids = relinking P p s k s.counts.place links _ [] here h ids (no_posts P)
 
     -- at a live process
@@ -68,7 +76,8 @@ module _ (P : Named → Type 0) (p : Declared) (pid sender : ℕ) (from : P (pro
     live_kept (AliasMessage reference term) h = dropping_kept P p s k here
     live_kept Link h = linking_up_kept (on_link s.tables.links sender) (on_link_names P s.tables.links k.links sender from) (on_link_id s.tables.links sender)
     live_kept (Unlink id) h = unlinking_from_kept id (on_unlink s.tables.links sender) (on_unlink_names P s.tables.links k.links sender) (omega arith)
-    live_kept (UnlinkAck id) h = acknowledging_kept (on_ack s.tables.links sender id) (on_ack_names P s.tables.links k.links sender id) (on_ack_id s.tables.links sender id)
+    live_kept (UnlinkAck id) h =
+        acknowledging_kept (on_ack s.tables.links sender id) (on_ack_names P s.tables.links k.links sender id) (on_ack_id s.tables.links sender id)
     live_kept (Monitor reference) h = dropping_kept P p s k here
     live_kept (Demonitor reference) h = dropping_kept P p s k here
     live_kept (Exit reason true) h = linked_exit_kept reason h
@@ -81,7 +90,8 @@ module _ (P : Named → Type 0) (p : Declared) (pid sender : ℕ) (from : P (pro
     ended_kept _ = dropping_kept P p s k here
 
 -- what a process does with a signal
-pub handling_kept : (P : Named → Type 0) (p : Declared) (s : ProcessState) → TableNames P s.tables → IsBounded p s → (pid : ℕ) (x : Signal) → SignalNames P x → IsKeptBody P p s (handling pid s x)
+pub handling_kept : (P : Named → Type 0) (p : Declared) (s : ProcessState) → TableNames P s.tables → IsBounded p s → (pid : ℕ) (x : Signal)
+    → SignalNames P x → IsKeptBody P p s (handling pid s x)
 unfolding handling
 handling_kept P p s k b pid x h =
     cond_both (is_some s.tables.end) _ _ (IsKeptBody P p s) (λ e. ended_kept P p pid x.from.0 h.from s k (b.first, b.within) x.kind)

@@ -45,7 +45,8 @@ opened_keeps pid count turns p lt within h = record {
 }
 
 -- signals of others that come to it, and other ones in its outbox
-lists_keep : (r : Running) (taken out : List Signal) → IsKeeping r → All (IsArriving r.pid r.count) taken → All (IsLeaving r.pid r.state.counts.stamp) out → All (IsSignalBelow r.count) out
+lists_keep : (r : Running) (taken out : List Signal) → IsKeeping r → All (IsArriving r.pid r.count) taken
+    → All (IsLeaving r.pid r.state.counts.stamp) out → All (IsSignalBelow r.count) out
     → IsKeeping (record r { taken_in = taken; outbox = out })
 lists_keep r taken out k h g below = record {
   below = record {
@@ -140,7 +141,8 @@ module _ (r : Running) where
             taken_in = taken_in_all r.turns part r.pid r t e Below e.input r.taken_in k.below.taken_in;
             outbox = All-append Below r.outbox _ k.below.outbox (All-filter _ Below e.effect.sends sent);
           };
-          ran = (one_more rules (stamps_kept r.turns part) r.pid (opening_local r) (local_of r) r.events r.handled (record { input = e.input; effect = e.effect }) k.ran e.can).ran;
+          ran =
+              (one_more rules (stamps_kept r.turns part) r.pid (opening_local r) (local_of r) r.events r.handled (record { input = e.input; effect = e.effect }) k.ran e.can).ran;
           within = k.within;
           bounds = subst (λ (f : Effect ProcessState Signal Event). IsBounded r.proc f.state) did.is
               (finished_bounded r.proc r.state k.bounds r.pid did.executed did.stamp did.what did.body did.holds.bounds did.later);

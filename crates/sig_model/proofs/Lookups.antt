@@ -28,7 +28,8 @@ at_place P (x ∷ xs) zero h = All-head P x xs h
 at_place P (x ∷ xs) (suc i) h = at_place P xs i (All-tail P x xs h)
 
 -- what holds at each place of a list that is changed at one
-pub at_set : {X : Type 0} (Q : ℕ → Option X → Type 0) (xs : List X) (p : ℕ) (x y : X) → slice_get xs p ≡ Some x → Q p (Some y) → ((q : ℕ) → p ≢ q → Q q (slice_get xs q)) →
+pub at_set : {X : Type 0} (Q : ℕ → Option X → Type 0) (xs : List X) (p : ℕ) (x y : X) → slice_get xs p ≡ Some x → Q p (Some y)
+    → ((q : ℕ) → p ≢ q → Q q (slice_get xs q)) →
     (q : ℕ) → Q q (slice_get (slice_set xs p y) q)
 at_set Q xs p x y there here others q = elim (eqb_tells p q) [
   | inl e ↦ subst (λ z. Q z (slice_get (slice_set xs p y) z)) e.1 (subst (λ o. Q p o) (sym (slice_get-set_same xs p y x there)) here)

@@ -25,7 +25,8 @@ use Rattle.sig_patterns.specs.Scanning.{Hit, hit_by, behind_clause, behind_messa
 use Rattle.sig_model.specs.Names.{EnvironmentNames}
 
 -- what holds of the value, where there is one, through a step that may fail, and through a function
-some_then : {A B : Type 0} (P : A → Type 0) (Q : B → Type 0) (f : A → Option B) (o : Option A) → IfSome o P → ((x : A) → P x → IfSome (f x) Q) → IfSome (option_and_then f o) Q
+some_then : {A B : Type 0} (P : A → Type 0) (Q : B → Type 0) (f : A → Option B) (o : Option A) → IfSome o P → ((x : A) → P x → IfSome (f x) Q)
+    → IfSome (option_and_then f o) Q
 some_then P Q f None h g = tt
 some_then P Q f (Some x) h g = g x h
 

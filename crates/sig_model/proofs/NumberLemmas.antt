@@ -77,7 +77,8 @@ record IsDrawn (numbers : List ℕ) (f : Effect ProcessState Signal Event) : Typ
 drawn_by : (r : Running) (i : Input Signal) (f : Effect ProcessState Signal Event) → CanDo (rules r) r.pid (local_of r) i f → IsDrawn r.state.counts.next_numbers f
 drawn_by r i f can =
     let d : IsFinished (λ (b : Body). Unit {0}) r.pid r.state f =
-    act_finished r.turns (part r) r.pid r.state r.own (λ (b : Body). Unit {0}) f i (some_any (λ (b : Body). Unit {0}) (executing r.proc r.state) (λ b. tt)) (λ j d lt. tt) can in
+    act_finished r.turns (part r) r.pid r.state r.own (λ (b : Body). Unit {0}) f i
+    (some_any (λ (b : Body). Unit {0}) (executing r.proc r.state) (λ b. tt)) (λ j d lt. tt) can in
     subst (λ (z : Effect ProcessState Signal Event). IsDrawn r.state.counts.next_numbers z) d.is
     (record {
       long = length_numbers r.state.counts.next_numbers d.body.posts;

@@ -61,7 +61,8 @@ module _ (script : Program) where
 
   pub opened_tells : (q : ℕ) (r : Running) → slice_get (opened_crew script) q ≡ Some r → IsOpened q r
   opened_tells q r e =
-      let w : (p : Declared) × (slice_get script.procs q ≡ Some p) × (opened (0 + q) count script.turns p ≡ r) = mapped_tells (opened (0 + q) count script.turns) (slice_get script.procs q) r (sym (at_place q) ∙ e) in
+      let w : (p : Declared) × (slice_get script.procs q ≡ Some p) × (opened (0 + q) count script.turns p ≡ r) =
+      mapped_tells (opened (0 + q) count script.turns) (slice_get script.procs q) r (sym (at_place q) ∙ e) in
       record { part = w.0; there = w.1; is = ap (λ n. opened n count script.turns w.0) (let f : q ≡ 0 + q = omega arith in f) ∙ w.2 }
 
   kept_opening : (q : ℕ) (r : Running) → slice_get (opened_crew script) q ≡ Some r → IsKeptOf script q r

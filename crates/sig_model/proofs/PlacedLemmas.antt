@@ -55,4 +55,5 @@ deliver_placed x (Some r) crew there placed = set_placed crew x.to.0 r (arrived 
 pub opened_placed : (script : Program) → IsPlaced (opened_crew script)
 opened_placed script q r is =
     let o : IsOpened script q r = opened_tells script q r is in
-    subst (λ (z : Running). (z.pid ≡ q) × (z.count ≡ length (opened_crew script))) o.is (refl, sym (opened_length 0 (length script.procs) script.turns script.procs))
+    subst (λ (z : Running). (z.pid ≡ q) × (z.count ≡ length (opened_crew script))) o.is
+    (refl, sym (opened_length 0 (length script.procs) script.turns script.procs))

@@ -51,20 +51,25 @@ events_by-push q (b ∷ es) a =
 
 module _ (script : Program) where
   -- one process of the crew is another one now, which has these events too, and the machine is at work with it
-  set_reached : (p : ℕ) (r t : Running) (before after : ℕ → List Signal) (crew : List Running) (es now : List (At Event)) → slice_get crew p ≡ Some r → IsReached script before crew es → IsKeptOf script p t
+  set_reached : (p : ℕ) (r t : Running) (before after : ℕ → List Signal) (crew : List Running) (es now : List (At Event))
+      → slice_get crew p ≡ Some r → IsReached script before crew es → IsKeptOf script p t
       → ((q : ℕ) → p ≢ q → events_by q now ≡ events_by q es) → events_by p now ≡ t.events
-      → (m : Machine ProcessState Signal) → IsRun (rules_of script) (opening_machine (opening_of script)) now m → IsAtWork script after (members (slice_set crew p t)) m → IsReached script after (slice_set crew p t) now
+      → (m : Machine ProcessState Signal) → IsRun (rules_of script) (opening_machine (opening_of script)) now m → IsAtWork script after
+      (members (slice_set crew p t)) m → IsReached script after (slice_set crew p t) now
   set_reached p r t before after crew es now there g k others here m run at_work = record {
     machine = m;
     run = run;
     at_work = at_work;
     told = at_set (λ q o. events_by q now ≡ events_of o) crew p r t there here (λ q h. others q h ∙ g.told q);
-    kept = at_set (λ q o. (u : Running) → o ≡ Some u → IsKeptOf script q u) crew p r t there (λ u e. subst (λ z. IsKeptOf script p z) (same_Some t u e) k) (λ q h. g.kept q);
+    kept =
+        at_set (λ q o. (u : Running) → o ≡ Some u → IsKeptOf script q u) crew p r t there
+        (λ u e. subst (λ z. IsKeptOf script p z) (same_Some t u e) k) (λ q h. g.kept q);
     many = length-set crew p t ∙ g.many;
   }
 
   -- it has the same events
-  same_reached : (p : ℕ) (r t : Running) (before after : ℕ → List Signal) (crew : List Running) (es : List (At Event)) → slice_get crew p ≡ Some r → (g : IsReached script before crew es) → IsKeptOf script p t
+  same_reached : (p : ℕ) (r t : Running) (before after : ℕ → List Signal) (crew : List Running) (es : List (At Event))
+      → slice_get crew p ≡ Some r → (g : IsReached script before crew es) → IsKeptOf script p t
       → r.events ≡ t.events → IsAtWork script after (members (slice_set crew p t)) g.machine → IsReached script after (slice_set crew p t) es
   same_reached p r t before after crew es there g k same at_work =
       set_reached p r t before after crew es es there g k (λ q h. refl) (g.told p ∙ ap (λ o. events_of o) there ∙ same) g.machine g.run at_work
@@ -76,10 +81,12 @@ module _ (script : Program) where
     step_reached r t crew es there e g =
         let a : At Event = record { pid = p; event = e.effect.event } in
         let m : Machine ProcessState Signal = after_event script p r t e crew there g.machine g.at_work in
-        set_reached p r t (only p r.outbox) (only p t.outbox) crew es (es ++ a ∷ []) there g (event_kept script.turns (slice_get script.procs) p r t e (g.kept p r there))
+        set_reached p r t (only p r.outbox) (only p t.outbox) crew es (es ++ a ∷ []) there g
+        (event_kept script.turns (slice_get script.procs) p r t e (g.kept p r there))
         (λ q h. events_by-push q es a ∙ ap (λ c. events_by q es ++ cond c (a.event ∷ []) []) (ne_eqb p q h) ∙ append-nil (events_by q es))
         (events_by-push p es a ∙ ap (λ c. events_by p es ++ cond c (a.event ∷ []) []) (eq-eqb p p refl) ∙ ap (λ z. z ++ a.event ∷ []) (g.told p ∙ ap (λ o. events_of o) there) ∙ ap (λ (z : Running). z.events) (sym e.is))
-        m (run-push (rules_of script) es a (opening_machine (opening_of script)) g.machine m g.run (event_applies script p r t e crew there g.machine g.at_work))
+        m
+        (run-push (rules_of script) es a (opening_machine (opening_of script)) g.machine m g.run (event_applies script p r t e crew there g.machine g.at_work))
         (event_at_work script p r t e crew there g.machine g.at_work)
 
     -- steps of the process that is visited add these events to its own and to those of the run
@@ -88,7 +95,8 @@ module _ (script : Program) where
       grown : t.events ≡ r.events ++ more
       reached : IsReached script (only p t.outbox) (slice_set crew p t) (es ++ made_by p more)
 
-    went_on : (r t : Running) → Goes r t → (crew : List Running) (es : List (At Event)) → slice_get crew p ≡ Some r → IsReached script (only p r.outbox) crew es → WentOn r t crew es
+    went_on : (r t : Running) → Goes r t → (crew : List Running) (es : List (At Event)) → slice_get crew p ≡ Some r
+        → IsReached script (only p r.outbox) crew es → WentOn r t crew es
     went_on r _ (stays _) crew es there g = record {
       more = [];
       grown = sym (append-nil r.events);
@@ -112,7 +120,8 @@ module _ (script : Program) where
     emptied boxes v crew es there g =
         let w : Running = record v { outbox = [] } in
         let k : IsKeptOf script p v = g.kept p v there in
-        same_reached p v w boxes boxes crew es there g (record { process = k.process; own = k.own; others = k.others; outbox = All-nil (IsLeaving p v.state.counts.stamp) }) refl
+        same_reached p v w boxes boxes crew es there g
+        (record { process = k.process; own = k.own; others = k.others; outbox = All-nil (IsLeaving p v.state.counts.stamp) }) refl
         (subst (λ mates. IsAtWork script boxes mates g.machine) (sym (map-set_same member_of crew p w v (ap (λ z. member_of z) (sym (get_or_from_slice_get crew p v v there))))) g.at_work)
 
     module _ (x : Signal) (xs : List Signal) (from : x.from.0 ≡ p) (to : x.to.0 ≢ p) (crew : List Running) (es : List (At Event)) (g : IsReached script (only p (x ∷ xs)) crew es) where
@@ -122,17 +131,21 @@ module _ (script : Program) where
           record { machine = g.machine; run = g.run; at_work = lost script p x xs crew from to g.machine g.at_work e; told = g.told; kept = g.kept; many = g.many }
       delivered (Some u) e =
           let k : IsKeptOf script x.to.0 u = g.kept x.to.0 u e in
-          let others : All (λ (y : Signal). y.from.0 ≢ x.to.0) (u.taken_in ++ x ∷ []) = All-push (λ (y : Signal). y.from.0 ≢ x.to.0) u.taken_in x k.others (λ f. to (sym f ∙ from)) in
-          same_reached x.to.0 u (arrived u x) (only p (x ∷ xs)) (only p xs) crew es e g (record { process = k.process; own = k.own; others = others; outbox = k.outbox }) refl
+          let others : All (λ (y : Signal). y.from.0 ≢ x.to.0) (u.taken_in ++ x ∷ []) =
+          All-push (λ (y : Signal). y.from.0 ≢ x.to.0) u.taken_in x k.others (λ f. to (sym f ∙ from)) in
+          same_reached x.to.0 u (arrived u x) (only p (x ∷ xs)) (only p xs) crew es e g
+          (record { process = k.process; own = k.own; others = others; outbox = k.outbox }) refl
           (given script p x xs crew from to g.machine g.at_work u e)
 
     -- all signals of the outbox are delivered
-    all_delivered : (last : ℕ) (xs : List Signal) (crew : List Running) (es : List (At Event)) → All (IsLeaving p last) xs → IsReached script (only p xs) crew es → IsReached script (only p []) (deliver_all xs crew) es
+    all_delivered : (last : ℕ) (xs : List Signal) (crew : List Running) (es : List (At Event)) → All (IsLeaving p last) xs
+        → IsReached script (only p xs) crew es → IsReached script (only p []) (deliver_all xs crew) es
     unfolding deliver_all
     all_delivered last [] crew es o g = g
     all_delivered last (x ∷ xs) crew es o g =
         let first : IsLeaving p last x = All-head (IsLeaving p last) x xs o in
-        all_delivered last xs (deliver_to (slice_get crew x.to.0) x crew) es (All-tail (IsLeaving p last) x xs o) (delivered x xs first.from first.to crew es g (slice_get crew x.to.0) refl)
+        all_delivered last xs (deliver_to (slice_get crew x.to.0) x crew) es (All-tail (IsLeaving p last) x xs o)
+        (delivered x xs first.from first.to crew es g (slice_get crew x.to.0) refl)
 
     none_only : only p [] ≡ (λ q. [])
     none_only = fun_ext (λ q. elim (p == q) as (λ c. cond {A = List Signal} c [] [] ≡ []) [ true ↦ refl | false ↦ refl ])
@@ -147,8 +160,10 @@ module _ (script : Program) where
         let reached : IsReached script (only p v.outbox) (slice_set crew p v) now = subst (λ z. IsReached script (only p v.outbox) (slice_set crew p v) (es ++ made_by p z)) made went.reached in
         let sent : All (IsLeaving p v.state.counts.stamp) v.outbox = (reached.kept p v (slice_get-set_same crew p v r there)).outbox in
         let taken : IsReached script (only p v.outbox) (slice_set crew p (record v { outbox = [] })) now =
-        subst (λ xs. IsReached script (only p v.outbox) xs now) (set-set crew p v (record v { outbox = [] })) (emptied (only p v.outbox) v (slice_set crew p v) now (slice_get-set_same crew p v r there) reached) in
-        subst (λ b. IsReached script b (settled_visit p v crew) now) none_only (all_delivered v.state.counts.stamp v.outbox (slice_set crew p (record v { outbox = [] })) now sent taken)
+        subst (λ xs. IsReached script (only p v.outbox) xs now) (set-set crew p v (record v { outbox = [] }))
+        (emptied (only p v.outbox) v (slice_set crew p v) now (slice_get-set_same crew p v r there) reached) in
+        subst (λ b. IsReached script b (settled_visit p v crew) now) none_only
+        (all_delivered v.state.counts.stamp v.outbox (slice_set crew p (record v { outbox = [] })) now sent taken)
 
     visit_case_reached : (o : Option Running) (crew : List Running) (es : List (At Event)) → slice_get crew p ≡ o → IsClear crew → IsReached script (λ q. []) crew es → IsReached script (λ q. []) (visit_at p o crew) (es ++ made_in_visit p o)
     visit_case_reached None crew es there clear g = subst (λ xs. IsReached script (λ q. []) crew xs) (sym (append-nil es)) g

@@ -67,7 +67,8 @@ one_run _ a b (goes crew _ h more) other = one_run (pass crew).0 a b more (from_
 module _ (script : Program) where
   cuts_high : CutsHigh (rules_of script)
   unfolding rules_with
-  cuts_high s h = or_right (is_none s.tables.end && nat_le script.turns s.counts.executed) (nat_le LAST_STAMP s.counts.stamp) (le-leb LAST_STAMP s.counts.stamp h)
+  cuts_high s h =
+      or_right (is_none s.tables.end && nat_le script.turns s.counts.executed) (nat_le LAST_STAMP s.counts.stamp) (le-leb LAST_STAMP s.counts.stamp h)
 
   same_next : (own taken : List Signal) → is_low (rules_of script) (next_signal own taken) ≡ is_early (next_of own taken)
   unfolding rules_with
@@ -128,7 +129,8 @@ module _ (script : Program) where
     -- its own signals aren't late while it isn't cut
     own_early : is_cut r.turns r.state ≡ false → (x : Signal) (own : List Signal) → r.own ≡ x ∷ own → nat_lt x.stamp LAST_STAMP ≡ true
     own_early uncut x own o =
-        let first : IsToItself p r.state.counts.stamp x = All-head (IsToItself p r.state.counts.stamp) x own (subst (λ xs. All (IsToItself p r.state.counts.stamp) xs) o k.own) in
+        let first : IsToItself p r.state.counts.stamp x =
+        All-head (IsToItself p r.state.counts.stamp) x own (subst (λ xs. All (IsToItself p r.state.counts.stamp) xs) o k.own) in
         let last : r.state.counts.stamp < LAST_STAMP = uncut_stamp r.turns r.state uncut in
         lt-ltb x.stamp LAST_STAMP (omega (arith, first.stamp, last))
 
@@ -194,7 +196,8 @@ module _ (script : Program) where
 
   run_ends : (crew last : List Running) (es : List (At Event)) → RunsTo crew last → IsBetweenVisits script crew es → HasEnded crew last es
   run_ends _ _ es (rests crew h) g =
-      let s : ((pass crew).0 ≡ crew) × ((q : ℕ) (r : Running) → 0 ≤ q → slice_get crew q ≡ Some r → IsStill r) = still_pass (length crew) 0 false crew g.clear (omega arith) h in
+      let s : ((pass crew).0 ≡ crew) × ((q : ℕ) (r : Running) → 0 ≤ q → slice_get crew q ≡ Some r → IsStill r) =
+      still_pass (length crew) 0 false crew g.clear (omega arith) h in
       record {
         later = [];
         made = none crew h;

@@ -49,7 +49,8 @@ pub record IsFinished (Q : Body → Type 0) (pid : ℕ) (s : ProcessState) (e : 
 
 -- what an act does, where Q holds of what the instruction does, if it can be executed, and of what the signal does
 module _ (limit : ℕ) (part : ℕ → Option Declared) (pid : ℕ) (s : ProcessState) (own : List Signal) (Q : Body → Type 0) (e : Effect ProcessState Signal Event) where
-  exec_finished : (o : Option Declared) → IfSome o (λ p. IfSome (executing p s) Q) → s.counts.stamp < LAST_STAMP → execution_of pid o s ≡ Some e → IsFinished Q pid s e
+  exec_finished : (o : Option Declared) → IfSome o (λ p. IfSome (executing p s) Q) → s.counts.stamp < LAST_STAMP → execution_of pid o s ≡ Some e
+      → IsFinished Q pid s e
   exec_finished None h low is = cc
   exec_finished (Some p) h low is =
       let w : (body : Body) × (executing p s ≡ Some body) × (finished_exec pid s body ≡ e) = mapped_tells (finished_exec pid s) (executing p s) e is in

@@ -112,7 +112,8 @@ leaves at r crew there empty =
 abbrev pub LeftStill : ℕ → List Running → List Running → Type 0
 LeftStill at crew after = (after ≡ crew) × ((r : Running) → slice_get crew at ≡ Some r → IsStill r)
 
-still_case : (at : ℕ) (o : Option Running) (crew : List Running) → IsClear crew → slice_get crew at ≡ o → has_moved at crew (visit_at at o crew) ≡ false → LeftStill at crew (visit_at at o crew)
+still_case : (at : ℕ) (o : Option Running) (crew : List Running) → IsClear crew → slice_get crew at ≡ o
+    → has_moved at crew (visit_at at o crew) ≡ false → LeftStill at crew (visit_at at o crew)
 still_case at None crew clear there h = (refl, λ r e. let f : None ≡ Some r = sym there ∙ e in absurd cc)
 still_case at (Some r) crew clear there h = go (handle_or_still r (can_handle r) refl)
   where
@@ -142,16 +143,19 @@ still_visit at crew clear h = still_case at (slice_get crew at) crew clear refl 
 unmoved : (n at : ℕ) (moved : Bool) (crew : List Running) → (pass_from n at moved crew).1 ≡ false → moved ≡ false
 unfolding pass_from
 unmoved zero at moved crew h = h
-unmoved (suc n) at moved crew h = (or_parts moved (has_moved at crew (visit at crew)) (unmoved n (at + 1) (moved || has_moved at crew (visit at crew)) (visit at crew) h)).0
+unmoved (suc n) at moved crew h =
+    (or_parts moved (has_moved at crew (visit at crew)) (unmoved n (at + 1) (moved || has_moved at crew (visit at crew)) (visit at crew) h)).0
 
 -- a pass without an event leaves the crew, and each process is still
 pub still_pass : (n at : ℕ) (moved : Bool) (crew : List Running) → IsClear crew → length crew ≤ at + n → (pass_from n at moved crew).1 ≡ false →
     ((pass_from n at moved crew).0 ≡ crew) × ((q : ℕ) (r : Running) → at ≤ q → slice_get crew q ≡ Some r → IsStill r)
 unfolding pass_from
-still_pass zero at moved crew clear le h = (refl, λ q r from e. let lt : q < length crew = slice_get_within crew q r e in (let f : ⊥ = omega (arith, lt, from, le) in absurd f))
+still_pass zero at moved crew clear le h =
+    (refl, λ q r from e. let lt : q < length crew = slice_get_within crew q r e in (let f : ⊥ = omega (arith, lt, from, le) in absurd f))
 still_pass (suc n) at moved crew clear le h =
     let b : Bool = moved || has_moved at crew (visit at crew) in
-    let s : LeftStill at crew (visit at crew) = still_visit at crew clear (or_parts moved (has_moved at crew (visit at crew)) (unmoved n (at + 1) b (visit at crew) h)).1 in
+    let s : LeftStill at crew (visit at crew) =
+    still_visit at crew clear (or_parts moved (has_moved at crew (visit at crew)) (unmoved n (at + 1) b (visit at crew) h)).1 in
     let rest : ((pass_from n (at + 1) b crew).0 ≡ crew) × ((q : ℕ) (r : Running) → at + 1 ≤ q → slice_get crew q ≡ Some r → IsStill r) =
     still_pass n (at + 1) b crew clear (omega (arith, le)) (subst (λ xs. (pass_from n (at + 1) b xs).1 ≡ false) s.0 h) in (
       ap (λ xs. (pass_from n (at + 1) b xs).0) s.0 ∙ rest.0,
