@@ -1,5 +1,5 @@
 -- How many of the signals that one event sends are to one peer, and what they do to the next number for it.
-use Rattle.std.proofs.Common.{◌≡◌, ℕ, zero, suc, ◌+◌, ◌≤◌, ◌<◌, List, [], ◌∷◌, map, length, Bool, true, false, cond, ◌&&◌, ◌==◌, nat_lt, None, refl, sym, subst, ◌∙◌, arith}
+use Rattle.std.proofs.Common.{◌≡◌, ℕ, zero, suc, ◌+◌, ◌≤◌, ◌<◌, List, [], ◌∷◌, map, length, Bool, true, false, cond, ◌&&◌, ◌==◌, nat_le, nat_lt, None, refl, sym, subst, arith}
 use Rattle.std.specs.Prelude.{T, slice_index, slice_set}
 use Rattle.std.specs.declared.cmp.Ordering.TheVariants.{Less, Equal, Greater}
 use Rattle.std.specs.Ordering.{nat_cmp, is_lt}
@@ -73,28 +73,19 @@ module _ (reason : Term) (peer : ℕ) where
   abbrev exit : ℕ → Post
   exit to = record { to = to; kind = Exit reason true }
 
-  -- none behind the peer
-  none_behind : (x : ℕ) (es : List (ℕ × Unit {0})) → peer ≤ x → T (below_all nat_cmp x es) → told es ≡ 0
-  none_behind x [] le h = refl
-  none_behind x (e ∷ es) le h =
-      let w : T (is_lt (nat_cmp x e.0)) × T (below_all nat_cmp x es) = parts (is_lt (nat_cmp x e.0)) (below_all nat_cmp x es) h in
-      let above : x < e.0 = rises x e.0 w.0 in
-      let other : (e.0 == peer) ≡ false = grind (arith, nat_tests) in
-      let later : told es ≡ 0 = none_behind x es le w.1 in
-      posts_to-cons peer (exit e.0) _ ∙ (rw other (omega (arith, later)))
-
-  once_by : (b : Bool) (k : ℕ) (es : List (ℕ × Unit {0})) → (k == peer) ≡ b → T (below_all nat_cmp k es) → told es ≤ 1 → cond b 1 0 + told es ≤ 1
-  once_by true k es e h rest =
-      let same : k ≡ peer = eqb-true k peer e in
-      let none : told es ≡ 0 = none_behind k es (omega (arith, same)) h in
-      omega (arith, none)
-  once_by false k es e h rest = omega (arith, rest)
+  -- the keys rise, so the peer is one of them at most, and none where it is below the first
+  rising : (e : ℕ × Unit {0}) (es : List (ℕ × Unit {0})) → T (is_sorted nat_cmp (e ∷ es)) → told (e ∷ es) ≤ cond (nat_le e.0 peer) 1 0
+  rising e [] h = let all : told (e ∷ []) ≡ cond (e.0 == peer) 1 0 + told [] = posts_to-cons peer (exit e.0) [] in grind (arith, nat_tests)
+  rising e (d ∷ es) h =
+      let w : T (below_all nat_cmp e.0 (d ∷ es)) × T (is_sorted nat_cmp (d ∷ es)) = parts (below_all nat_cmp e.0 (d ∷ es)) (is_sorted nat_cmp (d ∷ es)) h in
+      let above : e.0 < d.0 = rises e.0 d.0 (parts (is_lt (nat_cmp e.0 d.0)) (below_all nat_cmp e.0 es) w.0).0 in
+      let later : told (d ∷ es) ≤ cond (nat_le d.0 peer) 1 0 = rising d es w.1 in
+      let all : told (e ∷ d ∷ es) ≡ cond (e.0 == peer) 1 0 + told (d ∷ es) = posts_to-cons peer (exit e.0) (exits_to (map (λ (z : ℕ × Unit {0}). z.0) (d ∷ es)) reason) in
+      grind (arith, nat_tests)
 
   once : (es : List (ℕ × Unit {0})) → T (is_sorted nat_cmp es) → told es ≤ 1
   once [] h = omega arith
-  once (e ∷ es) h =
-      let w : T (below_all nat_cmp e.0 es) × T (is_sorted nat_cmp es) = parts (below_all nat_cmp e.0 es) (is_sorted nat_cmp es) h in
-      subst (λ n. n ≤ 1) (sym (posts_to-cons peer (exit e.0) _)) (once_by (e.0 == peer) e.0 es refl w.0 (once es w.1))
+  once (e ∷ es) h = let most : told (e ∷ es) ≤ cond (nat_le e.0 peer) 1 0 = rising e es h in grind (arith, nat_tests)
 
 pub peers_told_once : (links : LinkState) (reason : Term) (peer : ℕ) → posts_to peer (exits_to (active_after links None) reason) ≤ 1
 peers_told_once links reason peer = once reason peer (entries links.active) (entries_sorted links.active)

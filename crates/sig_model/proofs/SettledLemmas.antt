@@ -235,6 +235,3 @@ module _ (script : Program) where
   one_worker_made last h =
       let e : HasEnded (opened_crew script) last [] = run_ends (opened_crew script) last [] h (opening_reached script) in
       (settled_run last e, e.made)
-
-  pub one_worker_settled : (last : List Running) → RunsTo (opened_crew script) last → IsSettledRun script last
-  one_worker_settled last h = (one_worker_made last h).0
