@@ -1,7 +1,7 @@
 -- When no clause matches a message before the saved place: what each call keeps of that.
-use Rattle.std.proofs.Common.{◌≡◌, ℕ, ◌+◌, ◌-◌, ◌*◌, ◌≤◌, List, [], length, take, false, Option, Some, None, sym, ◌∙◌, ap, subst, arith}
+use Rattle.std.proofs.Common.{◌≡◌, ℕ, ◌+◌, ◌-◌, ◌*◌, ◌≤◌, List, [], ◌∷◌, ◌++◌, length, take, false, Option, Some, None, refl, sym, ◌∙◌, ap, subst, arith}
 use Rattle.std.proofs.Math.Nat.{mul-sub}
-use Rattle.std.proofs.lemmas.List.{take_all, length-map}
+use Rattle.std.proofs.lemmas.List.{take_all, take-append-le, length-map, map-append}
 use Rattle.sig_terms.specs.declared.term.Term.{Term}
 use Rattle.sig_patterns.specs.declared.clause.Clause.{Clause}
 use Rattle.sig_patterns.specs.declared.found.Found.{Found}
@@ -11,8 +11,14 @@ use Rattle.sig_patterns.proofs.HitLemmas as hits
 use Rattle.sig_inner.specs.declared.last_scan.LastScan.{LastScan}
 use Rattle.sig_inner.specs.declared.last_scan.LastScan.TheVariants as last
 use Rattle.sig_patterns.specs.Inbox.{terms_of}
-use Rattle.sig_inner.specs.InnerQueue.{InnerQueue}
+use Rattle.sig_inner.specs.InnerQueue.{InnerQueue, after_append, appended}
 use Rattle.sig_inner.specs.Receiving.{scanned, after_scan, is_saved, passed, HasPassed}
+
+-- a new message leaves the saved place
+pub passed_append : (l : LastScan) → passed (after_append l) ≡ passed l
+passed_append last.Gone = refl
+passed_append (last.Found place) = refl
+passed_append (last.Passed count) = refl
 
 module _ (clauses : List Clause) (env : Environment) where
   pub scan_nothing : scan clauses env [] ≡ None
@@ -34,6 +40,17 @@ module _ (clauses : List Clause) (env : Environment) where
     at last.Gone messages e = scan_nothing
     at (last.Found place) messages e = scan_nothing
     at (last.Passed count) messages e = cc
+
+  -- after a new message, which comes behind the saved place
+  pub passed_appended : (q : InnerQueue) (message : Term) → passed q.last ≤ length q.inbox.messages → HasPassed q clauses env → HasPassed (appended q message) clauses env
+  passed_appended q message le k =
+      let within : passed q.last ≤ length (terms_of q.inbox.messages) = omega (arith, le, length-map q.inbox.messages (λ (m : ℕ × Term). m.1)) in
+      let there : terms_of (appended q message).inbox.messages ≡ terms_of q.inbox.messages ++ message ∷ [] = map-append (λ (m : ℕ × Term). m.1) q.inbox.messages ((q.inbox.next_arrival, message) ∷ []) in
+      ap (scan clauses env)
+      (ap (λ n. take n (terms_of (appended q message).inbox.messages)) (passed_append q.last)
+      ∙ ap (take (passed q.last)) there
+      ∙ take-append-le (passed q.last) (terms_of q.inbox.messages) (message ∷ []) within)
+      ∙ k
 
 -- the steps behind a place
 pub steps_behind : (c n s t looked : ℕ) → t + c * n ≤ s + c * looked → t ≤ s + c * (looked - n)

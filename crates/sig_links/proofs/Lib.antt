@@ -1,3 +1,4 @@
 pub mod NextLemmas
 pub mod Peers
 pub mod Places
+pub mod Remaining

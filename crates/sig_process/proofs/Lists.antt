@@ -1,13 +1,13 @@
 -- Lists from a place on, and the processes of a crew.
-use Rattle.std.proofs.Common.{◌≡◌, ℕ, zero, suc, ◌+◌, ◌<◌, ◌≤◌, List, [], ◌∷◌, ◌++◌, length, drop, Option, Some, None, refl, sym, ◌∙◌, ap, append_assoc, Bool, ◌||◌, arith}
+use Rattle.std.proofs.Common.{◌≡◌, ℕ, ◌+◌, ◌<◌, ◌≤◌, List, [], ◌∷◌, ◌++◌, length, drop, Option, Some, None, refl, sym, ◌∙◌, ap, append_assoc, Bool, ◌||◌, arith}
 use Rattle.std.specs.Prelude.{slice_get, slice_set, IfSome, MatchOption}
 use Rattle.std.specs.List.{IsItemAtMut}
 use Rattle.std.specs.Borrow.{MutBor}
 use Rattle.std.specs.List.{list_any}
 use Rattle.std.specs.Option.{option_map}
-use Rattle.std.proofs.lemmas.List.{append-nil, drop_more, drop_all, length-map}
+use Rattle.std.proofs.lemmas.List.{append-nil, drop_more, drop_all, length-map, map-append, map-set}
 use Rattle.std.proofs.lemmas.List.Elements.{All-nil, All-cons}
-use Rattle.std.proofs.lemmas.Option.{slice_get_within, get_or_from_slice_get, slice_get-get_or}
+use Rattle.std.proofs.lemmas.Option.{slice_get-map, slice_get_within, get_or_from_slice_get, slice_get-get_or}
 use Rattle.sig_script.specs.Scripts.{Declared}
 use Rattle.sig_model.specs.Running.{Running, opened}
 use Rattle.sig_model.specs.OneWorker.{opened_from, IsClear}
@@ -21,32 +21,15 @@ pub any_at : {A : Type 0} (p : A → Bool) (xs : List A) (i : ℕ) (x : A) → s
     list_any p (drop i xs) ≡ (p x || list_any p (drop (i + 1) xs))
 any_at p xs i x e = ap (list_any p) (drop_at xs i x e)
 
--- what a crew has run, after a process joined it
-pub runnings_append : (xs ys : List Standing) → runnings_of (xs ++ ys) ≡ runnings_of xs ++ runnings_of ys
-runnings_append [] ys = refl
-runnings_append (x ∷ xs) ys = ap (λ rs. x.running ∷ rs) (runnings_append xs ys)
-
--- at a place
-pub runnings_get : (xs : List Standing) (i : ℕ) → slice_get (runnings_of xs) i ≡ option_map (λ p. p.running) (slice_get xs i)
-runnings_get [] i = refl
-runnings_get (x ∷ xs) zero = refl
-runnings_get (x ∷ xs) (suc i) = runnings_get xs i
-
--- after the process at a place was replaced
-pub runnings_set : (xs : List Standing) (i : ℕ) (p : Standing) → runnings_of (slice_set xs i p) ≡ slice_set (runnings_of xs) i p.running
-runnings_set [] i p = refl
-runnings_set (x ∷ xs) zero p = refl
-runnings_set (x ∷ xs) (suc i) p = ap (λ rs. x.running ∷ rs) (runnings_set xs i p)
-
--- whatever it is replaced by
+-- what a crew has run, whatever the process at a place is replaced by
 pub runnings_set_all : (xs : List Standing) (i : ℕ) → ◌≡◌ {A = Standing → List Running} (λ p. runnings_of (slice_set xs i p)) (λ p. slice_set (runnings_of xs) i p.running)
-runnings_set_all xs i = λ k p. runnings_set xs i p k
+runnings_set_all xs i = λ k p. map-set (λ (q : Standing). q.running) xs i p k
 
 -- the process that is lent
 pub runnings_lent : (xs : List Standing) (i : ℕ) (o : Option (MutBor Standing)) → IsItemAtMut xs i o → MatchOption o (length (runnings_of xs) ≤ i) (λ p. slice_get (runnings_of xs) i ≡ Some p.now.running)
 runnings_lent xs i None e = let le : length xs ≤ i = e.3 in omega (arith, le, length-map xs (λ (p : Standing). p.running))
 runnings_lent xs i (Some p) e =
-    runnings_get xs i ∙ ap (option_map (λ (q : Standing). q.running)) (slice_get-get_or xs i p.now e.3.0 ∙ ap Some (sym e.1))
+    slice_get-map (λ (q : Standing). q.running) xs i ∙ ap (option_map (λ (q : Standing). q.running)) (slice_get-get_or xs i p.now e.3.0 ∙ ap Some (sym e.1))
 
 opened_at : (procs : List Declared) (pid count turns : ℕ) (o : Option Declared) (d : Declared) (p : Running) (before : List Running) →
     o ≡ Some d → slice_get procs pid ≡ o → IfSome o (λ d. p ≡ opened pid count turns d) →
@@ -62,7 +45,7 @@ pub opened_more : (procs : List Declared) (pid count turns : ℕ) (d : Declared)
     pid < length procs → IfSome (slice_get procs pid) (λ d. p.running ≡ opened pid count turns d) →
     runnings_of (before ++ p ∷ []) ++ opened_from (pid + 1) count turns (drop (pid + 1) procs) ≡ runnings_of before ++ opened_from pid count turns (drop pid procs)
 opened_more procs pid count turns d p before lt is =
-    ap (λ rs. rs ++ opened_from (pid + 1) count turns (drop (pid + 1) procs)) (runnings_append before (p ∷ []))
+    ap (λ rs. rs ++ opened_from (pid + 1) count turns (drop (pid + 1) procs)) (map-append (λ (q : Standing). q.running) before (p ∷ []))
     ∙ opened_at procs pid count turns (slice_get procs pid) _ p.running (runnings_of before) (slice_get-get_or procs pid d lt) refl is
 
 -- all processes are opened

@@ -1,11 +1,10 @@
--- The state after the link of an obeyed exit signal ended.
-use Rattle.std.proofs.Common.{◌≡◌, refl, Option, Some, None}
-use Rattle.sig_terms.specs.declared.pid.Pid.{Pid}
+-- The end of a process at its next instruction.
+use Rattle.std.proofs.Common.{◌≡◌, ap}
+use Rattle.sig_terms.specs.declared.term.Term.{Term}
 use Rattle.sig_model.specs.ProcessState.{ProcessState}
-use Rattle.sig_model.specs.Bodies.{at_place}
-use Rattle.sig_process.specs.Plans.{after_obeying}
+use Rattle.sig_model.specs.Bodies.{Body, ending}
+use Rattle.sig_process.specs.Plans.{placed}
 
--- the process stays where it is
-pub stays_at : (s : ProcessState) (obeyed : Option Pid) → after_obeying s obeyed ≡ at_place (after_obeying s obeyed) s.counts.place
-stays_at s None = refl
-stays_at s (Some peer) = refl
+-- it stays at its place
+pub ends_there : (s : ProcessState) (reason : Term) (b : Body) → ending s reason ≡ b → ending s reason ≡ placed b s.counts.place
+ends_there s reason b e = ap (λ (x : Body). placed x s.counts.place) e

@@ -1,7 +1,7 @@
 -- What the execution of an instruction, and of a receive, leads to.
 use Rattle.std.proofs.Common.{◌≡◌, ℕ, ◌+◌, ◌-◌, ◌<◌, ◌≤◌, List, length, false, Option, Some, None, refl, sym, ap, ◌∙◌, subst, arith}
 use Rattle.std.specs.Prelude.{IfSome, IsSome, IsSomeAnd, MatchResult, OnOk, Result, Ok, Err, slice_get}
-use Rattle.std.specs.Option.{option_map}
+use Rattle.std.specs.Option.{option_map, option_and_then}
 use Rattle.std.proofs.lemmas.List.{append-nil}
 use Rattle.std.proofs.lemmas.Option.{slice_get-map, slice_get_within}
 use Rattle.sig_terms.specs.declared.term.Term.{Term}
@@ -12,8 +12,8 @@ use Rattle.sig_patterns.specs.Matching.{match_of}
 use Rattle.sig_patterns.specs.Scanning.{Hit, places_of}
 use Rattle.sig_patterns.proofs.HitLemmas.{IsByClause, hit_message, hit_clause}
 use Rattle.sig_inner.specs.declared.last_scan.LastScan.TheVariants as last
-use Rattle.sig_inner.specs.InnerQueue.{InnerQueue, InnerTable, found_place, found_message}
-use Rattle.sig_inner.specs.Receiving.{scanned, after_scan, forgotten, is_saved, HasPassed}
+use Rattle.sig_inner.specs.InnerQueue.{InnerTable, found_place, found_message}
+use Rattle.sig_inner.specs.Receiving.{scanned, after_scan, is_saved, HasPassed}
 use Rattle.sig_script.specs.declared.instruction.Instr.TheVariants as instr
 use Rattle.sig_script.specs.declared.instruction.After.{After}
 use Rattle.sig_script.specs.Scripts.{Declared}
@@ -30,23 +30,19 @@ use Rattle.sig_model.specs.Finishing.{finished_exec}
 use Rattle.sig_model.specs.Machine.{execution}
 use Rattle.sig_process.specs.declared.progress.Progress.{Progress}
 use Rattle.sig_process.specs.Progressing.{state_of, IsSame, HasAdvanced}
-use Rattle.sig_process.specs.Committing.{HasTaken}
+use Rattle.sig_process.specs.Committing.{HasTaken, env_found}
 use Rattle.sig_process.specs.Soundness.{IsSaved}
 use Rattle.sig_process.specs.Executions.{IsUnmoved, HasExecuted}
 use Rattle.sig_process.proofs.DueLemmas.{execution_here}
 
 -- an instruction that was planned
-pub performed : {T E : Type 0} (o : Result T E) (pid : ℕ) (proc : Declared) (before after : Progress) (body : Body) (q : InnerQueue) →
+pub performed : {T E : Type 0} (o : Result T E) (pid : ℕ) (proc : Declared) (before after : Progress) (body : Body) →
     exec_body proc (state_of before) (slice_get proc.instrs (before.counts.place - 1)) ≡ Some body →
-    MatchResult o (λ _. HasAdvanced pid before after (finished_exec pid (state_of before) body)) (λ _. IsSame before after) → OnOk o (after.tables.inner.queue ≡ forgotten q) →
+    MatchResult o (λ _. HasAdvanced pid before after (finished_exec pid (state_of before) body)) (λ _. IsSame before after) → OnOk o (is_saved after.tables.inner.queue.last ≡ false) →
     MatchResult o (λ _. HasExecuted pid proc before after) (λ _. IsSame before after)
-performed (Ok _) pid proc before after body q e advanced queue = record {
-  effect = finished_exec pid (state_of before) body;
-  due = execution_here proc before pid body e;
-  advanced = advanced;
-  unsaved = ap (λ (r : InnerQueue). is_saved r.last) queue;
-}
-performed (Err _) pid proc before after body q e same queue = same
+performed (Ok _) pid proc before after body e advanced unsaved =
+    record { effect = finished_exec pid (state_of before) body; due = execution_here proc before pid body e; advanced = advanced; unsaved = unsaved }
+performed (Err _) pid proc before after body e same unsaved = same
 
 -- the head is place 0
 behind_head : (n : ℕ) → head + n ≡ n
@@ -105,7 +101,7 @@ module _ (clauses : List Clause) (p : Progress) (number count : ℕ) where
       chosen_goes = by_clause.1.1 ∙ ap (λ (c : Clause). c.target) chosen_is
 
       -- the clause matches it
-      pub chosen_matches : IsSomeAnd (found_message p.tables.inner.queue) (λ m. IsSome (match_of chosen.pattern p.tables.env m))
+      pub chosen_matches : IsSome (env_found chosen.pattern p)
       chosen_matches = rw (message_is, chosen_binds) refl
 
       -- it is taken
@@ -117,25 +113,24 @@ module _ (clauses : List Clause) (p : Progress) (number count : ℕ) where
         message_same : message ≡ h.hit.message
         message_same = let same : Some message ≡ Some h.hit.message = told ∙ message_is in cc
 
-        taken_by : HasTaken place how p after chosen.pattern h.hit.message → HasAdvanced pid p after (finished_exec pid (state_of p) (taking proc (state_of p) head h.hit))
+        taken_by : HasTaken place how p after chosen.pattern → HasAdvanced pid p after (finished_exec pid (state_of p) (taking proc (state_of p) head h.hit))
         taken_by t =
-            let env : after.tables.env ≡ h.hit.env = let same : Some after.tables.env ≡ Some h.hit.env = sym t.bound ∙ chosen_binds in cc in
+            let env : after.tables.env ≡ h.hit.env =
+            let same : Some after.tables.env ≡ Some h.hit.env = sym t.bound ∙ ap (option_and_then (match_of chosen.pattern p.tables.env)) message_is ∙ chosen_binds in cc in
             record {
-              state = rw (env, t.queue, h.left, t.links, t.end, t.traps, t.counts, goes, chosen_goes, behind_head h.hit.at) refl;
+              state = ap state_of t.rest ∙ rw (env, t.queue, h.left, goes, chosen_goes, behind_head h.hit.at) refl;
               owner = rw (t.queue, h.left) refl;
-              events = rw (t.events, h.clause, h.looked, message_same) refl;
-              handled = rw t.handled refl;
-              own = rw t.own (sym (append-nil p.own.items));
-              taken_in = rw t.taken_in refl;
-              outbox = rw t.outbox (sym (append-nil p.outbox.items));
+              events = ap (λ (q : Progress). q.events) t.rest ∙ rw (h.clause, h.looked, message_same) refl;
+              handled = ap (λ (q : Progress). q.handled.items) t.rest;
+              own = ap (λ (q : Progress). q.own.items) t.rest ∙ sym (append-nil p.own.items);
+              taken_in = ap (λ (q : Progress). q.taken_in.items) t.rest;
+              outbox = ap (λ (q : Progress). q.outbox.items) t.rest ∙ sym (append-nil p.outbox.items);
             }
 
-        pub taken_found : {T E : Type 0} (o : Result T E) →
-            MatchResult o (λ _. IfSome (found_message p.tables.inner.queue) (HasTaken place how p after chosen.pattern)) (λ _. after ≡ p) →
+        pub taken_found : {T E : Type 0} (o : Result T E) → MatchResult o (λ _. HasTaken place how p after chosen.pattern) (λ _. after ≡ p) →
             MatchResult o (λ _. IfSome (hit_from head clauses (state_of p)) (λ h. HasAdvanced pid p after (finished_exec pid (state_of p) (taking proc (state_of p) head h)))) (λ _. after ≡ p)
         taken_found (Ok _) t =
-            subst (λ (o : Option Hit). IfSome o (λ h. HasAdvanced pid p after (finished_exec pid (state_of p) (taking proc (state_of p) head h)))) (sym h.is)
-            (taken_by (subst (λ (o : Option Term). IfSome o (HasTaken place how p after chosen.pattern)) message_is t))
+            subst (λ (o : Option Hit). IfSome o (λ h. HasAdvanced pid p after (finished_exec pid (state_of p) (taking proc (state_of p) head h)))) (sym h.is) (taken_by t)
         taken_found (Err _) t = t
 
 -- the process with other messages

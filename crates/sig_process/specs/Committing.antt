@@ -1,12 +1,10 @@
 -- What a commit does to the fields of a process.
-use Rattle.std.specs.Prelude.{◌≡◌, ℕ, ◌+◌, ◌<◌, ◌≤◌, ◌^◌, List, [], ◌∷◌, ◌++◌, map, slice_index, Option, Some}
-use Rattle.std.specs.FinMap.{insert}
+use Rattle.std.specs.Prelude.{◌≡◌, ℕ, ◌+◌, ◌<◌, ◌≤◌, ◌^◌, List, [], ◌∷◌, ◌++◌, map, slice_index, Option, Some, option_and_then}
 use Rattle.sig_kinds.specs.declared.signal.Signal.{Signal}
-use Rattle.sig_terms.specs.declared.pid.Pid.{Pid}
-use Rattle.sig_terms.specs.declared.term.Term.{Term}
 use Rattle.sig_patterns.specs.declared.pattern.Pattern.{Pattern}
+use Rattle.sig_patterns.specs.Environment.{Environment}
 use Rattle.sig_patterns.specs.Matching.{match_of}
-use Rattle.sig_inner.specs.InnerQueue.{InnerQueue, appended, emptied, taken}
+use Rattle.sig_inner.specs.InnerQueue.{InnerQueue, appended, emptied, found_message, taken}
 use Rattle.sig_runs.specs.Rules.{Effect}
 use Rattle.sig_model.specs.declared.event.Event.{Event}
 use Rattle.sig_model.specs.declared.event.Did.TheVariants as did
@@ -18,10 +16,10 @@ use Rattle.sig_model.specs.Bounds.{posts_to}
 use Rattle.sig_model.specs.Finishing.{numbers_after}
 use Rattle.sig_model.specs.Running.{to_itself, to_others, next_of}
 use Rattle.sig_process.specs.declared.changing.Change.{Change}
-use Rattle.sig_process.specs.declared.changing.Change.TheVariants.{Nothing, Bind, Append, End}
+use Rattle.sig_process.specs.declared.changing.Change.TheVariants.{Append, End}
 use Rattle.sig_process.specs.declared.plan.Outgoing.{Outgoing}
 use Rattle.sig_process.specs.declared.progress.Progress.{Progress}
-use Rattle.sig_process.specs.Plans.{changed, after_obeying, post_of}
+use Rattle.sig_process.specs.Plans.{post_of}
 use Rattle.sig_process.specs.Progressing.{state_of}
 
 -- there is room for all that an event may change, with so many signals to be sent
@@ -38,24 +36,16 @@ pub record IsCommittable (posts : List Outgoing) (p : Progress) : Type 0 where
   pub ids : p.tables.links.links.next_id < 2 ^ 63
   pub numbers : (peer : ℕ) → slice_index p.counts.next_numbers.items peer + posts_to peer (map post_of posts) < 2 ^ 63
 
--- the variable is bound, and nothing is left to be changed; or all is as before
-abbrev pub IsBound : Progress → Change → Progress → Change → Type 0
-IsBound before (Bind var value) after rest = (after ≡ record before { tables = record before.tables { env = insert before.tables.env var.0 value } }) × (rest ≡ Nothing)
-IsBound before change after rest = (after ≡ before) × (rest ≡ change)
-
--- a change that takes no memory where there is room
-abbrev pub IsReady : Change → Type 0
-IsReady (Bind var value) = ⊥
-IsReady _ = Unit {0}
-
 -- the inner queue after a change
 abbrev pub queue_after : InnerQueue → Change → InnerQueue
 queue_after q (Append message) = appended q message
 queue_after q (End reason) = emptied q
 queue_after q _ = q
 
--- the lists of the process are as before
-pub record KeepsLists (before after : Progress) : Type 0 where
+-- the variables, the counts and the lists of the process are as before
+pub record KeepsRest (before after : Progress) : Type 0 where
+  pub env : after.tables.env ≡ before.tables.env
+  pub counts : after.counts ≡ before.counts
   pub events : after.events ≡ before.events
   pub handled : after.handled ≡ before.handled
   pub own : after.own ≡ before.own
@@ -81,37 +71,34 @@ pub record HasHandled (pid : ℕ) (before after : Progress) (x : Signal) (e : Ef
   pub taken_in : after.taken_in.items ≡ others_behind before.own.items before.taken_in.items
   pub outbox : after.outbox.items ≡ before.outbox.items ++ to_others pid e.sends
 
--- Room is made, the event is noted, and a variable is bound where the change says so; this change is left.
-pub record HasBegun (posts : ℕ) (before : Progress) (change : Change) (after : Progress) (rest : Change) (e : Event) : Type 0 where
+-- room is made, and the event is noted
+pub record HasBegun (posts : ℕ) (before after : Progress) (e : Event) : Type 0 where
   pub room : HasRoom posts after
   -- and for the signal that was handled
   pub handled_room : 0 < after.handled.spare
-  pub ready : IsReady rest
-  pub state : (peer : Option Pid) → changed (after_obeying (state_of after) peer) rest ≡ changed (after_obeying (state_of before) peer) change
-  pub queue : queue_after after.tables.inner.queue rest ≡ queue_after before.tables.inner.queue change
+  pub state : state_of after ≡ state_of before
+  pub queue : after.tables.inner.queue ≡ before.tables.inner.queue
   pub counts : after.counts ≡ before.counts
-  pub arrivals : after.tables.inner.queue.inbox.next_arrival ≡ before.tables.inner.queue.inbox.next_arrival
-  pub ids : after.tables.links.links.next_id ≡ before.tables.links.links.next_id
   pub events : after.events ≡ before.events ++ e ∷ []
   pub handled : after.handled.items ≡ before.handled.items
   pub own : after.own.items ≡ before.own.items
   pub taken_in : after.taken_in.items ≡ before.taken_in.items
   pub outbox : after.outbox.items ≡ before.outbox.items
 
--- the state at another place and with this stamp, after these were numbered
-abbrev pub gone_on : ProcessState → ℕ → ℕ → List Post → ProcessState
-gone_on s place stamp posts = record s { counts = record s.counts { place = place; stamp = stamp; next_numbers = numbers_after s.counts.next_numbers posts } }
+-- the state with this stamp, after these were numbered
+abbrev pub gone_on : ProcessState → ℕ → List Post → ProcessState
+gone_on s stamp posts = record s { counts = record s.counts { stamp = stamp; next_numbers = numbers_after s.counts.next_numbers posts } }
 
--- the message of the last scan is taken out, and the variables of the pattern are bound to its parts
-pub record HasTaken (place : ℕ) (outcome : Outcome) (before after : Progress) (pattern : Pattern) (message : Term) : Type 0 where
-  pub bound : match_of pattern before.tables.env message ≡ Some after.tables.env
+-- the variables of the pattern, bound to the parts of the message of the last scan
+abbrev pub env_found : Pattern → Progress → Option Environment
+env_found pattern p = option_and_then (match_of pattern p.tables.env) (found_message p.tables.inner.queue)
+
+-- they are bound, and the message is taken out
+pub record HasTaken (place : ℕ) (outcome : Outcome) (before after : Progress) (pattern : Pattern) : Type 0 where
+  pub bound : env_found pattern before ≡ Some after.tables.env
   pub queue : after.tables.inner.queue ≡ taken before.tables.inner.queue
-  pub links : after.tables.links ≡ before.tables.links
-  pub end : after.tables.end ≡ before.tables.end
-  pub traps : after.traps ≡ before.traps
-  pub counts : after.counts ≡ record before.counts { place = place; executed = before.counts.executed + 1; stamp = before.counts.stamp + 1 }
-  pub events : after.events ≡ before.events ++ record { stamp = before.counts.stamp + 1; did = did.Exec before.counts.place; outcome = outcome } ∷ []
-  pub handled : after.handled ≡ before.handled
-  pub own : after.own ≡ before.own
-  pub taken_in : after.taken_in ≡ before.taken_in
-  pub outbox : after.outbox ≡ before.outbox
+  pub rest : after ≡ record before {
+    tables = record before.tables { env = after.tables.env; inner = after.tables.inner };
+    counts = record before.counts { place = place; executed = before.counts.executed + 1; stamp = before.counts.stamp + 1 };
+    events = before.events ++ record { stamp = before.counts.stamp + 1; did = did.Exec before.counts.place; outcome = outcome } ∷ [];
+  }

@@ -6,8 +6,8 @@ use Rattle.sig_model.specs.ProcessState.{ProcessState}
 use Rattle.sig_model.specs.Bodies.{Body, ending, badarg, system_limit}
 use Rattle.sig_process.specs.declared.values.ValueFault.{ValueFault}
 use Rattle.sig_process.specs.declared.values.ValueFault.TheVariants.{TooLarge, NoPid, Memory}
-use Rattle.sig_process.specs.declared.plan.Plan.{Plan}
-use Rattle.sig_process.specs.Plans.{body_of}
+use Rattle.sig_process.specs.declared.plan.Execution.{Execution}
+use Rattle.sig_process.specs.Plans.{executed_body}
 
 -- What the fault of a value tells of the body: it is the end with `system_limit`, or the end with `badarg`. A want of memory tells nothing.
 abbrev pub IsRefused : ProcessState → Option Body → ValueFault → Type 0
@@ -20,9 +20,9 @@ abbrev pub IsUsed : {A : Type 0} → ProcessState → ((A → Body) → Body) �
 IsUsed {A} s row (Ok value) = (go : A → Body) → row go ≡ go value
 IsUsed {A} s row (Err fault) = (go : A → Body) → IsRefused s (Some (row go)) fault
 
--- the plan does what the body says, or the fault of a value tells of the body
-abbrev pub IsPlanned : ProcessState → Option Body → Result Plan ValueFault → Type 0
-IsPlanned s body (Ok plan) = body ≡ Some (body_of s plan)
+-- the execution does what the body says, or the fault of a value tells of the body
+abbrev pub IsPlanned : ProcessState → Option Body → Result Execution ValueFault → Type 0
+IsPlanned s body (Ok x) = body ≡ Some (executed_body s x)
 IsPlanned s body (Err fault) = IsRefused s body fault
 
 -- the instruction is a receive

@@ -1,65 +1,50 @@
 //! An event that was planned happens.
 
-ghost use Rattle.std.specs.Prelude.{◌≡◌, ◌+◌, ◌<◌, ◌≤◌, ◌^◌, ◌++◌, ◌∷◌, [], ℕ, length, map, max, slice_index, slice_get, IfSome, IsSome, IsSomeAnd, MatchResult, OnOk, Some};
-ghost use Rattle.sig_inner.specs.InnerQueue.{found_place, found_message, taken};
-ghost use Rattle.sig_inner.specs.Receiving.{forgotten};
-ghost use Rattle.sig_patterns.specs.Matching.{match_of};
-ghost use Rattle.sig_model.specs.Bounds.{posts_to};
-ghost use Rattle.sig_model.specs.Finishing.{numbers_after, numbered, finished_exec, finished_handle};
+ghost use Rattle.std.specs.Prelude.{◌≡◌, ◌+◌, ◌<◌, ◌≤◌, ◌^◌, ◌++◌, ◌∷◌, [], length, map, max, false, IfSome, IsSome, IsSomeAnd, MatchResult, OnOk, OnErr, Some};
+ghost use Rattle.sig_inner.specs.Receiving.{is_saved};
+ghost use Rattle.sig_model.specs.Finishing.{numbered, finished_exec, finished_handle};
 ghost use Rattle.sig_model.specs.Running.{to_itself, to_others, next_of};
-ghost use Rattle.sig_process.specs.Committing.{HasRoom, IsCommittable, IsReady, HasBegun, HasHandled, HasTaken, gone_on, queue_after, behind_first, others_behind};
-ghost use Rattle.sig_process.specs.Plans.{changed, after_obeying, post_of, body_of};
+ghost use Rattle.sig_process.specs.Committing.{HasRoom, IsCommittable, HasBegun, HasHandled, HasTaken, gone_on, env_found, queue_after, behind_first, others_behind};
+ghost use Rattle.sig_process.specs.Plans.{changed, after_obeying, post_of, body_of, executed_body};
 ghost use Rattle.sig_process.specs.Progressing.{state_of, IsSame, HasAdvanced};
 
 use crate::changing::Change;
-use crate::plan::{Outgoing, Plan};
+use crate::plan::{Execution, Outgoing, Plan};
 use crate::posting::send_all;
 use crate::progress::Progress;
 use crate::waiting::{next_signal, pop_next};
 use sig_model::{Did, Event, LAST_STAMP, Outcome};
 use sig_patterns::{Pattern, bind_match};
 use sig_terms::Pid;
-use std::alloc::{AllocError, Global};
+use std::alloc::AllocError;
 
 impl Progress {
-    /// The event comes to the end of the events.
-    fn note(&mut self, event: Event) -> Result<(), AllocError>
-        ensures { MatchResult result (λ _. self.new ≡ record self.old { events = self.old.events ++ event ∷ [] }) (λ _. self.new ≡ self.old) }
+    /// Makes all room, and notes the event. Where memory is refused all but the room is as before.
+    fn begin(&mut self, event: Event, posts: usize) -> Result<(), AllocError>
+        ensures { MatchResult result (λ _. HasBegun posts self.old self.new event) (λ _. IsSame self.old self.new) }
     {
+        self.own.room(posts)?;
+        self.outbox.room(posts)?;
+        self.handled.room(1)?;
+        self.tables.inner.room()?;
+        self.tables.links.room()?;
         self.events.add(event)
     }
 
-    /// Makes all room, notes the event, and binds a variable where the change says so. Where memory
-    /// is refused all but the room is as before: a binding is the last that can be refused, and then
-    /// only the event has to be taken back.
-    fn begin(&mut self, event: Event, change: Change, posts: usize) -> Result<Change, AllocError>
-        ensures { MatchResult result (λ rest. HasBegun posts self.old change self.new rest event) (λ _. IsSame self.old self.new) }
-    {
-        self.make_room(posts)?;
-        self.note(event)?;
-        match self.bind(change) {
-            Ok(rest) => Ok(rest),
-            Err(fault) => {
-                let _ = self.events.pop();
-                Err(fault)
-            }
-        }
-    }
-
-    /// Changes what is left, goes on at a place with this stamp, and sends. There is room for it.
+    /// Changes what is left, with this stamp, and sends. There is room for it.
     fn go_on(
         &mut self,
         pid: Pid,
         stamp: u64,
         obeyed: Option<Pid>,
         change: Change,
-        place: u32,
         posts: Vec<Outgoing>,
     )
         requires room { HasRoom (length posts.items) self.old }
-        requires ready { IsReady change }
         requires committable { IsCommittable posts.items self.old }
-        ensures state { state_of self.new ≡ gone_on (changed (after_obeying (state_of self.old) obeyed) change) place stamp (map post_of posts.items) }
+        ensures state { state_of self.new ≡ gone_on (changed (after_obeying (state_of self.old) obeyed) change) stamp (map post_of posts.items) }
+        ensures env { self.new.tables.env ≡ self.old.tables.env }
+        ensures counts { self.new.counts ≡ record self.old.counts { stamp = stamp; next_numbers = self.new.counts.next_numbers } }
         ensures queue { self.new.tables.inner.queue ≡ queue_after self.old.tables.inner.queue change }
         ensures events { self.new.events ≡ self.old.events }
         ensures handled { self.new.handled ≡ self.old.handled }
@@ -70,7 +55,6 @@ impl Progress {
         // The link of an exit signal ends first: a process that ends doesn't tell the peer that told it.
         self.obey(obeyed);
         self.change(change);
-        self.counts.place = place;
         self.counts.stamp = stamp;
         send_all(
             pid,
@@ -82,22 +66,21 @@ impl Progress {
         );
     }
 
-    /// The plan of an instruction happens, or for want of memory nothing does.
-    pub(crate) fn commit_exec(&mut self, pid: Pid, plan: Plan) -> Result<(), AllocError>
-        requires committable { IsCommittable plan.posts.items self.old }
+    /// The plan of an instruction happens, or for want of memory nothing does: a binding is the last
+    /// that can be refused, and then only the event has to be taken back.
+    pub(crate) fn commit_exec(&mut self, pid: Pid, execution: Execution) -> Result<(), AllocError>
+        requires committable { IsCommittable execution.plan.posts.items self.old }
         requires turns { self.old.counts.executed + 1 < 2 ^ 32 }
         ensures event { MatchResult result
-            (λ _. HasAdvanced pid.0 self.old self.new (finished_exec pid.0 (state_of self.old) (body_of (state_of self.old) plan)))
+            (λ _. HasAdvanced pid.0 self.old self.new (finished_exec pid.0 (state_of self.old) (executed_body (state_of self.old) execution)))
             (λ _. IsSame self.old self.new) }
-        ensures queue { OnOk result (self.new.tables.inner.queue ≡ forgotten (queue_after self.old.tables.inner.queue plan.change)) }
+        ensures unsaved { OnOk result (is_saved self.new.tables.inner.queue.last ≡ false) }
     {
-        let Plan {
-            obeyed,
-            change,
+        let Execution {
+            binding,
             place,
-            outcome,
-            posts,
-        } = plan;
+            plan,
+        } = execution;
         let stamp = self.counts.stamp + 1;
         let did = Did::Exec {
             place: self.counts.place,
@@ -105,10 +88,15 @@ impl Progress {
         let event = Event {
             stamp,
             did,
-            outcome,
+            outcome: plan.outcome,
         };
-        let rest = self.begin(event, change, posts.len())?;
-        self.go_on(pid, stamp, obeyed, rest, place, posts);
+        self.begin(event, plan.posts.len())?;
+        if let Err(fault) = self.bind(binding) {
+            let _ = self.events.pop();
+            return Err(fault);
+        }
+        self.go_on(pid, stamp, plan.obeyed, plan.change, plan.posts);
+        self.counts.place = place;
         self.counts.executed += 1;
         self.tables.inner.forget();
         Ok(())
@@ -160,20 +148,15 @@ impl Progress {
             (λ _. IfSome (next_of self.old.own.items self.old.taken_in.items) (λ x.
             HasHandled pid.0 self.old self.new x (finished_handle pid.0 (state_of self.old) x (body_of (state_of self.old) plan))))
             (λ _. IsSame self.old self.new) }
+        ensures end { OnOk result (self.new.tables.end ≡ (changed (after_obeying (state_of self.old) plan.obeyed) plan.change).tables.end) }
+        ensures steady { OnOk result ((self.new.tables.env ≡ self.old.tables.env) × (self.new.counts.place ≡ self.old.counts.place)) }
         ensures queue { OnOk result (self.new.tables.inner.queue ≡ queue_after self.old.tables.inner.queue plan.change) }
     {
-        let Plan {
-            obeyed,
-            change,
-            place,
-            outcome,
-            posts,
-        } = plan;
-        let event = self.handling_event(outcome);
+        let event = self.handling_event(plan.outcome);
         let stamp = event.stamp;
-        let rest = self.begin(event, change, posts.len())?;
+        self.begin(event, plan.posts.len())?;
         self.move_next();
-        self.go_on(pid, stamp, obeyed, rest, place, posts);
+        self.go_on(pid, stamp, plan.obeyed, plan.change, plan.posts);
         Ok(())
     }
 
@@ -181,28 +164,25 @@ impl Progress {
     /// the process goes on at a place; or for want of memory nothing of this happens.
     pub(crate) fn commit_take(
         &mut self,
-        alloc: Global,
         place: u32,
         outcome: Outcome,
         pattern: &Pattern,
     ) -> Result<(), AllocError>
         requires stamp { self.old.counts.stamp < LAST_STAMP }
         requires turns { self.old.counts.executed + 1 < 2 ^ 32 }
-        requires found { IsSomeAnd (found_message self.old.tables.inner.queue) (λ m. IsSome (match_of pattern.now self.old.tables.env m)) }
-        ensures { MatchResult result
-            (λ _. IfSome (found_message self.old.tables.inner.queue) (HasTaken place outcome self.old self.new pattern.now))
-            (λ _. self.new ≡ self.old) }
+        requires found { IsSome (env_found pattern.now self.old) }
+        ensures { MatchResult result (λ _. HasTaken place outcome self.old self.new pattern.now) (λ _. self.new ≡ self.old) }
     {
         let stamp = self.counts.stamp + 1;
         let did = Did::Exec {
             place: self.counts.place,
         };
-        self.note(Event {
+        self.events.add(Event {
             stamp,
             did,
             outcome,
         })?;
-        if let Err(fault) = self.bind_found(alloc, pattern) {
+        if let Err(fault) = self.bind_found(pattern) {
             let _ = self.events.pop();
             return Err(fault);
         }
@@ -214,16 +194,15 @@ impl Progress {
     }
 
     /// Binds the variables of the pattern to the parts of the message of the last scan, or none.
-    fn bind_found(&mut self, alloc: Global, pattern: &Pattern) -> Result<(), AllocError>
-        requires { IsSomeAnd (found_message self.old.tables.inner.queue) (λ m. IsSome (match_of pattern.now self.old.tables.env m)) }
-        ensures { MatchResult result
-            (λ _. IfSome (found_message self.old.tables.inner.queue) (λ m.
-            (match_of pattern.now self.old.tables.env m ≡ Some self.new.tables.env) × (self.new ≡ record self.old { tables = record self.old.tables { env = self.new.tables.env } })))
-            (λ _. self.new ≡ self.old) }
+    fn bind_found(&mut self, pattern: &Pattern) -> Result<(), AllocError>
+        requires { IsSome (env_found pattern.now self.old) }
+        ensures env { OnOk result (env_found pattern.now self.old ≡ Some self.new.tables.env) }
+        ensures rest { self.new ≡ record self.old { tables = record self.old.tables { env = self.new.tables.env } } }
+        ensures err { OnErr result (self.new ≡ self.old) }
     {
         match self.tables.inner.found() {
             None => unreachable!(),
-            Some(message) => bind_match(alloc, pattern, &mut self.tables.env, message),
+            Some(message) => bind_match(self.alloc, pattern, &mut self.tables.env, message),
         }
     }
 }

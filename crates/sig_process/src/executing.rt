@@ -10,7 +10,7 @@ use crate::progress::Progress;
 use sig_base::Steps;
 use sig_script::{Instr, Proc};
 use sig_terms::Pid;
-use std::alloc::{AllocError, Global};
+use std::alloc::AllocError;
 use std::sync::ledger::Ledger;
 
 /// How the execution of an instruction went.
@@ -24,26 +24,19 @@ pub enum Exec {
 
 impl Progress {
     /// Executes an instruction that is no receive.
-    fn perform(
-        &mut self,
-        alloc: Global,
-        pid: Pid,
-        proc: &Proc,
-        instr: Option<&Instr>,
-    ) -> Result<(), AllocError>
+    fn perform(&mut self, pid: Pid, proc: &Proc, instr: Option<&Instr>) -> Result<(), AllocError>
         requires due { IsExecDue proc.now self.old }
         requires instr { option_copied instr ≡ slice_get proc.now.instrs (self.old.counts.place - 1) }
         requires other { is_receive (option_copied instr) ≡ false }
         ensures { MatchResult result (λ _. HasExecuted pid.0 proc.now self.old self.new) (λ _. IsSame self.old self.new) }
     {
-        let plan = self.plan_instr(alloc, proc, instr)?;
+        let plan = self.plan_instr(proc, instr)?;
         self.commit_exec(pid, plan)
     }
 
     /// Executes the next instruction.
     pub(crate) fn exec<L: Ledger>(
         &mut self,
-        alloc: Global,
         pid: Pid,
         proc: &Proc,
         steps: &mut Steps<L>,
@@ -55,10 +48,10 @@ impl Progress {
     {
         match proc.instr(self.counts.place) {
             Some(Instr::Receive { clauses, after }) => {
-                self.receive(alloc, pid, proc, clauses, after, steps)
+                self.receive(pid, proc, clauses, after, steps)
             }
             other => {
-                self.perform(alloc, pid, proc, other)?;
+                self.perform(pid, proc, other)?;
                 Ok(Exec::Stepped)
             }
         }

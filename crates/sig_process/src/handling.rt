@@ -10,11 +10,11 @@ use crate::progress::Progress;
 use crate::waiting::next_signal;
 use sig_script::Proc;
 use sig_terms::Pid;
-use std::alloc::{AllocError, Global};
+use std::alloc::AllocError;
 
 impl Progress {
     /// Handles the next signal.
-    pub(crate) fn handle(&mut self, alloc: Global, pid: Pid, proc: &Proc) -> Result<(), AllocError>
+    pub(crate) fn handle(&mut self, pid: Pid, proc: &Proc) -> Result<(), AllocError>
         requires due { IsHandleDue proc.now self.old }
         ensures handled { MatchResult result
             (λ _. IfSome (next_of self.old.own.items self.old.taken_in.items) (λ x. HasHandled pid.0 self.old self.new x (handling_of pid.0 (state_of self.old) x)))
@@ -25,7 +25,7 @@ impl Progress {
         let Some(signal) = next_signal(&self.own, &self.taken_in) else {
             unreachable!()
         };
-        let plan = self.plan_signal(alloc, pid, signal)?;
+        let plan = self.plan_signal(pid, signal)?;
         self.commit_handle(pid, plan)
     }
 }

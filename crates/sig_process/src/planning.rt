@@ -1,13 +1,13 @@
-ghost use Rattle.std.specs.Prelude.{◌≡◌, ◌+◌, ◌-◌, ◌≤◌, [], ◌∷◌, length, slice_get, option_copied, Some, false, IfOk};
+ghost use Rattle.std.specs.Prelude.{◌≡◌, ◌+◌, ◌-◌, ◌≤◌, [], ◌∷◌, length, slice_get, option_copied, Some, None, false, IfOk};
 ghost use Rattle.sig_model.specs.ProcessState.{ProcessState};
-ghost use Rattle.sig_model.specs.Bodies.{at_place, place_after, going_on};
+ghost use Rattle.sig_model.specs.Bodies.{place_after, going_on};
 ghost use Rattle.sig_model.specs.Executing.{sending, setting, linking, unlinking, sending_exit, trapping, exec_body};
 ghost use Rattle.sig_process.specs.Planning.{IsPlanned, is_receive};
-ghost use Rattle.sig_process.specs.Plans.{changed, body_of};
+ghost use Rattle.sig_process.specs.Plans.{changed, body_of, executed_body};
 ghost use Rattle.sig_process.specs.Progressing.{state_of};
 
 use crate::changing::Change;
-use crate::plan::{Outgoing, Plan};
+use crate::plan::{Execution, Outgoing, Plan};
 use crate::progress::Progress;
 use crate::values::ValueFault;
 use sig_kinds::Kind;
@@ -18,19 +18,6 @@ use sig_terms::{Pid, Term};
 use std::alloc::{AllocError, Global};
 
 impl Plan {
-    /// A change after which the process goes on at this place, with nothing sent.
-    pub(crate) fn silent(alloc: Global, change: Change, place: u32, outcome: Outcome) -> Plan
-        ensures { (s : ProcessState) → body_of s result ≡ record { state = at_place (changed s change) place; outcome = outcome; posts = [] } }
-    {
-        Plan {
-            obeyed: None,
-            change,
-            place,
-            outcome,
-            posts: Vec::new(alloc),
-        }
-    }
-
     /// The same plan, with one signal sent.
     pub(crate) fn sending(self, alloc: Global, to: Pid, kind: Kind) -> Result<Plan, AllocError>
         ensures { IfOk result (λ plan. (s : ProcessState) → body_of s plan ≡ record (body_of s self) { posts = record { to = to.0; kind = kind } ∷ [] }) }
@@ -41,13 +28,16 @@ impl Plan {
 }
 
 impl Progress {
-    /// The place after that of the next instruction.
-    fn next_place(&self, proc: &Proc) -> u32
-        requires { self.now.counts.place ≤ length proc.now.instrs }
-        ensures { result ≡ self.now.counts.place + 1 }
+    /// A change with nothing sent.
+    pub(crate) fn silent(&self, change: Change, outcome: Outcome) -> Plan
+        ensures { (s : ProcessState) → body_of s result ≡ record { state = changed s change; outcome = outcome; posts = [] } }
     {
-        prove!(self.counts.place <= proc.count());
-        self.counts.place + 1
+        Plan {
+            obeyed: None,
+            change,
+            outcome,
+            posts: Vec::new(self.alloc),
+        }
     }
 
     /// Where the process goes on from the next instruction: at the label of the target, or at the
@@ -56,188 +46,174 @@ impl Progress {
         requires { self.now.counts.place ≤ length proc.now.instrs }
         ensures { result ≡ place_after proc.now.labels target self.now.counts.place }
     {
-        match target {
-            None => self.next_place(proc),
-            Some(label) => match proc.place_of(label) {
-                None => self.next_place(proc),
-                Some(place) => place,
-            },
+        if let Some(label) = target {
+            if let Some(place) = proc.place_of(label) {
+                return place;
+            }
+        }
+        prove!(self.counts.place <= proc.count());
+        self.counts.place + 1
+    }
+
+    /// The plan of an instruction that goes on at the label of the target, or at the next place.
+    pub(crate) fn going(&self, proc: &Proc, target: Option<u32>, plan: Plan) -> Execution
+        requires { self.now.counts.place ≤ length proc.now.instrs }
+        ensures { result ≡ record { binding = None; place = place_after proc.now.labels target self.now.counts.place; plan = plan } }
+    {
+        Execution {
+            binding: None,
+            place: self.place_after(proc, target),
+            plan,
         }
     }
 
     /// A message to a process.
-    fn plan_send(
-        &self,
-        alloc: Global,
-        proc: &Proc,
-        to: Pid,
-        message: Term,
-    ) -> Result<Plan, AllocError>
+    fn plan_send(&self, proc: &Proc, to: Pid, message: Term) -> Result<Execution, AllocError>
         requires { self.now.counts.place ≤ length proc.now.instrs }
-        ensures { IfOk result (λ plan. sending (state_of self.now) message to ≡ body_of (state_of self.now) plan) }
+        ensures { IfOk result (λ x. sending (state_of self.now) message to ≡ executed_body (state_of self.now) x) }
     {
         let outcome = Outcome::Sent {
             to: Term::Pid(to),
-            message: message.copy(alloc)?,
+            message: message.copy(self.alloc)?,
         };
         let kind = Kind::Message { term: message };
-        let plan = Plan::silent(alloc, Change::Nothing, self.next_place(proc), outcome);
-        plan.sending(alloc, to, kind)
+        let plan = self.silent(Change::Nothing, outcome);
+        let plan = plan.sending(self.alloc, to, kind)?;
+        Ok(self.going(proc, None, plan))
     }
 
     /// The variable gets the value.
-    fn plan_set(
-        &self,
-        alloc: Global,
-        proc: &Proc,
-        var: &Var,
-        value: Term,
-    ) -> Result<Plan, AllocError>
+    fn plan_set(&self, proc: &Proc, var: &Var, value: Term) -> Result<Execution, AllocError>
         requires { self.now.counts.place ≤ length proc.now.instrs }
-        ensures { IfOk result (λ plan. setting (state_of self.now) var.now.0 value ≡ body_of (state_of self.now) plan) }
+        ensures { IfOk result (λ x. setting (state_of self.now) var.now.0 value ≡ executed_body (state_of self.now) x) }
     {
         let outcome = Outcome::Set {
-            value: value.copy(alloc)?,
+            value: value.copy(self.alloc)?,
         };
-        let var = var.copy(alloc)?;
-        let change = Change::Bind { var, value };
-        Ok(Plan::silent(alloc, change, self.next_place(proc), outcome))
+        let var = var.copy(self.alloc)?;
+        let plan = self.silent(Change::Nothing, outcome);
+        Ok(Execution {
+            binding: Some((var, value)),
+            ..self.going(proc, None, plan)
+        })
     }
 
     /// A link to a process. Its signal is sent but to oneself or where the link is active.
-    fn plan_link(&self, alloc: Global, proc: &Proc, peer: Pid) -> Result<Plan, AllocError>
+    fn plan_link(&self, proc: &Proc, peer: Pid) -> Result<Execution, AllocError>
         requires { self.now.counts.place ≤ length proc.now.instrs }
-        ensures { IfOk result (λ plan. linking (state_of self.now) peer ≡ body_of (state_of self.now) plan) }
+        ensures { IfOk result (λ x. linking (state_of self.now) peer ≡ executed_body (state_of self.now) x) }
     {
         let links = &self.tables.links;
-        let change = Change::Link { peer };
-        let plan = Plan::silent(alloc, change, self.next_place(proc), Outcome::Done);
-        if peer == links.owner() || links.active(peer) {
-            Ok(plan)
-        } else {
-            plan.sending(alloc, peer, Kind::Link)
+        let mut plan = self.silent(Change::Link { peer }, Outcome::Done);
+        if peer != links.owner() && !links.active(peer) {
+            plan = plan.sending(self.alloc, peer, Kind::Link)?;
         }
+        Ok(self.going(proc, None, plan))
     }
 
     /// The end of the link to a process. Its signal is sent where the link is active.
-    fn plan_unlink(&self, alloc: Global, proc: &Proc, peer: Pid) -> Result<Plan, AllocError>
+    fn plan_unlink(&self, proc: &Proc, peer: Pid) -> Result<Execution, AllocError>
         requires { self.now.counts.place ≤ length proc.now.instrs }
-        ensures { IfOk result (λ plan. unlinking (state_of self.now) peer ≡ body_of (state_of self.now) plan) }
+        ensures { IfOk result (λ x. unlinking (state_of self.now) peer ≡ executed_body (state_of self.now) x) }
     {
         let links = &self.tables.links;
-        let change = Change::Unlink { peer };
-        let plan = Plan::silent(alloc, change, self.next_place(proc), Outcome::Done);
+        let mut plan = self.silent(Change::Unlink { peer }, Outcome::Done);
         if links.active(peer) {
             let id = links.next_id();
-            plan.sending(alloc, peer, Kind::Unlink { id })
-        } else {
-            Ok(plan)
+            plan = plan.sending(self.alloc, peer, Kind::Unlink { id })?;
         }
+        Ok(self.going(proc, None, plan))
     }
 
     /// An exit signal to a process.
-    fn plan_exit_to(
-        &self,
-        alloc: Global,
-        proc: &Proc,
-        target: Pid,
-        reason: Term,
-    ) -> Result<Plan, AllocError>
+    fn plan_exit_to(&self, proc: &Proc, target: Pid, reason: Term) -> Result<Execution, AllocError>
         requires { self.now.counts.place ≤ length proc.now.instrs }
-        ensures { IfOk result (λ plan. sending_exit (state_of self.now) reason target ≡ body_of (state_of self.now) plan) }
+        ensures { IfOk result (λ x. sending_exit (state_of self.now) reason target ≡ executed_body (state_of self.now) x) }
     {
         let kind = Kind::Exit {
             reason,
             linked: false,
         };
-        let plan = Plan::silent(alloc, Change::Nothing, self.next_place(proc), Outcome::Done);
-        plan.sending(alloc, target, kind)
+        let plan = self.silent(Change::Nothing, Outcome::Done);
+        let plan = plan.sending(self.alloc, target, kind)?;
+        Ok(self.going(proc, None, plan))
     }
 
     /// The process traps exits from now on, or does no more.
-    fn plan_trap(&self, alloc: Global, proc: &Proc, on: bool) -> Plan
+    fn plan_trap(&self, proc: &Proc, on: bool) -> Execution
         requires { self.now.counts.place ≤ length proc.now.instrs }
-        ensures { trapping (state_of self.now) on ≡ body_of (state_of self.now) result }
+        ensures { trapping (state_of self.now) on ≡ executed_body (state_of self.now) result }
     {
-        Plan::silent(
-            alloc,
-            Change::Trap { on },
-            self.next_place(proc),
-            Outcome::Done,
-        )
+        let plan = self.silent(Change::Trap { on }, Outcome::Done);
+        self.going(proc, None, plan)
     }
 
     /// The process goes on at a label.
-    fn plan_goto(&self, alloc: Global, proc: &Proc, label: u32) -> Plan
+    fn plan_goto(&self, proc: &Proc, label: u32) -> Execution
         requires { self.now.counts.place ≤ length proc.now.instrs }
-        ensures { going_on (state_of self.now) (place_after proc.now.labels (Some label) self.now.counts.place) Outcome.Done ≡ body_of (state_of self.now) result }
+        ensures { going_on (state_of self.now) (place_after proc.now.labels (Some label) self.now.counts.place) Outcome.Done ≡ executed_body (state_of self.now) result }
     {
-        let place = self.place_after(proc, Some(label));
-        Plan::silent(alloc, Change::Nothing, place, Outcome::Done)
+        let plan = self.silent(Change::Nothing, Outcome::Done);
+        self.going(proc, Some(label), plan)
     }
 
     /// What an instruction of the process does, one arm for each row of the table of instructions.
-    fn plan_row(&self, alloc: Global, proc: &Proc, instr: &Instr) -> Result<Plan, ValueFault>
+    fn plan_row(&self, proc: &Proc, instr: &Instr) -> Result<Execution, ValueFault>
         requires within { self.now.counts.place ≤ length proc.now.instrs }
         requires other { is_receive (Some instr.now) ≡ false }
         ensures { IsPlanned (state_of self.now) (exec_body proc.now (state_of self.now) (Some instr.now)) result }
     {
         match instr {
             Instr::Send { to, message } => {
-                let (to, message) = self.target_and_value_of(alloc, to, message)?;
-                Ok(self.plan_send(alloc, proc, to, message)?)
+                let (to, message) = self.target_and_value_of(to, message)?;
+                Ok(self.plan_send(proc, to, message)?)
             }
             Instr::Set { var, value } => {
-                let value = self.value_of(alloc, value)?;
-                Ok(self.plan_set(alloc, proc, var, value)?)
+                let value = self.value_of(value)?;
+                Ok(self.plan_set(proc, var, value)?)
             }
             Instr::Receive {
                 clauses: _,
                 after: _,
             } => unreachable!(),
             Instr::Link { peer } => {
-                let peer = self.target_of(alloc, peer)?;
-                Ok(self.plan_link(alloc, proc, peer)?)
+                let peer = self.target_of(peer)?;
+                Ok(self.plan_link(proc, peer)?)
             }
             Instr::Unlink { peer } => {
-                let peer = self.target_of(alloc, peer)?;
-                Ok(self.plan_unlink(alloc, proc, peer)?)
+                let peer = self.target_of(peer)?;
+                Ok(self.plan_unlink(proc, peer)?)
             }
             Instr::Exit { reason } => {
-                let reason = self.value_of(alloc, reason)?;
-                Ok(self.ending(alloc, None, reason)?)
+                let reason = self.value_of(reason)?;
+                Ok(self.exiting(reason)?)
             }
             Instr::ExitTo { target, reason } => {
-                let (target, reason) = self.target_and_value_of(alloc, target, reason)?;
-                Ok(self.plan_exit_to(alloc, proc, target, reason)?)
+                let (target, reason) = self.target_and_value_of(target, reason)?;
+                Ok(self.plan_exit_to(proc, target, reason)?)
             }
-            Instr::Trap { on } => Ok(self.plan_trap(alloc, proc, *on)),
-            Instr::Goto { label } => Ok(self.plan_goto(alloc, proc, *label)),
-            Instr::Stop => Ok(self.ending_with(alloc, b"normal")?),
+            Instr::Trap { on } => Ok(self.plan_trap(proc, *on)),
+            Instr::Goto { label } => Ok(self.plan_goto(proc, *label)),
+            Instr::Stop => Ok(self.exiting_with(b"normal")?),
         }
     }
 
     /// What an instruction that is no receive does. The place after the last instruction is a stop.
     /// A value that is too large ends the process with `system_limit`, and one that has to be a pid
     /// and is none with `badarg`.
-    pub(crate) fn plan_instr(
-        &self,
-        alloc: Global,
-        proc: &Proc,
-        instr: Option<&Instr>,
-    ) -> Result<Plan, AllocError>
+    pub(crate) fn plan_instr(&self, proc: &Proc, instr: Option<&Instr>) -> Result<Execution, AllocError>
         requires first { 1 ≤ self.now.counts.place }
         requires instr { option_copied instr ≡ slice_get proc.now.instrs (self.now.counts.place - 1) }
         requires other { is_receive (option_copied instr) ≡ false }
-        ensures { IfOk result (λ plan. exec_body proc.now (state_of self.now) (option_copied instr.entry) ≡ Some (body_of (state_of self.now) plan)) }
+        ensures { IfOk result (λ x. exec_body proc.now (state_of self.now) (option_copied instr.entry) ≡ Some (executed_body (state_of self.now) x)) }
     {
         let Some(instr) = instr else {
-            return self.ending_with(alloc, b"normal");
+            return self.exiting_with(b"normal");
         };
-        match self.plan_row(alloc, proc, instr) {
+        match self.plan_row(proc, instr) {
             Ok(plan) => Ok(plan),
-            Err(ValueFault::TooLarge) => self.ending_with(alloc, b"system_limit"),
-            Err(ValueFault::NoPid) => self.ending_with(alloc, b"badarg"),
+            Err(ValueFault::TooLarge) => self.exiting_with(b"system_limit"),
+            Err(ValueFault::NoPid) => self.exiting_with(b"badarg"),
             Err(ValueFault::Memory) => Err(AllocError),
         }
     }

@@ -29,7 +29,6 @@ use std::sync::ledger::Ledger;
 /// Manual, Processes.)
 #[derive(Drop)]
 pub struct Process {
-    pub(crate) alloc: Global,
     pub(crate) pid: Pid,
     /// How many processes the script has.
     pub(crate) count: u32,
@@ -83,6 +82,7 @@ fn beginning(alloc: Global, pid: Pid, count: u32) -> Result<Progress, AllocError
         next_numbers: first_numbers(alloc, count)?,
     };
     Ok(Progress {
+        alloc,
         tables,
         traps: false,
         counts,
@@ -111,7 +111,6 @@ impl Process {
         let proc = proc.copy(alloc)?;
         prove!(1 <= proc.count() + 1);
         Ok(Process {
-            alloc,
             pid,
             count,
             turns: script.turns(),
@@ -170,7 +169,7 @@ impl Process {
         ensures exec { MatchResult result (IsExec self.old self.new) (λ _. self.new.running ≡ self.old.running) }
         ensures ticks { steps.new ≤ steps.old + most_tests self.old }
     {
-        self.progress.exec(self.alloc, self.pid, &self.proc, steps)
+        self.progress.exec(self.pid, &self.proc, steps)
     }
 
     /// Whether the next signal has a stamp below 2^62.
@@ -199,6 +198,6 @@ impl Process {
         requires { can_handle self.old.running ≡ true }
         ensures { MatchResult result (λ _. IsHandled self.old self.new) (λ _. self.new ≡ self.old) }
     {
-        self.progress.handle(self.alloc, self.pid, &self.proc)
+        self.progress.handle(self.pid, &self.proc)
     }
 }

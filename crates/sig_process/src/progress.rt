@@ -4,6 +4,7 @@ use sig_links::Links;
 use sig_model::Events;
 use sig_patterns::Env;
 use sig_terms::Term;
+use std::alloc::Global;
 
 /// What a process holds.
 #[derive(Drop)]
@@ -34,6 +35,8 @@ pub(crate) struct Counts {
 /// The part of a process that its events change.
 #[derive(Drop)]
 pub(crate) struct Progress {
+    /// Where its memory comes from.
+    pub alloc: Global,
     pub tables: Tables,
     /// Whether it traps exits.
     pub traps: bool,

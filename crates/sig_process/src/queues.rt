@@ -87,6 +87,6 @@ impl Process {
         ensures rest { self.new ≡ record self.old { running = record self.old.running { outbox = [] } } }
         ensures arriving { All (λ signal. IsArriving signal.to.0 self.old.running.count signal) result.items }
     {
-        mem::replace(&mut self.progress.outbox, Signals::new(self.alloc))
+        mem::replace(&mut self.progress.outbox, Signals::new(self.progress.alloc))
     }
 }

@@ -26,40 +26,32 @@ fn exit_message(alloc: Global, sender: Pid, reason: Term) -> Result<Term, AllocE
 
 impl Progress {
     /// The message comes to the end of the list.
-    fn appending(
-        &self,
-        alloc: Global,
-        obeyed: Option<Pid>,
-        message: Term,
-    ) -> Result<Plan, AllocError>
+    fn appending(&self, obeyed: Option<Pid>, message: Term) -> Result<Plan, AllocError>
         ensures { IfOk result (λ plan. appending (after_obeying (state_of self.now) obeyed) message ≡ body_of (state_of self.now) plan) }
     {
-        let told = message.copy(alloc)?;
+        let told = message.copy(self.alloc)?;
         Ok(Plan {
             obeyed,
             change: Change::Append { message },
-            place: self.counts.place,
             outcome: Outcome::Kept { message: told },
-            posts: Vec::new(alloc),
+            posts: Vec::new(self.alloc),
         })
     }
 
     /// The signal has no effect.
-    #[tactic(auto, using(crate::proofs::PlanLemmas::stays_at))]
-    fn dropping(&self, alloc: Global, obeyed: Option<Pid>) -> Plan
+    fn dropping(&self, obeyed: Option<Pid>) -> Plan
         ensures { dropping (after_obeying (state_of self.now) obeyed) ≡ body_of (state_of self.now) result }
     {
         Plan {
             obeyed,
             change: Change::Nothing,
-            place: self.counts.place,
             outcome: Outcome::Dropped,
-            posts: Vec::new(alloc),
+            posts: Vec::new(self.alloc),
         }
     }
 
     /// A link signal sets up the link, where there is none and no acknowledgement is awaited.
-    fn plan_link_up(&self, alloc: Global, sender: Pid) -> Plan
+    fn plan_link_up(&self, sender: Pid) -> Plan
         ensures { linking_up (state_of self.now) (on_link self.now.tables.links.links sender.0) ≡ body_of (state_of self.now) result }
     {
         let links = &self.tables.links;
@@ -68,25 +60,20 @@ impl Progress {
         } else {
             Outcome::Linked
         };
-        Plan::silent(
-            alloc,
-            Change::LinkUp { peer: sender },
-            self.counts.place,
-            outcome,
-        )
+        self.silent(Change::LinkUp { peer: sender }, outcome)
     }
 
     /// An unlink signal ends the link, and gets its id back.
-    fn plan_unlink_by(&self, alloc: Global, sender: Pid, id: u64) -> Result<Plan, AllocError>
+    fn plan_unlink_by(&self, sender: Pid, id: u64) -> Result<Plan, AllocError>
         ensures { IfOk result (λ plan. unlinking_from (state_of self.now) sender.0 id (on_unlink self.now.tables.links.links sender.0) ≡ body_of (state_of self.now) plan) }
     {
         let change = Change::UnlinkBy { peer: sender };
-        let plan = Plan::silent(alloc, change, self.counts.place, Outcome::Unlinked);
-        plan.sending(alloc, sender, Kind::UnlinkAck { id })
+        let plan = self.silent(change, Outcome::Unlinked);
+        plan.sending(self.alloc, sender, Kind::UnlinkAck { id })
     }
 
     /// An acknowledgement counts where its id is the awaited one.
-    fn plan_acknowledge(&self, alloc: Global, sender: Pid, id: u64) -> Plan
+    fn plan_acknowledge(&self, sender: Pid, id: u64) -> Plan
         ensures { acknowledging (state_of self.now) (on_ack self.now.tables.links.links sender.0 id) ≡ body_of (state_of self.now) result }
     {
         let outcome = if self.tables.links.awaited(sender) == Some(id) {
@@ -94,18 +81,12 @@ impl Progress {
         } else {
             Outcome::Dropped
         };
-        Plan::silent(
-            alloc,
-            Change::Acknowledge { peer: sender, id },
-            self.counts.place,
-            outcome,
-        )
+        self.silent(Change::Acknowledge { peer: sender, id }, outcome)
     }
 
     /// The exit rule. (Erlang Reference Manual, Processes, Receiving Exit Signals.)
     fn plan_exit_rule(
         &self,
-        alloc: Global,
         pid: Pid,
         obeyed: Option<Pid>,
         sender: Pid,
@@ -113,125 +94,103 @@ impl Progress {
     ) -> Result<Plan, AllocError>
         ensures { IfOk result (λ plan. exit_rule pid.0 (after_obeying (state_of self.now) obeyed) sender.0 reason.now ≡ body_of (state_of self.now) plan) }
     {
-        let reason = reason.copy(alloc)?;
+        let reason = reason.copy(self.alloc)?;
         if self.traps {
-            let message = exit_message(alloc, sender, reason)?;
-            return self.appending(alloc, obeyed, message);
+            let message = exit_message(self.alloc, sender, reason)?;
+            return self.appending(obeyed, message);
         }
         if reason.is_atom(b"normal") && sender != pid {
-            return Ok(self.dropping(alloc, obeyed));
+            return Ok(self.dropping(obeyed));
         }
-        self.ending(alloc, obeyed, reason)
+        self.ending(obeyed, reason)
     }
 
     /// An exit signal of no link. The reason `kill` is obeyed whether exits are trapped or not.
-    fn plan_plain_exit(
-        &self,
-        alloc: Global,
-        pid: Pid,
-        sender: Pid,
-        reason: &Term,
-    ) -> Result<Plan, AllocError>
+    fn plan_plain_exit(&self, pid: Pid, sender: Pid, reason: &Term) -> Result<Plan, AllocError>
         ensures { IfOk result (λ plan. plain_exit pid.0 (state_of self.now) sender.0 reason.now ≡ body_of (state_of self.now) plan) }
     {
         if reason.is_atom(b"kill") {
-            return self.ending_with(alloc, b"killed");
+            let killed = Term::plain_atom(self.alloc, b"killed")?;
+            return self.ending(None, killed);
         }
-        self.plan_exit_rule(alloc, pid, None, sender, reason)
+        self.plan_exit_rule(pid, None, sender, reason)
     }
 
     /// An exit signal of a link. Where the link isn't active, it has no effect.
-    fn plan_linked_exit(
-        &self,
-        alloc: Global,
-        pid: Pid,
-        sender: Pid,
-        reason: &Term,
-    ) -> Result<Plan, AllocError>
+    fn plan_linked_exit(&self, pid: Pid, sender: Pid, reason: &Term) -> Result<Plan, AllocError>
         ensures { IfOk result (λ plan. linked_exit pid.0 (state_of self.now) sender.0 reason.now ≡ body_of (state_of self.now) plan) }
     {
         if !self.tables.links.active(sender) {
-            return Ok(self.dropping(alloc, None));
+            return Ok(self.dropping(None));
         }
-        self.plan_exit_rule(alloc, pid, Some(sender), sender, reason)
+        self.plan_exit_rule(pid, Some(sender), sender, reason)
     }
 
     /// A signal to a live process, one arm for each cell of the table of handling.
-    fn plan_live(
-        &self,
-        alloc: Global,
-        pid: Pid,
-        sender: Pid,
-        kind: &Kind,
-    ) -> Result<Plan, AllocError>
+    fn plan_live(&self, pid: Pid, sender: Pid, kind: &Kind) -> Result<Plan, AllocError>
         ensures { IfOk result (λ plan. live_body pid.0 (state_of self.now) sender.0 kind.now ≡ body_of (state_of self.now) plan) }
     {
         match kind {
             Kind::Message { term } => {
-                let message = term.copy(alloc)?;
-                self.appending(alloc, None, message)
+                let message = term.copy(self.alloc)?;
+                self.appending(None, message)
             }
             Kind::AliasMessage {
                 reference: _,
                 term: _,
-            } => Ok(self.dropping(alloc, None)),
-            Kind::Link => Ok(self.plan_link_up(alloc, sender)),
-            Kind::Unlink { id } => self.plan_unlink_by(alloc, sender, *id),
-            Kind::UnlinkAck { id } => Ok(self.plan_acknowledge(alloc, sender, *id)),
-            Kind::Monitor { reference: _ } => Ok(self.dropping(alloc, None)),
-            Kind::Demonitor { reference: _ } => Ok(self.dropping(alloc, None)),
+            } => Ok(self.dropping(None)),
+            Kind::Link => Ok(self.plan_link_up(sender)),
+            Kind::Unlink { id } => self.plan_unlink_by(sender, *id),
+            Kind::UnlinkAck { id } => Ok(self.plan_acknowledge(sender, *id)),
+            Kind::Monitor { reference: _ } => Ok(self.dropping(None)),
+            Kind::Demonitor { reference: _ } => Ok(self.dropping(None)),
             Kind::Exit {
                 reason,
                 linked: true,
-            } => self.plan_linked_exit(alloc, pid, sender, reason),
+            } => self.plan_linked_exit(pid, sender, reason),
             Kind::Exit {
                 reason,
                 linked: false,
-            } => self.plan_plain_exit(alloc, pid, sender, reason),
+            } => self.plan_plain_exit(pid, sender, reason),
             Kind::Down {
                 reference: _,
                 reason: _,
-            } => Ok(self.dropping(alloc, None)),
+            } => Ok(self.dropping(None)),
         }
     }
 
     /// A link signal to a process that has ended.
-    fn plan_noproc(&self, alloc: Global, sender: Pid) -> Result<Plan, AllocError>
+    fn plan_noproc(&self, sender: Pid) -> Result<Plan, AllocError>
         ensures { IfOk result (λ plan. answering_noproc (state_of self.now) sender.0 ≡ body_of (state_of self.now) plan) }
     {
-        let reason = Term::plain_atom(alloc, b"noproc")?;
+        let reason = Term::plain_atom(self.alloc, b"noproc")?;
         let kind = Kind::Exit {
             reason,
             linked: true,
         };
-        let plan = Plan::silent(alloc, Change::Nothing, self.counts.place, Outcome::NoProc);
-        plan.sending(alloc, sender, kind)
+        let plan = self.silent(Change::Nothing, Outcome::NoProc);
+        plan.sending(self.alloc, sender, kind)
     }
 
     /// A signal to a process that has ended.
-    fn plan_ended(&self, alloc: Global, sender: Pid, kind: &Kind) -> Result<Plan, AllocError>
+    fn plan_ended(&self, sender: Pid, kind: &Kind) -> Result<Plan, AllocError>
         ensures { IfOk result (λ plan. ended_body (state_of self.now) sender.0 kind.now ≡ body_of (state_of self.now) plan) }
     {
         match kind {
-            Kind::Link => self.plan_noproc(alloc, sender),
-            _ => Ok(self.dropping(alloc, None)),
+            Kind::Link => self.plan_noproc(sender),
+            _ => Ok(self.dropping(None)),
         }
     }
 
     /// What the handling of a signal does.
     #[tactic(auto, unfolding(sig_model::specs::Handling::handling))]
-    pub(crate) fn plan_signal(
-        &self,
-        alloc: Global,
-        pid: Pid,
-        signal: &Signal,
-    ) -> Result<Plan, AllocError>
+    pub(crate) fn plan_signal(&self, pid: Pid, signal: &Signal) -> Result<Plan, AllocError>
         ensures { IfOk result (λ plan. handling pid.0 (state_of self.now) signal.now ≡ body_of (state_of self.now) plan) }
     {
         if self.tables.end.is_some() {
-            self.plan_ended(alloc, signal.from, &signal.kind)
+            self.plan_ended(signal.from, &signal.kind)
         } else {
-            self.plan_live(alloc, pid, signal.from, &signal.kind)
+            self.plan_live(pid, signal.from, &signal.kind)
         }
     }
 }

@@ -20,7 +20,7 @@ use sig_model::{LAST_STAMP, Outcome};
 use sig_patterns::{Clauses, Env};
 use sig_script::{After, Instr, Proc};
 use sig_terms::Pid;
-use std::alloc::{AllocError, Global};
+use std::alloc::AllocError;
 use std::sync::ledger::Ledger;
 
 /// Scans the messages: behind the saved place, where there is one.
@@ -51,7 +51,6 @@ impl Progress {
     /// the clause says.
     fn take_found(
         &mut self,
-        alloc: Global,
         pid: Pid,
         proc: &Proc,
         clauses: &Clauses,
@@ -75,20 +74,19 @@ impl Progress {
         let Some(message) = self.tables.inner.found() else {
             unreachable!()
         };
-        let message = message.copy(alloc)?;
+        let message = message.copy(self.alloc)?;
         let outcome = Outcome::Took {
             clause,
             looked,
             message,
         };
         let place = self.place_after(proc, chosen.target);
-        self.commit_take(alloc, place, outcome, &chosen.pattern)
+        self.commit_take(place, outcome, &chosen.pattern)
     }
 
     /// Goes on with the `after` part of a receive.
     fn go_by(
         &mut self,
-        alloc: Global,
         pid: Pid,
         proc: &Proc,
         target: Option<u32>,
@@ -104,15 +102,13 @@ impl Progress {
             (λ _. IsSame self.old self.new) }
         ensures unsaved { OnOk result (is_saved self.new.tables.inner.queue.last ≡ false) }
     {
-        let place = self.place_after(proc, target);
-        let plan = Plan::silent(alloc, Change::Nothing, place, Outcome::After { looked });
-        self.commit_exec(pid, plan)
+        let plan = self.silent(Change::Nothing, Outcome::After { looked });
+        self.commit_exec(pid, self.going(proc, target, plan))
     }
 
     /// Executes a receive. Where it waits, the place behind all messages is saved.
     pub(crate) fn receive<L: Ledger>(
         &mut self,
-        alloc: Global,
         pid: Pid,
         proc: &Proc,
         clauses: &Clauses,
@@ -128,13 +124,13 @@ impl Progress {
     {
         match scan_messages(&mut self.tables.inner, clauses, &self.tables.env, steps) {
             Scan::Found { clause, looked } => {
-                self.take_found(alloc, pid, proc, clauses, clause, looked)?;
+                self.take_found(pid, proc, clauses, clause, looked)?;
                 Ok(Exec::Stepped)
             }
             Scan::None { looked } => match after {
                 None => Ok(Exec::Waiting),
                 Some(after) => {
-                    self.go_by(alloc, pid, proc, after.target, looked)?;
+                    self.go_by(pid, proc, after.target, looked)?;
                     Ok(Exec::Stepped)
                 }
             },

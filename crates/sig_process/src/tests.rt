@@ -2,8 +2,7 @@
 //!
 //! A move is written as a sign: `a` and `b` execute the next instruction of process 0 and of process
 //! 1, `A` and `B` handle the next signal there, `>` delivers what 0 has sent, and `<` what 1 has
-//! sent. An outcome is a letter: `d` done, `l` linked, `u` unlinked, `k` acked, `-` dropped, `e` ended,
-//! `n` noproc, `?` any other.
+//! sent. The letter of each outcome stands in `letter`.
 
 ghost use Rattle.std.specs.Prelude.{◌≡◌, ◌<◌};
 
@@ -18,26 +17,114 @@ use std::marker::Brand;
 use std::sync::ledger::{Blank, Ledger};
 use std::test::Fail;
 
+/// Lines of a script of two processes, the moves, the outcomes of both, and the next number for
+/// process 1 of a signal of process 0.
+const PLAYS: [(&[u8], &[u8], &[u8], &[u8], u64); 9] = [
+    // A link signal is dropped while an id is awaited.
+    (
+        b"process a\nlink @b\nunlink @b\nprocess b\nunlink @a\nlink @a\n",
+        b"a>Babb<AA>BB<A",
+        b"ddu-k",
+        b"ldduk",
+        4,
+    ),
+    // An acknowledgement of another id is dropped.
+    (
+        b"process a\nlink @b\nunlink @b\nlink @b\nunlink @b\nprocess b\n",
+        b"aaaa>BBBB<AA",
+        b"dddd-k",
+        b"lulu",
+        5,
+    ),
+    // An unlink of an inactive link is acknowledged.
+    (
+        b"process a\nlink @b\nunlink @b\nprocess b\nunlink @a\n",
+        b"a>Bab><AB<>AB",
+        b"dduk",
+        b"lduk",
+        4,
+    ),
+    // An exit of an inactive link is dropped.
+    (
+        b"process a\nlink @b\nunlink @b\nstop\nprocess b\nexit boom\n",
+        b"a>Bab<Aa",
+        b"dd-e",
+        b"le",
+        3,
+    ),
+    // An exit of an active link is obeyed, and the peer that told it isn't told.
+    (
+        b"process a\nlink @b\nstop\nprocess b\nexit boom\n",
+        b"a>Bb<A",
+        b"de",
+        b"le",
+        2,
+    ),
+    // A link to a process that has ended comes back.
+    (
+        b"process a\nlink @b\nunlink @b\nprocess b\n",
+        b"baa>BB<A",
+        b"dd-",
+        b"en-",
+        3,
+    ),
+    // Signals to a process are numbered.
+    (
+        b"process a\nlink @b\nsend @b hi\nprocess b\n",
+        b"",
+        b"",
+        b"",
+        1,
+    ),
+    (
+        b"process a\nlink @b\nsend @b hi\nprocess b\n",
+        b"a",
+        b"d",
+        b"",
+        2,
+    ),
+    (
+        b"process a\nlink @b\nsend @b hi\nprocess b\n",
+        b"aa",
+        b"ds",
+        b"",
+        3,
+    ),
+];
+
 fn letter(event: &Event) -> u8 {
     match &event.outcome {
+        Outcome::Sent { to: _, message: _ } => b's',
+        Outcome::Set { value: _ } => b'=',
         Outcome::Done => b'd',
+        Outcome::Took {
+            clause: _,
+            looked: _,
+            message: _,
+        } => b't',
+        Outcome::After { looked: _ } => b'a',
+        Outcome::Ended { reason: _ } => b'e',
+        Outcome::Kept { message: _ } => b'm',
+        Outcome::Dropped => b'-',
         Outcome::Linked => b'l',
         Outcome::Unlinked => b'u',
         Outcome::Acked => b'k',
-        Outcome::Dropped => b'-',
-        Outcome::Ended { reason: _ } => b'e',
         Outcome::NoProc => b'n',
-        _ => b'?',
     }
 }
 
-/// The outcomes of the process's events.
-fn outcomes(alloc: Global, process: &Process) -> Result<Vec<u8>, Fail> {
-    let mut letters = Vec::new(alloc);
-    for event in process.events().as_slice() {
-        letters.push(letter(event))?;
+/// Whether these are the outcomes of the process's events.
+fn tells(process: &Process, letters: &[u8]) -> bool {
+    let events = process.events().as_slice();
+    if events.len() != letters.len() {
+        return false;
     }
-    Ok(letters)
+    for (event, expected) in events.iter().zip(letters.iter()) {
+        if letter(event) != *expected {
+            return false;
+        }
+    }
+    true
 }
 
 fn execute<L: Ledger>(process: &mut Process, steps: &mut Steps<L>) -> Result<(), Fail> {
@@ -94,90 +181,52 @@ fn opened(alloc: Global, text: &[u8]) -> Result<(Process, Process), Fail> {
     Ok((first, second))
 }
 
-/// The outcomes of both processes after these moves.
-fn play<L: Ledger>(
-    alloc: Global,
+fn move_all<L: Ledger>(
     moves: &[u8],
     first: &mut Process,
     second: &mut Process,
     steps: &mut Steps<L>,
-) -> Result<(Vec<u8>, Vec<u8>), Fail> {
+) -> Result<(), Fail> {
     for sign in moves {
         moved(*sign, first, second, steps)?;
     }
-    Ok((outcomes(alloc, first)?, outcomes(alloc, second)?))
+    Ok(())
 }
 
-/// The outcomes of both processes of the script after these moves.
+/// Both processes of the script after these moves.
 fn played<L: Ledger>(
     alloc: Global,
     blank: Blank,
     text: &[u8],
     moves: &[u8],
-) -> Result<(Vec<u8>, Vec<u8>), Fail>
+) -> Result<(Process, Process), Fail>
     requires name { blank.name ≡ L.name }
     requires parts { blank.parts ≡ L.parts }
     requires some { 0 < blank.parts }
 {
     let (mut first, mut second) = opened(alloc, text)?;
     let mut steps: Steps<L> = Steps::open(blank);
-    play(alloc, moves, &mut first, &mut second, &mut steps)
+    move_all(moves, &mut first, &mut second, &mut steps)?;
+    Ok((first, second))
 }
 
-/// Whether the script, without its first line, gives both processes these outcomes after the moves.
-fn plays(
-    alloc: Global,
-    lines: &[u8],
-    moves: &[u8],
-    first: &[u8],
-    second: &[u8],
-) -> Result<bool, Fail> {
+/// The script of these lines.
+fn script_of(alloc: Global, lines: &[u8]) -> Result<Vec<u8>, Fail> {
     let mut text = Vec::new(alloc);
     text.extend_from_slice(b"sigscript 1\n")?;
     text.extend_from_slice(lines)?;
-    let got = played::<Brand>(alloc, Blank::new(1), text.as_slice(), moves)?;
-    Ok(got.0.as_slice() == first && got.1.as_slice() == second)
+    Ok(text)
 }
 
 #[test]
-fn a_link_while_an_id_is_awaited_is_dropped(rt: HostRuntime) -> Result<(), Fail> {
-    let lines = b"process a\nlink @b\nunlink @b\nprocess b\nunlink @a\nlink @a\n";
-    assert!(rt; plays(rt.alloc(), lines, b"a>Babb<AA>BB<A", b"ddu-k", b"ldduk")?);
-    Ok(())
-}
-
-#[test]
-fn an_acknowledgement_of_another_id_is_dropped(rt: HostRuntime) -> Result<(), Fail> {
-    let lines = b"process a\nlink @b\nunlink @b\nlink @b\nunlink @b\nprocess b\n";
-    assert!(rt; plays(rt.alloc(), lines, b"aaaa>BBBB<AA", b"dddd-k", b"lulu")?);
-    Ok(())
-}
-
-#[test]
-fn an_unlink_of_an_inactive_link_is_acknowledged(rt: HostRuntime) -> Result<(), Fail> {
-    let lines = b"process a\nlink @b\nunlink @b\nprocess b\nunlink @a\n";
-    assert!(rt; plays(rt.alloc(), lines, b"a>Bab><AB<>AB", b"dduk", b"lduk")?);
-    Ok(())
-}
-
-#[test]
-fn an_exit_of_an_inactive_link_is_dropped(rt: HostRuntime) -> Result<(), Fail> {
-    let lines = b"process a\nlink @b\nunlink @b\nstop\nprocess b\nexit boom\n";
-    assert!(rt; plays(rt.alloc(), lines, b"a>Bab<Aa", b"dd-e", b"le")?);
-    Ok(())
-}
-
-#[test]
-fn an_exit_of_an_active_link_is_obeyed(rt: HostRuntime) -> Result<(), Fail> {
-    let lines = b"process a\nlink @b\nstop\nprocess b\nexit boom\n";
-    assert!(rt; plays(rt.alloc(), lines, b"a>Bb<A", b"de", b"le")?);
-    Ok(())
-}
-
-#[test]
-fn links_to_an_ended_process_come_back(rt: HostRuntime) -> Result<(), Fail> {
-    let lines = b"process a\nlink @b\nunlink @b\nprocess b\n";
-    assert!(rt; plays(rt.alloc(), lines, b"baa>BB<A", b"dd-", b"en-")?);
+fn links_go_by_their_rules(rt: HostRuntime) -> Result<(), Fail> {
+    let alloc = rt.alloc();
+    for (lines, moves, a, b, number) in PLAYS {
+        let text = script_of(alloc, lines)?;
+        let (first, second) = played::<Brand>(alloc, Blank::new(1), text.as_slice(), moves)?;
+        assert!(rt; tells(&first, a) && tells(&second, b), "{lines:?} {moves:?}");
+        assert!(rt; first.next_number(Pid(1)) == number, "{lines:?} {moves:?}");
+    }
     Ok(())
 }
 
@@ -216,42 +265,5 @@ fn a_signal_that_is_taken_in_waits(rt: HostRuntime) -> Result<(), Fail> {
     let alloc = rt.alloc();
     let script = read_script(alloc, b"sigscript 1\nprocess a\nprocess b").map_err(|_| "refused")?;
     assert_eq!(rt; waiting_after_one(alloc, &script)?, 1);
-    Ok(())
-}
-
-/// The next number for process 1 after so many instructions.
-fn number_after<L: Ledger>(
-    process: &mut Process,
-    count: usize,
-    steps: &mut Steps<L>,
-) -> Result<u64, Fail> {
-    for _ in 0..count {
-        execute(process, steps)?;
-    }
-    Ok(process.next_number(Pid(1)))
-}
-
-fn first_number_after<L: Ledger>(
-    alloc: Global,
-    blank: Blank,
-    text: &[u8],
-    count: usize,
-) -> Result<u64, Fail>
-    requires name { blank.name ≡ L.name }
-    requires parts { blank.parts ≡ L.parts }
-    requires some { 0 < blank.parts }
-{
-    let mut first = opened(alloc, text)?.0;
-    let mut steps: Steps<L> = Steps::open(blank);
-    number_after(&mut first, count, &mut steps)
-}
-
-#[test]
-fn signals_to_a_process_are_numbered(rt: HostRuntime) -> Result<(), Fail> {
-    let text = b"sigscript 1\nprocess a\nlink @b\nsend @b hi\nprocess b";
-    for count in 0..3 {
-        let number = first_number_after::<Brand>(rt.alloc(), Blank::new(1), text, count)?;
-        assert!(rt; number == count as u64 + 1, "{count}");
-    }
     Ok(())
 }

@@ -7,7 +7,7 @@ ghost use Rattle.sig_process.specs.declared.values.ValueFault.TheVariants.{Memor
 use crate::progress::Progress;
 use sig_patterns::{BuildFault, Expr, build};
 use sig_terms::{Pid, Term};
-use std::alloc::{AllocError, Global};
+use std::alloc::AllocError;
 
 /// Why an instruction has no use of a value.
 #[derive(Clone, Copy, Debug, PartialEq, Eq)]
@@ -30,10 +30,10 @@ impl From<AllocError> for ValueFault {
 
 impl Progress {
     /// The value of the expression.
-    pub(crate) fn value_of(&self, alloc: Global, expression: &Expr) -> Result<Term, ValueFault>
+    pub(crate) fn value_of(&self, expression: &Expr) -> Result<Term, ValueFault>
         ensures { IsUsed (state_of self.now) (with_value (state_of self.now) expression.now) result }
     {
-        match build(alloc, expression, &self.tables.env) {
+        match build(self.alloc, expression, &self.tables.env) {
             Ok(value) => Ok(value),
             Err(BuildFault::TooLarge { nodes: _, depth: _ }) => Err(ValueFault::TooLarge),
             Err(BuildFault::Memory) => Err(ValueFault::Memory),
@@ -55,10 +55,10 @@ impl Progress {
     }
 
     /// The process that the value of the expression names.
-    pub(crate) fn target_of(&self, alloc: Global, expression: &Expr) -> Result<Pid, ValueFault>
+    pub(crate) fn target_of(&self, expression: &Expr) -> Result<Pid, ValueFault>
         ensures { IsUsed (state_of self.now) (λ go. with_value (state_of self.now) expression.now (λ t. with_pid (state_of self.now) t go)) result }
     {
-        let value = self.value_of(alloc, expression)?;
+        let value = self.value_of(expression)?;
         self.pid_of(value)
     }
 
@@ -66,7 +66,6 @@ impl Progress {
     /// values are built before it is asked whether the first names a process.
     pub(crate) fn target_and_value_of(
         &self,
-        alloc: Global,
         target: &Expr,
         other: &Expr,
     ) -> Result<(Pid, Term), ValueFault>
@@ -74,8 +73,8 @@ impl Progress {
             (λ go. with_value (state_of self.now) target.now (λ t. with_value (state_of self.now) other.now (λ v. with_pid (state_of self.now) t (λ p. go (p, v)))))
             result }
     {
-        let target = self.value_of(alloc, target)?;
-        let other = self.value_of(alloc, other)?;
+        let target = self.value_of(target)?;
+        let other = self.value_of(other)?;
         let target = self.pid_of(target)?;
         Ok((target, other))
     }

@@ -1,4 +1,4 @@
-use Rattle.std.proofs.Common.{ap, ◌∙◌, subst}
+use Rattle.std.proofs.Common.{◌<◌, ◌^◌, ap, ◌∙◌, subst, arith}
 use Rattle.sig_model.specs.Running.{can_exec}
 use Rattle.sig_process.specs.Standing.{Standing}
 use Rattle.sig_process.proofs.SoundLemmas.{exec_is_due, exec_answer, exec_tells_so, exec_keeps_sound}
@@ -7,7 +7,8 @@ use Rattle.sig_process.proofs.process.Process.exec.Goals as goal
 pub exec-requires : goal.exec-requires
 exec-requires g c =
     let s = c.self.inside in
-    record { due = exec_is_due s.pid.0 s.count s.turns s.proc s.progress s.progress c.self.invariant c.self.ranges.1.1.1.0.1 (ap (λ (p : Standing). can_exec p.running) c.self.view_is ∙ c.requires) }
+    let few : s.turns < 2 ^ 32 = omega arith in
+    record { due = exec_is_due s.pid.0 s.count s.turns s.proc s.progress s.progress c.self.invariant few (ap (λ (p : Standing). can_exec p.running) c.self.view_is ∙ c.requires) }
 
 pub invariant_of-self : goal.invariant_of-self
 invariant_of-self g c =

@@ -1,9 +1,13 @@
-use Rattle.std.proofs.Common.{ap}
+use Rattle.std.proofs.Common.{map, ap, ◌∙◌, arith}
 use Rattle.sig_model.specs.Bodies.{Body}
-use Rattle.sig_process.proofs.DueLemmas.{silent_committable}
+use Rattle.sig_process.proofs.DueLemmas.{committable}
+use Rattle.sig_process.specs.declared.plan.Execution.{Execution}
 use Rattle.sig_process.specs.Progressing.{state_of}
+use Rattle.sig_process.specs.Plans.{post_of}
 use Rattle.sig_process.proofs.progress.Progress.go_by.Goals as goal
 
 pub commit_exec-requires-clause-committable : goal.commit_exec-requires-clause-committable
 commit_exec-requires-clause-committable c =
-    silent_committable c.args.proc.now c.args.self.now c.silent-plan.result c.requires.bounds c.requires.stamp (ap (λ (b : Body). b.posts) (c.silent-plan.ensures (state_of c.args.self.now)))
+    let p = c.args.self.now in
+    let none = ap (λ (x : Execution). map post_of x.plan.posts.items) c.going.ensures ∙ ap (λ (b : Body). b.posts) (c.silent-plan.ensures (state_of p)) in
+    committable c.args.proc.now p c.going.result.plan.posts.items c.requires.bounds c.requires.stamp (λ peer. rw none (omega arith))

@@ -1,5 +1,4 @@
-use Rattle.std.proofs.Common.{◌≤◌, length, sym, ap, ◌∙◌, arith}
-use Rattle.std.specs.Prelude.{option_copied}
+use Rattle.std.proofs.Common.{◌≤◌, length, arith}
 use Rattle.sig_inner.specs.Receiving.{passed}
 use Rattle.sig_process.proofs.DueLemmas.{signal_committable}
 use Rattle.sig_process.proofs.HandleLemmas.{handled_keeps}
@@ -13,5 +12,5 @@ pub returns-clause-saved : goal.returns-clause-saved
 returns-clause-saved c =
     let p = c.args.self.now in
     let within : passed p.tables.inner.queue.last ≤ length p.tables.inner.queue.inbox.messages = omega (arith, c.passed.ensures.count, c.passed.ensures.within) in
-    handled_keeps c.commit_handle.result c.args.pid.0 p c.commit_handle.new.self c.in_ok-plan.plan c.in-Some.signal.now (sym c.next_signal.ensures ∙ ap option_copied c.in-Some.is)
-    c.in_ok-plan.ensures c.commit_handle.ensures.queue within c.requires.due.saved.ended c.commit_handle.ensures.event
+    let done = c.commit_handle.ensures in
+    handled_keeps c.commit_handle.result p c.commit_handle.new.self c.in_ok-plan.plan done.steady done.end done.queue within c.requires.due.saved.ended

@@ -46,9 +46,9 @@ returns-in_err-reason-in-Exit c =
     let p = err_from_is_err_and c.from_residual-in_err-reason-in-Exit.result c.from_residual-in_err-reason-in-Exit.ensures.1 in
     rw (c.in-Exit.is, p.1, p.2) (c.in_err-reason-in-Exit.ensures (ending (state_of c.args.self.now)))
 
-pub returns-in_ok-ending-in-Exit : goal.returns-in_ok-ending-in-Exit
-returns-in_ok-ending-in-Exit c =
-    rw c.in-Exit.is (ap Some (c.in_ok-reason-in-Exit.ensures (ending (state_of c.args.self.now)) ∙ c.in_ok-ending-in-Exit.ensures))
+pub returns-in_ok-exiting-in-Exit : goal.returns-in_ok-exiting-in-Exit
+returns-in_ok-exiting-in-Exit c =
+    rw c.in-Exit.is (ap Some (c.in_ok-reason-in-Exit.ensures (ending (state_of c.args.self.now)) ∙ c.in_ok-exiting-in-Exit.ensures))
 
 pub returns-in_err-target-in-ExitTo : goal.returns-in_err-target-in-ExitTo
 returns-in_err-target-in-ExitTo c =
