@@ -61,13 +61,15 @@ fn each_kind_is_copied(rt: HostRuntime) -> Result<(), Fail> {
     let alloc = rt.alloc();
     let owner = Pid(5);
     let reference = Ref { owner, serial: 7 };
-    let (term, more, reason, last) = (Term::Int(1), Term::Int(2), Term::Int(6), Term::Int(8));
     let rows: [(Kind, Said); 9] = [
-        (Kind::Message { term }, ("message", 0, None, Some(1))),
+        (
+            Kind::Message { term: Term::Int(1) },
+            ("message", 0, None, Some(1)),
+        ),
         (
             Kind::AliasMessage {
                 reference,
-                term: more,
+                term: Term::Int(2),
             },
             ("alias", 0, Some(reference), Some(2)),
         ),
@@ -84,7 +86,7 @@ fn each_kind_is_copied(rt: HostRuntime) -> Result<(), Fail> {
         ),
         (
             Kind::Exit {
-                reason,
+                reason: Term::Int(6),
                 linked: true,
             },
             ("exit", 1, None, Some(6)),
@@ -92,7 +94,7 @@ fn each_kind_is_copied(rt: HostRuntime) -> Result<(), Fail> {
         (
             Kind::Down {
                 reference,
-                reason: last,
+                reason: Term::Int(8),
             },
             ("down", 0, Some(reference), Some(8)),
         ),
