@@ -27,6 +27,8 @@ const PIECE: usize = 4096;
 /// - [`ReadAll::ReadFault`]: a read failed, so the source's count of faults rose. `into` holds what
 ///   was taken before.
 /// - [`ReadAll::Memory`]: `into` could not grow. It holds the front of what was taken.
+///
+/// With any answer but [`ReadAll::ReadFault`] no read failed.
 pub fn read_all<S: Source>(source: &mut S, limit: usize, into: &mut Vec<u8>) -> ReadAll
     requires below { limit < usize.MAX }
     requires empty { into.old.items ≡ [] }

@@ -2,11 +2,6 @@
 use Rattle.std.proofs.Common.{◌≡◌, ℕ, ◌≤◌, List, [], ◌++◌, Option, Some, None, sym, ◌∙◌, ap, arith, append_assoc, append-nil}
 use Rattle.sig_base.specs.Flow.{Rose, Adds}
 
--- nothing was told
-pub adds_none : (a : Option (List ℕ)) → Adds a a []
-adds_none None = tt
-adds_none (Some held) = ap (λ (xs : List ℕ). Some xs) (sym (append-nil held))
-
 then-some : (held : List ℕ) (b c : Option (List ℕ)) (xs ys : List ℕ) → b ≡ Some (held ++ xs) → Adds b c ys → c ≡ Some (held ++ (xs ++ ys))
 then-some held None c xs ys h k = cc
 then-some held (Some more) c xs ys h k =

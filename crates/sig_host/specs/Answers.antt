@@ -24,10 +24,10 @@ IsRecordOf script text =
 
 -- reading the script: what the source had left, its faults before and after, and the script or why there is none
 abbrev pub IsSourceRead : Option (List ℕ) → ℕ → ℕ → Result Program Status → Type 0
-IsSourceRead left before after (Ok script) = IfSome left (λ bytes. script_of bytes ≡ Ok script)
-IsSourceRead left before after (Err (BadScript line kind)) = IfSome left (IsRefused line kind)
+IsSourceRead left before after (Ok script) = IfSome left (λ bytes. script_of bytes ≡ Ok script) × (after ≡ before)
+IsSourceRead left before after (Err (BadScript line kind)) = IfSome left (IsRefused line kind) × (after ≡ before)
 IsSourceRead left before after (Err ReadFault) = Rose before after
-IsSourceRead left before after (Err Memory) = Unit {0}
+IsSourceRead left before after (Err Memory) = after ≡ before
 IsSourceRead left before after (Err _) = ⊥
 
 -- running the script: what `out` held and holds, its faults before and after, and how it ended
@@ -38,10 +38,10 @@ IsScriptRun script held new before after WriteFault =
 IsScriptRun script held new before after Memory = new ≡ held
 IsScriptRun script held new before after _ = ⊥
 
--- what went in and what came out: how many words, what the source had left and its faults before and after, and what `out`
+-- what went in and what came out: how many arguments, what the source had left and its faults before and after, and what `out`
 -- held and holds and its faults before and after
 pub record Sides : Type 0 where
-  pub words : ℕ
+  pub arguments : ℕ
   pub left : Option (List ℕ)
   pub source_before : ℕ
   pub source_after : ℕ
@@ -54,11 +54,16 @@ pub record Sides : Type 0 where
 abbrev pub HasRun : Sides → (List ℕ → Type 0) → Type 0
 HasRun s Has = IfSome s.left (λ bytes. (script : Program) × (script_of bytes ≡ Ok script) × ((text : List ℕ) × IsRecordOf script text × Has text))
 
+-- no read failed
+abbrev pub IsSourceFine : Sides → Type 0
+IsSourceFine s = s.source_after ≡ s.source_before
+
+-- what each answer says; with any but ReadFault no read failed
 abbrev pub IsAnswer : Sides → Status → Type 0
-IsAnswer s Done = (s.words ≡ 0) × HasRun s (λ text. Adds s.held s.new text)
-IsAnswer s (BadScript line kind) = (s.words ≡ 0) × IfSome s.left (IsRefused line kind) × (s.new ≡ s.held)
-IsAnswer s Usage = (0 < s.words) × (s.new ≡ s.held)
-IsAnswer s ReadFault = (s.words ≡ 0) × Rose s.source_before s.source_after × (s.new ≡ s.held)
+IsAnswer s Done = (s.arguments ≡ 0) × HasRun s (λ text. Adds s.held s.new text) × IsSourceFine s
+IsAnswer s (BadScript line kind) = (s.arguments ≡ 0) × IfSome s.left (IsRefused line kind) × IsSourceFine s × (s.new ≡ s.held)
+IsAnswer s Usage = (0 < s.arguments) × IsSourceFine s × (s.new ≡ s.held)
+IsAnswer s ReadFault = (s.arguments ≡ 0) × Rose s.source_before s.source_after × (s.new ≡ s.held)
 IsAnswer s WriteFault =
-    (s.words ≡ 0) × Rose s.out_before s.out_after × HasRun s (λ text. (n : ℕ) × Adds s.held s.new (take n text))
-IsAnswer s Memory = (s.words ≡ 0) × (s.new ≡ s.held)
+    (s.arguments ≡ 0) × Rose s.out_before s.out_after × HasRun s (λ text. (n : ℕ) × Adds s.held s.new (take n text)) × IsSourceFine s
+IsAnswer s Memory = (s.arguments ≡ 0) × IsSourceFine s × (s.new ≡ s.held)

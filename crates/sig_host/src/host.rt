@@ -72,7 +72,7 @@ fn run_script<O: Sink>(alloc: Global, script: &Script, out: &mut O) -> Status
 /// Reads the script, runs it, and writes the record.
 fn run_source<S: Source, O: Sink>(alloc: Global, script: &mut S, out: &mut O) -> Status
     ensures answer { IsAnswer (record {
-      words = 0;
+      arguments = 0;
       left = S.left script.old;
       source_before = S.faults script.old;
       source_after = S.faults script.new;
@@ -88,26 +88,27 @@ fn run_source<S: Source, O: Sink>(alloc: Global, script: &mut S, out: &mut O) ->
     }
 }
 
-/// Reads the words, which are none, and the script to its end; runs the script with one worker;
+/// Reads the arguments, which are none, and the script to its end; runs the script with one worker;
 /// and writes the text of the record to `out`. What the record tells is a settled run of the
 /// script's machine.
 ///
-/// `Usage` comes exactly where there are words. `BadScript` comes only where the bytes spell no
+/// `Usage` comes exactly where there are arguments. `BadScript` comes only where the bytes spell no
 /// script, with the first line that is refused and why; it is line 0 where they are more than
-/// [`MOST_BYTES`]. `ReadFault` comes only where a read failed, and `WriteFault` only where a write
-/// to `out` failed, which has taken the beginning of the text then. With `Done` it has taken the
-/// whole text, and with any other status nothing. What a status tells is written to `err` where no
-/// write to it fails, and a fault of `err` changes no status.
+/// [`MOST_BYTES`]. `ReadFault` comes only where a read failed, and each other status only where
+/// none did; `WriteFault` comes only where a write to `out` failed, which has taken the beginning
+/// of the text then. With `Done` it has taken the whole text, and with any other status nothing.
+/// What a status tells is written to `err` where no write to it fails, and a fault of `err` changes
+/// no status.
 pub fn run<S: Source, O: Sink, E: Sink, G: Gate>(
     alloc: Global,
-    words: &[String],
+    arguments: &[String],
     script: &mut S,
     out: &mut O,
     err: &mut E,
     _gate: &G,
 ) -> Status
     ensures answer { IsAnswer (record {
-      words = length words.now;
+      arguments = length arguments.now;
       left = S.left script.old;
       source_before = S.faults script.old;
       source_after = S.faults script.new;
@@ -118,7 +119,7 @@ pub fn run<S: Source, O: Sink, E: Sink, G: Gate>(
     }) result }
     ensures told { (Rose (E.faults err.old) (E.faults err.new) → ⊥) → Adds (E.held err.old) (E.held err.new) (told_text result) }
 {
-    if !words.is_empty() {
+    if !arguments.is_empty() {
         tell(err, Status::Usage);
         return Status::Usage;
     }

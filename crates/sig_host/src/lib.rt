@@ -1,4 +1,4 @@
-//! The top call: from the words and the bytes of a script to the bytes of the record of its run.
+//! The top call: from the arguments and the bytes of a script to the bytes of the record of its run.
 #![tactic(auto)]
 
 mod host;

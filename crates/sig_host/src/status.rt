@@ -10,7 +10,7 @@ pub enum Status {
     Done,
     /// The bytes that were read are no script.
     BadScript { line: u64, kind: FaultKind },
-    /// The words after the program's name aren't those of the command.
+    /// There are arguments, of which the command has none.
     Usage,
     /// A read failed.
     ReadFault,

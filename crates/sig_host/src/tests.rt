@@ -36,15 +36,15 @@ const TOO_LONG: Status = Status::BadScript {
     kind: FaultKind::TooLong,
 };
 
-/// Runs with no words, and an `err` that never fails.
+/// Runs with no arguments, and an `err` that never fails.
 fn run_with<S: Source, O: Sink>(
     alloc: Global,
     script: &mut S,
     out: &mut O,
 ) -> Result<(Status, MemorySink), AllocError> {
     let mut err = MemorySink::with_room(alloc, 100)?;
-    let words = Vec::new(alloc);
-    let status = run(alloc, words.as_slice(), script, out, &mut err, &OpenGate);
+    let none = Vec::new(alloc);
+    let status = run(alloc, none.as_slice(), script, out, &mut err, &OpenGate);
     Ok((status, err))
 }
 
@@ -140,15 +140,15 @@ fn a_failed_write_leaves_the_beginning(rt: HostRuntime) -> Result<(), Fail> {
 }
 
 #[test]
-fn words_and_faults_of_err(rt: HostRuntime) -> Result<(), Fail> {
+fn arguments_and_faults_of_err(rt: HostRuntime) -> Result<(), Fail> {
     let alloc = rt.alloc();
-    let words = vec![in alloc; String::from_str(alloc, "--help")?]?;
+    let arguments = vec![in alloc; String::from_str(alloc, "--help")?]?;
     let mut source = MemorySource::new(Vec::from_slice(alloc, ONE_MESSAGE)?, 100);
     let mut out = MemorySink::with_room(alloc, 1000)?;
     let mut err = MemorySink::with_room(alloc, 5)?;
     let answer = run(
         alloc,
-        words.as_slice(),
+        arguments.as_slice(),
         &mut source,
         &mut out,
         &mut err,

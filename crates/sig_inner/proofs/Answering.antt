@@ -7,11 +7,6 @@ use Rattle.sig_inner.specs.declared.scan.Scan.TheVariants as answer
 use Rattle.sig_inner.specs.InnerQueue.{InnerQueue}
 use Rattle.sig_inner.specs.Receiving.{answer_to, IsScanWithin}
 
-pub answered_within : (q : InnerQueue) (clauses : ℕ) (found : Option Found) → IfSome found (λ f. (f.at < length q.inbox.messages) × (f.clause < clauses)) →
-    IsScanWithin clauses (length q.inbox.messages) (answer_to q found)
-answered_within q clauses (Some f) within = (omega arith, omega arith, omega arith, omega arith)
-answered_within q clauses None within = length-map q.inbox.messages (λ m. m.1)
-
 found_at : (f : Found) (clause looked : ℕ) → f.clause + 1 ≡ clause → f.at + 1 ≡ looked → ◌≡◌ {A = Option Found} (Some f) (Some (record { at = looked - 1; clause = clause - 1 }))
 found_at f clause looked c l =
     let at : f.at ≡ looked - 1 = omega arith in

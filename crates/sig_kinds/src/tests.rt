@@ -32,63 +32,76 @@ fn signals_leave_in_the_order_of_their_coming(rt: HostRuntime) -> Result<(), Fai
     Ok(())
 }
 
-/// The word of the kind, and a number that stands in it.
-fn tells(kind: &Kind) -> (&'static str, u64) {
+/// All that a kind says: its word, its number, its reference, and the integer that is its term.
+type Said = (&'static str, u64, Option<Ref>, Option<i64>);
+
+fn int(term: &Term) -> Option<i64> {
+    match term {
+        Term::Int(n) => Some(*n),
+        _ => None,
+    }
+}
+
+fn said(kind: &Kind) -> Said {
     match kind {
-        Kind::Message { term: _ } => ("message", 0),
-        Kind::AliasMessage { reference, term: _ } => ("alias", reference.serial),
-        Kind::Link => ("link", 0),
-        Kind::Unlink { id } => ("unlink", *id),
-        Kind::UnlinkAck { id } => ("unlink_ack", *id),
-        Kind::Monitor { reference } => ("monitor", reference.serial),
-        Kind::Demonitor { reference } => ("demonitor", reference.serial),
-        Kind::Exit { reason: _, linked } => ("exit", if *linked { 1 } else { 0 }),
-        Kind::Down {
-            reference,
-            reason: _,
-        } => ("down", reference.serial),
+        Kind::Message { term } => ("message", 0, None, int(term)),
+        Kind::AliasMessage { reference, term } => ("alias", 0, Some(*reference), int(term)),
+        Kind::Link => ("link", 0, None, None),
+        Kind::Unlink { id } => ("unlink", *id, None, None),
+        Kind::UnlinkAck { id } => ("unlink_ack", *id, None, None),
+        Kind::Monitor { reference } => ("monitor", 0, Some(*reference), None),
+        Kind::Demonitor { reference } => ("demonitor", 0, Some(*reference), None),
+        Kind::Exit { reason, linked } => ("exit", if *linked { 1 } else { 0 }, None, int(reason)),
+        Kind::Down { reference, reason } => ("down", 0, Some(*reference), int(reason)),
     }
 }
 
 #[test]
 fn each_kind_is_copied(rt: HostRuntime) -> Result<(), Fail> {
     let alloc = rt.alloc();
-    let reference = Ref {
-        owner: Pid(1),
-        serial: 7,
-    };
-    let rows = [
-        (Kind::Message { term: Term::Int(1) }, ("message", 0)),
+    let owner = Pid(5);
+    let reference = Ref { owner, serial: 7 };
+    let rows: [(Kind, Said); 9] = [
+        (
+            Kind::Message { term: Term::Int(1) },
+            ("message", 0, None, Some(1)),
+        ),
         (
             Kind::AliasMessage {
                 reference,
-                term: Term::Int(1),
+                term: Term::Int(2),
             },
-            ("alias", 7),
+            ("alias", 0, Some(reference), Some(2)),
         ),
-        (Kind::Link, ("link", 0)),
-        (Kind::Unlink { id: 3 }, ("unlink", 3)),
-        (Kind::UnlinkAck { id: 4 }, ("unlink_ack", 4)),
-        (Kind::Monitor { reference }, ("monitor", 7)),
-        (Kind::Demonitor { reference }, ("demonitor", 7)),
+        (Kind::Link, ("link", 0, None, None)),
+        (Kind::Unlink { id: 3 }, ("unlink", 3, None, None)),
+        (Kind::UnlinkAck { id: 4 }, ("unlink_ack", 4, None, None)),
+        (
+            Kind::Monitor { reference },
+            ("monitor", 0, Some(reference), None),
+        ),
+        (
+            Kind::Demonitor { reference },
+            ("demonitor", 0, Some(reference), None),
+        ),
         (
             Kind::Exit {
-                reason: Term::Int(1),
+                reason: Term::Int(6),
                 linked: true,
             },
-            ("exit", 1),
+            ("exit", 1, None, Some(6)),
         ),
         (
             Kind::Down {
                 reference,
-                reason: Term::Int(1),
+                reason: Term::Int(8),
             },
-            ("down", 7),
+            ("down", 0, Some(reference), Some(8)),
         ),
     ];
-    for (kind, told) in rows {
+    for (kind, expected) in rows {
         let copy = kind.copy(alloc)?;
-        assert_eq!(rt; tells(&copy), told);
+        assert_eq!(rt; said(&copy), expected);
     }
     Ok(())
 }
@@ -112,7 +125,8 @@ fn signals_move_behind_the_others(rt: HostRuntime) -> Result<(), Fail> {
         assert!(rt;
             signals
                 .get(place)
-                .is_some_and(|s| s.number == place as u64 + 1)
+                .is_some_and(|s| s.number == place as u64 + 1),
+            "{place}"
         );
     }
     Ok(())

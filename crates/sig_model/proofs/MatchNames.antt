@@ -20,7 +20,7 @@ use Rattle.sig_patterns.specs.declared.pattern.Pattern.TheOpen.{Pattern-F}
 use Rattle.sig_patterns.specs.declared.pattern.Pattern.TheOpen as pattern
 use Rattle.sig_patterns.specs.declared.pattern.Pattern.TheFolds.{fold-roll-Pattern, ind-Pattern}
 use Rattle.sig_patterns.specs.Environment.{Environment, value_of_var}
-use Rattle.sig_patterns.specs.Matching.{Bindings, Matcher, bound_to, asking, binding, match_each, match_heads, match_cons, match_step, matching, overlaid, match_of, tuple_layer, list_layer, tuple_items, list_items}
+use Rattle.sig_patterns.specs.Matching.{Bindings, Matcher, bound_to, asking, binding, match_each, match_cons, match_step, matching, overlaid, match_of, tuple_layer, list_layer, tuple_items, list_items}
 use Rattle.sig_patterns.specs.Scanning.{Hit, hit_by, behind_clause, behind_message, hit_here, hit}
 use Rattle.sig_model.specs.Names.{EnvironmentNames}
 
@@ -99,18 +99,11 @@ module _ (P : Named → Type 0) where
         some_then BoundNames BoundNames (match_each (map (matching env) (patterns es)) ts) (matching env e.0 t bound) (e.1 t bound (All-head (AllNames P) t ts k) h)
         (λ after g. each_names es ts after (All-tail (AllNames P) t ts k) g)
 
-    heads_names : (es : List Matched) (q : Matched) (ts : List Term) (bound : Bindings) → All (AllNames P) ts → BoundNames bound
-        → IfSome (match_heads (map (matching env) (patterns es)) (matching env q.0) ts bound) BoundNames
-    heads_names [] q ts bound k h = q.1 (term.List ts) bound (list_names P ts k) h
-    heads_names (e ∷ es) q [] bound k h = tt
-    heads_names (e ∷ es) q (t ∷ ts) bound k h =
-        some_then BoundNames BoundNames (match_heads (map (matching env) (patterns es)) (matching env q.0) ts) (matching env e.0 t bound) (e.1 t bound (All-head (AllNames P) t ts k) h)
-        (λ after g. heads_names es q ts after (All-tail (AllNames P) t ts k) g)
-
-    cons_names : (es : List Matched) (q : Matched) (ts : List Term) (bound : Bindings) → All (AllNames P) ts → BoundNames bound
-        → IfSome (match_cons (map (matching env) (patterns es)) (matching env q.0) ts bound) BoundNames
-    cons_names [] q ts bound k h = tt
-    cons_names (e ∷ es) q ts bound k h = heads_names (e ∷ es) q ts bound k h
+    cons_names : (e q : Matched) (ts : List Term) (bound : Bindings) → All (AllNames P) ts → BoundNames bound → IfSome (match_cons (matching env e.0) (matching env q.0) ts bound) BoundNames
+    cons_names e q [] bound k h = tt
+    cons_names e q (t ∷ ts) bound k h =
+        some_then BoundNames BoundNames (matching env q.0 (term.List ts)) (matching env e.0 t bound) (e.1 t bound (All-head (AllNames P) t ts k) h)
+        (λ after g. q.1 (term.List ts) after (list_names P ts (All-tail (AllNames P) t ts k)) g)
 
     at : (x : Pattern-F Pattern) → MatcherNames (match_step env (map-Pattern Pattern Matcher (matching env) x)) → MatcherNames (matching env (roll-Pattern x))
     at x = subst MatcherNames (sym (fold-roll-Pattern Matcher (match_step env) x))
@@ -126,8 +119,8 @@ module _ (P : Named → Type 0) where
         of_tuple (λ ts. match_each (map (matching env) (patterns es)) ts bound) t k (λ ts g. each_names es ts bound g h))
     step (pattern.List es) = at (pattern.List (patterns es)) (λ t bound k h.
         of_list (λ ts. match_each (map (matching env) (patterns es)) ts bound) t k (λ ts g. each_names es ts bound g h))
-    step (pattern.Cons es q) = at (pattern.Cons (patterns es) q.0) (λ t bound k h.
-        of_list (λ ts. match_cons (map (matching env) (patterns es)) (matching env q.0) ts bound) t k (λ ts g. cons_names es q ts bound g h))
+    step (pattern.Cons e q) = at (pattern.Cons e.0 q.0) (λ t bound k h.
+        of_list (λ ts. match_cons (matching env e.0) (matching env q.0) ts bound) t k (λ ts g. cons_names e q ts bound g h))
 
     matching_names : (p : Pattern) → MatcherNames (matching env p)
     matching_names = ind-Pattern (λ p. MatcherNames (matching env p)) (λ x y is. subst (λ z. MatcherNames (matching env (roll-Pattern z))) is (step y))

@@ -19,7 +19,7 @@ pub or_none : (o : Option Term) → option_or o None ≡ o
 or_none None = refl
 or_none (Some u) = refl
 
-pub or_assoc : (a b c : Option Term) → option_or (option_or a b) c ≡ option_or a (option_or b c)
+or_assoc : (a b c : Option Term) → option_or (option_or a b) c ≡ option_or a (option_or b c)
 or_assoc None b c = refl
 or_assoc (Some u) b c = refl
 
@@ -29,9 +29,6 @@ or_more a b c u e = sym (or_assoc a b c) ∙ ap (λ o. option_or o c) e
 pub goes_along : (o : Option Bindings) (bound : Bindings) (f g : Places) (b d : Bool) → ((x : List ℕ) → f x ≡ g x) → b ≡ d → Goes o bound f b → Goes o bound g d
 goes_along None bound f g b d same e h = sym e ∙ h
 goes_along (Some after) bound f g b d same e h = (sym e ∙ h.0, λ x. h.1 x ∙ ap (option_or (bound_to bound x)) (same x))
-
-pub covers_along : (g : Places) (bound : Bindings) (f h : Places) → ((x : List ℕ) → f x ≡ h x) → Covers g bound f → Covers g bound h
-covers_along g bound f h same c x u e = c x u (ap (option_or (bound_to bound x)) (same x) ∙ e)
 
 pub covers_first : (g : Places) (bound : Bindings) (f h : Places) → Covers g bound (λ x. option_or (f x) (h x)) → Covers g bound f
 covers_first g bound f h c x u e = c x u (or_more (bound_to bound x) (f x) (h x) u e)

@@ -14,7 +14,7 @@ use Rattle.sig_patterns.specs.declared.pattern.Pattern.TheVariants as pattern
 use Rattle.sig_patterns.specs.declared.pattern.Pattern.TheOpen as pattern_layer
 use Rattle.sig_patterns.specs.declared.pattern.Pattern.TheFolds.{fold-roll-Pattern}
 use Rattle.sig_patterns.specs.Environment.{Environment, value_of_var}
-use Rattle.sig_patterns.specs.Matching.{Bindings, Matcher, asking, binding, bound_to, match_each, match_heads, match_cons, match_step, matching, match_of, overlaid, tuple_layer, list_layer, tuple_items, list_items}
+use Rattle.sig_patterns.specs.Matching.{Bindings, Matcher, asking, binding, bound_to, match_each, match_cons, match_step, matching, match_of, overlaid, tuple_layer, list_layer, tuple_items, list_items}
 
 items_of_list : (ts : List Term) → list_items (term.List ts) ≡ Some ts
 items_of_list ts = ap list_items (sym (term.rolls-List ts)) ∙ ap list_layer (out-roll-Term (layer.List ts))
@@ -22,10 +22,14 @@ items_of_list ts = ap list_items (sym (term.rolls-List ts)) ∙ ap list_layer (o
 items_of_tuple : (ts : List Term) → tuple_items (term.Tuple ts) ≡ Some ts
 items_of_tuple ts = ap tuple_items (sym (term.rolls-Tuple ts)) ∙ ap tuple_layer (out-roll-Term (layer.Tuple ts))
 
-cons_is : (env : Environment) (heads : List Pattern) (tail : Pattern) (t : Term) (bound : Bindings)
-    → matching env (pattern.Cons heads tail) t bound ≡ option_and_then (λ ts. match_cons (map (matching env) heads) (matching env tail) ts bound) (list_items t)
-cons_is env heads tail t bound =
-    ap (λ (m : Matcher). m t bound) (ap (matching env) (sym (pattern.rolls-Cons heads tail)) ∙ fold-roll-Pattern Matcher (match_step env) (pattern_layer.Cons heads tail))
+cons_is : (env : Environment) (head tail : Pattern) (t : Term) (bound : Bindings)
+    → matching env (pattern.Cons head tail) t bound ≡ option_and_then (λ ts. match_cons (matching env head) (matching env tail) ts bound) (list_items t)
+cons_is env head tail t bound =
+    ap (λ (m : Matcher). m t bound) (ap (matching env) (sym (pattern.rolls-Cons head tail)) ∙ fold-roll-Pattern Matcher (match_step env) (pattern_layer.Cons head tail))
+
+list_is : (env : Environment) (ps : List Pattern) (t : Term) (bound : Bindings) → matching env (pattern.List ps) t bound ≡ option_and_then (λ ts. match_each (map (matching env) ps) ts bound) (list_items t)
+list_is env ps t bound =
+    ap (λ (m : Matcher). m t bound) (ap (matching env) (sym (pattern.rolls-List ps)) ∙ fold-roll-Pattern Matcher (match_step env) (pattern_layer.List ps))
 
 tuple_is : (env : Environment) (ps : List Pattern) (t : Term) (bound : Bindings) → matching env (pattern.Tuple ps) t bound ≡ option_and_then (λ ts. match_each (map (matching env) ps) ts bound) (tuple_items t)
 tuple_is env ps t bound =
@@ -37,25 +41,25 @@ bind_is env x = ap (matching env) (sym (pattern.rolls-Bind x)) ∙ fold-roll-Pat
 pin_is : (env : Environment) (x : Var) → matching env (pattern.Pin x) ≡ (λ t bound. asking (value_of_var env x.0) t bound)
 pin_is env x = ap (matching env) (sym (pattern.rolls-Pin x)) ∙ fold-roll-Pattern Matcher (match_step env) (pattern_layer.Pin x)
 
--- one head, and the other heads in the tail
+-- a first element, and the list of the rest
 one_head : (m : Option Bindings) (next last : Bindings → Option Bindings) → ((b : Bindings) → next b ≡ last b) → option_and_then next m ≡ option_and_then last m
 one_head None next last same = refl
 one_head (Some b) next last same = same b
 
-nested : (m n : Matcher) (ms : List Matcher) (tail rest : Matcher) (bound : Bindings) (o : Option (List Term)) → ((ts : List Term) (b : Bindings) → match_heads (n ∷ ms) tail ts b ≡ rest (term.List ts) b)
-    → option_and_then (λ ts. match_cons (m ∷ n ∷ ms) tail ts bound) o ≡ option_and_then (λ ts. match_cons (m ∷ []) rest ts bound) o
-nested m n ms tail rest bound None same = refl
-nested m n ms tail rest bound (Some []) same = refl
-nested m n ms tail rest bound (Some (t ∷ ts)) same = one_head (m t bound) _ _ (λ b. same ts b)
+headed : (m : Matcher) (ms : List Matcher) (rest : Matcher) (bound : Bindings) (o : Option (List Term)) → ((ts : List Term) (b : Bindings) → rest (term.List ts) b ≡ match_each ms ts b)
+    → option_and_then (λ ts. match_cons m rest ts bound) o ≡ option_and_then (λ ts. match_each (m ∷ ms) ts bound) o
+headed m ms rest bound None same = refl
+headed m ms rest bound (Some []) same = refl
+headed m ms rest bound (Some (t ∷ ts)) same = one_head (m t bound) _ _ (λ b. same ts b)
 
-pub nest : (env : Environment) (p q : Pattern) (ps : List Pattern) (tail : Pattern) (t : Term) → match_of (pattern.Cons (p ∷ q ∷ ps) tail) env t ≡ match_of (pattern.Cons (p ∷ []) (pattern.Cons (q ∷ ps) tail)) env t
-nest env p q ps tail t =
-    let same : (ts : List Term) (b : Bindings) → match_heads (map (matching env) (q ∷ ps)) (matching env tail) ts b ≡ matching env (pattern.Cons (q ∷ ps) tail) (term.List ts) b =
-    λ ts b. sym (cons_is env (q ∷ ps) tail (term.List ts) b ∙ ap (λ o. option_and_then (λ us. match_cons (map (matching env) (q ∷ ps)) (matching env tail) us b) o) (items_of_list ts)) in
+pub head_and_list : (env : Environment) (p : Pattern) (ps : List Pattern) (t : Term) → match_of (pattern.Cons p (pattern.List ps)) env t ≡ match_of (pattern.List (p ∷ ps)) env t
+head_and_list env p ps t =
+    let same : (ts : List Term) (b : Bindings) → matching env (pattern.List ps) (term.List ts) b ≡ match_each (map (matching env) ps) ts b =
+    λ ts b. list_is env ps (term.List ts) b ∙ ap (option_and_then (λ us. match_each (map (matching env) ps) us b)) (items_of_list ts) in
     ap (option_map (overlaid env))
-    (cons_is env (p ∷ q ∷ ps) tail t []
-    ∙ nested (matching env p) (matching env q) (map (matching env) ps) (matching env tail) (matching env (pattern.Cons (q ∷ ps) tail)) [] (list_items t) same
-    ∙ sym (cons_is env (p ∷ []) (pattern.Cons (q ∷ ps) tail) t []))
+    (cons_is env p (pattern.List ps) t []
+    ∙ headed (matching env p) (map (matching env) ps) (matching env (pattern.List ps)) [] (list_items t) same
+    ∙ sym (list_is env (p ∷ ps) t []))
 
 -- the match of a pair
 pair_is : (env : Environment) (p q : Pattern) (t u : Term) → match_of (pattern.Tuple (p ∷ q ∷ [])) env (term.Tuple (t ∷ u ∷ [])) ≡ option_map (overlaid env) (match_each (matching env p ∷ matching env q ∷ []) (t ∷ u ∷ []) [])

@@ -1,8 +1,8 @@
 -- What is placed binds each variable to the term at its first place. So where the pattern matches, the environment of the match
 -- is the one with what is placed laid over it.
-use Rattle.std.proofs.Common.{◌≡◌, ℕ, Bool, true, false, nat_le, cond, List, [], ◌∷◌, ◌++◌, map, length, drop, refl, sym, ap, subst, ◌∙◌, Option, Some, None, option_and_then, is_some, Result, Ok, Err, OnOk, OnErr, MatchResult}
+use Rattle.std.proofs.Common.{◌≡◌, ℕ, Bool, true, false, cond, List, [], ◌∷◌, ◌++◌, map, refl, sym, ap, subst, ◌∙◌, Option, Some, None, option_and_then, is_some, Result, Ok, Err, OnOk, OnErr, MatchResult}
 use Rattle.std.proofs.lemmas.Bool.{true≢false}
-use Rattle.std.proofs.lemmas.List.{length-map, map-append}
+use Rattle.std.proofs.lemmas.List.{map-append}
 use Rattle.std.proofs.lemmas.Map.Text.{is_eq-slice_cmp}
 use Rattle.std.specs.Option.{option_or, option_map, option_map_or}
 use Rattle.std.specs.Cmp.Lexicographic.{nat_list_cmp_total}
@@ -17,7 +17,7 @@ use Rattle.sig_patterns.specs.declared.pattern.Pattern.TheOpen as pattern
 use Rattle.sig_patterns.specs.declared.pattern.Pattern.TheFolds.{fold-roll-Pattern, ind-Pattern}
 use Rattle.sig_patterns.specs.Environment.{Environment}
 use Rattle.sig_patterns.specs.Matching.{Bindings, bound_to, matching, overlaid, match_of, tuple_items, list_items}
-use Rattle.sig_patterns.specs.Fitting.{Places, Placer, first_each, first_tail, first_cons, first_step, first_in, placed_each, placed_tail, placed_cons, placed_step, placed, bindings_of, fits}
+use Rattle.sig_patterns.specs.Fitting.{Places, Placer, first_each, first_cons, first_step, first_in, placed_each, placed_cons, placed_step, placed, bindings_of, fits}
 use Rattle.sig_patterns.proofs.Bindings.{Goes}
 use Rattle.sig_patterns.proofs.Walks.{whole_walk}
 
@@ -52,27 +52,21 @@ each (e ∷ es) (t ∷ ts) x =
     ∙ ap (option_or (bound_to (placed e.0 t) x)) (each es ts x)
     ∙ ap (λ o. option_or o (first_each (map first_in (patterns es)) ts x)) (e.1 t x)
 
-tail_if : (b : Bool) (q : (p : Pattern) × IsPlacing p) (t : Term) (x : List ℕ) → bound_to (cond b (placed q.0 t) []) x ≡ cond b (first_in q.0 t x) None
-tail_if true q t x = q.1 t x
-tail_if false q t x = refl
-
-cons : (es : Placings) (q : (p : Pattern) × IsPlacing p) (ts : List Term) (x : List ℕ) → bound_to (placed_cons (map placed (patterns es)) (placed q.0) ts) x ≡ first_cons (map first_in (patterns es)) (first_in q.0) ts x
-cons es q ts x =
-    let n : ℕ = length (map placed (patterns es)) in
-    let same : n ≡ length (map first_in (patterns es)) = length-map (patterns es) placed ∙ sym (length-map (patterns es) first_in) in
-    bound_to-append (placed_each (map placed (patterns es)) ts) (placed_tail n (placed q.0) ts) x
-    ∙ ap (option_or (bound_to (placed_each (map placed (patterns es)) ts) x))
-    (tail_if (nat_le n (length ts)) q (term.List (drop n ts)) x ∙ ap (λ k. first_tail k (first_in q.0) ts x) same)
-    ∙ ap (λ o. option_or o (first_tail (length (map first_in (patterns es))) (first_in q.0) ts x)) (each es ts x)
+cons : (e q : (p : Pattern) × IsPlacing p) (ts : List Term) (x : List ℕ) → bound_to (placed_cons (placed e.0) (placed q.0) ts) x ≡ first_cons (first_in e.0) (first_in q.0) ts x
+cons e q [] x = refl
+cons e q (t ∷ ts) x =
+    bound_to-append (placed e.0 t) (placed q.0 (term.List ts)) x
+    ∙ ap (option_or (bound_to (placed e.0 t) x)) (q.1 (term.List ts) x)
+    ∙ ap (λ o. option_or o (first_in q.0 (term.List ts) x)) (e.1 t x)
 
 each_of : (es : Placings) (o : Option (List Term)) (x : List ℕ) → bound_to (option_map_or (placed_each (map placed (patterns es))) o []) x ≡ option_and_then (λ ts. first_each (map first_in (patterns es)) ts x) o
 each_of es None x = refl
 each_of es (Some ts) x = each es ts x
 
-cons_of : (es : Placings) (q : (p : Pattern) × IsPlacing p) (o : Option (List Term)) (x : List ℕ)
-    → bound_to (option_map_or (placed_cons (map placed (patterns es)) (placed q.0)) o []) x ≡ option_and_then (λ ts. first_cons (map first_in (patterns es)) (first_in q.0) ts x) o
-cons_of es q None x = refl
-cons_of es q (Some ts) x = cons es q ts x
+cons_of : (e q : (p : Pattern) × IsPlacing p) (o : Option (List Term)) (x : List ℕ)
+    → bound_to (option_map_or (placed_cons (placed e.0) (placed q.0)) o []) x ≡ option_and_then (λ ts. first_cons (first_in e.0) (first_in q.0) ts x) o
+cons_of e q None x = refl
+cons_of e q (Some ts) x = cons e q ts x
 
 at : (x : Pattern-F Pattern) → BindsFirst (placed_step (map-Pattern Pattern Placer placed x)) (first_step (map-Pattern Pattern (Term → Places) first_in x)) → IsPlacing (roll-Pattern x)
 at x =
@@ -88,7 +82,7 @@ step (pattern.Atom a) = at (pattern.Atom a) (λ t x. refl)
 step (pattern.Pid p) = at (pattern.Pid p) (λ t x. refl)
 step (pattern.Tuple es) = at (pattern.Tuple (patterns es)) (λ t x. each_of es (tuple_items t) x)
 step (pattern.List es) = at (pattern.List (patterns es)) (λ t x. each_of es (list_items t) x)
-step (pattern.Cons es q) = at (pattern.Cons (patterns es) q.0) (λ t x. cons_of es q (list_items t) x)
+step (pattern.Cons e q) = at (pattern.Cons e.0 q.0) (λ t x. cons_of e q (list_items t) x)
 
 placings : (p : Pattern) → IsPlacing p
 placings = ind-Pattern IsPlacing (λ x y is. subst (λ z. IsPlacing (roll-Pattern z)) is (step y))

@@ -1,7 +1,6 @@
 -- The walk without bindings is the match: each part of a pattern goes by its test and its first places.
-use Rattle.std.proofs.Common.{◌≡◌, ℕ, suc, ◌==◌, Bool, true, false, ◌&&◌, nat_le, cond, List, [], ◌∷◌, map, length, drop, refl, sym, ap, subst, ◌∙◌, Option, Some, None, option_and_then, arith, is_some}
+use Rattle.std.proofs.Common.{◌≡◌, ℕ, suc, ◌==◌, Bool, true, false, ◌&&◌, cond, List, [], ◌∷◌, map, refl, sym, ap, subst, ◌∙◌, Option, Some, None, option_and_then, arith, is_some}
 use Rattle.std.proofs.lemmas.Grind.{common_steps}
-use Rattle.std.proofs.Math.Dec.{leb-suc-suc}
 use Rattle.std.proofs.lemmas.Slice.Eq.{bytes_eq-Decides}
 use Rattle.std.specs.Option.{option_or, option_map, option_map_or}
 use Rattle.std.specs.Str.{bytes_eq}
@@ -13,10 +12,10 @@ use Rattle.sig_patterns.specs.declared.pattern.Pattern.TheOpen.{Pattern-F}
 use Rattle.sig_patterns.specs.declared.pattern.Pattern.TheOpen as pattern
 use Rattle.sig_patterns.specs.declared.pattern.Pattern.TheFolds.{fold-roll-Pattern, ind-Pattern}
 use Rattle.sig_patterns.specs.Environment.{Environment, value_of_var}
-use Rattle.sig_patterns.specs.Matching.{Bindings, Matcher, bound_to, asking, binding, match_each, match_heads, match_cons, match_step, matching, overlaid, match_of, tuple_items, list_items}
-use Rattle.sig_patterns.specs.Fitting.{Places, first_each, first_tail, first_cons, first_step, first_in, fits_each, fits_all, fits_cons, fits_step, fits}
+use Rattle.sig_patterns.specs.Matching.{Bindings, Matcher, bound_to, asking, binding, match_each, match_cons, match_step, matching, overlaid, match_of, tuple_items, list_items}
+use Rattle.sig_patterns.specs.Fitting.{Places, first_each, first_cons, first_step, first_in, fits_each, fits_all, fits_cons, fits_step, fits}
 use Rattle.sig_terms.proofs.SameTerms.{same_self}
-use Rattle.sig_patterns.proofs.Bindings.{Covers, Goes, or_none, or_assoc, goes_along, covers_along, covers_first, covers_next, goes_then, goes_asking}
+use Rattle.sig_patterns.proofs.Bindings.{Covers, Goes, or_none, goes_along, covers_first, covers_next, goes_then, goes_asking}
 
 -- a matcher, its first places, and its test under all first places
 abbrev pub Alike : Matcher → (Term → Places) → (Places → Term → Bool) → Type 0
@@ -25,22 +24,6 @@ Alike m first fit = (t : Term) (bound : Bindings) (g : Places) → Covers g boun
 all_more : (a b : ℕ) (k r : Bool) → ((suc a == suc b) && (k && r)) ≡ (k && ((a == b) && r))
 all_more a b true r = grind (arith, common_steps)
 all_more a b false r = grind (arith, common_steps)
-
-cons_more : (a b : ℕ) (k r s : Bool) → (nat_le (suc a) (suc b) && (k && r) && s) ≡ (k && (nat_le a b && r && s))
-cons_more a b true r s = grind (arith, common_steps)
-cons_more a b false r s = grind (arith, common_steps)
-
-zero_first : (n : ℕ) → nat_le 0 n ≡ true
-zero_first n = grind (arith, common_steps)
-
-tail_here : (f : Term → Places) (ts : List Term) (x : List ℕ) → f (term.List ts) x ≡ first_tail 0 f ts x
-tail_here f ts x = ap (λ b. cond b (f (term.List ts) x) None) (sym (zero_first (length ts)))
-
-tail_later : (n : ℕ) (f : Term → Places) (t : Term) (ts : List Term) (x : List ℕ) → first_tail n f ts x ≡ first_tail (suc n) f (t ∷ ts) x
-tail_later n f t ts x = ap (λ b. cond b (f (term.List (drop n ts)) x) None) (sym (leb-suc-suc n (length ts)))
-
-abbrev fits_heads : List (Term → Bool) → (Term → Bool) → List Term → Bool
-fits_heads ks k ts = nat_le (length ks) (length ts) && fits_each ks ts && k (term.List (drop (length ks) ts))
 
 -- a variable: bound here, or asking for what it is bound to
 new_here : (b : Bool) (v x : List ℕ) (t : Term) (bound : Bindings) → bytes_eq x v ≡ b → bound_to bound v ≡ None → cond b (Some t) (bound_to bound x) ≡ option_or (bound_to bound x) (cond b (Some t) None)
@@ -67,9 +50,6 @@ is_some-goes : {A : Type 0} (f : Bindings → A) (o : Option Bindings) (first : 
 is_some-goes f None first b h = sym h
 is_some-goes f (Some after) first b h = sym h.0
 
-one_first : (n : ℕ) → nat_le 1 (suc n) ≡ true
-one_first n = grind (arith, common_steps)
-
 module _ (env : Environment) where
   abbrev IsWalk : Pattern → Type 0
   IsWalk p = Alike (matching env p) (first_in p) (λ g. fits env g p)
@@ -94,44 +74,26 @@ module _ (env : Environment) where
       (e.1 t bound g (covers_first g bound f h c))
       (λ after is. each es ts after g (covers_next g bound after f h is c)))
 
-  heads : (es : Walks) (q : (p : Pattern) × IsWalk p) (ts : List Term) (bound : Bindings) (g : Places) → Covers g bound (first_cons (map first_in (patterns es)) (first_in q.0) ts)
-      → Goes (match_heads (map (matching env) (patterns es)) (matching env q.0) ts bound) bound (first_cons (map first_in (patterns es)) (first_in q.0) ts) (fits_heads (map (fits env g) (patterns es)) (fits env g q.0) ts)
-  heads [] q ts bound g c =
-      goes_along _ bound (first_in q.0 (term.List ts)) _ _ _ (tail_here (first_in q.0) ts)
-      (ap (λ b. b && true && fits env g q.0 (term.List ts)) (sym (zero_first (length ts))))
-      (q.1 (term.List ts) bound g (covers_along g bound _ _ (λ x. sym (tail_here (first_in q.0) ts x)) c))
-  heads (e ∷ es) q [] bound g c = grind (arith, common_steps)
-  heads (e ∷ es) q (t ∷ ts) bound g c =
+  cons : (e q : (p : Pattern) × IsWalk p) (ts : List Term) (bound : Bindings) (g : Places) → Covers g bound (first_cons (first_in e.0) (first_in q.0) ts)
+      → Goes (match_cons (matching env e.0) (matching env q.0) ts bound) bound (first_cons (first_in e.0) (first_in q.0) ts) (fits_cons (fits env g e.0) (fits env g q.0) ts)
+  cons e q [] bound g c = refl
+  cons e q (t ∷ ts) bound g c =
       let f : Places = first_in e.0 t in
-      let h : Places = first_cons (map first_in (patterns es)) (first_in q.0) ts in
-      let same : (x : List ℕ) → option_or (f x) (h x) ≡ first_cons (map first_in (patterns (e ∷ es))) (first_in q.0) (t ∷ ts) x =
-      λ x. sym (or_assoc (f x) (first_each (map first_in (patterns es)) ts x) (first_tail (length (map first_in (patterns es))) (first_in q.0) ts x))
-      ∙ ap (option_or (first_each (map first_in (patterns (e ∷ es))) (t ∷ ts) x)) (tail_later (length (map first_in (patterns es))) (first_in q.0) t ts x) in
-      let cover : Covers g bound (λ x. option_or (f x) (h x)) = covers_along g bound _ _ (λ x. sym (same x)) c in
-      goes_along _ bound (λ x. option_or (f x) (h x)) _ _ _ same
-      (sym (cons_more _ _ (fits env g e.0 t) _ _))
-      (goes_then (matching env e.0 t bound) (match_heads (map (matching env) (patterns es)) (matching env q.0) ts) bound f h (fits env g e.0 t) (fits_heads (map (fits env g) (patterns es)) (fits env g q.0) ts)
-      (e.1 t bound g (covers_first g bound f h cover))
-      (λ after is. heads es q ts after g (covers_next g bound after f h is cover)))
-
-  cons : (es : Walks) (q : (p : Pattern) × IsWalk p) (ts : List Term) (bound : Bindings) (g : Places) → Covers g bound (first_cons (map first_in (patterns es)) (first_in q.0) ts)
-      → Goes (match_cons (map (matching env) (patterns es)) (matching env q.0) ts bound) bound (first_cons (map first_in (patterns es)) (first_in q.0) ts) (fits_cons (map (fits env g) (patterns es)) (fits env g q.0) ts)
-  cons [] q ts bound g c = refl
-  cons (e ∷ es) q ts bound g c =
-      goes_along _ bound _ _ _ _ (λ x. refl)
-      (ap (λ b. b && nat_le (suc (length (map (fits env g) (patterns es)))) (length ts) && fits_each (map (fits env g) (patterns (e ∷ es))) ts && fits env g q.0 (term.List (drop (suc (length (map (fits env g) (patterns es)))) ts))) (sym (one_first (length (map (fits env g) (patterns es))))))
-      (heads (e ∷ es) q ts bound g c)
+      let h : Places = first_in q.0 (term.List ts) in
+      goes_then (matching env e.0 t bound) (matching env q.0 (term.List ts)) bound f h (fits env g e.0 t) (fits env g q.0 (term.List ts))
+      (e.1 t bound g (covers_first g bound f h c))
+      (λ after is. q.1 (term.List ts) after g (covers_next g bound after f h is c))
 
   each_of : (es : Walks) (o : Option (List Term)) (bound : Bindings) (g : Places) → Covers g bound (λ x. option_and_then (λ ts. first_each (map first_in (patterns es)) ts x) o)
       → Goes (option_and_then (λ ts. match_each (map (matching env) (patterns es)) ts bound) o) bound (λ x. option_and_then (λ ts. first_each (map first_in (patterns es)) ts x) o) (option_map_or (fits_all (map (fits env g) (patterns es))) o false)
   each_of es None bound g c = refl
   each_of es (Some ts) bound g c = each es ts bound g c
 
-  cons_of : (es : Walks) (q : (p : Pattern) × IsWalk p) (o : Option (List Term)) (bound : Bindings) (g : Places) → Covers g bound (λ x. option_and_then (λ ts. first_cons (map first_in (patterns es)) (first_in q.0) ts x) o)
-      → Goes (option_and_then (λ ts. match_cons (map (matching env) (patterns es)) (matching env q.0) ts bound) o) bound (λ x. option_and_then (λ ts. first_cons (map first_in (patterns es)) (first_in q.0) ts x) o)
-      (option_map_or (fits_cons (map (fits env g) (patterns es)) (fits env g q.0)) o false)
-  cons_of es q None bound g c = refl
-  cons_of es q (Some ts) bound g c = cons es q ts bound g c
+  cons_of : (e q : (p : Pattern) × IsWalk p) (o : Option (List Term)) (bound : Bindings) (g : Places) → Covers g bound (λ x. option_and_then (λ ts. first_cons (first_in e.0) (first_in q.0) ts x) o)
+      → Goes (option_and_then (λ ts. match_cons (matching env e.0) (matching env q.0) ts bound) o) bound (λ x. option_and_then (λ ts. first_cons (first_in e.0) (first_in q.0) ts x) o)
+      (option_map_or (fits_cons (fits env g e.0) (fits env g q.0)) o false)
+  cons_of e q None bound g c = refl
+  cons_of e q (Some ts) bound g c = cons e q ts bound g c
 
   at : (x : Pattern-F Pattern) → Alike (match_step env (map-Pattern Pattern Matcher (matching env) x)) (first_step (map-Pattern Pattern (Term → Places) first_in x)) (λ g. fits_step env g (map-Pattern Pattern (Term → Bool) (fits env g) x))
       → IsWalk (roll-Pattern x)
@@ -148,7 +110,7 @@ module _ (env : Environment) where
   step (pattern.Pid p) = at (pattern.Pid p) (λ t bound g c. goes_asking (term.Pid p) t bound (λ _. None) (λ x. or_none (bound_to bound x)))
   step (pattern.Tuple es) = at (pattern.Tuple (patterns es)) (λ t bound g c. each_of es (tuple_items t) bound g c)
   step (pattern.List es) = at (pattern.List (patterns es)) (λ t bound g c. each_of es (list_items t) bound g c)
-  step (pattern.Cons es q) = at (pattern.Cons (patterns es) q.0) (λ t bound g c. cons_of es q (list_items t) bound g c)
+  step (pattern.Cons e q) = at (pattern.Cons e.0 q.0) (λ t bound g c. cons_of e q (list_items t) bound g c)
 
   pub walks : (p : Pattern) → Alike (matching env p) (first_in p) (λ g. fits env g p)
   walks = ind-Pattern IsWalk (λ x y is. subst (λ z. IsWalk (roll-Pattern z)) is (step y))

@@ -29,17 +29,15 @@ abbrev pub first_each : List (Term → Places) → List Term → Places
 first_each (f ∷ fs) (t ∷ ts) x = option_or (f t x) (first_each fs ts x)
 first_each _ _ x = None
 
-abbrev pub first_tail : ℕ → (Term → Places) → List Term → Places
-first_tail n tail ts x = if nat_le n (length ts) then tail (term.List (drop n ts)) x else None
-
-abbrev pub first_cons : List (Term → Places) → (Term → Places) → List Term → Places
-first_cons heads tail ts x = option_or (first_each heads ts x) (first_tail (length heads) tail ts x)
+abbrev pub first_cons : (Term → Places) → (Term → Places) → List Term → Places
+first_cons head tail [] x = None
+first_cons head tail (t ∷ ts) x = option_or (head t x) (tail (term.List ts) x)
 
 abbrev pub first_step : Pattern-F (Term → Places) → Term → Places
 first_step (pattern.Bind var) t x = if bytes_eq x var.0 then Some t else None
 first_step (pattern.Tuple fs) t x = option_and_then (λ ts. first_each fs ts x) (tuple_items t)
 first_step (pattern.List fs) t x = option_and_then (λ ts. first_each fs ts x) (list_items t)
-first_step (pattern.Cons heads tail) t x = option_and_then (λ ts. first_cons heads tail ts x) (list_items t)
+first_step (pattern.Cons head tail) t x = option_and_then (λ ts. first_cons head tail ts x) (list_items t)
 first_step _ t x = None
 
 abbrev pub first_in : Pattern → Term → Places
@@ -52,8 +50,9 @@ fits_each _ _ = true
 abbrev pub fits_all : List (Term → Bool) → List Term → Bool
 fits_all ks ts = (length ks == length ts) && fits_each ks ts
 
-abbrev pub fits_cons : List (Term → Bool) → (Term → Bool) → List Term → Bool
-fits_cons heads tail ts = nat_le 1 (length heads) && nat_le (length heads) (length ts) && fits_each heads ts && tail (term.List (drop (length heads) ts))
+abbrev pub fits_cons : (Term → Bool) → (Term → Bool) → List Term → Bool
+fits_cons head tail [] = false
+fits_cons head tail (t ∷ ts) = head t && tail (term.List ts)
 
 abbrev pub fits_step : Environment → Places → Pattern-F (Term → Bool) → Term → Bool
 fits_step env first pattern.Any t = true
@@ -64,7 +63,7 @@ fits_step env first (pattern.Atom a) t = same_term (term.Atom a) t
 fits_step env first (pattern.Pid p) t = same_term (term.Pid p) t
 fits_step env first (pattern.Tuple ks) t = option_map_or (fits_all ks) (tuple_items t) false
 fits_step env first (pattern.List ks) t = option_map_or (fits_all ks) (list_items t) false
-fits_step env first (pattern.Cons heads tail) t = option_map_or (fits_cons heads tail) (list_items t) false
+fits_step env first (pattern.Cons head tail) t = option_map_or (fits_cons head tail) (list_items t) false
 
 abbrev pub fits : Environment → Places → Pattern → Term → Bool
 fits env first = fold-Pattern (Term → Bool) (fits_step env first)
@@ -77,17 +76,15 @@ abbrev pub placed_each : List Placer → List Term → Bindings
 placed_each (f ∷ fs) (t ∷ ts) = f t ++ placed_each fs ts
 placed_each _ _ = []
 
-abbrev pub placed_tail : ℕ → Placer → List Term → Bindings
-placed_tail n tail ts = if nat_le n (length ts) then tail (term.List (drop n ts)) else []
-
-abbrev pub placed_cons : List Placer → Placer → List Term → Bindings
-placed_cons heads tail ts = placed_each heads ts ++ placed_tail (length heads) tail ts
+abbrev pub placed_cons : Placer → Placer → List Term → Bindings
+placed_cons head tail [] = []
+placed_cons head tail (t ∷ ts) = head t ++ tail (term.List ts)
 
 abbrev pub placed_step : Pattern-F Placer → Placer
 placed_step (pattern.Bind var) t = (var.0, t) ∷ []
 placed_step (pattern.Tuple fs) t = option_map_or (placed_each fs) (tuple_items t) []
 placed_step (pattern.List fs) t = option_map_or (placed_each fs) (list_items t) []
-placed_step (pattern.Cons heads tail) t = option_map_or (placed_cons heads tail) (list_items t) []
+placed_step (pattern.Cons head tail) t = option_map_or (placed_cons head tail) (list_items t) []
 placed_step _ t = []
 
 abbrev pub placed : Pattern → Placer

@@ -57,16 +57,10 @@ match_each [] [] bound = Some bound
 match_each (m ∷ ms) (t ∷ ts) bound = option_and_then (match_each ms ts) (m t bound)
 match_each _ _ bound = None
 
--- [P1, P2 | Q] is [P1 | [P2 | Q]], and with no head left it is Q
-abbrev pub match_heads : List Matcher → Matcher → List Term → Bindings → Option Bindings
-match_heads [] tail ts bound = tail (term.List ts) bound
-match_heads (m ∷ ms) tail (t ∷ ts) bound = option_and_then (match_heads ms tail ts) (m t bound)
-match_heads (m ∷ ms) tail [] bound = None
-
--- at least one head
-abbrev pub match_cons : List Matcher → Matcher → List Term → Bindings → Option Bindings
-match_cons [] tail ts bound = None
-match_cons (m ∷ ms) tail ts bound = match_heads (m ∷ ms) tail ts bound
+-- the first term, and then the list of the rest
+abbrev pub match_cons : Matcher → Matcher → List Term → Bindings → Option Bindings
+match_cons head tail [] bound = None
+match_cons head tail (t ∷ ts) bound = option_and_then (tail (term.List ts)) (head t bound)
 
 -- by cases on the pattern, from what its parts match; `^X` asks for the value that X had before the match
 abbrev pub match_step : Environment → Pattern-F Matcher → Matcher
@@ -78,7 +72,7 @@ match_step env (pattern.Atom a) t bound = asking (term.Atom a) t bound
 match_step env (pattern.Pid p) t bound = asking (term.Pid p) t bound
 match_step env (pattern.Tuple ms) t bound = option_and_then (λ ts. match_each ms ts bound) (tuple_items t)
 match_step env (pattern.List ms) t bound = option_and_then (λ ts. match_each ms ts bound) (list_items t)
-match_step env (pattern.Cons heads tail) t bound = option_and_then (λ ts. match_cons heads tail ts bound) (list_items t)
+match_step env (pattern.Cons head tail) t bound = option_and_then (λ ts. match_cons head tail ts bound) (list_items t)
 
 abbrev pub matching : Environment → Pattern → Matcher
 matching env = fold-Pattern Matcher (match_step env)

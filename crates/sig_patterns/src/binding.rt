@@ -62,15 +62,12 @@ fn collect(
             Some(terms) => collect_each(alloc, patterns.as_slice(), terms, into),
             None => Ok(()),
         },
-        Pattern::Cons { heads, tail } => match seen.list_items() {
-            Some(terms) => {
-                collect_each(alloc, heads.as_slice(), terms, into)?;
-                if heads.len() > terms.len() {
-                    return Ok(());
-                }
-                collect(alloc, tail.get(), Seen::Rest(&terms[heads.len()..]), into)
+        Pattern::Cons { head, tail } => match seen.list_items() {
+            Some([first, rest @ ..]) => {
+                collect(alloc, head.get(), Seen::Whole(first), into)?;
+                collect(alloc, tail.get(), Seen::Rest(rest), into)
             }
-            None => Ok(()),
+            _ => Ok(()),
         },
         _ => Ok(()),
     }

@@ -6,7 +6,7 @@ use crate::env::Env;
 use crate::expression::Expr;
 use crate::measure::{Extent, measure};
 use crate::var::Var;
-use sig_lists::{Pushed, Sequence};
+use sig_lists::Sequence;
 use sig_terms::{Atom, Term, Terms};
 use std::alloc::{AllocError, Global};
 
@@ -59,10 +59,7 @@ fn make_all(alloc: Global, items: &[Expr], env: &Env) -> Result<Terms, AllocErro
     let mut values = Sequence::new(alloc);
     for item in items {
         let value = make(alloc, item, env)?;
-        match values.push(value) {
-            Pushed::Added => {}
-            Pushed::Memory { item: _ } => return Err(AllocError),
-        }
+        values.add(value)?;
     }
     Ok(values)
 }

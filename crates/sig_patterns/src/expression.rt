@@ -1,7 +1,7 @@
 ghost use Rattle.std.specs.Prelude.{◌≡◌, IfOk};
 
 use crate::var::Var;
-use sig_lists::{Pushed, Sequence};
+use sig_lists::Sequence;
 use sig_terms::{Atom, Pid};
 use std::alloc::{AllocError, Global};
 
@@ -33,10 +33,7 @@ fn copy_all(alloc: Global, items: &[Expr]) -> Result<Exprs, AllocError>
     let mut copies = Sequence::new(alloc);
     for item in items {
         let copy = item.copy(alloc)?;
-        match copies.push(copy) {
-            Pushed::Added => {}
-            Pushed::Memory { item: _ } => return Err(AllocError),
-        }
+        copies.add(copy)?;
     }
     Ok(copies)
 }

@@ -14,11 +14,10 @@ ghost use Rattle.sig_patterns.specs.Environment.{Environment, value_of_var};
 ghost use Rattle.sig_patterns.specs.Matching.{match_of};
 ghost use Rattle.sig_patterns.specs.Scanning.{Hit, hit};
 
-/// `[P1, P2, .. | Q]` matches as `[P1 | [P2, .. | Q]]` does.
-pub fn heads_nest()
-    ensures { (env : Environment) (p q : Pattern) (ps : List Pattern) (tail : Pattern) (t : Term) →
-        match_of (pattern.Cons (p ∷ q ∷ ps) tail) env t
-        ≡ match_of (pattern.Cons (p ∷ []) (pattern.Cons (q ∷ ps) tail)) env t }
+/// `[P1 | [P2, ..]]` matches as `[P1, P2, ..]` does.
+pub fn a_list_is_a_head_and_a_list()
+    ensures { (env : Environment) (p : Pattern) (ps : List Pattern) (t : Term) →
+        match_of (pattern.Cons p (pattern.List ps)) env t ≡ match_of (pattern.List (p ∷ ps)) env t }
 {}
 
 /// `{X, X}` matches a pair of equal terms, whatever `X` was before, and binds it.

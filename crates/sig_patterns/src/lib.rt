@@ -23,8 +23,8 @@ pub use env::Env;
 pub use expression::{Expr, Exprs};
 pub use found::Found;
 pub use laws::{
-    a_hit_tells_its_match, a_pin_compares_with_the_value_before, a_repeated_variable_compares,
-    heads_nest,
+    a_hit_tells_its_match, a_list_is_a_head_and_a_list, a_pin_compares_with_the_value_before,
+    a_repeated_variable_compares,
 };
 pub use matching::matches;
 pub use pattern::{Pattern, Patterns};

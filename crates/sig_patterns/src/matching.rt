@@ -82,14 +82,12 @@ fn fits(pattern: &Pattern, seen: Seen<'_>, whole: Against<'_>) -> bool
             Some(terms) => items.len() == terms.len() && each_fits(items.as_slice(), terms, whole),
             None => false,
         },
-        Pattern::Cons { heads, tail } => match seen.list_items() {
-            Some(terms) => {
-                1 <= heads.len()
-                    && heads.len() <= terms.len()
-                    && each_fits(heads.as_slice(), terms, whole)
-                    && fits(tail.get(), Seen::Rest(&terms[heads.len()..]), whole)
+        Pattern::Cons { head, tail } => match seen.list_items() {
+            Some([first, rest @ ..]) => {
+                fits(head.get(), Seen::Whole(first), whole)
+                    && fits(tail.get(), Seen::Rest(rest), whole)
             }
-            None => false,
+            _ => false,
         },
     }
 }

@@ -1,7 +1,7 @@
 ghost use Rattle.std.specs.Prelude.{◌≡◌, IfOk};
 
 use crate::var::Var;
-use sig_lists::{Pushed, Sequence};
+use sig_lists::Sequence;
 use sig_terms::{Atom, Pid};
 use sqlite_items::Boxed;
 use std::alloc::{AllocError, Global};
@@ -29,12 +29,11 @@ pub enum Pattern {
     Tuple(Patterns),
     /// A list of as many elements, each of which matches the pattern at its place.
     List(Patterns),
-    /// `[P1, P2 | Q]`, which is `[P1 | [P2 | Q]]`: a list whose first elements match the heads, and
-    /// the list of the rest matches the tail. There is at least one head; with none, no term
-    /// matches.
+    /// `[P | Q]`: a list whose first element matches the head, and the list of the rest matches the
+    /// tail. `[P1, P2 | Q]` is `[P1 | [P2 | Q]]`.
     Cons {
-        /// The patterns of the first elements.
-        heads: Patterns,
+        /// The pattern of the first element.
+        head: Boxed<Pattern>,
         /// The pattern of the list of the rest.
         tail: Boxed<Pattern>,
     },
@@ -48,10 +47,7 @@ fn copy_all(alloc: Global, items: &[Pattern]) -> Result<Patterns, AllocError>
     let mut copies = Sequence::new(alloc);
     for item in items {
         let copy = item.copy(alloc)?;
-        match copies.push(copy) {
-            Pushed::Added => {}
-            Pushed::Memory { item: _ } => return Err(AllocError),
-        }
+        copies.add(copy)?;
     }
     Ok(copies)
 }
@@ -86,11 +82,12 @@ impl Pattern {
                 let copies = copy_all(alloc, items.as_slice())?;
                 Ok(Pattern::List(copies))
             }
-            Pattern::Cons { heads, tail } => {
-                let heads = copy_all(alloc, heads.as_slice())?;
+            Pattern::Cons { head, tail } => {
+                let head = head.get().copy(alloc)?;
                 let tail = tail.get().copy(alloc)?;
+                let head = Boxed::new(alloc, head)?;
                 let tail = Boxed::new(alloc, tail)?;
-                Ok(Pattern::Cons { heads, tail })
+                Ok(Pattern::Cons { head, tail })
             }
         }
     }

@@ -50,16 +50,15 @@ pub(crate) fn first_in<'a>(pattern: &'a Pattern, seen: Seen<'a>, var: &Var) -> O
             let terms = seen.list_items()?;
             first_in_each(patterns.as_slice(), terms, var)
         }
-        Pattern::Cons { heads, tail } => {
-            let terms = seen.list_items()?;
-            if let Some(first) = first_in_each(heads.as_slice(), terms, var) {
-                return Some(first);
+        Pattern::Cons { head, tail } => match seen.list_items() {
+            Some([first, rest @ ..]) => {
+                if let Some(place) = first_in(head.get(), Seen::Whole(first), var) {
+                    return Some(place);
+                }
+                first_in(tail.get(), Seen::Rest(rest), var)
             }
-            if heads.len() > terms.len() {
-                return None;
-            }
-            first_in(tail.get(), Seen::Rest(&terms[heads.len()..]), var)
-        }
+            _ => None,
+        },
         _ => None,
     }
 }

@@ -5,7 +5,7 @@ ghost use Rattle.sig_terms.specs.declared.term.Term.TheVariants as term;
 ghost use Rattle.sig_patterns.specs.Matching.{tuple_items, list_items};
 ghost use Rattle.sig_patterns.specs.Fitting.{term_seen};
 
-use sig_lists::{Pushed, Sequence};
+use sig_lists::Sequence;
 use sig_terms::bytes::equal_bytes;
 use sig_terms::{Pid, Term};
 use std::alloc::{AllocError, Global};
@@ -42,10 +42,7 @@ fn copy_slice(alloc: Global, items: &[Term]) -> Result<Term, AllocError>
     let mut copies = Sequence::new(alloc);
     for item in items {
         let copy = item.copy(alloc)?;
-        match copies.push(copy) {
-            Pushed::Added => {}
-            Pushed::Memory { item: _ } => return Err(AllocError),
-        }
+        copies.add(copy)?;
     }
     Ok(Term::List(copies))
 }

@@ -2,13 +2,13 @@
 //!
 //! Patterns and expressions are written in short, each sign before its parts: `a` an atom, `X` a
 //! variable, `^X` a pinned one, `#7` an integer, `@3` a process, `_` any term, `{2ab` the tuple
-//! {a,b}, `[2ab` the list [a,b], and `|2abT` the pattern [a,b|T].
+//! {a,b}, `[2ab` the list [a,b], and `|aT` the pattern [a|T].
 
 ghost use Rattle.std.specs.Prelude.{◌≡◌, ◌<◌};
 
 use super::*;
 use sig_base::Steps;
-use sig_lists::{Pushed, Sequence};
+use sig_lists::Sequence;
 use sig_terms::{Atom, Name, Pid, Term};
 use sqlite_items::Boxed;
 use std::alloc::Global;
@@ -81,11 +81,10 @@ fn pattern(alloc: Global, text: &[u8]) -> Result<Pattern, Fail> {
             b'^' => pinned(part(&mut parts)?),
             b'{' => Pattern::Tuple(parts_of(alloc, &mut parts, count)?),
             b'[' => Pattern::List(parts_of(alloc, &mut parts, count)?),
-            b'|' => {
-                let heads = parts_of(alloc, &mut parts, count)?;
-                let tail = Boxed::new(alloc, part(&mut parts)?)?;
-                Pattern::Cons { heads, tail }
-            }
+            b'|' => Pattern::Cons {
+                head: Boxed::new(alloc, part(&mut parts)?)?,
+                tail: Boxed::new(alloc, part(&mut parts)?)?,
+            },
             b'A'..=b'Z' => Pattern::Bind(var(alloc, *byte)?),
             _ => Pattern::Atom(atom(alloc, *byte)?),
         };
@@ -192,18 +191,18 @@ fn tuples_and_lists_match(rt: HostRuntime) -> Result<(), Fail> {
 fn heads_and_tails_match(rt: HostRuntime) -> Result<(), Fail> {
     let alloc = rt.alloc();
     let rows: [(&[u8], &[u8], bool); 12] = [
-        (b"|1HT", b"[0", false),
-        (b"|1HT", b"[1a", true),
-        (b"|2HIT", b"[2ab", true),
-        (b"|2HIT", b"[1a", false),
-        (b"|1H[0", b"[1a", true),
-        (b"|1H[0", b"[2ab", false),
-        (b"|1H|1IT", b"[2ab", true),
-        (b"|1H|1IT", b"[1a", false),
-        (b"|1HT", b"{1a", false),
-        (b"|0T", b"[1a", false),
-        (b"{2T|1HT", b"{2[1b[2ab", true),
-        (b"{2|1HTT", b"{2[2ab[1c", false),
+        (b"|HT", b"[0", false),
+        (b"|HT", b"[1a", true),
+        (b"|H|IT", b"[2ab", true),
+        (b"|H|IT", b"[1a", false),
+        (b"|H[0", b"[1a", true),
+        (b"|H[0", b"[2ab", false),
+        (b"|H[1I", b"[2ab", true),
+        (b"|H[1I", b"[3abc", false),
+        (b"|H_", b"[1a", true),
+        (b"|HT", b"{1a", false),
+        (b"{2T|HT", b"{2[1b[2ab", true),
+        (b"{2|HTT", b"{2[2ab[1c", false),
     ];
     for (text, term, answer) in rows {
         let bound = bound_by::<Brand>(alloc, Blank::new(1), text, term, b"a")?;
@@ -222,8 +221,8 @@ fn matches_bind_variables(rt: HostRuntime) -> Result<(), Fail> {
         (b"{2XY", b"{2#1@2", b"[2YX", b"[2@2#1"),
         (b"{2X^X", b"{2ba", b"X", b"b"),
         (b"{2^XX", b"{2ab", b"X", b"b"),
-        (b"|1HT", b"[3bcd", b"{2TH", b"{2[2cdb"),
-        (b"|2HIT", b"[2bc", b"[3TIH", b"[3[0cb"),
+        (b"|HT", b"[3bcd", b"{2TH", b"{2[2cdb"),
+        (b"|H|IT", b"[2bc", b"[3TIH", b"[3[0cb"),
         (b"{2X^X", b"{2bb", b"X", b""),
     ];
     for (text, term, variable, expected) in rows {
@@ -253,7 +252,7 @@ fn expressions_are_built(rt: HostRuntime) -> Result<(), Fail> {
         let copy = expression(alloc, text)?.copy(alloc)?;
         let mut into = Vec::new(alloc);
         build(alloc, &copy, &env)?.print(&mut into)?;
-        assert_eq!(rt; into.as_slice(), printed);
+        assert_eq!(rt; into.as_slice(), printed, "{text:?}");
     }
     Ok(())
 }
@@ -262,10 +261,7 @@ fn expressions_are_built(rt: HostRuntime) -> Result<(), Fail> {
 fn row(alloc: Global, count: u16) -> Result<Expr, Fail> {
     let mut items = Sequence::new(alloc);
     for _ in 0..count {
-        match items.push(Expr::Atom(atom(alloc, b'a')?)) {
-            Pushed::Added => {}
-            Pushed::Memory { item: _ } => return Err("no memory".into()),
-        }
+        items.add(Expr::Atom(atom(alloc, b'a')?))?;
     }
     Ok(Expr::List(items))
 }
@@ -300,7 +296,11 @@ fn sizes_are_bounded(rt: HostRuntime) -> Result<(), Fail> {
     for (expression, nodes, depth) in rows {
         match build(alloc, &expression, &env) {
             Ok(_) => assert!(rt; false, "{nodes}"),
-            Err(fault) => assert_eq!(rt; fault, BuildFault::TooLarge { nodes, depth }),
+            Err(fault) => assert_eq!(rt;
+                fault,
+                BuildFault::TooLarge { nodes, depth },
+                "{nodes}, {depth}"
+            ),
         }
     }
     Ok(())

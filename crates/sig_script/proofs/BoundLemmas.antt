@@ -18,8 +18,8 @@ use Rattle.sig_script.specs.declared.keyword.Keyword.{Keyword}
 use Rattle.sig_script.specs.declared.keyword.Keyword.TheVariants as keyword
 use Rattle.sig_script.specs.declared.known.Known.{Known}
 use Rattle.sig_script.specs.declared.known.Known.TheVariants.{Any, Among}
-use Rattle.sig_script.specs.declared.draft.Place.{Place}
-use Rattle.sig_script.specs.declared.draft.Place.TheVariants.{Before, Outside, Inside}
+use Rattle.sig_script.specs.declared.draft.Section.{Section}
+use Rattle.sig_script.specs.declared.draft.Section.TheVariants.{Before, Outside, Inside}
 use Rattle.sig_script.specs.declared.draft.Draft.{Draft}
 use Rattle.sig_script.specs.declared.form.Form.{Form}
 use Rattle.sig_script.specs.declared.form.Form.TheVariants as form
@@ -61,7 +61,7 @@ same-length : {A : Type 0} (xs : List A) (x y : A) → length (xs ++ x ∷ []) �
 same-length xs x y = length-append xs (x ∷ []) ∙ sym (length-append xs (y ∷ []))
 
 fit_last : (n : ℕ) (turns : Option ℕ) (procs : List Declared) (p q : Declared) →
-    IsFit n (record { turns = turns; procs = procs; place = Outside p }) → IsSmall (n + 1) q → IsFit (n + 1) (record { turns = turns; procs = procs; place = Outside q })
+    IsFit n (record { turns = turns; procs = procs; section = Outside p }) → IsSmall (n + 1) q → IsFit (n + 1) (record { turns = turns; procs = procs; section = Outside q })
 fit_last n turns procs p q h s = record {
   few = omega (arith, h.few, same-length procs p q);
   small = All-push (IsSmall (n + 1)) procs q (all-later n procs (all-front (IsSmall n) procs p h.small)) s;
@@ -92,15 +92,15 @@ fit_begun n d name h =
       small = All-push (IsSmall (n + 1)) (all_procs d) p (all-later n (all_procs d) h.small) small;
     }))
 
-fit_at : (n : ℕ) (turns : Option ℕ) (procs : List Declared) (place : Place) (f : Form) →
-    IsFit n (record { turns = turns; procs = procs; place = place }) → Holds (IsFit (n + 1)) (taken_at (record { turns = turns; procs = procs; place = place }) place f)
+fit_at : (n : ℕ) (turns : Option ℕ) (procs : List Declared) (section : Section) (f : Form) →
+    IsFit n (record { turns = turns; procs = procs; section = section }) → Holds (IsFit (n + 1)) (taken_at (record { turns = turns; procs = procs; section = section }) section f)
 fit_at n turns procs Before (form.Turns m) h =
-    holds-if (IsFit (n + 1)) (nat_le m MOST_TURNS) _ _ (λ _. fit_later n (record { turns = Some m; procs = procs; place = Before }) (record { few = h.few; small = h.small })) (λ _. tt)
-fit_at n turns procs Before (form.Process name) h = fit_begun n (record { turns = turns; procs = procs; place = Before }) name h
+    holds-if (IsFit (n + 1)) (nat_le m MOST_TURNS) _ _ (λ _. fit_later n (record { turns = Some m; procs = procs; section = Before }) (record { few = h.few; small = h.small })) (λ _. tt)
+fit_at n turns procs Before (form.Process name) h = fit_begun n (record { turns = turns; procs = procs; section = Before }) name h
 fit_at n turns procs Before _ h = tt
-fit_at n turns procs (Outside p) (form.Process name) h = fit_begun n (record { turns = turns; procs = procs; place = Outside p }) name h
+fit_at n turns procs (Outside p) (form.Process name) h = fit_begun n (record { turns = turns; procs = procs; section = Outside p }) name h
 fit_at n turns procs (Outside p) (form.Label name) h =
-    holds-on_ok (IsSmall (n + 1)) (IsFit (n + 1)) (λ q. record { turns = turns; procs = procs; place = Outside q }) (labelled p name)
+    holds-on_ok (IsSmall (n + 1)) (IsFit (n + 1)) (λ q. record { turns = turns; procs = procs; section = Outside q }) (labelled p name)
     (small_labelled n p name (all-last (IsSmall n) procs p h.small)) (λ q s. fit_last n turns procs p q h s)
 fit_at n turns procs (Outside p) (form.Do i) h = fit_last n turns procs p (with_instr p i) h (small_instr n p i (all-last (IsSmall n) procs p h.small))
 fit_at n turns procs (Outside p) form.Receive h = record { few = h.few; small = all-later n (procs ++ p ∷ []) h.small }
@@ -114,7 +114,7 @@ fit_at n turns procs (Inside p clauses after) _ h = tt
 
 fit_said : (n : ℕ) (d : Draft) (said : Option Form) → IsFit n d → Holds (IsFit (n + 1)) (taken_if d said)
 fit_said n d None h = fit_later n d h
-fit_said n d (Some f) h = fit_at n d.turns d.procs d.place f h
+fit_said n d (Some f) h = fit_at n d.turns d.procs d.section f h
 
 fit_line : (known : Known) (n : ℕ) (d : Draft) (line : List ℕ) → IsFit n d → Holds (IsFit (n + 1)) (line_taken known d line)
 fit_line known n d line h = holds-then (λ _. Unit {0}) (IsFit (n + 1)) (taken_if d) (said known d line) (anything (said known d line)) (λ s _. fit_said n d s h)
@@ -129,7 +129,7 @@ holds-located : {A B : Type 0} (P : A → Type 0) (Q : B → Type 0) (n : ℕ) (
 holds-located P Q n f (Ok x) h k = k x h
 holds-located P Q n f (Err e) h k = tt
 
-holds-finished : (Q : Program → Type 0) (n : ℕ) (d : Draft) (place : Place) → Q (program_of d) → Holds Q (finished n d place)
+holds-finished : (Q : Program → Type 0) (n : ℕ) (d : Draft) (section : Section) → Q (program_of d) → Holds Q (finished n d section)
 holds-finished Q n d Before h = h
 holds-finished Q n d (Outside p) h = h
 holds-finished Q n d (Inside p clauses after) h = tt
@@ -139,7 +139,7 @@ module _ (known : Known) (P : ℕ → Draft → Type 0) (Q : Program → Type 0)
     (last : (n : ℕ) (d : Draft) → n ≤ m → P n d → Q (program_of d)) where
   body-holds : (n : ℕ) (d : Draft) (lines : List (List ℕ)) → n + length lines ≤ m → P n d → Holds Q (body known n d lines)
   unfolding body
-  body-holds n d [] le h = holds-finished Q n d d.place (last n d (omega (arith, le)) h)
+  body-holds n d [] le h = holds-finished Q n d d.section (last n d (omega (arith, le)) h)
   body-holds n d (line ∷ lines) le h =
       holds-located (P (n + 1)) Q n (λ e. body known (n + 1) e lines) (line_taken known d line) (step n d line (omega (arith, le)) h)
       (λ e k. body-holds (n + 1) e lines (omega (arith, le)) k)
@@ -252,7 +252,7 @@ form_behind-counted : (known : Known) (d : Draft) (word : Option Keyword) (line 
     Holds (λ f. (cs : List ℕ) → counted_form f cs ≡ counted_by word cs) (form_behind known d word line ts)
 form_behind-counted known d None line ts = tt
 form_behind-counted known d (Some word) line ts =
-    holds-if (SaysAs word) (may_stand d.turns d.place word) _ _ (λ _. form-counted known (length d.procs) word line ts) (λ _. tt)
+    holds-if (SaysAs word) (may_stand d.turns d.section word) _ _ (λ _. form-counted known (length d.procs) word line ts) (λ _. tt)
 
 said_by-counted : (known : Known) (d : Draft) (line : List ℕ) (ts : List Token) →
     Holds (λ o. (cs : List ℕ) → counted_said o cs ≡ counted_in line (Ok ts) cs) (said_by known d line ts)
@@ -301,14 +301,14 @@ labelled-counted p name =
 abbrev CountedAs : List ℕ → Draft → Type 0
 CountedAs cs e = counts (all_procs e) ≡ cs
 
-taken_at-counted : (turns : Option ℕ) (procs : List Declared) (place : Place) (f : Form) →
-    Holds (CountedAs (counted_form f (counts (procs ++ open_proc place)))) (taken_at (record { turns = turns; procs = procs; place = place }) place f)
+taken_at-counted : (turns : Option ℕ) (procs : List Declared) (section : Section) (f : Form) →
+    Holds (CountedAs (counted_form f (counts (procs ++ open_proc section)))) (taken_at (record { turns = turns; procs = procs; section = section }) section f)
 taken_at-counted turns procs Before (form.Turns m) = holds-if (CountedAs (counts (procs ++ []))) (nat_le m MOST_TURNS) _ _ (λ _. refl) (λ _. tt)
-taken_at-counted turns procs Before (form.Process name) = begun-counted (record { turns = turns; procs = procs; place = Before }) name
+taken_at-counted turns procs Before (form.Process name) = begun-counted (record { turns = turns; procs = procs; section = Before }) name
 taken_at-counted turns procs Before _ = tt
-taken_at-counted turns procs (Outside p) (form.Process name) = begun-counted (record { turns = turns; procs = procs; place = Outside p }) name
+taken_at-counted turns procs (Outside p) (form.Process name) = begun-counted (record { turns = turns; procs = procs; section = Outside p }) name
 taken_at-counted turns procs (Outside p) (form.Label name) =
-    holds-on_ok (λ q. length q.labels ≡ length p.labels + 1) (CountedAs (one_more (counts (procs ++ p ∷ [])))) (λ q. record { turns = turns; procs = procs; place = Outside q })
+    holds-on_ok (λ q. length q.labels ≡ length p.labels + 1) (CountedAs (one_more (counts (procs ++ p ∷ [])))) (λ q. record { turns = turns; procs = procs; section = Outside q })
     (labelled p name) (labelled-counted p name) (λ q h. counts-more procs p q h)
 taken_at-counted turns procs (Outside p) (form.Do i) = counts-last procs p (with_instr p i) refl
 taken_at-counted turns procs (Outside p) form.Receive = refl
@@ -320,7 +320,7 @@ taken_at-counted turns procs (Inside p clauses after) _ = tt
 
 taken_if-counted : (d : Draft) (o : Option Form) → Holds (CountedAs (counted_said o (counts (all_procs d)))) (taken_if d o)
 taken_if-counted d None = refl
-taken_if-counted d (Some f) = taken_at-counted d.turns d.procs d.place f
+taken_if-counted d (Some f) = taken_at-counted d.turns d.procs d.section f
 
 line-counted : (known : Known) (d : Draft) (line : List ℕ) → Holds (CountedAs (counted line (counts (all_procs d)))) (line_taken known d line)
 line-counted known d line =
@@ -329,7 +329,7 @@ line-counted known d line =
 
 body-counted : (known : Known) (n : ℕ) (d : Draft) (lines : List (List ℕ)) → Holds (λ s. counts s.procs ≡ counted_all lines (counts (all_procs d))) (body known n d lines)
 unfolding body
-body-counted known n d [] = holds-finished (λ s. counts s.procs ≡ counts (all_procs d)) n d d.place refl
+body-counted known n d [] = holds-finished (λ s. counts s.procs ≡ counts (all_procs d)) n d d.section refl
 body-counted known n d (line ∷ lines) =
     holds-located (CountedAs (counted line (counts (all_procs d)))) (λ s. counts s.procs ≡ counted_all lines (counted line (counts (all_procs d)))) n
     (λ e. body known (n + 1) e lines) (line_taken known d line) (line-counted known d line)
@@ -374,7 +374,7 @@ record IsMeant (s : Program) (here : ℕ) (p : Declared) : Type 0 where
   below : All (IsInstrBelow (length s.procs)) p.instrs
 
 -- the same of an open receive before line n
-abbrev IsOpen : Program → ℕ → ℕ → Place → Type 0
+abbrev IsOpen : Program → ℕ → ℕ → Section → Type 0
 IsOpen s n here Before = Unit {0}
 IsOpen s n here (Outside p) = Unit {0}
 IsOpen s n here (Inside p clauses after) =
@@ -384,7 +384,7 @@ IsOpen s n here (Inside p clauses after) =
 record IsMeantDraft (s : Program) (n : ℕ) (d : Draft) : Type 0 where
   turns : IfSome d.turns (λ t. t ≤ MOST_TURNS)
   procs : Each (IsMeant s) 0 (all_procs d)
-  receive : IsOpen s n (length d.procs) d.place
+  receive : IsOpen s n (length d.procs) d.section
 
 empty-meant : (s : Program) (here : ℕ) (name : List ℕ) → IsMeant s here (record { name = name; labels = []; instrs = [] })
 empty-meant s here name = record {
@@ -416,7 +416,7 @@ label-more s here p name h =
     })
 
 -- one line more
-open-later : (s : Program) (n here : ℕ) (place : Place) → IsOpen s n here place → IsOpen s (n + 1) here place
+open-later : (s : Program) (n here : ℕ) (section : Section) → IsOpen s n here section → IsOpen s (n + 1) here section
 open-later s n here Before h = tt
 open-later s n here (Outside p) h = tt
 open-later s n here (Inside p clauses after) h = (omega (arith, h.0), h.1, h.2, h.3)
@@ -466,7 +466,7 @@ module _ (s : Program) (n : ℕ) (turns : Option ℕ) (procs : List Declared) (b
   current : (p : Declared) → Each (IsMeant s) 0 (procs ++ p ∷ []) → IsMeant s (length procs) p
   current p h = each-last (IsMeant s) 0 (length procs) procs p here-is h
 
-  changed : (p q : Declared) → Each (IsMeant s) 0 (procs ++ p ∷ []) → IsMeant s (length procs) q → IsMeantDraft s (n + 1) (record { turns = turns; procs = procs; place = Outside q })
+  changed : (p q : Declared) → Each (IsMeant s) 0 (procs ++ p ∷ []) → IsMeant s (length procs) q → IsMeantDraft s (n + 1) (record { turns = turns; procs = procs; section = Outside q })
   changed p q h k = record {
     turns = bounded;
     procs = each-push (IsMeant s) 0 (length procs) procs q here-is (each-front (IsMeant s) 0 procs p h) k;
@@ -490,18 +490,18 @@ module _ (s : Program) (n : ℕ) (turns : Option ℕ) (procs : List Declared) (b
       receive-targets (length (labels_at (length procs) s.procs)) clauses after h.1 h.3 in
       instr-more s (length procs) p (instr.Receive clauses after) (few, targets) (All-nil (IsExprBelow (length s.procs)), h.2) k
 
-  taken_at-meant : (place : Place) (f : Form) → n < 2 ^ 32 → Each (IsMeant s) 0 (procs ++ open_proc place) → IsOpen s n (length procs) place →
+  taken_at-meant : (section : Section) (f : Form) → n < 2 ^ 32 → Each (IsMeant s) 0 (procs ++ open_proc section) → IsOpen s n (length procs) section →
       IsMeantForm (length s.procs) (length (labels_at (length procs) s.procs)) f →
-      Holds (IsMeantDraft s (n + 1)) (taken_at (record { turns = turns; procs = procs; place = place }) place f)
+      Holds (IsMeantDraft s (n + 1)) (taken_at (record { turns = turns; procs = procs; section = section }) section f)
   taken_at-meant Before (form.Turns m) lt h o k =
       holds-if (IsMeantDraft s (n + 1)) (nat_le m MOST_TURNS) _ _ (λ e. record { turns = few-turns m e; procs = h; receive = tt }) (λ _. tt)
   taken_at-meant Before (form.Process name) lt h o k =
-      begun-meant s n (record { turns = turns; procs = procs; place = Before }) name (record { turns = bounded; procs = h; receive = tt })
+      begun-meant s n (record { turns = turns; procs = procs; section = Before }) name (record { turns = bounded; procs = h; receive = tt })
   taken_at-meant Before _ lt h o k = tt
   taken_at-meant (Outside p) (form.Process name) lt h o k =
-      begun-meant s n (record { turns = turns; procs = procs; place = Outside p }) name (record { turns = bounded; procs = h; receive = tt })
+      begun-meant s n (record { turns = turns; procs = procs; section = Outside p }) name (record { turns = bounded; procs = h; receive = tt })
   taken_at-meant (Outside p) (form.Label name) lt h o k =
-      holds-on_ok (IsMeant s (length procs)) (IsMeantDraft s (n + 1)) (λ q. record { turns = turns; procs = procs; place = Outside q })
+      holds-on_ok (IsMeant s (length procs)) (IsMeantDraft s (n + 1)) (λ q. record { turns = turns; procs = procs; section = Outside q })
       (labelled p name) (label-more s (length procs) p name (current p h)) (λ q m. changed p q h m)
   taken_at-meant (Outside p) (form.Do i) lt h o k = changed p (with_instr p i) h (instr-more s (length procs) p i k.0 k.1 (current p h))
   taken_at-meant (Outside p) form.Receive lt h o k = record {
@@ -519,8 +519,8 @@ module _ (s : Program) (n : ℕ) (turns : Option ℕ) (procs : List Declared) (b
 
 taken_if-meant : (s : Program) (n : ℕ) (d : Draft) (o : Option Form) → n < 2 ^ 32 → IsMeantDraft s n d →
     IfSome o (IsMeantForm (length s.procs) (length (labels_at (length d.procs) s.procs))) → Holds (IsMeantDraft s (n + 1)) (taken_if d o)
-taken_if-meant s n d None lt h k = record { turns = h.turns; procs = h.procs; receive = open-later s n (length d.procs) d.place h.receive }
-taken_if-meant s n d (Some f) lt h k = taken_at-meant s n d.turns d.procs h.turns d.place f lt h.procs h.receive k
+taken_if-meant s n d None lt h k = record { turns = h.turns; procs = h.procs; receive = open-later s n (length d.procs) d.section h.receive }
+taken_if-meant s n d (Some f) lt h k = taken_at-meant s n d.turns d.procs h.turns d.section f lt h.procs h.receive k
 
 line-meant : (s : Program) (n : ℕ) (d : Draft) (line : List ℕ) → n < 2 ^ 32 → IsMeantDraft s n d → Holds (IsMeantDraft s (n + 1)) (line_taken (Among s) d line)
 line-meant s n d line lt h =
@@ -585,6 +585,3 @@ script_sound lines first s e k le =
       turns = meant.0;
       pids = λ i d lt. subst (λ (n : ℕ). All (IsInstrBelow n) (get_or s.procs i d).instrs) same (each-at (IsMeant first) 0 i i s.procs d (omega arith) lt meant.1).below;
     }
-
-pub within_second : (lines : List (List ℕ)) (first s : Program) → walk Any lines ≡ Ok first → walk (Among first) lines ≡ Ok s → length lines ≤ 2 ^ 30 → All IsWithin s.procs × IsSound s
-within_second lines first s e k le = (procs_within lines first s e k le, script_sound lines first s e k le)

@@ -1,16 +1,17 @@
 -- What a line says where the names are those of a script: each pid is that of a process, and each target a label of its own.
-use Rattle.std.proofs.Common.{◌≡◌, ℕ, zero, suc, ◌<◌, ◌^◌, List, [], ◌∷◌, ◌++◌, length, drop, position, ok_or, All, IfSome, Bool, true, false, if◌then◌else◌, Option, Some, None, Result, Ok, Err, refl, subst, arith}
+use Rattle.std.proofs.Common.{◌≡◌, ℕ, ℤ, zero, suc, ◌<◌, ◌^◌, List, [], ◌∷◌, ◌++◌, length, drop, position, ok_or, All, IfSome, Bool, true, false, if◌then◌else◌, Option, Some, None, Result, Ok, Err, refl, subst, arith}
 use Rattle.std.specs.Str.{bytes_eq}
 use Rattle.std.proofs.lemmas.List.Quantifiers.{position-Some}
 use Rattle.std.proofs.lemmas.List.Elements.{All-nil, All-cons, All-push}
 use Rattle.sig_patterns.specs.declared.clause.Clause.{Clause}
+use Rattle.sig_patterns.specs.declared.var.Var.{Var}
 use Rattle.sig_patterns.specs.declared.expression.Expr.{Expr}
-use Rattle.sig_patterns.specs.declared.expression.Expr.TheVariants as expr
 use Rattle.sig_patterns.specs.declared.pattern.Pattern.{Pattern}
 use Rattle.sig_patterns.specs.declared.pattern.Pattern.TheVariants as pattern
 use Rattle.sig_script.specs.declared.label.Label.{Label}
 use Rattle.sig_script.specs.declared.instruction.Instr.{Instr}
 use Rattle.sig_script.specs.declared.fault.FaultKind.TheVariants.{UnknownProcess, UnknownLabel}
+use Rattle.sig_script.specs.declared.token.Sign as signs
 use Rattle.sig_script.specs.declared.token.Sign.TheVariants.{CloseBrace, CloseBracket}
 use Rattle.sig_script.specs.declared.token.TokenKind.{TokenKind}
 use Rattle.sig_script.specs.declared.token.TokenKind.TheVariants.{Name, Variable, Integer, Quoted, Process, Sign}
@@ -28,12 +29,12 @@ use Rattle.sig_script.specs.Faults.{◌>>=◌, on_ok}
 use Rattle.sig_script.specs.Tokens.{text, unquoted}
 use Rattle.sig_script.specs.Numbers.{int_of}
 use Rattle.sig_script.specs.Names.{pid_of, labels_at, label_of, name_at, variable_at}
-use Rattle.sig_script.specs.Signs.{is_open_brace, is_open_bracket, is_arrow, is_comma, is_bar, is_caret, is_underscore, closes}
-use Rattle.sig_script.specs.Operands.{Read, behind, elements, closed, enclosed}
-use Rattle.sig_script.specs.Expressions.{expr_leaf, expr_by, expr_front, expr_at, expr_of}
-use Rattle.sig_script.specs.PatternTexts.{pattern_leaf, list_end, pin_at, pattern_by, pattern_front, pattern_at, pattern_of}
+use Rattle.sig_script.specs.Signs.{is_open_brace, is_open_bracket, is_arrow, is_comma, is_caret, is_underscore, closes}
+use Rattle.sig_script.specs.Phrases.{Read, Spelling, behind, elements, closed, is_before_tail, ending, bracketed, single, phrase_by, phrase_front, phrase_at, phrase_of}
+use Rattle.sig_script.specs.Expressions.{expr_enclosing, expr_spelling, expr_of}
+use Rattle.sig_script.specs.PatternTexts.{pattern_signed, pattern_enclosing, pattern_spelling, pattern_of}
 use Rattle.sig_script.specs.Forms.{Operand, an_expr, a_label, AllSaid, operand_at, all_said, made_of, tokens_of, keyword_of, may_stand, ends, target_at, arrow_of, count_from, turns_of, whole_name, on_of, instr_of, form_of, form_behind, said_by, said}
-use Rattle.sig_script.proofs.PidLemmas.{int_pids, atom_pids, var_pids, pid_pids, tuple_pids, list_pids, any_pattern_pids, bind_pattern_pids, pin_pattern_pids, int_pattern_pids, atom_pattern_pids, pid_pattern_pids, tuple_pattern_pids, list_pattern_pids, cons_pattern_pids}
+use Rattle.sig_script.proofs.PidLemmas.{int_pids, atom_pids, var_pids, pid_pids, tuple_pids, list_pids, any_pattern_pids, bind_pattern_pids, pin_pattern_pids, int_pattern_pids, atom_pattern_pids, pid_pattern_pids, tuple_pattern_pids, list_pattern_pids, nested_pids}
 use Rattle.sig_patterns.specs.declared.building.TheConstants.{MOST_NODES, MOST_DEPTH}
 
 -- what holds of a result that isn't a refusal
@@ -87,12 +88,6 @@ module _ {A B : Type 0} (P : A → Type 0) (Q : B → Type 0) (read : ℕ → Li
       (λ x. behind (elements read finish room) finish x.1 (items ++ x.0 ∷ []) x.2) (read nodes ts) (reads nodes ts)
       (λ x p. behind-reads (elements read finish room) (elements-read room) x.1 (items ++ x.0 ∷ []) x.2 (All-push P items x.0 h p))
 
-  enclosed-reads : (ends : TokenKind → Bool) (none : B) (nodes : ℕ) (ts : List Token) → Q none → Reads Q (enclosed ends none read finish nodes ts)
-  unfolding enclosed
-  enclosed-reads ends none nodes [] q = tt
-  enclosed-reads ends none nodes (t ∷ ts) q =
-      holds-if (λ (x : B × ℕ × List Token). Q x.0) (ends t.kind) _ _ (λ _. q) (λ _. elements-read (length (t ∷ ts)) nodes [] (t ∷ ts) (All-nil P))
-
 -- a place that was found
 pub found : {E : Type 0} (e : E) (m : ℕ) (o : Option ℕ) → ((i : ℕ) → o ≡ Some i → i < m) → Holds (λ n. n < m) (ok_or o e)
 found e m None h = tt
@@ -107,118 +102,113 @@ pid-below s name =
 abbrev IsProcess : Program → ℕ → Type 0
 IsProcess s pid = pid < length s.procs
 
--- from here on the names are those of a script
-module _ (s : Program) (line : List ℕ) where
-  expr_leaf-below : (kind : TokenKind) (word : List ℕ) → Holds (IsExprBelow (length s.procs)) (expr_leaf (Among s) kind word)
-  expr_leaf-below Name word = atom_pids (IsProcess s) word
-  expr_leaf-below Quoted word = atom_pids (IsProcess s) (unquoted word)
-  expr_leaf-below Integer word = int_pids (IsProcess s) (int_of word)
-  expr_leaf-below Variable word = var_pids (IsProcess s) (record { 0 = word })
-  expr_leaf-below Process word =
-      holds-on_ok (λ n. n < length s.procs) (IsExprBelow (length s.procs)) (λ n. expr.Pid (record { 0 = n })) (pid_of (Among s) (drop 1 word)) (pid-below s (drop 1 word))
-      (λ n h. pid_pids (IsProcess s) n h)
-  expr_leaf-below (Sign g) word = tt
+-- What holds of the phrases of one kind where it holds of their parts; of a process where it is one of so many.
+record Keeps {A : Type 0} (count : ℕ) (P : A → Type 0) (s : Spelling A) : Type 0 where
+  int : (n : ℤ) → P (s.int n)
+  atom : (a : List ℕ) → P (s.atom a)
+  var : (v : Var) → P (s.var v)
+  pid : (n : ℕ) → n < count → P (s.pid (record { 0 = n }))
+  signed : (line : List ℕ) (kind : TokenKind) (ts : List Token) → Holds (λ (x : A × List Token). P x.0) (s.signed line kind ts)
+  enclosing : (close : signs.Sign) (items : List A) → All P items → P (s.enclosing close items)
+  nested : (items : List A) (tail : A) → All P items → P tail → P (s.nested items tail)
 
-  module _ (read : ℕ → List Token → Read Expr) (reads : (nodes : ℕ) (ts : List Token) → Reads (IsExprBelow (length s.procs)) (read nodes ts)) where
-    exprs-below : (ends : TokenKind → Bool) (nodes : ℕ) (ts : List Token) → Reads (All (IsExprBelow (length s.procs))) (enclosed ends [] read (closed ends) nodes ts)
-    exprs-below ends nodes ts =
-        enclosed-reads (IsExprBelow (length s.procs)) (All (IsExprBelow (length s.procs))) read (closed ends) reads
-        (λ items nodes ts h. closed-reads (All (IsExprBelow (length s.procs))) ends items nodes ts h) ends [] nodes ts (All-nil (IsExprBelow (length s.procs)))
+-- from here on the names are those of a script, and such a P holds of each element that is read
+module _ {A : Type 0} (P : A → Type 0) (s : Spelling A) (script : Program) (line : List ℕ) (keeps : Keeps (length script.procs) P s) where
+  single-below : (kind : TokenKind) (word : List ℕ) (ts : List Token) → Holds (λ (x : A × List Token). P x.0) (single s (Among script) line kind word ts)
+  single-below Name word ts = keeps.atom word
+  single-below Quoted word ts = keeps.atom (unquoted word)
+  single-below Integer word ts = keeps.int (int_of word)
+  single-below Variable word ts = keeps.var (record { 0 = word })
+  single-below Process word ts =
+      holds-on_ok (λ n. n < length script.procs) (λ (x : A × List Token). P x.0) (λ n. (s.pid (record { 0 = n }), ts)) (pid_of (Among script) (drop 1 word)) (pid-below script (drop 1 word))
+      (λ n h. keeps.pid n h)
+  single-below (Sign g) word ts = keeps.signed line (Sign g) ts
 
-    expr_by-below : (kind : TokenKind) (word : List ℕ) (nodes : ℕ) (ts : List Token) → Reads (IsExprBelow (length s.procs)) (expr_by (Among s) read kind word nodes ts)
-    expr_by-below kind word nodes ts =
-        let Below : Expr × ℕ × List Token → Type 0 = λ x. IsExprBelow (length s.procs) x.0 in
-        let AllBelow : List Expr × ℕ × List Token → Type 0 = λ x. All (IsExprBelow (length s.procs)) x.0 in
-        holds-if Below (is_open_brace kind) _ _
-        (λ _. holds-on_ok AllBelow Below (λ x. (expr.Tuple x.0, x.1, x.2)) (enclosed (closes CloseBrace) [] read (closed (closes CloseBrace)) nodes ts)
-        (exprs-below (closes CloseBrace) nodes ts) (λ x h. tuple_pids (IsProcess s) x.0 h))
-        (λ _. holds-if Below (is_open_bracket kind) _ _
-        (λ _. holds-on_ok AllBelow Below (λ x. (expr.List x.0, x.1, x.2)) (enclosed (closes CloseBracket) [] read (closed (closes CloseBracket)) nodes ts)
-        (exprs-below (closes CloseBracket) nodes ts) (λ x h. list_pids (IsProcess s) x.0 h))
-        (λ _. holds-on_ok (IsExprBelow (length s.procs)) Below (λ e. (e, nodes, ts)) (expr_leaf (Among s) kind word) (expr_leaf-below kind word) (λ e h. h)))
+  module _ (read : ℕ → List Token → Read A) (reads : (nodes : ℕ) (ts : List Token) → Reads P (read nodes ts)) where
+    ending-below : (close : signs.Sign) (items : List A) (nodes : ℕ) (ts : List Token) → All P items → Reads P (ending s close read items nodes ts)
+    ending-below close items nodes [] h = tt
+    ending-below close items nodes (t ∷ ts) h =
+        let Below : A × ℕ × List Token → Type 0 = λ x. P x.0 in
+        holds-if Below (is_before_tail s close t.kind) _ _
+        (λ _. holds-then Below Below (λ x. closed (closes close) (s.nested items x.0) x.1 x.2) (read nodes ts) (reads nodes ts)
+        (λ x k. closed-reads P (closes close) (s.nested items x.0) x.1 x.2 (keeps.nested items x.0 h k)))
+        (λ _. closed-reads P (closes close) (s.enclosing close items) nodes (t ∷ ts) (keeps.enclosing close items h))
 
-    expr_front-below : (nodes : ℕ) (ts : List Token) → Reads (IsExprBelow (length s.procs)) (expr_front (Among s) line read nodes ts)
-    unfolding expr_front
-    expr_front-below zero ts = tt
-    expr_front-below (suc nodes) [] = tt
-    expr_front-below (suc nodes) (t ∷ ts) = expr_by-below t.kind (text line t) nodes ts
+    bracketed-below : (close : signs.Sign) (nodes : ℕ) (ts : List Token) → Reads P (bracketed s close read nodes ts)
+    unfolding bracketed
+    bracketed-below close nodes [] = tt
+    bracketed-below close nodes (t ∷ ts) =
+        holds-if (λ (x : A × ℕ × List Token). P x.0) (closes close t.kind) _ _ (λ _. keeps.enclosing close [] (All-nil P))
+        (λ _. elements-read P P read (ending s close read) reads (ending-below close) (length (t ∷ ts)) nodes [] (t ∷ ts) (All-nil P))
 
-  expr_at-below : (depth nodes : ℕ) (ts : List Token) → Reads (IsExprBelow (length s.procs)) (expr_at (Among s) line depth nodes ts)
-  unfolding expr_at
-  expr_at-below zero nodes ts = tt
-  expr_at-below (suc depth) nodes ts = expr_front-below (expr_at (Among s) line depth) (expr_at-below depth) nodes ts
+    phrase_by-below : (kind : TokenKind) (word : List ℕ) (nodes : ℕ) (ts : List Token) → Reads P (phrase_by s (Among script) line read kind word nodes ts)
+    phrase_by-below kind word nodes ts =
+        let Below : A × ℕ × List Token → Type 0 = λ x. P x.0 in
+        holds-if Below (is_open_brace kind) _ _ (λ _. bracketed-below CloseBrace nodes ts)
+        (λ _. holds-if Below (is_open_bracket kind) _ _ (λ _. bracketed-below CloseBracket nodes ts)
+        (λ _. holds-on_ok (λ (x : A × List Token). P x.0) Below (λ x. (x.0, nodes, x.1)) (single s (Among script) line kind word ts) (single-below kind word ts) (λ x h. h)))
 
-  -- each pid of an expression is that of a process
-  pub expr_of-below : (ts : List Token) → Holds (λ (x : Expr × List Token). IsExprBelow (length s.procs) x.0) (expr_of (Among s) line ts)
-  expr_of-below ts =
-      holds-on_ok (λ (x : Expr × ℕ × List Token). IsExprBelow (length s.procs) x.0) (λ (x : Expr × List Token). IsExprBelow (length s.procs) x.0)
-      (λ x. (x.0, x.2)) (expr_at (Among s) line MOST_DEPTH MOST_NODES ts) (expr_at-below MOST_DEPTH MOST_NODES ts) (λ x h. h)
+    phrase_front-below : (nodes : ℕ) (ts : List Token) → Reads P (phrase_front s (Among script) line read nodes ts)
+    unfolding phrase_front
+    phrase_front-below zero ts = tt
+    phrase_front-below (suc nodes) [] = tt
+    phrase_front-below (suc nodes) (t ∷ ts) = phrase_by-below t.kind (text line t) nodes ts
 
--- the same with patterns
-module _ (s : Program) (line : List ℕ) where
-  pattern_leaf-below : (kind : TokenKind) (word : List ℕ) → Holds (IsPatternBelow (length s.procs)) (pattern_leaf (Among s) kind word)
-  pattern_leaf-below Name word = atom_pattern_pids (IsProcess s) word
-  pattern_leaf-below Quoted word = atom_pattern_pids (IsProcess s) (unquoted word)
-  pattern_leaf-below Integer word = int_pattern_pids (IsProcess s) (int_of word)
-  pattern_leaf-below Variable word = bind_pattern_pids (IsProcess s) (record { 0 = word })
-  pattern_leaf-below Process word =
-      holds-on_ok (λ n. n < length s.procs) (IsPatternBelow (length s.procs)) (λ n. pattern.Pid (record { 0 = n })) (pid_of (Among s) (drop 1 word)) (pid-below s (drop 1 word))
-      (λ n h. pid_pattern_pids (IsProcess s) n h)
-  pattern_leaf-below (Sign g) word = tt
+  phrase_at-below : (depth nodes : ℕ) (ts : List Token) → Reads P (phrase_at s (Among script) line depth nodes ts)
+  unfolding phrase_at
+  phrase_at-below zero nodes ts = tt
+  phrase_at-below (suc depth) nodes ts = phrase_front-below (phrase_at s (Among script) line depth) (phrase_at-below depth) nodes ts
 
-  pin-below : (nodes : ℕ) (ts : List Token) → Reads (IsPatternBelow (length s.procs)) (pin_at line nodes ts)
-  pin-below nodes ts =
-      holds-on_ok (λ (x : List ℕ × List Token). Unit {0}) (λ (x : Pattern × ℕ × List Token). IsPatternBelow (length s.procs) x.0)
-      (λ x. (pattern.Pin (record { 0 = x.0 }), nodes, x.1)) (variable_at line ts) (anything (variable_at line ts)) (λ x _. pin_pattern_pids (IsProcess s) (record { 0 = x.0 }))
+  phrase_of-below : (ts : List Token) → Holds (λ (x : A × List Token). P x.0) (phrase_of s (Among script) line ts)
+  phrase_of-below ts =
+      holds-on_ok (λ (x : A × ℕ × List Token). P x.0) (λ (x : A × List Token). P x.0)
+      (λ x. (x.0, x.2)) (phrase_at s (Among script) line MOST_DEPTH MOST_NODES ts) (phrase_at-below MOST_DEPTH MOST_NODES ts) (λ x h. h)
 
-  module _ (read : ℕ → List Token → Read Pattern) (reads : (nodes : ℕ) (ts : List Token) → Reads (IsPatternBelow (length s.procs)) (read nodes ts)) where
-    patterns-below : (ends : TokenKind → Bool) (nodes : ℕ) (ts : List Token) → Reads (All (IsPatternBelow (length s.procs))) (enclosed ends [] read (closed ends) nodes ts)
-    patterns-below ends nodes ts =
-        enclosed-reads (IsPatternBelow (length s.procs)) (All (IsPatternBelow (length s.procs))) read (closed ends) reads
-        (λ items nodes ts h. closed-reads (All (IsPatternBelow (length s.procs))) ends items nodes ts h) ends [] nodes ts (All-nil (IsPatternBelow (length s.procs)))
+-- each pid of an expression is that of a process
+expr_enclosing-below : (script : Program) (close : signs.Sign) (items : List Expr) → All (IsExprBelow (length script.procs)) items → IsExprBelow (length script.procs) (expr_enclosing close items)
+expr_enclosing-below script CloseBrace items h = tuple_pids (IsProcess script) items h
+expr_enclosing-below script _ items h = list_pids (IsProcess script) items h
 
-    list_end-below : (items : List Pattern) (nodes : ℕ) (ts : List Token) → All (IsPatternBelow (length s.procs)) items → Reads (IsPatternBelow (length s.procs)) (list_end read items nodes ts)
-    list_end-below items nodes [] h = tt
-    list_end-below items nodes (t ∷ ts) h =
-        let Below : Pattern × ℕ × List Token → Type 0 = λ x. IsPatternBelow (length s.procs) x.0 in
-        holds-if Below (is_bar t.kind) _ _
-        (λ _. holds-then Below Below (λ x. closed (closes CloseBracket) (pattern.Cons items x.0) x.1 x.2) (read nodes ts) (reads nodes ts)
-        (λ x k. closed-reads (IsPatternBelow (length s.procs)) (closes CloseBracket) (pattern.Cons items x.0) x.1 x.2 (cons_pattern_pids (IsProcess s) items x.0 h k)))
-        (λ _. closed-reads (IsPatternBelow (length s.procs)) (closes CloseBracket) (pattern.List items) nodes (t ∷ ts) (list_pattern_pids (IsProcess s) items h))
+exprs-keep : (script : Program) → Keeps (length script.procs) (IsExprBelow (length script.procs)) expr_spelling
+exprs-keep script = record {
+  int = int_pids (IsProcess script);
+  atom = atom_pids (IsProcess script);
+  var = var_pids (IsProcess script);
+  pid = λ n h. pid_pids (IsProcess script) n h;
+  signed = λ line kind ts. tt;
+  enclosing = expr_enclosing-below script;
+  nested = λ items tail h k. list_pids (IsProcess script) items h;
+}
 
-    list-below : (nodes : ℕ) (ts : List Token) → Reads (IsPatternBelow (length s.procs)) (enclosed (closes CloseBracket) (pattern.List []) read (list_end read) nodes ts)
-    list-below nodes ts =
-        enclosed-reads (IsPatternBelow (length s.procs)) (IsPatternBelow (length s.procs)) read (list_end read) reads list_end-below
-        (closes CloseBracket) (pattern.List []) nodes ts (list_pattern_pids (IsProcess s) [] (All-nil (IsPatternBelow (length s.procs))))
+pub expr_of-below : (script : Program) (line : List ℕ) (ts : List Token) → Holds (λ (x : Expr × List Token). IsExprBelow (length script.procs) x.0) (expr_of (Among script) line ts)
+expr_of-below script line ts = phrase_of-below (IsExprBelow (length script.procs)) expr_spelling script line (exprs-keep script) ts
 
-    pattern_by-below : (kind : TokenKind) (word : List ℕ) (nodes : ℕ) (ts : List Token) → Reads (IsPatternBelow (length s.procs)) (pattern_by (Among s) line read kind word nodes ts)
-    pattern_by-below kind word nodes ts =
-        let Below : Pattern × ℕ × List Token → Type 0 = λ x. IsPatternBelow (length s.procs) x.0 in
-        let AllBelow : List Pattern × ℕ × List Token → Type 0 = λ x. All (IsPatternBelow (length s.procs)) x.0 in
-        holds-if Below (is_open_brace kind) _ _
-        (λ _. holds-on_ok AllBelow Below (λ x. (pattern.Tuple x.0, x.1, x.2)) (enclosed (closes CloseBrace) [] read (closed (closes CloseBrace)) nodes ts)
-        (patterns-below (closes CloseBrace) nodes ts) (λ x h. tuple_pattern_pids (IsProcess s) x.0 h))
-        (λ _. holds-if Below (is_open_bracket kind) _ _ (λ _. list-below nodes ts)
-        (λ _. holds-if Below (is_caret kind) _ _ (λ _. pin-below nodes ts)
-        (λ _. holds-if Below (is_underscore kind) _ _ (λ _. any_pattern_pids (IsProcess s))
-        (λ _. holds-on_ok (IsPatternBelow (length s.procs)) Below (λ p. (p, nodes, ts)) (pattern_leaf (Among s) kind word) (pattern_leaf-below kind word) (λ p h. h)))))
+-- each pid of a pattern is that of a process
+pattern_signed-below : (script : Program) (line : List ℕ) (kind : TokenKind) (ts : List Token) → Holds (λ (x : Pattern × List Token). IsPatternBelow (length script.procs) x.0) (pattern_signed line kind ts)
+pattern_signed-below script line kind ts =
+    let Below : Pattern × List Token → Type 0 = λ x. IsPatternBelow (length script.procs) x.0 in
+    holds-if Below (is_caret kind) _ _
+    (λ _. holds-on_ok (λ (x : List ℕ × List Token). Unit {0}) Below (λ x. (pattern.Pin (record { 0 = x.0 }), x.1)) (variable_at line ts) (anything (variable_at line ts))
+    (λ x _. pin_pattern_pids (IsProcess script) (record { 0 = x.0 })))
+    (λ _. holds-if Below (is_underscore kind) _ _ (λ _. any_pattern_pids (IsProcess script)) (λ _. tt))
 
-    pattern_front-below : (nodes : ℕ) (ts : List Token) → Reads (IsPatternBelow (length s.procs)) (pattern_front (Among s) line read nodes ts)
-    unfolding pattern_front
-    pattern_front-below zero ts = tt
-    pattern_front-below (suc nodes) [] = tt
-    pattern_front-below (suc nodes) (t ∷ ts) = pattern_by-below t.kind (text line t) nodes ts
+pattern_enclosing-below : (script : Program) (close : signs.Sign) (items : List Pattern) → All (IsPatternBelow (length script.procs)) items → IsPatternBelow (length script.procs) (pattern_enclosing close items)
+pattern_enclosing-below script CloseBrace items h = tuple_pattern_pids (IsProcess script) items h
+pattern_enclosing-below script _ items h = list_pattern_pids (IsProcess script) items h
 
-  pattern_at-below : (depth nodes : ℕ) (ts : List Token) → Reads (IsPatternBelow (length s.procs)) (pattern_at (Among s) line depth nodes ts)
-  unfolding pattern_at
-  pattern_at-below zero nodes ts = tt
-  pattern_at-below (suc depth) nodes ts = pattern_front-below (pattern_at (Among s) line depth) (pattern_at-below depth) nodes ts
+patterns-keep : (script : Program) → Keeps (length script.procs) (IsPatternBelow (length script.procs)) pattern_spelling
+patterns-keep script = record {
+  int = int_pattern_pids (IsProcess script);
+  atom = atom_pattern_pids (IsProcess script);
+  var = bind_pattern_pids (IsProcess script);
+  pid = λ n h. pid_pattern_pids (IsProcess script) n h;
+  signed = pattern_signed-below script;
+  enclosing = pattern_enclosing-below script;
+  nested = nested_pids (IsProcess script);
+}
 
-  -- each pid of a pattern is that of a process
-  pub pattern_of-below : (ts : List Token) → Holds (λ (x : Pattern × List Token). IsPatternBelow (length s.procs) x.0) (pattern_of (Among s) line ts)
-  pattern_of-below ts =
-      holds-on_ok (λ (x : Pattern × ℕ × List Token). IsPatternBelow (length s.procs) x.0) (λ (x : Pattern × List Token). IsPatternBelow (length s.procs) x.0)
-      (λ x. (x.0, x.2)) (pattern_at (Among s) line MOST_DEPTH MOST_NODES ts) (pattern_at-below MOST_DEPTH MOST_NODES ts) (λ x h. h)
+pub pattern_of-below : (script : Program) (line : List ℕ) (ts : List Token) → Holds (λ (x : Pattern × List Token). IsPatternBelow (length script.procs) x.0) (pattern_of (Among script) line ts)
+pattern_of-below script line ts = phrase_of-below (IsPatternBelow (length script.procs)) pattern_spelling script line (patterns-keep script) ts
 
 -- nothing behind what was said
 pub holds-ends : {A : Type 0} (P : A → Type 0) (x : A) (ts : List Token) → P x → Holds P (ends x ts)
@@ -339,7 +329,7 @@ module _ (s : Program) (d : Draft) (line : List ℕ) where
 
   form_behind-meant : (word : Option Keyword) (ts : List Token) → Holds IsMeantNext (form_behind (Among s) d word line ts)
   form_behind-meant None ts = tt
-  form_behind-meant (Some word) ts = holds-if IsMeantNext (may_stand d.turns d.place word) _ _ (λ _. form-meant s (length d.procs) line word ts) (λ _. tt)
+  form_behind-meant (Some word) ts = holds-if IsMeantNext (may_stand d.turns d.section word) _ _ (λ _. form-meant s (length d.procs) line word ts) (λ _. tt)
 
   said_by-meant : (ts : List Token) → Holds (λ o. IfSome o IsMeantNext) (said_by (Among s) d line ts)
   unfolding said_by

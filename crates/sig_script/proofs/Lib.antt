@@ -5,7 +5,8 @@ pub mod LineLemmas
 pub mod PidLemmas
 pub mod LabelLemmas
 pub mod FitLemmas
-pub mod OperandLemmas
+pub mod PhraseLemmas
+pub mod NestLemmas
 pub mod ReaderLemmas
 pub mod BoundTermLemmas
 pub mod BoundLemmas

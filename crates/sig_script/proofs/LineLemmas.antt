@@ -10,9 +10,6 @@ use Rattle.sig_script.specs.Lines.{lines_of, onto_first}
 abbrev pub first_of : List ℕ → List ℕ
 first_of bs = take_while (λ b. not (b == 10)) bs
 
-pub front_is_first : (bs : List ℕ) → take (length (first_of bs)) bs ≡ first_of bs
-front_is_first bs = ap (λ (n : ℕ). take n bs) (length-prefix_len (λ b. not (b == 10)) bs)
-
 -- the same by recursion, and what is behind the line feed
 abbrev pub first_line : List ℕ → List ℕ
 first_line [] = []

@@ -13,6 +13,7 @@ use Rattle.sig_patterns.specs.declared.pattern.Pattern.TheVariants as pat
 use Rattle.sig_patterns.specs.declared.pattern.Pattern.TheOpen.{Pattern-F}
 use Rattle.sig_patterns.specs.declared.pattern.Pattern.TheOpen as pattern
 use Rattle.sig_patterns.specs.declared.pattern.Pattern.TheFolds.{fold-roll-Pattern}
+use Rattle.sig_script.specs.PatternTexts.{nested}
 use Rattle.sig_script.specs.Parts.{expr_pids, pids_of, pattern_pids, pids_of_pattern}
 
 -- a layer at a time
@@ -66,8 +67,8 @@ pids_of_pattern-Tuple ps = ap pids_of_pattern (sym (pat.rolls-Tuple ps)) ∙ pid
 pub pids_of_pattern-List : (ps : List Pattern) → pids_of_pattern (pat.List ps) ≡ concat (map pids_of_pattern ps)
 pids_of_pattern-List ps = ap pids_of_pattern (sym (pat.rolls-List ps)) ∙ pids_of_pattern-roll (pattern.List ps)
 
-pub pids_of_pattern-Cons : (heads : List Pattern) (tail : Pattern) → pids_of_pattern (pat.Cons heads tail) ≡ concat (map pids_of_pattern heads) ++ pids_of_pattern tail
-pids_of_pattern-Cons heads tail = ap pids_of_pattern (sym (pat.rolls-Cons heads tail)) ∙ pids_of_pattern-roll (pattern.Cons heads tail)
+pub pids_of_pattern-Cons : (head tail : Pattern) → pids_of_pattern (pat.Cons head tail) ≡ pids_of_pattern head ++ pids_of_pattern tail
+pids_of_pattern-Cons head tail = ap pids_of_pattern (sym (pat.rolls-Cons head tail)) ∙ pids_of_pattern-roll (pattern.Cons head tail)
 
 -- from here on P is said of pids
 module _ (P : ℕ → Type 0) where
@@ -109,20 +110,11 @@ module _ (P : ℕ → Type 0) where
   pub pid_pids : (n : ℕ) → P n → OfExpr (expr.Pid (record { 0 = n }))
   pid_pids n h = All-same P (pids_of (expr.Pid (record { 0 = n }))) (n ∷ []) (pids_of-Pid n) (All-cons P n [] h (All-nil P))
 
-  pub pid_pids-tell : (n : ℕ) → OfExpr (expr.Pid (record { 0 = n })) → P n
-  pid_pids-tell n h = All-head P n [] (All-same P (n ∷ []) (pids_of (expr.Pid (record { 0 = n }))) (sym (pids_of-Pid n)) h)
-
   pub tuple_pids : (es : List Expr) → All OfExpr es → OfExpr (expr.Tuple es)
   tuple_pids es h = All-same P (pids_of (expr.Tuple es)) (concat (map pids_of es)) (pids_of-Tuple es) (concat_all pids_of es h)
 
-  pub tuple_pids-tell : (es : List Expr) → OfExpr (expr.Tuple es) → All OfExpr es
-  tuple_pids-tell es h = each_all pids_of es (All-same P (concat (map pids_of es)) (pids_of (expr.Tuple es)) (sym (pids_of-Tuple es)) h)
-
   pub list_pids : (es : List Expr) → All OfExpr es → OfExpr (expr.List es)
   list_pids es h = All-same P (pids_of (expr.List es)) (concat (map pids_of es)) (pids_of-List es) (concat_all pids_of es h)
-
-  pub list_pids-tell : (es : List Expr) → OfExpr (expr.List es) → All OfExpr es
-  list_pids-tell es h = each_all pids_of es (All-same P (concat (map pids_of es)) (pids_of (expr.List es)) (sym (pids_of-List es)) h)
 
   -- of the pids of a pattern
   abbrev OfPattern : Pattern → Type 0
@@ -146,33 +138,17 @@ module _ (P : ℕ → Type 0) where
   pub pid_pattern_pids : (n : ℕ) → P n → OfPattern (pat.Pid (record { 0 = n }))
   pid_pattern_pids n h = All-same P (pids_of_pattern (pat.Pid (record { 0 = n }))) (n ∷ []) (pids_of_pattern-Pid n) (All-cons P n [] h (All-nil P))
 
-  pub pid_pattern_pids-tell : (n : ℕ) → OfPattern (pat.Pid (record { 0 = n })) → P n
-  pid_pattern_pids-tell n h =
-      All-head P n [] (All-same P (n ∷ []) (pids_of_pattern (pat.Pid (record { 0 = n }))) (sym (pids_of_pattern-Pid n)) h)
-
   pub tuple_pattern_pids : (ps : List Pattern) → All OfPattern ps → OfPattern (pat.Tuple ps)
   tuple_pattern_pids ps h = All-same P (pids_of_pattern (pat.Tuple ps)) (concat (map pids_of_pattern ps)) (pids_of_pattern-Tuple ps) (concat_all pids_of_pattern ps h)
-
-  pub tuple_pattern_pids-tell : (ps : List Pattern) → OfPattern (pat.Tuple ps) → All OfPattern ps
-  tuple_pattern_pids-tell ps h =
-      each_all pids_of_pattern ps (All-same P (concat (map pids_of_pattern ps)) (pids_of_pattern (pat.Tuple ps)) (sym (pids_of_pattern-Tuple ps)) h)
 
   pub list_pattern_pids : (ps : List Pattern) → All OfPattern ps → OfPattern (pat.List ps)
   list_pattern_pids ps h = All-same P (pids_of_pattern (pat.List ps)) (concat (map pids_of_pattern ps)) (pids_of_pattern-List ps) (concat_all pids_of_pattern ps h)
 
-  pub list_pattern_pids-tell : (ps : List Pattern) → OfPattern (pat.List ps) → All OfPattern ps
-  list_pattern_pids-tell ps h =
-      each_all pids_of_pattern ps (All-same P (concat (map pids_of_pattern ps)) (pids_of_pattern (pat.List ps)) (sym (pids_of_pattern-List ps)) h)
+  pub cons_pattern_pids : (head tail : Pattern) → OfPattern head → OfPattern tail → OfPattern (pat.Cons head tail)
+  cons_pattern_pids head tail h k =
+      All-same P (pids_of_pattern (pat.Cons head tail)) (pids_of_pattern head ++ pids_of_pattern tail) (pids_of_pattern-Cons head tail)
+      (All-append P (pids_of_pattern head) (pids_of_pattern tail) h k)
 
-  pub cons_pattern_pids : (heads : List Pattern) (tail : Pattern) → All OfPattern heads → OfPattern tail → OfPattern (pat.Cons heads tail)
-  cons_pattern_pids heads tail h k =
-      All-same P (pids_of_pattern (pat.Cons heads tail)) (concat (map pids_of_pattern heads) ++ pids_of_pattern tail) (pids_of_pattern-Cons heads tail)
-      (All-append P (concat (map pids_of_pattern heads)) (pids_of_pattern tail) (concat_all pids_of_pattern heads h) k)
-
-  pub cons_pattern_pids-tell : (heads : List Pattern) (tail : Pattern) → OfPattern (pat.Cons heads tail) → All OfPattern heads × OfPattern tail
-  cons_pattern_pids-tell heads tail h =
-      let both : All P (concat (map pids_of_pattern heads) ++ pids_of_pattern tail) =
-      All-same P (concat (map pids_of_pattern heads) ++ pids_of_pattern tail) (pids_of_pattern (pat.Cons heads tail)) (sym (pids_of_pattern-Cons heads tail)) h in (
-        each_all pids_of_pattern heads (all_front (concat (map pids_of_pattern heads)) (pids_of_pattern tail) both),
-        all_behind (concat (map pids_of_pattern heads)) (pids_of_pattern tail) both,
-      )
+  pub nested_pids : (items : List Pattern) (tail : Pattern) → All OfPattern items → OfPattern tail → OfPattern (nested items tail)
+  nested_pids [] tail h k = k
+  nested_pids (p ∷ ps) tail h k = cons_pattern_pids p (nested ps tail) (All-head OfPattern p ps h) (nested_pids ps tail (All-tail OfPattern p ps h) k)

@@ -38,7 +38,7 @@ step_refused known n at bytes line d kind v lt is taken whole =
 
 -- no line is left
 pub lines_end : (known : Known) (n at : ℕ) (bytes : List ℕ) (d : Draft) (v : Result Program Fault) → length bytes ≤ at →
-    body known n d (lines_of (drop at bytes)) ≡ v → finished n d d.place ≡ v
+    body known n d (lines_of (drop at bytes)) ≡ v → finished n d d.section ≡ v
 unfolding body
 lines_end known n at bytes d v h whole = ap (λ (xs : List ℕ). body known n d (lines_of xs)) (sym (drop_all at bytes h)) ∙ whole
 

@@ -10,7 +10,7 @@ use Rattle.sig_script.specs.declared.token.TokenKind.TheVariants.{Name, Variable
 use Rattle.sig_script.specs.declared.token.Sign as signs
 use Rattle.sig_script.specs.declared.token.Sign.TheVariants as sign
 use Rattle.sig_script.specs.declared.token.Token.{Token}
-use Rattle.sig_script.specs.Tokens.{text, front_run, process_at, minus_at, underscore_at, quote_at, sign_of, sign_at, front_token, is_token_in_range, IsSpelled, IsToken, AreTokens, AreWhole}
+use Rattle.sig_script.specs.Tokens.{text, front_run, process_at, minus_at, underscore_at, quote_at, sign_of, sign_at, front_token, is_token_in_range, IsSpelled, IsToken, AreTokens, AreWellSpelled}
 use Rattle.sig_terms.specs.declared.bytes.TheConstants.{MOST_WORD_BYTES}
 
 -- the bytes at the front that pass a test pass it
@@ -145,7 +145,7 @@ front-good (b ∷ bs) =
     (sign-good rest (sign_of b))))))))
 
 -- tokens that aren't refused by themselves
-pub all_whole : (line : List ℕ) (ts : List Token) → AreTokens line ts → list_all (λ t. is_token_in_range (text line t) t.kind) ts ≡ true → AreWhole line ts
+pub all_whole : (line : List ℕ) (ts : List Token) → AreTokens line ts → list_all (λ t. is_token_in_range (text line t) t.kind) ts ≡ true → AreWellSpelled line ts
 all_whole line [] h e = tt
 all_whole line (t ∷ ts) h e =
     let first = and-first (is_token_in_range (text line t) t.kind) (list_all (λ u. is_token_in_range (text line u) u.kind) ts) e in

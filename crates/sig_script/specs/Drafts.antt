@@ -8,8 +8,8 @@ use Rattle.sig_script.specs.declared.instruction.Instr.{Instr}
 use Rattle.sig_script.specs.declared.instruction.Instr.TheVariants as instr
 use Rattle.sig_script.specs.declared.fault.FaultKind.{FaultKind}
 use Rattle.sig_script.specs.declared.fault.FaultKind.TheVariants.{Syntax, DuplicateName, TooManyProcesses, DuplicateLabel, TooManyTurns}
-use Rattle.sig_script.specs.declared.draft.Place.{Place}
-use Rattle.sig_script.specs.declared.draft.Place.TheVariants.{Before, Outside, Inside}
+use Rattle.sig_script.specs.declared.draft.Section.{Section}
+use Rattle.sig_script.specs.declared.draft.Section.TheVariants.{Before, Outside, Inside}
 use Rattle.sig_script.specs.declared.draft.Draft.{Draft}
 use Rattle.sig_script.specs.declared.form.Form.{Form}
 use Rattle.sig_script.specs.declared.form.Form.TheVariants as form
@@ -19,17 +19,17 @@ use Rattle.sig_script.specs.declared.script.TheConstants.{DEFAULT_TURNS, MOST_PR
 
 -- before the first line
 abbrev pub blank : Draft
-blank = record { turns = None; procs = []; place = Before }
+blank = record { turns = None; procs = []; section = Before }
 
 -- the process that is being read
-abbrev pub open_proc : Place → List Declared
+abbrev pub open_proc : Section → List Declared
 open_proc Before = []
 open_proc (Outside p) = p ∷ []
 open_proc (Inside p clauses after) = p ∷ []
 
 -- the processes so far
 abbrev pub all_procs : Draft → List Declared
-all_procs d = d.procs ++ open_proc d.place
+all_procs d = d.procs ++ open_proc d.section
 
 -- each process may execute DEFAULT_TURNS instructions where nothing else is said
 abbrev pub program_of : Draft → Program
@@ -40,7 +40,7 @@ abbrev pub begun : Draft → List ℕ → Result Draft FaultKind
 begun d name =
     if list_any (λ (p : Declared). bytes_eq p.name name) (all_procs d) then Err DuplicateName
     else if nat_le MOST_PROCESSES (length (all_procs d)) then Err TooManyProcesses
-    else Ok (record d { procs = all_procs d; place = Outside (record { name = name; labels = []; instrs = [] }) })
+    else Ok (record d { procs = all_procs d; section = Outside (record { name = name; labels = []; instrs = [] }) })
 
 -- a label before the next instruction: its name is a new one in its process
 abbrev pub labelled : Declared → List ℕ → Result Declared FaultKind
@@ -53,18 +53,18 @@ abbrev pub with_instr : Declared → Instr → Declared
 with_instr p i = record p { instrs = p.instrs ++ i ∷ [] }
 
 -- a form behind what was read so far; a receive with all its lines is one instruction
-abbrev pub taken_at : Draft → Place → Form → Result Draft FaultKind
+abbrev pub taken_at : Draft → Section → Form → Result Draft FaultKind
 taken_at d Before (form.Turns n) = if nat_le n MOST_TURNS then Ok (record d { turns = Some n }) else Err TooManyTurns
 taken_at d Before (form.Process name) = begun d name
 taken_at d (Outside p) (form.Process name) = begun d name
-taken_at d (Outside p) (form.Label name) = on_ok (λ q. record d { place = Outside q }) (labelled p name)
-taken_at d (Outside p) (form.Do i) = Ok (record d { place = Outside (with_instr p i) })
-taken_at d (Outside p) form.Receive = Ok (record d { place = Inside p [] None })
+taken_at d (Outside p) (form.Label name) = on_ok (λ q. record d { section = Outside q }) (labelled p name)
+taken_at d (Outside p) (form.Do i) = Ok (record d { section = Outside (with_instr p i) })
+taken_at d (Outside p) form.Receive = Ok (record d { section = Inside p [] None })
 taken_at d (Inside p clauses after) (form.On pattern target) =
-    Ok (record d { place = Inside p (clauses ++ record { pattern = pattern; target = target } ∷ []) after })
-taken_at d (Inside p clauses after) (form.After next) = Ok (record d { place = Inside p clauses (Some next) })
-taken_at d (Inside p clauses after) form.End = Ok (record d { place = Outside (with_instr p (instr.Receive clauses after)) })
+    Ok (record d { section = Inside p (clauses ++ record { pattern = pattern; target = target } ∷ []) after })
+taken_at d (Inside p clauses after) (form.After next) = Ok (record d { section = Inside p clauses (Some next) })
+taken_at d (Inside p clauses after) form.End = Ok (record d { section = Outside (with_instr p (instr.Receive clauses after)) })
 taken_at d _ _ = Err Syntax
 
 abbrev pub taken : Draft → Form → Result Draft FaultKind
-taken d f = taken_at d d.place f
+taken d f = taken_at d d.section f

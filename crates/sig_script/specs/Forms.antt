@@ -16,8 +16,8 @@ use Rattle.sig_script.specs.declared.keyword.Verb.{Verb}
 use Rattle.sig_script.specs.declared.keyword.Verb.TheVariants as verb
 use Rattle.sig_script.specs.declared.keyword.Keyword.{Keyword}
 use Rattle.sig_script.specs.declared.keyword.Keyword.TheVariants as keyword
-use Rattle.sig_script.specs.declared.draft.Place.{Place}
-use Rattle.sig_script.specs.declared.draft.Place.TheVariants.{Before, Outside, Inside}
+use Rattle.sig_script.specs.declared.draft.Section.{Section}
+use Rattle.sig_script.specs.declared.draft.Section.TheVariants.{Before, Outside, Inside}
 use Rattle.sig_script.specs.declared.draft.Draft.{Draft}
 use Rattle.sig_script.specs.declared.form.Form.{Form}
 use Rattle.sig_script.specs.declared.form.Form.TheVariants as form
@@ -86,7 +86,7 @@ may_be_inside has_after keyword.End = true
 may_be_inside has_after _ = false
 
 -- where a line that begins with this word may stand
-abbrev pub may_stand : Option ℕ → Place → Keyword → Bool
+abbrev pub may_stand : Option ℕ → Section → Keyword → Bool
 may_stand turns Before word = may_begin turns word
 may_stand turns (Outside p) word = may_be_outside word
 may_stand turns (Inside p clauses after) word = may_be_inside (is_some after) word
@@ -195,7 +195,7 @@ form_of known here (keyword.Do v) line ts = on_ok form.Do (instr_of known here v
 abbrev pub form_behind : Known → Draft → Option Keyword → List ℕ → List Token → Result Form FaultKind
 form_behind known draft None line ts = Err Syntax
 form_behind known draft (Some word) line ts =
-    if may_stand draft.turns draft.place word then form_of known (length draft.procs) word line ts else Err Syntax
+    if may_stand draft.turns draft.section word then form_of known (length draft.procs) word line ts else Err Syntax
 
 -- a line without tokens says nothing
 unfoldable pub said_by : Known → Draft → List ℕ → List Token → Result (Option Form) FaultKind

@@ -8,8 +8,8 @@ use Rattle.sig_script.specs.declared.token.TokenKind.TheVariants.{Integer}
 use Rattle.sig_script.specs.declared.token.Token.{Token}
 use Rattle.sig_script.specs.declared.known.Known.{Known}
 use Rattle.sig_script.specs.declared.known.Known.TheVariants.{Any, Among}
-use Rattle.sig_script.specs.declared.draft.Place.{Place}
-use Rattle.sig_script.specs.declared.draft.Place.TheVariants.{Inside}
+use Rattle.sig_script.specs.declared.draft.Section.{Section}
+use Rattle.sig_script.specs.declared.draft.Section.TheVariants.{Inside}
 use Rattle.sig_script.specs.declared.draft.Draft.{Draft}
 use Rattle.sig_script.specs.declared.form.Form.{Form}
 use Rattle.sig_script.specs.Scripts.{Program}
@@ -31,7 +31,7 @@ located n (Ok x) = Ok x
 located n (Err kind) = at_line n kind
 
 -- A text doesn't end inside a receive. The line that is refused is the one after the last.
-abbrev pub finished : ℕ → Draft → Place → Result Program Fault
+abbrev pub finished : ℕ → Draft → Section → Result Program Fault
 finished n d (Inside p clauses after) = at_line n Syntax
 finished n d _ = Ok (program_of d)
 
@@ -46,7 +46,7 @@ line_taken known d line = said known d line >>= taken_if d
 
 -- the lines from number n on, behind what was read so far
 unfoldable pub body : Known → ℕ → Draft → List (List ℕ) → Result Program Fault
-body known n d [] = finished n d d.place
+body known n d [] = finished n d d.section
 body known n d (line ∷ lines) = located n (line_taken known d line) >>= λ e. body known (n + 1) e lines
 
 -- the script of the lines after the first

@@ -6,7 +6,7 @@ pub mod Lines
 pub mod Numbers
 pub mod Tokens
 pub mod Signs
-pub mod Operands
+pub mod Phrases
 pub mod Names
 pub mod Expressions
 pub mod PatternTexts

@@ -51,7 +51,7 @@ abbrev pub pattern_pids : Pattern-F (List ℕ) → List ℕ
 pattern_pids (pattern.Pid p) = p.0 ∷ []
 pattern_pids (pattern.Tuple held) = concat held
 pattern_pids (pattern.List held) = concat held
-pattern_pids (pattern.Cons heads tail) = concat heads ++ tail
+pattern_pids (pattern.Cons head tail) = head ++ tail
 pattern_pids _ = []
 
 -- the pids in a pattern, from left to right

@@ -124,10 +124,10 @@ AreTokens line [] = Unit {0}
 AreTokens line (t ∷ ts) = IsToken line t × AreTokens line ts
 
 -- a token that isn't refused by itself
-abbrev pub IsWhole : List ℕ → Token → Type 0
-IsWhole line t = IsToken line t × (is_token_in_range (text line t) t.kind ≡ true)
+abbrev pub IsWellSpelled : List ℕ → Token → Type 0
+IsWellSpelled line t = IsToken line t × (is_token_in_range (text line t) t.kind ≡ true)
 
 -- each is such a token of the line
-abbrev pub AreWhole : List ℕ → List Token → Type 0
-AreWhole line [] = Unit {0}
-AreWhole line (t ∷ ts) = IsWhole line t × AreWhole line ts
+abbrev pub AreWellSpelled : List ℕ → List Token → Type 0
+AreWellSpelled line [] = Unit {0}
+AreWellSpelled line (t ∷ ts) = IsWellSpelled line t × AreWellSpelled line ts

@@ -1,4 +1,4 @@
-ghost use Rattle.std.specs.Prelude.{◌≡◌, ◌+◌, ◌<◌, ◌≤◌, ◌^◌, ◌++◌, [], ◌∷◌, length, OnOk, Ok};
+ghost use Rattle.std.specs.Prelude.{◌≡◌, ◌+◌, ◌<◌, ◌≤◌, ◌^◌, ◌++◌, [], ◌∷◌, length, Ok};
 ghost use Rattle.std.specs.List.{list_any};
 ghost use Rattle.std.specs.Str.{bytes_eq};
 ghost use Rattle.sig_script.specs.Faults.{Gives};
@@ -17,15 +17,15 @@ use crate::label::Label;
 use crate::label_table::LabelTable;
 use crate::reader::ScriptError;
 use crate::script::{DEFAULT_TURNS, MOST_PROCESSES, MOST_TURNS};
-use sig_lists::{Pushed, Sequence};
+use sig_lists::Sequence;
 use sig_patterns::{Clause, Clauses, Pattern};
 use sig_terms::Name;
 use sig_terms::bytes::equal_bytes;
-use std::alloc::{AllocError, Global};
+use std::alloc::Global;
 
 /// Where in a script a line stands.
 #[derive(Drop)]
-pub enum Place {
+pub enum Section {
     /// Before the first process.
     Before,
     /// In this process, outside a receive.
@@ -42,32 +42,22 @@ pub struct Draft {
     /// The processes before the one that is being read.
     pub procs: DraftProcs,
     /// Where the next line stands.
-    pub place: Place,
-}
-
-/// Adds an item.
-fn add<T: Drop>(items: &mut Sequence<T>, item: T) -> Result<(), AllocError>
-    ensures { OnOk result (items.new ≡ items.old ++ item ∷ []) }
-{
-    match items.push(item) {
-        Pushed::Added => Ok(()),
-        Pushed::Memory { item: _ } => Err(AllocError),
-    }
+    pub section: Section,
 }
 
 /// Closes the process that is being read.
-fn close(procs: DraftProcs, place: Place) -> Result<DraftProcs, Stop>
-    ensures { Gives (λ ps. ps) result (Ok (procs ++ open_proc place)) }
+fn close(procs: DraftProcs, section: Section) -> Result<DraftProcs, Stop>
+    ensures { Gives (λ ps. ps) result (Ok (procs ++ open_proc section)) }
 {
     let mut procs = procs;
-    match place {
-        Place::Before => Ok(procs),
-        Place::Outside(proc) => {
-            add(&mut procs, proc)?;
+    match section {
+        Section::Before => Ok(procs),
+        Section::Outside(proc) => {
+            procs.add(proc)?;
             Ok(procs)
         }
-        Place::Inside(proc, _clauses, _after) => {
-            add(&mut procs, proc)?;
+        Section::Inside(proc, _clauses, _after) => {
+            procs.add(proc)?;
             Ok(procs)
         }
     }
@@ -87,12 +77,12 @@ fn begin(
     alloc: Global,
     turns: Option<u32>,
     procs: DraftProcs,
-    place: Place,
+    section: Section,
     name: Name,
 ) -> Result<Draft, Stop>
-    ensures { Gives (λ d. d) result (begun (record { turns = turns; procs = procs; place = place }) name) }
+    ensures { Gives (λ d. d) result (begun (record { turns = turns; procs = procs; section = section }) name) }
 {
-    let procs = close(procs, place)?;
+    let procs = close(procs, section)?;
     if is_proc_among(procs.as_slice(), name.bytes()) {
         return Err(Stop::Fault(FaultKind::DuplicateName));
     }
@@ -107,7 +97,7 @@ fn begin(
     Ok(Draft {
         turns,
         procs,
-        place: Place::Outside(proc),
+        section: Section::Outside(proc),
     })
 }
 
@@ -135,19 +125,19 @@ fn add_instr(proc: DraftProc, instr: Instr) -> Result<DraftProc, Stop>
     ensures { Gives (λ p. p) result (Ok (with_instr proc instr)) }
 {
     let mut proc = proc;
-    add(&mut proc.instrs, instr)?;
+    proc.instrs.add(instr)?;
     Ok(proc)
 }
 
 /// The turns, before the first process.
 fn set_turns(procs: DraftProcs, turns: Option<u32>, n: u64) -> Result<Draft, Stop>
-    ensures { Gives (λ d. d) result (taken_at (record { turns = turns; procs = procs; place = Place.Before }) Place.Before (Form.Turns n)) }
+    ensures { Gives (λ d. d) result (taken_at (record { turns = turns; procs = procs; section = Section.Before }) Section.Before (Form.Turns n)) }
 {
     if n <= u64::from(MOST_TURNS) {
         Ok(Draft {
             turns: Some(n as u32),
             procs,
-            place: Place::Before,
+            section: Section::Before,
         })
     } else {
         Err(Stop::Fault(FaultKind::TooManyTurns))
@@ -161,11 +151,11 @@ fn take_before(
     procs: DraftProcs,
     form: Form,
 ) -> Result<Draft, Stop>
-    ensures { Gives (λ d. d) result (taken (record { turns = turns; procs = procs; place = Place.Before }) form) }
+    ensures { Gives (λ d. d) result (taken (record { turns = turns; procs = procs; section = Section.Before }) form) }
 {
     match form {
         Form::Turns(n) => set_turns(procs, turns, n),
-        Form::Process(name) => begin(alloc, turns, procs, Place::Before, name),
+        Form::Process(name) => begin(alloc, turns, procs, Section::Before, name),
         Form::Label(_) => Err(Stop::Fault(FaultKind::Syntax)),
         Form::Do(_) => Err(Stop::Fault(FaultKind::Syntax)),
         Form::Receive => Err(Stop::Fault(FaultKind::Syntax)),
@@ -185,15 +175,15 @@ fn take_outside(
 ) -> Result<Draft, Stop>
     requires instrs { length proc.instrs + 1 < 2 ^ 32 }
     requires labels { length proc.labels < 2 ^ 32 }
-    ensures { Gives (λ d. d) result (taken (record { turns = turns; procs = procs; place = Place.Outside proc }) form) }
+    ensures { Gives (λ d. d) result (taken (record { turns = turns; procs = procs; section = Section.Outside proc }) form) }
 {
-    let place = match form {
+    let section = match form {
         Form::Process(name) => {
-            return begin(alloc, turns, procs, Place::Outside(proc), name);
+            return begin(alloc, turns, procs, Section::Outside(proc), name);
         }
-        Form::Label(name) => Place::Outside(add_label(proc, name)?),
-        Form::Do(instr) => Place::Outside(add_instr(proc, instr)?),
-        Form::Receive => Place::Inside(proc, Sequence::new(alloc), None),
+        Form::Label(name) => Section::Outside(add_label(proc, name)?),
+        Form::Do(instr) => Section::Outside(add_instr(proc, instr)?),
+        Form::Receive => Section::Inside(proc, Sequence::new(alloc), None),
         Form::Turns(_) => return Err(Stop::Fault(FaultKind::Syntax)),
         Form::On(_, _) => return Err(Stop::Fault(FaultKind::Syntax)),
         Form::After(_) => return Err(Stop::Fault(FaultKind::Syntax)),
@@ -202,7 +192,7 @@ fn take_outside(
     Ok(Draft {
         turns,
         procs,
-        place,
+        section,
     })
 }
 
@@ -211,7 +201,7 @@ fn add_clause(clauses: Clauses, pattern: Pattern, target: Option<u32>) -> Result
     ensures { Gives (λ cs. cs) result (Ok (clauses ++ record { pattern = pattern; target = target } ∷ [])) }
 {
     let mut clauses = clauses;
-    add(&mut clauses, Clause { pattern, target })?;
+    clauses.add(Clause { pattern, target })?;
     Ok(clauses)
 }
 
@@ -224,14 +214,14 @@ fn take_inside(
     after: Option<After>,
     form: Form,
 ) -> Result<Draft, Stop>
-    ensures { Gives (λ d. d) result (taken (record { turns = turns; procs = procs; place = Place.Inside proc clauses after }) form) }
+    ensures { Gives (λ d. d) result (taken (record { turns = turns; procs = procs; section = Section.Inside proc clauses after }) form) }
 {
-    let place = match form {
+    let section = match form {
         Form::On(pattern, target) => {
-            Place::Inside(proc, add_clause(clauses, pattern, target)?, after)
+            Section::Inside(proc, add_clause(clauses, pattern, target)?, after)
         }
-        Form::After(after) => Place::Inside(proc, clauses, Some(after)),
-        Form::End => Place::Outside(add_instr(proc, Instr::Receive { clauses, after })?),
+        Form::After(after) => Section::Inside(proc, clauses, Some(after)),
+        Form::End => Section::Outside(add_instr(proc, Instr::Receive { clauses, after })?),
         Form::Turns(_) => return Err(Stop::Fault(FaultKind::Syntax)),
         Form::Process(_) => return Err(Stop::Fault(FaultKind::Syntax)),
         Form::Label(_) => return Err(Stop::Fault(FaultKind::Syntax)),
@@ -241,7 +231,7 @@ fn take_inside(
     Ok(Draft {
         turns,
         procs,
-        place,
+        section,
     })
 }
 
@@ -255,12 +245,12 @@ fn take_form(alloc: Global, draft: Draft, n: u64, form: Form) -> Result<Draft, S
     let Draft {
         turns,
         procs,
-        place,
+        section,
     } = draft;
-    match place {
-        Place::Before => take_before(alloc, turns, procs, form),
-        Place::Outside(proc) => take_outside(alloc, turns, procs, proc, form),
-        Place::Inside(proc, clauses, after) => {
+    match section {
+        Section::Before => take_before(alloc, turns, procs, form),
+        Section::Outside(proc) => take_outside(alloc, turns, procs, proc, form),
+        Section::Inside(proc, clauses, after) => {
             take_inside(turns, procs, proc, clauses, after, form)
         }
     }
@@ -287,15 +277,15 @@ pub fn take_line(
 
 /// The script, where the text may end before line `n`.
 pub fn finish(draft: Draft, n: u64) -> Result<DraftScript, ScriptError>
-    ensures { IsReading (finished n draft draft.place) result }
+    ensures { IsReading (finished n draft draft.section) result }
 {
-    if let Place::Inside(_, _, _) = &draft.place {
+    if let Section::Inside(_, _, _) = &draft.section {
         return Err(ScriptError::Fault {
             line: n,
             kind: FaultKind::Syntax,
         });
     }
-    match close(draft.procs, draft.place) {
+    match close(draft.procs, draft.section) {
         Ok(procs) => Ok(DraftScript {
             turns: draft.turns.unwrap_or(DEFAULT_TURNS),
             procs,

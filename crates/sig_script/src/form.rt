@@ -1,6 +1,6 @@
 ghost use Rattle.std.specs.Prelude.{◌≡◌, ◌∷◌, [], length, IfOk};
 ghost use Rattle.sig_script.specs.Faults.{Gives};
-ghost use Rattle.sig_script.specs.Tokens.{AreWhole};
+ghost use Rattle.sig_script.specs.Tokens.{AreWellSpelled};
 ghost use Rattle.sig_script.specs.Forms.{
   may_stand,
   ends,
@@ -20,8 +20,7 @@ ghost use Rattle.sig_script.specs.Forms.{
 };
 ghost use Rattle.sig_script.specs.Fitting.{IsFewKnown};
 
-use crate::draft::{Draft, Place};
-use crate::expressions::take_expr;
+use crate::draft::{Draft, Section};
 use crate::fault::{FaultKind, Stop};
 use crate::instruction::{After, Instr};
 use crate::keyword::{Keyword, Verb, read_keyword};
@@ -29,7 +28,7 @@ use crate::known::Known;
 use crate::line::{read_tokens, text_of};
 use crate::names::{take_name, take_target, take_variable};
 use crate::number::read_count;
-use crate::patterns::take_pattern;
+use crate::phrases::take_phrase;
 use crate::token::{Token, TokenKind};
 use sig_patterns::{Expr, Pattern, Var};
 use sig_terms::Name;
@@ -77,7 +76,7 @@ fn take_arrow(
     tokens: &[Token],
 ) -> Result<Option<u32>, Stop>
     requires known { IsFewKnown known.now }
-    requires whole { AreWhole line.now tokens.now }
+    requires spelled { AreWellSpelled line.now tokens.now }
     ensures { Gives (λ t. t) result (arrow_of known.now here line.now tokens.now) }
 {
     match tokens {
@@ -92,7 +91,7 @@ fn take_arrow(
 }
 
 fn read_turns(line: &[u8], tokens: &[Token]) -> Result<Form, Stop>
-    requires { AreWhole line.now tokens.now }
+    requires { AreWellSpelled line.now tokens.now }
     ensures { Gives (λ f. f) result (turns_of line.now tokens.now) }
 {
     match tokens {
@@ -112,10 +111,10 @@ fn read_turns(line: &[u8], tokens: &[Token]) -> Result<Form, Stop>
 /// An expression, and nothing behind it.
 fn one_expr(alloc: Global, known: &Known, line: &[u8], tokens: &[Token]) -> Result<Expr, Stop>
     requires known { IsFewKnown known.now }
-    requires whole { AreWhole line.now tokens.now }
+    requires spelled { AreWellSpelled line.now tokens.now }
     ensures { Gives (λ e. (e, tt)) result (all_said known.now 0 line.now (Operand.an_expr ∷ []) tokens.now) }
 {
-    let (value, rest) = take_expr(alloc, known, line, tokens)?;
+    let (value, rest) = take_phrase(alloc, known, line, tokens)?;
     end(rest)?;
     Ok(value)
 }
@@ -128,10 +127,10 @@ fn two_exprs(
     tokens: &[Token],
 ) -> Result<(Expr, Expr), Stop>
     requires known { IsFewKnown known.now }
-    requires whole { AreWhole line.now tokens.now }
+    requires spelled { AreWellSpelled line.now tokens.now }
     ensures { Gives (λ x. (x.0, (x.1, tt))) result (all_said known.now 0 line.now (Operand.an_expr ∷ Operand.an_expr ∷ []) tokens.now) }
 {
-    let (first, rest) = take_expr(alloc, known, line, tokens)?;
+    let (first, rest) = take_phrase(alloc, known, line, tokens)?;
     let second = one_expr(alloc, known, line, rest)?;
     Ok((first, second))
 }
@@ -144,7 +143,7 @@ fn variable_and_expr(
     tokens: &[Token],
 ) -> Result<(Var, Expr), Stop>
     requires known { IsFewKnown known.now }
-    requires whole { AreWhole line.now tokens.now }
+    requires spelled { AreWellSpelled line.now tokens.now }
     ensures { Gives (λ x. (x.0.0, (x.1, tt))) result (all_said known.now 0 line.now (Operand.a_variable ∷ Operand.an_expr ∷ []) tokens.now) }
 {
     let (var, rest) = take_variable(alloc, line, tokens)?;
@@ -167,7 +166,7 @@ fn read_switch(word: &[u8]) -> Result<bool, Stop>
 
 /// `on` or `off`, and nothing behind it.
 fn one_switch(line: &[u8], tokens: &[Token]) -> Result<bool, Stop>
-    requires { AreWhole line.now tokens.now }
+    requires { AreWellSpelled line.now tokens.now }
     ensures { Gives (λ on. (on, tt)) result (all_said Known.Any 0 line.now (Operand.a_switch ∷ []) tokens.now) }
 {
     match tokens {
@@ -189,7 +188,7 @@ fn one_label(
     tokens: &[Token],
 ) -> Result<u32, Stop>
     requires known { IsFewKnown known.now }
-    requires whole { AreWhole line.now tokens.now }
+    requires spelled { AreWellSpelled line.now tokens.now }
     ensures { Gives (λ l. (l, tt)) result (all_said known.now here line.now (Operand.a_label ∷ []) tokens.now) }
 {
     let (label, rest) = take_target(alloc, known, here, line, tokens)?;
@@ -198,7 +197,7 @@ fn one_label(
 }
 
 fn read_name(alloc: Global, line: &[u8], tokens: &[Token]) -> Result<Name, Stop>
-    requires { AreWhole line.now tokens.now }
+    requires { AreWellSpelled line.now tokens.now }
     ensures { Gives (λ n. n) result (whole_name line.now tokens.now) }
 {
     let (name, rest) = take_name(alloc, line, tokens)?;
@@ -214,10 +213,10 @@ fn read_on(
     tokens: &[Token],
 ) -> Result<Form, Stop>
     requires known { IsFewKnown known.now }
-    requires whole { AreWhole line.now tokens.now }
+    requires spelled { AreWellSpelled line.now tokens.now }
     ensures { Gives (λ f. f) result (on_of known.now here line.now tokens.now) }
 {
-    let (pattern, rest) = take_pattern(alloc, known, line, tokens)?;
+    let (pattern, rest) = take_phrase(alloc, known, line, tokens)?;
     let target = take_arrow(alloc, known, here, line, rest)?;
     Ok(Form::On(pattern, target))
 }
@@ -233,7 +232,7 @@ fn read_instr(
     tokens: &[Token],
 ) -> Result<Instr, Stop>
     requires known { IsFewKnown known.now }
-    requires whole { AreWhole line.now tokens.now }
+    requires spelled { AreWellSpelled line.now tokens.now }
     ensures { Gives (λ i. i) result (instr_of known.now here verb line.now tokens.now) }
 {
     match verb {
@@ -287,7 +286,7 @@ fn read_form(
     tokens: &[Token],
 ) -> Result<Form, Stop>
     requires known { IsFewKnown known.now }
-    requires whole { AreWhole line.now tokens.now }
+    requires spelled { AreWellSpelled line.now tokens.now }
     ensures { Gives (λ f. f) result (form_of known.now here word line.now tokens.now) }
 {
     match word {
@@ -313,12 +312,12 @@ fn read_form(
 
 /// Whether a line that begins with the word may stand behind what was read so far.
 fn stands(draft: &Draft, word: Keyword) -> bool
-    ensures { result ≡ may_stand draft.now.turns draft.now.place word }
+    ensures { result ≡ may_stand draft.now.turns draft.now.section word }
 {
-    match &draft.place {
-        Place::Before => word.may_begin(draft.turns),
-        Place::Outside(_) => word.may_be_outside(),
-        Place::Inside(_, _, after) => word.may_be_inside(after.is_some()),
+    match &draft.section {
+        Section::Before => word.may_begin(draft.turns),
+        Section::Outside(_) => word.may_be_outside(),
+        Section::Inside(_, _, after) => word.may_be_inside(after.is_some()),
     }
 }
 
@@ -331,7 +330,7 @@ fn read_behind(
     tokens: &[Token],
 ) -> Result<Form, Stop>
     requires known { IsFewKnown known.now }
-    requires whole { AreWhole line.now tokens.now }
+    requires spelled { AreWellSpelled line.now tokens.now }
     ensures { Gives (λ f. f) result (form_behind known.now draft.now word line.now tokens.now) }
 {
     match word {
@@ -351,7 +350,7 @@ fn read_said(
     tokens: &[Token],
 ) -> Result<Option<Form>, Stop>
     requires known { IsFewKnown known.now }
-    requires whole { AreWhole line.now tokens.now }
+    requires spelled { AreWellSpelled line.now tokens.now }
     ensures { Gives (λ f. f) result (said_by known.now draft.now line.now tokens.now) }
 {
     match tokens {

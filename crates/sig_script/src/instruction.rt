@@ -1,6 +1,6 @@
 ghost use Rattle.std.specs.Prelude.{◌≡◌, IfOk};
 
-use sig_lists::{Pushed, Sequence};
+use sig_lists::Sequence;
 use sig_patterns::{Clauses, Expr, Var};
 use std::alloc::{AllocError, Global};
 
@@ -89,10 +89,7 @@ fn copy_clauses(alloc: Global, clauses: &Clauses) -> Result<Clauses, AllocError>
     let mut copies = Sequence::new(alloc);
     for clause in clauses.as_slice() {
         let copy = clause.copy(alloc)?;
-        match copies.push(copy) {
-            Pushed::Added => {}
-            Pushed::Memory { item: _ } => return Err(AllocError),
-        }
+        copies.add(copy)?;
     }
     Ok(copies)
 }
@@ -149,10 +146,7 @@ pub fn copy_instrs(alloc: Global, instrs: &Instrs) -> Result<Instrs, AllocError>
     let mut copies = Sequence::new(alloc);
     for instr in instrs.as_slice() {
         let copy = instr.copy(alloc)?;
-        match copies.push(copy) {
-            Pushed::Added => {}
-            Pushed::Memory { item: _ } => return Err(AllocError),
-        }
+        copies.add(copy)?;
     }
     Ok(copies)
 }

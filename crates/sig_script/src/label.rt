@@ -1,6 +1,6 @@
 ghost use Rattle.std.specs.Prelude.{◌≡◌, IfOk};
 
-use sig_lists::{Pushed, Sequence};
+use sig_lists::Sequence;
 use sig_terms::Name;
 use std::alloc::{AllocError, Global};
 
@@ -36,10 +36,7 @@ pub fn copy_labels(alloc: Global, labels: &Labels) -> Result<Labels, AllocError>
     let mut copies = Sequence::new(alloc);
     for label in labels.as_slice() {
         let copy = label.copy(alloc)?;
-        match copies.push(copy) {
-            Pushed::Added => {}
-            Pushed::Memory { item: _ } => return Err(AllocError),
-        }
+        copies.add(copy)?;
     }
     Ok(copies)
 }

@@ -3,7 +3,7 @@ ghost use Rattle.std.specs.Str.{bytes_eq};
 ghost use Rattle.sig_script.specs.declared.label.Label.{Label};
 
 use crate::label::{Label, Labels};
-use sig_lists::{Pushed, Sequence};
+use sig_lists::Sequence;
 use sig_terms::Name;
 use std::alloc::{AllocError, Global};
 use std::collections::BTreeMap;
@@ -63,14 +63,12 @@ impl LabelTable {
         } = self;
         let key = Vec::from_slice(alloc, label.name.bytes())?;
         places.insert(key, labels.len() as u32)?;
-        match labels.push(label) {
-            Pushed::Added => Ok(LabelTable {
-                alloc,
-                labels,
-                places,
-            }),
-            Pushed::Memory { item: _ } => Err(AllocError),
-        }
+        labels.add(label)?;
+        Ok(LabelTable {
+            alloc,
+            labels,
+            places,
+        })
     }
 
     /// The labels alone.

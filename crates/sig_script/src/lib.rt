@@ -15,6 +15,7 @@ mod line;
 mod names;
 mod number;
 mod patterns;
+mod phrases;
 mod process;
 mod reader;
 mod script;

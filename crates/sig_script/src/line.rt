@@ -9,13 +9,13 @@ ghost use Rattle.std.specs.Prelude.{
 };
 ghost use Rattle.std.specs.List.{list_all};
 ghost use Rattle.sig_script.specs.Faults.{Gives};
-ghost use Rattle.sig_script.specs.Tokens.{AreTokens, IsToken, IsWhole, AreWhole, is_token_in_range, cut_of, text};
+ghost use Rattle.sig_script.specs.Tokens.{AreTokens, IsToken, IsWellSpelled, AreWellSpelled, is_token_in_range, cut_of, text};
 ghost use Rattle.sig_script.specs.Forms.{tokens_of};
 
 use crate::fault::{FaultKind, Stop};
 use crate::number::fits_in_range;
 use crate::token::{Cut, Token, TokenKind, Tokens, is_blank_byte, token_at};
-use sig_lists::{Pushed, Sequence};
+use sig_lists::Sequence;
 use std::alloc::{AllocError, Global};
 
 fn line_len(bytes: &[u8]) -> usize
@@ -62,10 +62,8 @@ fn cut_line(alloc: Global, line: &[u8]) -> Result<Cut, AllocError>
                         start: at,
                         end: at + len,
                     };
-                    match tokens.push(token) {
-                        Pushed::Added => at += len,
-                        Pushed::Memory { item: _ } => return Err(AllocError),
-                    }
+                    tokens.add(token)?;
+                    at += len;
                 }
             }
         }
@@ -108,7 +106,7 @@ fn all_fit(line: &[u8], tokens: &[Token]) -> bool
 /// The tokens of a line, or what is wrong with them.
 pub fn read_tokens(alloc: Global, line: &[u8]) -> Result<Tokens, Stop>
     ensures tokens { Gives (λ ts. ts) result (tokens_of line.now) }
-    ensures whole { IfOk result (λ ts. AreWhole line.now ts) }
+    ensures spelled { IfOk result (λ ts. AreWellSpelled line.now ts) }
 {
     let cut = cut_line(alloc, line)?;
     if !all_fit(line, cut.tokens.as_slice()) {

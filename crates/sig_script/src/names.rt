@@ -2,7 +2,7 @@
 
 ghost use Rattle.std.specs.Prelude.{◌≡◌, IfOk};
 ghost use Rattle.sig_script.specs.Faults.{Gives};
-ghost use Rattle.sig_script.specs.Tokens.{AreWhole};
+ghost use Rattle.sig_script.specs.Tokens.{AreWellSpelled};
 ghost use Rattle.sig_script.specs.Names.{name_at, variable_at};
 ghost use Rattle.sig_script.specs.Forms.{target_at};
 ghost use Rattle.sig_script.specs.Fitting.{IsFewKnown};
@@ -21,9 +21,9 @@ pub fn take_name<'t>(
     line: &[u8],
     tokens: &'t [Token],
 ) -> Result<(Name, &'t [Token]), Stop>
-    requires { AreWhole line.now tokens.now }
+    requires { AreWellSpelled line.now tokens.now }
     ensures name { Gives (λ x. (x.0, x.1.now)) result (name_at line.now tokens.now) }
-    ensures whole { IfOk result (λ x. AreWhole line.now x.1.now) }
+    ensures spelled { IfOk result (λ x. AreWellSpelled line.now x.1.now) }
 {
     match tokens {
         [token, rest @ ..] if token.kind == TokenKind::Name => {
@@ -42,9 +42,9 @@ pub fn take_variable<'t>(
     line: &[u8],
     tokens: &'t [Token],
 ) -> Result<(Var, &'t [Token]), Stop>
-    requires { AreWhole line.now tokens.now }
+    requires { AreWellSpelled line.now tokens.now }
     ensures name { Gives (λ x. (x.0.0, x.1.now)) result (variable_at line.now tokens.now) }
-    ensures whole { IfOk result (λ x. AreWhole line.now x.1.now) }
+    ensures spelled { IfOk result (λ x. AreWellSpelled line.now x.1.now) }
 {
     match tokens {
         [token, rest @ ..] if token.kind == TokenKind::Variable => {
@@ -66,9 +66,9 @@ pub fn take_target<'t>(
     tokens: &'t [Token],
 ) -> Result<(u32, &'t [Token]), Stop>
     requires known { IsFewKnown known.now }
-    requires whole { AreWhole line.now tokens.now }
+    requires spelled { AreWellSpelled line.now tokens.now }
     ensures target { Gives (λ x. (x.0, x.1.now)) result (target_at known.now here line.now tokens.now) }
-    ensures whole { IfOk result (λ x. AreWhole line.now x.1.now) }
+    ensures spelled { IfOk result (λ x. AreWellSpelled line.now x.1.now) }
 {
     let (name, rest) = take_name(alloc, line, tokens)?;
     let target = find_label(known, here, name.bytes())?;

@@ -53,13 +53,6 @@ impl Model for Proc {
 pub type Procs = Sequence<Proc>;
 
 impl Proc {
-    /// The process's name.
-    pub fn name(&self) -> &Name
-        ensures { result.now ≡ self.now.name }
-    {
-        &self.name
-    }
-
     /// How many instructions there are.
     pub fn count(&self) -> u32
         ensures count { result ≡ length self.now.instrs }

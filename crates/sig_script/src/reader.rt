@@ -1,6 +1,6 @@
 ghost use Rattle.std.specs.Prelude.{◌≡◌, ◌+◌, ◌<◌, ◌^◌, length, IfOk, drop, All};
 ghost use Rattle.sig_script.specs.Lines.{lines_of};
-ghost use Rattle.sig_script.specs.Tokens.{AreWhole};
+ghost use Rattle.sig_script.specs.Tokens.{AreWellSpelled};
 ghost use Rattle.sig_script.specs.Forms.{tokens_of};
 ghost use Rattle.sig_script.specs.Grammar.{
   is_integer_one,
@@ -16,7 +16,7 @@ ghost use Rattle.sig_script.specs.Fitting.{IsFewKnown};
 ghost use Rattle.sig_script.specs.Reading.{IsReading};
 ghost use Rattle.sig_script.specs.declared.reader.ScriptError.TheVariants.{Memory};
 
-use crate::draft::{Draft, Place, finish, take_line};
+use crate::draft::{Draft, Section, finish, take_line};
 use crate::drafted::{DraftProcs, DraftScript};
 use crate::fault::{FaultKind, Stop};
 use crate::known::Known;
@@ -61,7 +61,7 @@ fn read_lines(alloc: Global, known: &Known, bytes: &[u8]) -> Result<DraftScript,
     let mut draft = Draft {
         turns: None,
         procs: Sequence::new(alloc),
-        place: Place::Before,
+        section: Section::Before,
     };
     let mut n: u64 = 2;
     let mut at = 0;
@@ -90,7 +90,7 @@ fn is_one_token(kind: TokenKind, text: &[u8]) -> bool
 
 /// Whether the tokens are those of the header.
 fn are_header_tokens(line: &[u8], tokens: &[Token]) -> bool
-    requires { AreWhole line.now tokens.now }
+    requires { AreWellSpelled line.now tokens.now }
     ensures { result ≡ are_header line.now tokens.now }
 {
     match tokens {

@@ -1,9 +1,7 @@
-ghost use Rattle.std.specs.Prelude.{◌≡◌, ◌≤◌, ◌<◌, length, slice_get, option_copied, position, IfSome};
-ghost use Rattle.std.specs.Str.{bytes_eq};
-ghost use Rattle.sig_script.specs.Scripts.{Declared, IsSound};
+ghost use Rattle.std.specs.Prelude.{◌≡◌, ◌≤◌, length, slice_get, option_copied};
+ghost use Rattle.sig_script.specs.Scripts.{IsSound};
 
 use crate::process::{Proc, Procs};
-use sig_terms::bytes::equal_bytes;
 use std::marker::Model;
 
 /// The most processes of a script.
@@ -65,23 +63,4 @@ impl Script {
     {
         self.procs.get(pid as usize)
     }
-
-    /// The pid of the process of this name. `None` exactly where no process has it.
-    pub fn pid_of(&self, name: &[u8]) -> Option<u32>
-        ensures { result ≡ position (λ (p : Declared). bytes_eq p.name name.now) self.now.procs }
-    {
-        match place_of_name(self.procs.as_slice(), name) {
-            Some(place) => Some(place as u32),
-            None => None,
-        }
-    }
-}
-
-fn place_of_name(procs: &[Proc], name: &[u8]) -> Option<usize>
-    ensures place { result ≡ position (λ (p : Declared). bytes_eq p.name name.now) procs.now }
-    ensures within { IfSome result (λ n. n < length procs.now) }
-{
-    procs
-        .iter()
-        .position(|proc| equal_bytes(proc.name.bytes(), name))
 }

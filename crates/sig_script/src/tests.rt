@@ -3,96 +3,185 @@
 ghost use Rattle.std.specs.Prelude.{◌<◌};
 
 use super::*;
-use sig_patterns::{Clause, Expr, Pattern};
-use sig_terms::Pid;
+use sig_patterns::{Clause, Env, Expr, Pattern, Var, build};
+use sig_terms::{Name, Term};
 use std::alloc::{AllocError, Global};
 use std::test::Fail;
 
-#[test]
-fn texts_are_read(rt: HostRuntime) -> Result<(), Fail> {
-    let alloc = rt.alloc();
-    let rows: [(&[u8], u32); 13] = [
-        (b"sigscript 1", 0),
-        (b"sigscript 1\n", 0),
-        (
-            b" sigscript\t001 % any byte: \x00\xff '\r\n\n% more\n  \n",
-            0,
-        ),
-        (
-            b"sigscript 1\nprocess a\nsend @b hi\nprocess b\nreceive\non X\nend\n",
-            2,
-        ),
-        (
-            b"sigscript 1\nprocess send\nsend @send send\nreceive\non on\nend",
-            1,
-        ),
-        (
-            b"sigscript 1\nprocess a\nreceive\n\non _\n%\nend\nreceive\non @a\nend",
-            1,
-        ),
-        (
-            b"sigscript 1\r\nprocess process\r\nsend @process end%\r\n",
-            1,
-        ),
-        (
-            b"sigscript 1\nprocess exit\nlabel trap\ntrap on\nexit_to @exit exit_to\ngoto trap",
-            1,
-        ),
-        (
-            b"sigscript 1\nprocess a\nexit_to X [trap,{on}]\nexit {'EXIT',@a,-1}",
-            1,
-        ),
-        (
-            b"sigscript 1\nprocess link\nlabel unlink\nlink @unlink\ngoto unlink\nprocess unlink\nlabel link\nunlink @link",
-            2,
-        ),
-        (
-            b"sigscript 1\nprocess a\nlink X\nunlink [link,{@a,unlink}]",
-            1,
-        ),
-        (b"sigscript 1\nprocess a@B_9\nsend @a@B_9 @a@B_9", 1),
-        (b"sigscript 1\nprocess a\nprocess b\nprocess c", 3),
-    ];
-    for (text, count) in rows {
-        let script = read_script(alloc, text).map_err(|_| "refused")?;
-        assert!(rt; script.count() == count);
-        assert!(rt; script.turns() == 1000);
+fn put_target(into: &mut Vec<u8>, target: Option<u32>) -> Result<(), AllocError> {
+    match target {
+        Some(label) => {
+            into.extend_from_slice(b" -> ")?;
+            Term::Int(label as i64).print(into)
+        }
+        None => Ok(()),
+    }
+}
+
+/// A pattern without parts.
+fn put_pattern(into: &mut Vec<u8>, pattern: &Pattern) -> Result<(), AllocError> {
+    match pattern {
+        Pattern::Any => into.extend_from_slice(b"_"),
+        Pattern::Bind(var) => into.extend_from_slice(var.0.bytes()),
+        Pattern::Pin(var) => {
+            into.extend_from_slice(b"^")?;
+            into.extend_from_slice(var.0.bytes())
+        }
+        Pattern::Int(n) => Term::Int(*n).print(into),
+        Pattern::Atom(atom) => atom.print(into),
+        Pattern::Pid(pid) => pid.print(into),
+        _ => into.extend_from_slice(b"?"),
+    }
+}
+
+/// A word, and the values of the expressions.
+fn put_values(
+    into: &mut Vec<u8>,
+    alloc: Global,
+    env: &Env,
+    word: &[u8],
+    expressions: &[&Expr],
+) -> Result<(), Fail> {
+    into.extend_from_slice(word)?;
+    for expression in expressions {
+        into.extend_from_slice(b" ")?;
+        build(alloc, expression, env)?.print(into)?;
     }
     Ok(())
 }
 
-/// Whether the instruction sends this atom to this process.
-fn sends(instr: Option<&Instr>, pid: Pid, bytes: &[u8]) -> bool {
-    match instr {
-        Some(
-            Instr::Send {
-                to: Expr::Pid(to),
-                message: Expr::Atom(message),
-            },
-        ) => *to == pid && message.bytes() == bytes,
-        _ => false,
+fn put_receive(
+    into: &mut Vec<u8>,
+    clauses: &[Clause],
+    after: &Option<After>,
+) -> Result<(), AllocError> {
+    into.extend_from_slice(b"receive")?;
+    for clause in clauses {
+        into.extend_from_slice(b" on ")?;
+        put_pattern(into, &clause.pattern)?;
+        put_target(into, clause.target)?;
+    }
+    match after {
+        Some(after) => {
+            into.extend_from_slice(b" after")?;
+            put_target(into, after.target)
+        }
+        None => Ok(()),
     }
 }
 
-/// Whether the instruction is a receive with one clause, which binds this variable.
-fn receives(instr: Option<&Instr>, variable: &[u8]) -> bool {
+fn put_instr(into: &mut Vec<u8>, alloc: Global, env: &Env, instr: &Instr) -> Result<(), Fail> {
     match instr {
-        Some(
-            Instr::Receive {
-                clauses,
-                after: None,
-            },
-        ) => match clauses.as_slice() {
-            [
-                Clause {
-                    pattern: Pattern::Bind(var),
-                    target: None,
-                },
-            ] => var.0.bytes() == variable,
-            _ => false,
-        },
-        _ => false,
+        Instr::Send { to, message } => put_values(into, alloc, env, b"send", &[to, message]),
+        Instr::Set { var: _, value } => put_values(into, alloc, env, b"set", &[value]),
+        Instr::Receive { clauses, after } => Ok(put_receive(into, clauses.as_slice(), after)?),
+        Instr::Link { peer } => put_values(into, alloc, env, b"link", &[peer]),
+        Instr::Unlink { peer } => put_values(into, alloc, env, b"unlink", &[peer]),
+        Instr::Exit { reason } => put_values(into, alloc, env, b"exit", &[reason]),
+        Instr::ExitTo { target, reason } => {
+            put_values(into, alloc, env, b"exit_to", &[target, reason])
+        }
+        Instr::Trap { on: true } => Ok(into.extend_from_slice(b"trap on")?),
+        Instr::Trap { on: false } => Ok(into.extend_from_slice(b"trap off")?),
+        Instr::Goto { label } => {
+            into.extend_from_slice(b"goto")?;
+            Ok(put_target(into, Some(*label))?)
+        }
+        Instr::Stop => Ok(into.extend_from_slice(b"stop")?),
     }
+}
+
+/// The instructions of a process, in a line.
+fn put_proc(into: &mut Vec<u8>, alloc: Global, env: &Env, proc: &Proc) -> Result<(), Fail> {
+    into.extend_from_slice(proc.name.bytes())?;
+    into.extend_from_slice(b":")?;
+    for instr in proc.instrs.as_slice() {
+        into.extend_from_slice(b" ")?;
+        put_instr(into, alloc, env, instr)?;
+        into.extend_from_slice(b";")?;
+    }
+    Ok(into.extend_from_slice(b"\n")?)
+}
+
+/// The turns of the script that the text spells, and what its processes do: pids are numbers in
+/// their order, labels are places, and expressions are what they build where X is 'X'.
+fn told(alloc: Global, text: &[u8]) -> Result<(u32, Vec<u8>), Fail> {
+    let script = read_script(alloc, text).map_err(|_| "refused")?;
+    let mut env = Env::new(alloc);
+    let x = Var(Name::new(alloc, b"X")?.ok_or("no variable")?);
+    env.set(&x, Term::plain_atom(alloc, b"X")?)?;
+    let mut told = Vec::new(alloc);
+    for proc in script.procs.as_slice() {
+        put_proc(&mut told, alloc, &env, &proc.copy(alloc)?)?;
+    }
+    Ok((script.turns(), told))
+}
+
+#[test]
+fn texts_are_read(rt: HostRuntime) -> Result<(), Fail> {
+    let alloc = rt.alloc();
+    let rows: [(&[u8], &[u8]); 15] = [
+        (b"sigscript 1", b""),
+        (b"sigscript 1\n", b""),
+        (
+            b" sigscript\t001 % any byte: \x00\xff '\r\n\n% more\n  \n",
+            b"",
+        ),
+        (
+            b"sigscript 1\nprocess a\nsend @b hi\nprocess b\nreceive\non X\nend\n",
+            b"a: send <1> hi;\nb: receive on X;\n",
+        ),
+        (
+            b"sigscript 1\nprocess send\nsend @send send\nreceive\non on\nend",
+            b"send: send <0> send; receive on on;\n",
+        ),
+        (
+            b"sigscript 1\nprocess a\nreceive\n\non _\n%\nend\nreceive\non @a\nend",
+            b"a: receive on _; receive on <0>;\n",
+        ),
+        (
+            b"sigscript 1\r\nprocess process\r\nsend @process end%\r\n",
+            b"process: send <0> end;\n",
+        ),
+        (
+            b"sigscript 1\nprocess exit\nlabel trap\ntrap on\nexit_to @exit exit_to\ngoto trap",
+            b"exit: trap on; exit_to <0> exit_to; goto -> 0;\n",
+        ),
+        (
+            b"sigscript 1\nprocess a\nexit_to X [trap,{on}]\nexit {'EXIT',@a,-1}",
+            b"a: exit_to 'X' [trap,{on}]; exit {'EXIT',<0>,-1};\n",
+        ),
+        (
+            b"sigscript 1\nprocess link\nlabel unlink\nlink @unlink\ngoto unlink\nprocess unlink\nlabel link\nunlink @link",
+            b"link: link <1>; goto -> 0;\nunlink: unlink <0>;\n",
+        ),
+        (
+            b"sigscript 1\nprocess a\nlink X\nunlink [link,{@a,unlink}]",
+            b"a: link 'X'; unlink [link,{<0>,unlink}];\n",
+        ),
+        (
+            b"sigscript 1\nprocess a@B_9\nsend @a@B_9 @a@B_9",
+            b"a@B_9: send <0> <0>;\n",
+        ),
+        (
+            b"sigscript 1\nprocess a\nprocess b\nprocess c",
+            b"a:\nb:\nc:\n",
+        ),
+        (
+            b"sigscript 1\nprocess a\ntrap on\ntrap off\nexit_to @b kill\nexit done\nprocess b",
+            b"a: trap on; trap off; exit_to <1> kill; exit done;\nb:\n",
+        ),
+        (
+            b"sigscript 1\nprocess a\nlink @b\nunlink @c\nprocess b\nprocess c",
+            b"a: link <1>; unlink <2>;\nb:\nc:\n",
+        ),
+    ];
+    for (text, expected) in rows {
+        let (turns, told) = told(alloc, text)?;
+        assert_eq!(rt; turns, 1000, "{text:?}");
+        assert_eq!(rt; told.as_slice(), expected, "{text:?}");
+    }
+    Ok(())
 }
 
 #[test]
@@ -100,101 +189,23 @@ fn a_message_is_read(rt: HostRuntime) -> Result<(), Fail> {
     let alloc = rt.alloc();
     let text = b"sigscript 1\nprocess a\nsend @b hi\nprocess b\nreceive\non X\nend\n";
     let script = read_script(alloc, text).map_err(|_| "refused")?;
-    let sender = script.proc(0).ok_or("no process")?.copy(alloc)?;
-    let receiver = script.proc(1).ok_or("no process")?;
-    assert!(rt; sender.name().bytes() == b"a".as_slice());
-    assert!(rt; sender.count() == 1);
+    assert_eq!(rt; script.count(), 2);
+    let sender = script.proc(0).ok_or("no process")?;
+    assert_eq!(rt; sender.count(), 1);
     assert!(rt; sender.place_of(0).is_none());
-    assert!(rt; sends(sender.instr(1), Pid(1), b"hi"));
     assert!(rt; sender.instr(2).is_none());
-    assert!(rt; receives(receiver.instr(1), b"X"));
+    let receiver = script.proc(1).ok_or("no process")?;
+    assert!(rt;
+        matches!(
+            receiver.instr(1),
+            Some(Instr::Receive {
+                clauses: _,
+                after: None
+            })
+        )
+    );
     assert!(rt; receiver.instr(2).is_none());
     assert!(rt; script.proc(2).is_none());
-    assert!(rt; script.pid_of(b"b") == Some(1));
-    assert!(rt; script.pid_of(b"c").is_none());
-    Ok(())
-}
-
-/// Whether the instruction makes the trap flag this.
-fn traps(instr: Option<&Instr>, flag: bool) -> bool {
-    match instr {
-        Some(Instr::Trap { on }) => *on == flag,
-        _ => false,
-    }
-}
-
-/// Whether the instruction ends the process with this atom.
-fn exits(instr: Option<&Instr>, bytes: &[u8]) -> bool {
-    match instr {
-        Some(
-            Instr::Exit {
-                reason: Expr::Atom(reason),
-            },
-        ) => reason.bytes() == bytes,
-        _ => false,
-    }
-}
-
-/// Whether the instruction sends this process an exit signal with this atom.
-fn exits_to(instr: Option<&Instr>, pid: Pid, bytes: &[u8]) -> bool {
-    match instr {
-        Some(
-            Instr::ExitTo {
-                target: Expr::Pid(target),
-                reason: Expr::Atom(reason),
-            },
-        ) => *target == pid && reason.bytes() == bytes,
-        _ => false,
-    }
-}
-
-#[test]
-fn exits_and_traps_are_read(rt: HostRuntime) -> Result<(), Fail> {
-    let alloc = rt.alloc();
-    let text = b"sigscript 1\nprocess a\ntrap on\ntrap off\nexit_to @b kill\nexit done\nprocess b";
-    let script = read_script(alloc, text).map_err(|_| "refused")?;
-    let proc = script.proc(0).ok_or("no process")?;
-    assert!(rt; proc.count() == 4);
-    assert!(rt; traps(proc.instr(1), true));
-    assert!(rt; traps(proc.instr(2), false));
-    assert!(rt; exits_to(proc.instr(3), Pid(1), b"kill"));
-    assert!(rt; exits(proc.instr(4), b"done"));
-    Ok(())
-}
-
-/// Whether the instruction links the process to this one.
-fn links(instr: Option<&Instr>, pid: Pid) -> bool {
-    match instr {
-        Some(
-            Instr::Link {
-                peer: Expr::Pid(peer),
-            },
-        ) => *peer == pid,
-        _ => false,
-    }
-}
-
-/// Whether the instruction ends the link to this process.
-fn unlinks(instr: Option<&Instr>, pid: Pid) -> bool {
-    match instr {
-        Some(
-            Instr::Unlink {
-                peer: Expr::Pid(peer),
-            },
-        ) => *peer == pid,
-        _ => false,
-    }
-}
-
-#[test]
-fn links_are_read(rt: HostRuntime) -> Result<(), Fail> {
-    let alloc = rt.alloc();
-    let text = b"sigscript 1\nprocess a\nlink @b\nunlink @c\nprocess b\nprocess c";
-    let script = read_script(alloc, text).map_err(|_| "refused")?;
-    let proc = script.proc(0).ok_or("no process")?.copy(alloc)?;
-    assert!(rt; proc.count() == 2);
-    assert!(rt; links(proc.instr(1), Pid(1)));
-    assert!(rt; unlinks(proc.instr(2), Pid(2)));
     Ok(())
 }
 
@@ -242,27 +253,47 @@ fn long_term(alloc: Global, count: usize, end: &[u8]) -> Result<Vec<u8>, AllocEr
     Ok(text)
 }
 
+/// A refusal.
+fn at(line: u64, kind: FaultKind) -> Option<ScriptError> {
+    Some(ScriptError::Fault { line, kind })
+}
+
 #[test]
 fn bounds_are_kept(rt: HostRuntime) -> Result<(), Fail> {
     let alloc = rt.alloc();
     let rows = [
-        (many_lines(alloc, b"process ", 64)?, true),
-        (many_lines(alloc, b"process ", 65)?, false),
-        (long_text(alloc, b"process ", b'a', 255, b"")?, true),
-        (long_text(alloc, b"process ", b'a', 256, b"")?, false),
+        (many_lines(alloc, b"process ", 64)?, None),
+        (
+            many_lines(alloc, b"process ", 65)?,
+            at(66, FaultKind::TooManyProcesses),
+        ),
+        (long_text(alloc, b"process ", b'a', 255, b"")?, None),
+        (
+            long_text(alloc, b"process ", b'a', 256, b"")?,
+            at(2, FaultKind::Syntax),
+        ),
         (
             long_text(alloc, b"process a\nreceive\non ", b'A', 255, b"\nend")?,
-            true,
+            None,
         ),
         (
             long_text(alloc, b"process a\nreceive\non ", b'A', 256, b"\nend")?,
-            false,
+            at(4, FaultKind::Syntax),
         ),
-        (long_text(alloc, b"", b' ', 1048564, b"")?, true),
-        (long_text(alloc, b"", b' ', 1048565, b"")?, false),
+        (long_text(alloc, b"", b' ', 1048564, b"")?, None),
+        (
+            long_text(alloc, b"", b' ', 1048565, b"")?,
+            at(0, FaultKind::TooLong),
+        ),
     ];
-    for (text, read) in rows {
-        assert!(rt; read_script(alloc, text.as_slice()).is_ok() == read);
+    for (text, fault) in rows {
+        let bytes = text.as_slice();
+        assert_eq!(rt;
+            read_script(alloc, bytes).err(),
+            fault,
+            "{} bytes",
+            bytes.len()
+        );
     }
     Ok(())
 }
@@ -408,8 +439,11 @@ fn texts_are_refused_at_their_line(rt: HostRuntime) -> Result<(), Fail> {
         let mut text = Vec::new(alloc);
         text.extend_from_slice(b"sigscript 1\n")?;
         text.extend_from_slice(rest)?;
-        let fault = ScriptError::Fault { line, kind };
-        assert!(rt; read_script(alloc, text.as_slice()).err() == Some(fault));
+        assert_eq!(rt;
+            read_script(alloc, text.as_slice()).err(),
+            at(line, kind),
+            "{rest:?}"
+        );
     }
     Ok(())
 }
@@ -429,11 +463,11 @@ fn other_first_lines_are_refused(rt: HostRuntime) -> Result<(), Fail> {
         b"sigscript 99999999999999999999",
     ];
     for text in rows {
-        let fault = ScriptError::Fault {
-            line: 1,
-            kind: FaultKind::Header,
-        };
-        assert!(rt; read_script(alloc, text).err() == Some(fault));
+        assert_eq!(rt;
+            read_script(alloc, text).err(),
+            at(1, FaultKind::Header),
+            "{text:?}"
+        );
     }
     Ok(())
 }
@@ -461,14 +495,8 @@ fn nested(
 #[test]
 fn terms_are_bounded(rt: HostRuntime) -> Result<(), Fail> {
     let alloc = rt.alloc();
-    let too_large = Some(ScriptError::Fault {
-        line: 3,
-        kind: FaultKind::TermTooLarge,
-    });
-    let syntax = Some(ScriptError::Fault {
-        line: 3,
-        kind: FaultKind::Syntax,
-    });
+    let too_large = at(3, FaultKind::TermTooLarge);
+    let syntax = at(3, FaultKind::Syntax);
     let rows = [
         (nested(alloc, b"{", b"a", b"}", 63)?, None),
         (nested(alloc, b"{", b"a", b"}", 64)?, too_large),
@@ -480,7 +508,13 @@ fn terms_are_bounded(rt: HostRuntime) -> Result<(), Fail> {
         (long_term(alloc, 1023, b",a")?, too_large),
     ];
     for (text, fault) in rows {
-        assert!(rt; read_script(alloc, text.as_slice()).err() == fault);
+        let bytes = text.as_slice();
+        assert_eq!(rt;
+            read_script(alloc, bytes).err(),
+            fault,
+            "{} bytes",
+            bytes.len()
+        );
     }
     Ok(())
 }

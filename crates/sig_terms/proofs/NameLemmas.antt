@@ -83,14 +83,8 @@ module _ (P : Named → Type 0) where
   pub tuple_names : (ts : List Term) → All (AllNames P) ts → AllNames P (term.Tuple ts)
   tuple_names ts h = All-same P (names_of (term.Tuple ts)) (names_of_each ts) (names_of_tuple ts) (all_of_each ts h)
 
-  pub tuple_tells : (ts : List Term) → AllNames P (term.Tuple ts) → All (AllNames P) ts
-  tuple_tells ts h = each_of_all ts (All-same P (names_of_each ts) (names_of (term.Tuple ts)) (sym (names_of_tuple ts)) h)
-
   pub list_names : (ts : List Term) → All (AllNames P) ts → AllNames P (term.List ts)
   list_names ts h = All-same P (names_of (term.List ts)) (names_of_each ts) (names_of_list ts) (all_of_each ts h)
-
-  pub list_tells : (ts : List Term) → AllNames P (term.List ts) → All (AllNames P) ts
-  list_tells ts h = each_of_all ts (All-same P (names_of_each ts) (names_of (term.List ts)) (sym (names_of_list ts)) h)
 
   -- the elements of a tuple or a list, by the layer of a term
   abbrev pub AllOfLayer : Term-F Term → Type 0
@@ -106,10 +100,6 @@ module _ (P : Named → Type 0) where
   pub elements_tell : (t : Term) → AllNames P t → AllOfLayer (out-Term t)
   elements_tell t h =
       layer_tells (out-Term t) (All-same P (names_step (map-Term Term (List Named) names_of (out-Term t))) (names_of t) (sym (fold_out-Term (List Named) names_step t)) h)
-
--- what follows of every name
-pub names_weaker : (P Q : Named → Type 0) → ((n : Named) → P n → Q n) → (t : Term) → AllNames P t → AllNames Q t
-names_weaker P Q f t h = All-weaker P Q f (names_of t) h
 
 -- a reference whose owner is one of so many
 pub ref_below : (count : ℕ) (r : Ref) → IsRefBelow count r → All (IsNameBelow count) (names_of_ref r)

@@ -165,11 +165,6 @@ int_reaches (negsuc n) rest wide =
 
 -- ---- texts, and numbers between them
 
-pub after_again : (text rest : List ℕ) → after_text text (text ++ rest) ≡ Some rest
-after_again text rest =
-    let same : bytes_eq text text ≡ true = (bytes_eq-Decides text text).1 refl in
-    rw (take_at text rest (length text) refl, same, drop_at text rest (length text) refl) refl
-
 pub pid_again : (p : Pid) (rest : List ℕ) → p.0 < 2 ^ 32 → pid_at (decimal p.0 ++ (62 ∷ rest)) ≡ Some (p, rest)
 pid_again p rest fits = rw (number_again (2 ^ 32 - 1) p.0 (62 ∷ rest) (omega arith) (omega arith) refl) refl
 

@@ -68,10 +68,6 @@ one_term t u p q e =
     ap (λ (n : ℕ). term_at depth n (term_text t ++ [])) (add_comm (node_count t) (node_count u)) ∙ ap (λ (text : List ℕ). term_at depth (node_count u + node_count t) (text ++ [])) e ∙ b.is ∙ ap Some (b.whole tt) in
     ap (λ (y : Found). y.0) (same_Some (t, node_count u, []) (u, node_count t, []) (sym first ∙ second))
 
--- the whole of the bytes
-pub whole_begins : (bytes : List ℕ) (t : Term) → bytes ≡ term_text t → Begins bytes t
-whole_begins bytes t e = ([], e ∙ sym (append-nil (term_text t)))
-
 -- a reader that answers BadTerm found nothing
 pub fails_bad : {Y : Type 0} (e : ReadTerm) (read : Option Y) → Fails e read → e ≡ refusal.BadTerm → read ≡ None
 fails_bad refusal.BadTerm read f h = f

@@ -38,10 +38,6 @@ abbrev pub IsNameBelow : ℕ → Named → Type 0
 IsNameBelow count (process pid) = pid < count
 IsNameBelow count (reference r) = Unit {0}
 
--- each process that is named in a term is one of so many
-abbrev pub IsTermBelow : ℕ → Term → Type 0
-IsTermBelow count = AllNames (IsNameBelow count)
-
 -- the same of a reference: its owner
 abbrev pub IsRefBelow : ℕ → Ref → Type 0
 IsRefBelow count r = r.owner.0 < count

@@ -6,7 +6,7 @@ ghost use Rattle.sig_terms.specs.Fronts.{Gives, elements_at, items_at, node_at, 
 use crate::refusal::ReadTerm;
 use crate::term::{Term, Terms};
 use crate::tokens::leaf;
-use sig_lists::{Pushed, Sequence};
+use sig_lists::Sequence;
 use std::alloc::Global;
 
 /// The elements at the front of the bytes, at least one, up to the byte `close`; then the nodes
@@ -27,10 +27,7 @@ fn elements(
     let mut rest = bytes;
     for _ in 0..nodes {
         let (item, fewer, behind) = front(alloc, depth, left, rest)?;
-        match items.push(item) {
-            Pushed::Added => {}
-            Pushed::Memory { item: _ } => return Err(ReadTerm::Memory),
-        }
+        items.add(item)?;
         left = fewer;
         match behind {
             [b',', more @ ..] => rest = more,

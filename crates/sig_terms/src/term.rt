@@ -10,7 +10,7 @@ use crate::atom::Atom;
 use crate::pid::Pid;
 use crate::reference::Ref;
 use itoa::Buffer;
-use sig_lists::{Pushed, Sequence};
+use sig_lists::Sequence;
 use std::alloc::{AllocError, Global};
 
 /// A list of terms.
@@ -42,10 +42,7 @@ fn copy_all(alloc: Global, items: &[Term]) -> Result<Terms, AllocError>
     let mut copies = Sequence::new(alloc);
     for item in items {
         let copy = item.copy(alloc)?;
-        match copies.push(copy) {
-            Pushed::Added => {}
-            Pushed::Memory { item: _ } => return Err(AllocError),
-        }
+        copies.add(copy)?;
     }
     Ok(copies)
 }

@@ -30,15 +30,13 @@ fn terms_print_their_texts(rt: HostRuntime) -> Result<(), Fail> {
     let alloc = rt.alloc();
     let mut items = Sequence::new(alloc);
     for bytes in [b"ok".as_slice(), b"Big", b""] {
-        if let Some(atom) = Atom::new(alloc, bytes)? {
-            let _ = items.push(Term::Atom(atom));
-        }
+        items.add(Term::Atom(Atom::new(alloc, bytes)?.ok_or("no atom")?))?;
     }
-    let _ = items.push(Term::Int(i64::MIN));
-    let _ = items.push(Term::Pid(Pid(4294967295)));
+    items.add(Term::Int(i64::MIN))?;
+    items.add(Term::Pid(Pid(4294967295)))?;
     let owner = Pid(0);
-    let _ = items.push(Term::Ref(Ref { owner, serial: 7 }));
-    let _ = items.push(Term::List(Sequence::new(alloc)));
+    items.add(Term::Ref(Ref { owner, serial: 7 }))?;
+    items.add(Term::List(Sequence::new(alloc)))?;
     let tuple = Term::Tuple(items);
     let copy = tuple.copy(alloc)?;
     assert!(rt; copy.same(&tuple));
@@ -138,9 +136,8 @@ fn read_gives_the_term(rt: HostRuntime) -> Result<(), Fail> {
     assert!(rt; read(alloc, b"[]")?.same(&Term::List(Sequence::new(alloc))));
     assert!(rt; read(alloc, b"{}")?.same(&Term::Tuple(Sequence::new(alloc))));
     assert!(rt; Term::plain_atom(alloc, b"Two words")?.is_atom(b"Two words"));
-    if let Some(atom) = Atom::new(alloc, b"Two words")? {
-        assert!(rt; read(alloc, b"'Two words'")?.same(&Term::Atom(atom)));
-    }
+    let atom = Atom::new(alloc, b"Two words")?.ok_or("no atom")?;
+    assert!(rt; read(alloc, b"'Two words'")?.same(&Term::Atom(atom)));
     Ok(())
 }
 

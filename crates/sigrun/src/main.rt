@@ -8,13 +8,13 @@ use std::{env, io};
 
 /// The arguments after the program's name.
 fn arguments(rt: &HostRuntime) -> io::Result<Vec<String>> {
-    let mut words = Vec::new(rt.alloc());
-    for (i, word) in env::args(rt)?.enumerate() {
+    let mut arguments = Vec::new(rt.alloc());
+    for (i, argument) in env::args(rt)?.enumerate() {
         if i > 0 {
-            words.push(word)?;
+            arguments.push(argument)?;
         }
     }
-    Ok(words)
+    Ok(arguments)
 }
 
 /// Ends with this status, and tells it on standard error. Nothing was run.
@@ -28,10 +28,10 @@ fn main(rt: HostRuntime) -> ExitCode {
     let mut out = StdSink::new(rt.stdout());
     let mut err = StdSink::new(rt.stderr());
     match arguments(&rt) {
-        Ok(words) => {
+        Ok(arguments) => {
             let status = run(
                 rt.alloc(),
-                words.as_slice(),
+                arguments.as_slice(),
                 &mut source,
                 &mut out,
                 &mut err,

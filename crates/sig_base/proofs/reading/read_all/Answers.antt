@@ -1,4 +1,4 @@
-use Rattle.std.proofs.Common.{◌≡◌, ◌+◌, ◌≤◌, ◌++◌, arith, take, length, subst, sym, List, ℕ}
+use Rattle.std.proofs.Common.{◌≡◌, ◌+◌, ◌≤◌, ◌++◌, arith, take, length, subst, sym, ◌∙◌, List, ℕ}
 use Rattle.std.proofs.lemmas.Grind.{common_steps}
 use Rattle.std.proofs.lemmas.List.{take-append-le}
 use Rattle.sig_base.specs.Flow.{Took}
@@ -11,7 +11,7 @@ loop-piece-preserved g c =
     record {
       within = grind (arith, common_steps, c.in-Ok.ensures.within);
       took = subst (λ (xs : List ℕ). Took (g.S.Source.left c.args.source.now) (g.S.Source.left c.read.new.self) xs) (sym e) (Took-more _ _ _ _ _ _ c.loop-piece.invariant.took c.in-Ok.ensures.takes);
-      count = omega (arith, c.in-Ok.ensures.count);
+      count = c.in-Ok.ensures.no_fault ∙ c.loop-piece.invariant.count;
     }
 
 -- the last piece is lost
@@ -23,4 +23,5 @@ returns-then-is_err-clause-read g c =
       take c.in-Ok.n c.read.new.into,
       subst (λ (xs : List ℕ). Took (g.S.Source.left c.args.source.now) (g.S.Source.left c.read.new.self) (xs ++ take c.in-Ok.n c.read.new.into)) (sym kept) took,
       subst (λ (xs : List ℕ). length (xs ++ take c.in-Ok.n c.read.new.into) ≤ c.args.limit + 1) (sym kept) short,
+      c.in-Ok.ensures.no_fault ∙ c.loop-piece.invariant.count,
     )

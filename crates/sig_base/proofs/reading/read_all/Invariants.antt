@@ -1,4 +1,4 @@
-use Rattle.std.proofs.Common.{◌+◌, ◌-◌, ◌≤◌, vec_len}
+use Rattle.std.proofs.Common.{◌+◌, ◌-◌, ◌≤◌, ◌≡◌, vec_len}
 use Rattle.sig_base.specs.Flow.{Took}
 use Rattle.sig_base.proofs.reading.read_all.Given as goal
 
@@ -10,7 +10,7 @@ invariant-loop-piece g l =
     record {
       within : vec_len l.into ≤ l.limit + 1;
       took : Took (left l.fn.source) (left l.source) l.into.items;
-      count : faults l.fn.source ≤ faults l.source;
+      count : faults l.source ≡ faults l.fn.source;
     }
 
 abbrev pub decreases-loop-piece : goal.decreases-loop-piece

@@ -4,7 +4,7 @@ use Rattle.sig_script.specs.Tokens.{text, is_token_in_range}
 use Rattle.sig_script.proofs.SpellingLemmas.{all_whole}
 use Rattle.sig_script.proofs.line.read_tokens.Goals as goal
 
-pub returns-clause-whole : goal.returns-clause-whole
-returns-clause-whole c =
+pub returns-clause-spelled : goal.returns-clause-spelled
+returns-clause-spelled c =
     all_whole c.args.line.now c.in_ok-cut.cut.tokens c.in_ok-cut.ensures.known
     (ap (list_all (λ t. is_token_in_range (text c.args.line.now t) t.kind)) (sym c.as_slice.ensures) ∙ sym c.if-not-all_fit.ensures)

@@ -11,6 +11,6 @@ pub invariant_of-result : goal.invariant_of-result
 invariant_of-result c =
     let entries : c.insert.new.self.entries ≡ insert_entry (λ x y. slice_cmp nat_cmp x.items y.items) c.self.inside.places.entries c.in_ok-key.key (length c.self.inside.labels) =
     c.in_ok-insert.ensures.entries ∙ ap (insert_entry (λ x y. slice_cmp nat_cmp x.items y.items) c.self.inside.places.entries c.in_ok-key.key) c.len.ensures in
-    rw (entries, c.in-Added.ensures)
+    rw (entries, c.in_ok-add.ensures)
     (indexed_more c.self.inside.labels c.args.label c.in_ok-key.key c.self.inside.places.entries (c.in_ok-key.ensures.items ∙ c.bytes.ensures.bytes)
     (ap (position (λ (l : Label). bytes_eq l.name c.args.label.name)) c.self.view_is ∙ c.requires.new) c.self.invariant)

@@ -1,0 +1,60 @@
+-- Elements, one after another.
+use Rattle.std.proofs.Common.{◌≡◌, ℕ, zero, suc, ◌+◌, ◌-◌, ◌<◌, ◌≤◌, List, [], ◌∷◌, ◌++◌, length, get_or, take, drop, Ok, true, false, Bool, refl, sym, ap, subst, ◌∙◌, arith}
+use Rattle.std.proofs.lemmas.List.{take_all}
+use Rattle.sig_script.specs.declared.token.TokenKind.{TokenKind}
+use Rattle.sig_script.specs.declared.token.TokenKind.TheVariants.{Name}
+use Rattle.sig_script.specs.declared.token.Token.{Token}
+use Rattle.sig_script.specs.declared.known.Known.{Known}
+use Rattle.sig_script.specs.Faults.{◌>>=◌}
+use Rattle.sig_script.specs.Tokens.{text, AreWellSpelled}
+use Rattle.sig_script.specs.Signs.{is_comma}
+use Rattle.sig_script.specs.Phrases.{Read, Spelling, behind, elements, closed, phrase_by, phrase_front, phrase_at}
+
+-- tokens, by the first and the rest
+head_and_rest : (ts : List Token) (d : Token) → 1 ≤ length ts → ts ≡ get_or ts 0 d ∷ take (length ts - 1) (drop 1 ts)
+head_and_rest [] d h = absurd (omega arith)
+head_and_rest (t ∷ ts) d h = ap (λ (us : List Token). t ∷ us) (sym (take_all (suc (length ts) - 1) ts (omega arith)))
+
+-- one element, and what is behind it
+pub one_more : {A B : Type 0} (read : ℕ → List Token → Read A) (finish : List A → ℕ → List Token → Read B) (n i left : ℕ) (items : List A) (ts : List Token) (total : Read B) →
+    i < n → elements read finish (n - i) left items ts ≡ total →
+    total ≡ (read left ts >>= λ x. behind (elements read finish (n - (i + 1))) finish x.1 (items ++ x.0 ∷ []) x.2)
+unfolding elements
+one_more read finish n i left items ts total lt so_far =
+    let k : n - i ≡ suc (n - (i + 1)) = omega arith in
+    let one : elements read finish (n - i) left items ts ≡ (read left ts >>= λ x. behind (elements read finish (n - (i + 1))) finish x.1 (items ++ x.0 ∷ []) x.2) = rw k refl in
+    sym so_far ∙ one
+
+-- behind an element and a comma, the elements go on
+pub goes_on : {A B : Type 0} (read : ℕ → List Token → Read A) (finish : List A → ℕ → List Token → Read B) (n i left : ℕ) (items : List A) (ts : List Token)
+    (item : A) (fewer : ℕ) (after : List Token) (d : Token) (total : Read B) → i < n → 1 ≤ length after → is_comma (get_or after 0 d).kind ≡ true → read left ts ≡ Ok (item, fewer, after)
+    → elements read finish (n - i) left items ts ≡ total → elements read finish (n - (i + 1)) fewer (items ++ item ∷ []) (take (length after - 1) (drop 1 after)) ≡ total
+unfolding elements
+goes_on {A} {B} read finish n i left items ts item fewer after d total lt long comma here so_far =
+    let k : n - i ≡ suc (n - (i + 1)) = omega arith in
+    let rest : List Token = take (length after - 1) (drop 1 after) in
+    let found : read left ts ≡ Ok (item, fewer, get_or after 0 d ∷ rest) = here ∙ ap (λ (us : List Token). Ok (item, fewer, us)) (head_and_rest after d long) in
+    let one : elements read finish (n - i) left items ts ≡ elements read finish (n - (i + 1)) fewer (items ++ item ∷ []) rest = rw (k, found, comma) refl in
+    sym one ∙ so_far
+
+less : (n : ℕ) → suc n - 1 ≡ n
+less n = omega arith
+
+-- the token at the front, and the phrase that it begins
+pub phrase_step : {A : Type 0} (s : Spelling A) (known : Known) (line : List ℕ) (depth nodes : ℕ) (ts : List Token) (d : Token) → (depth ≡ 0 → ⊥) → (nodes ≡ 0 → ⊥) → 1 ≤ length ts →
+    phrase_at s known line depth nodes ts ≡ phrase_by s known line (phrase_at s known line (depth - 1)) (get_or ts 0 d).kind (text line (get_or ts 0 d)) (nodes - 1) (take (length ts - 1) (drop 1 ts))
+unfolding phrase_at phrase_front
+phrase_step s known line zero nodes ts d h k long = absurd (h refl)
+phrase_step s known line (suc depth) zero ts d h k long = absurd (k refl)
+phrase_step s known line (suc depth) (suc nodes) [] d h k long = absurd (omega arith)
+phrase_step s known line (suc depth) (suc nodes) (t ∷ ts) d h k long =
+    rw (less depth, less nodes) (ap (λ (us : List Token). phrase_by s known line (phrase_at s known line depth) t.kind (text line t) nodes us) (sym (take_all (suc (length ts) - 1) ts (omega arith))))
+
+-- the token that stands where there is none
+abbrev pub no_token : Token
+no_token = record { kind = Name; start = 0; end = 0 }
+
+-- the tokens behind the first
+pub well_spelled_rest : (line : List ℕ) (ts : List Token) → 1 ≤ length ts → AreWellSpelled line ts → AreWellSpelled line (take (length ts - 1) (drop 1 ts))
+well_spelled_rest line [] long h = absurd (omega arith)
+well_spelled_rest line (t ∷ ts) long h = subst (AreWellSpelled line) (sym (take_all (suc (length ts) - 1) ts (omega arith))) h.1
