@@ -97,6 +97,7 @@ module _ (P : Named → Type 0) where
         other : (b : Bool) (target : ℕ) → P (process target) → IfSome (cond b None (Some (record { 0 = target }))) (λ (p : Pid). P (process p.0))
         other true target h = tt
         other false target h = h
+
         by : (o : Option ℕ) → IfSome o (λ (target : ℕ). OfRef r × P (process target)) → IfSome (other_process watch.owner o) (λ (p : Pid). P (process p.0))
         by None h = tt
         by (Some target) h = other (target == watch.owner) target h.1

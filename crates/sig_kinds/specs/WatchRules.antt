@@ -1,5 +1,5 @@
--- The monitor and alias rules: what the calls, the signals and the messages through aliases do to the monitors and the aliases of
--- one process (Erlang Reference Manual, Processes, Monitors and Process Aliases).
+-- The monitor and alias rules: what the calls, the signals and the messages through aliases do to the monitors and the aliases
+-- of one process (Erlang Reference Manual, Processes, Monitors and Process Aliases).
 use Rattle.std.specs.Prelude.{ℕ, Bool, true, false, not, ◌==◌, if◌then◌else◌, List, [], ◌∷◌, ◌++◌, filter, Option, Some, None}
 use Rattle.std.specs.List.{list_any}
 use Rattle.std.specs.Option.{option_map_or}
@@ -49,8 +49,17 @@ bears borne r = list_any (λ b. same_ref r b.0) borne
 abbrev pub without : List (Ref × ℕ) → Ref → List (Ref × ℕ)
 without borne r = filter (λ b. not (same_ref r b.0)) borne
 
+-- a monitor of this target is held
+abbrev pub monitored : WatchState → Ref → ℕ → WatchState
+monitored watch r target = record watch { held = map.insert watch.held r target }
+
+-- the reference is an alias; where a mode is given; no more
 abbrev pub aliased : WatchState → Ref → AliasMode → WatchState
 aliased watch r mode = record watch { aliases = map.insert watch.aliases r mode }
+
+abbrev pub aliased_by : WatchState → Ref → Option AliasMode → WatchState
+aliased_by watch r None = watch
+aliased_by watch r (Some mode) = aliased watch r mode
 
 abbrev pub unaliased : WatchState → Ref → WatchState
 unaliased watch r = record watch { aliases = map.remove watch.aliases r }
@@ -66,7 +75,8 @@ ends_with_monitor ReplyDemonitor = true
 abbrev pub unmonitored : WatchState → Ref → WatchState
 unmonitored watch r =
     let rest = record watch { held = map.remove watch.held r } in
-    if is_held watch r then (if option_map_or ends_with_monitor (mode_of watch r) false then unaliased rest r else rest) else watch
+    let alias_ends = option_map_or ends_with_monitor (mode_of watch r) false in
+    if is_held watch r then (if alias_ends then unaliased rest r else rest) else watch
 
 -- The process to which a demonitor signal goes: the target, unless that is the owner.
 abbrev pub other_process : ℕ → Option ℕ → Option Pid
@@ -78,11 +88,10 @@ told_of watch r = other_process watch.owner (target_of watch r)
 
 -- Each rule gives the answer, where there is one, and the monitors and aliases after it.
 
--- The call `monitor` (Processes, Monitors; module `erlang`, `monitor/2` and `monitor/3`): the monitor is held, and its reference is
--- an alias where a mode is given. A monitor signal is sent, but to oneself.
+-- The call `monitor` (Processes, Monitors; module `erlang`, `monitor/2` and `monitor/3`): the monitor is held, and its reference
+-- is an alias where a mode is given. A monitor signal is sent, but to oneself.
 abbrev pub monitor : WatchState → Ref → ℕ → Option AliasMode → Bool × WatchState
-monitor watch r target None = (not (target == watch.owner), record watch { held = map.insert watch.held r target })
-monitor watch r target (Some mode) = (not (target == watch.owner), record (aliased watch r mode) { held = map.insert watch.held r target })
+monitor watch r target mode = (not (target == watch.owner), aliased_by (monitored watch r target) r mode)
 
 -- The call `demonitor` (Processes, Monitors; module `erlang`, `demonitor/1`): the monitor ends. The answer is who is told.
 abbrev pub demonitor : WatchState → Ref → Option Pid × WatchState
@@ -92,13 +101,13 @@ demonitor watch r = (told_of watch r, unmonitored watch r)
 abbrev pub alias : WatchState → Ref → Bool → WatchState
 alias watch r reply = aliased watch r (if reply then Reply else Explicit)
 
--- The call `unalias` (Processes, Process Aliases; module `erlang`, `unalias/1`): the alias ends, whatever its mode, and the monitor
--- stays. The answer is whether the alias was active.
+-- The call `unalias` (Processes, Process Aliases; module `erlang`, `unalias/1`): the alias ends, whatever its mode, and the
+-- monitor stays. The answer is whether the alias was active.
 abbrev pub unalias : WatchState → Ref → Bool × WatchState
 unalias watch r = (is_alias watch r, unaliased watch r)
 
--- A message through an alias (Processes, Process Aliases) is kept where the alias is active when the message is handled, and else
--- dropped. By its mode the alias may end with the message, and the monitor with the alias (module `erlang`, `monitor/3`, `alias/1`).
+-- A message through an alias (Processes, Process Aliases) is kept where the alias is active when the message is handled, and
+-- else dropped. By its mode the alias ends with the message, and the monitor with it (module `erlang`, `monitor/3`, `alias/1`).
 abbrev pub by_mode : WatchState → Ref → Option AliasMode → AliasAnswer × WatchState
 by_mode watch r None = (Dropped, watch)
 by_mode watch r (Some Explicit) = (Kept None, watch)
@@ -121,7 +130,7 @@ on_demonitor watch r = (bears watch.borne r, record watch { borne = without watc
 abbrev pub on_down : WatchState → Ref → Bool × WatchState
 on_down watch r = (is_held watch r, unmonitored watch r)
 
--- A process that ends (Processes, Process Termination) holds no monitor, bears none and has no alias. Nothing is sent for those
--- that it held.
+-- A process that ends (Processes, Process Termination) holds no monitor, bears none and has no alias. Nothing is sent for
+-- those that it held.
 abbrev pub watch_ending : WatchState → WatchState
 watch_ending watch = record watch { held = map.empty; borne = []; aliases = map.empty }
