@@ -8,3 +8,4 @@ pub mod FrontReads
 pub mod WholeReads
 pub mod NameLemmas
 pub mod SameTerms
+pub mod ReferenceLemmas

@@ -66,7 +66,7 @@ list_apart (t ∷ ts) (u ∷ us) h =
 pid_apart : (a b : Pid) → a.0 ≡ b.0 → a ≡ b
 pid_apart a b e = let made : ℕ → Pid = λ n. record { 0 = n } in ap made e
 
-ref_apart : (a b : Ref) → a.owner.0 ≡ b.owner.0 → a.serial ≡ b.serial → a ≡ b
+pub ref_apart : (a b : Ref) → a.owner.0 ≡ b.owner.0 → a.serial ≡ b.serial → a ≡ b
 ref_apart a b e f =
     let owned : ℕ → Ref = λ n. record { owner = record { 0 = n }; serial = a.serial } in
     let numbered : ℕ → Ref = λ n. record { owner = b.owner; serial = n } in

@@ -1,0 +1,3 @@
+pub mod Arrivals
+pub mod Tables
+pub mod WatchTable
