@@ -4,6 +4,7 @@ use Rattle.std.specs.Prelude.{◌≡◌, ℕ, ◌+◌, ◌-◌, Bool, false, Lis
 use Rattle.std.specs.Option.{option_map_or}
 use Rattle.std.specs.FinMap.{insert}
 use Rattle.sig_terms.specs.declared.pid.Pid.{Pid}
+use Rattle.sig_terms.specs.declared.reference.Ref.{Ref}
 use Rattle.sig_terms.specs.declared.term.Term.{Term}
 use Rattle.sig_terms.specs.declared.term.Term.TheVariants as term
 use Rattle.sig_kinds.specs.declared.signal.Kind.TheVariants as kind
@@ -34,6 +35,11 @@ with_value s e go = option_map_or go (built s.tables.env e) (ending s system_lim
 abbrev pub with_pid : ProcessState → Term → (Pid → Body) → Body
 with_pid s (term.Pid p) go = go p
 with_pid s _ go = ending s badarg
+
+-- with the reference that the value is; a value that is none ends the process with `badarg`
+abbrev pub with_ref : ProcessState → Term → (Ref → Body) → Body
+with_ref s (term.Ref r) go = go r
+with_ref s _ go = ending s badarg
 
 -- a message to a process
 abbrev pub sending : ProcessState → Term → Pid → Body
