@@ -1,5 +1,5 @@
 -- What holds of every name in the watches of a process, after each of the monitor and alias rules.
-use Rattle.std.proofs.Common.{◌≡◌, ◌==◌, ℕ, Bool, true, false, cond, not, List, [], ◌∷◌, ◌++◌, All, IfSome, Option, Some, None, is_some, refl, sym, ap, subst, ◌∙◌}
+use Rattle.std.proofs.Common.{◌≡◌, ◌==◌, ℕ, Bool, true, false, cond, not, [], ◌∷◌, ◌++◌, All, IfSome, Option, Some, None, is_some, sym, ap, subst, ◌∙◌}
 use Rattle.std.specs.Option.{option_map_or}
 use Rattle.std.specs.Ordering.{eq_by_cmp}
 use Rattle.std.specs.FinMap.{FinMap, empty, get, contains_key, insert, remove, get-empty, get-insert, get-remove}
