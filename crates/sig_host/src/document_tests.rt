@@ -5,7 +5,7 @@ use crate::tests::run_text;
 use std::test::Fail;
 
 /// Each script that a document shows, and the record that it shows for it, as they stand there.
-const EXAMPLES: [(&[u8], &[u8]); 11] = [
+const EXAMPLES: [(&[u8], &[u8]); 14] = [
     (
         br"sigscript 1
 process worker
@@ -258,6 +258,81 @@ state ended boom
     ),
     (
         br"sigscript 1
+process guard
+monitor First @worker
+monitor Gone @dead
+receive
+on {'DOWN',^Gone,process,_,Why}
+end
+demonitor First flush
+process worker
+receive
+on never
+end
+process dead
+",
+        br"sigrecord 1
+process 0 guard
+1 exec 1 set #Ref<0.1>
+2 exec 2 set #Ref<0.2>
+4 from 2 1 kept {'DOWN',#Ref<0.2>,process,<2>,noproc}
+5 exec 3 took 1 1 {'DOWN',#Ref<0.2>,process,<2>,noproc}
+6 exec 4 answered false
+7 exec 5 ended normal
+state ended normal
+process 1 worker
+2 from 0 1 watched
+7 from 0 2 unwatched
+state waiting
+process 2 dead
+1 exec 1 ended normal
+3 from 0 1 noproc
+state ended normal
+",
+    ),
+    (
+        br"sigscript 1
+process client
+monitor Call @server reply_demonitor
+send @server {ask,Call}
+receive
+on {reply,Answer}
+on {'DOWN',^Call,process,_,Why}
+end
+receive
+on Late
+after
+end
+process server
+receive
+on {ask,From}
+end
+send From {reply,yes}
+send From {reply,no}
+",
+        br"sigrecord 1
+process 0 client
+1 exec 1 set #Ref<0.1>
+2 exec 2 sent <1> {ask,#Ref<0.1>}
+6 from 1 1 kept {reply,yes}
+7 exec 3 took 1 1 {reply,yes}
+9 from 1 2 dropped
+10 exec 4 after 0
+11 exec 5 ended normal
+state ended normal
+process 1 server
+2 from 0 1 watched
+3 from 0 2 kept {ask,#Ref<0.1>}
+4 exec 1 took 1 1 {ask,#Ref<0.1>}
+5 exec 2 sent #Ref<0.1> {reply,yes}
+7 from 0 3 unwatched
+8 exec 3 sent #Ref<0.1> {reply,no}
+9 exec 4 ended normal
+state ended normal
+",
+    ),
+    (
+        br"sigscript 1
 process a
 send @b x
 send @b y
@@ -396,6 +471,57 @@ process 5 e
 1 exec 1 set 1
 2 exec 2 done
 state cut
+",
+    ),
+    (
+        br"sigscript 1
+turns 3
+process a
+alias A
+monitor M @d
+send @d A
+process b
+set X 1
+monitor N @a
+demonitor N
+process c
+set X 1
+set X 2
+monitor N @a
+process d
+receive
+on R
+end
+send R late
+",
+        br"sigrecord 1
+process 0 a
+1 exec 1 set #Ref<0.1>
+2 exec 2 set #Ref<0.2>
+3 from 1 1 watched
+4 exec 3 sent <3> #Ref<0.1>
+queued 1 2 3 demonitor #Ref<1.1>
+queued 2 1 3 monitor #Ref<2.1>
+queued 3 1 7 alias #Ref<0.1> late
+queued 3 2 8 down #Ref<0.2> normal
+state cut
+process 1 b
+1 exec 1 set 1
+2 exec 2 set #Ref<1.1>
+3 exec 3 done
+state cut
+process 2 c
+1 exec 1 set 1
+2 exec 2 set 2
+3 exec 3 set #Ref<2.1>
+state cut
+process 3 d
+3 from 0 1 watched
+5 from 0 2 kept #Ref<0.1>
+6 exec 1 took 1 1 #Ref<0.1>
+7 exec 2 sent #Ref<0.1> late
+8 exec 3 ended normal
+state ended normal
 ",
     ),
 ];

@@ -16,3 +16,5 @@ mod exit_tests;
 mod link_tests;
 #[cfg(test)]
 mod tests;
+#[cfg(test)]
+mod watch_tests;

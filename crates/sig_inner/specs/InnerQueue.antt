@@ -1,10 +1,11 @@
 -- The inner queue of a process: the messages that no receive has taken (Erlang Reference Manual, Expressions, Receive;
 -- Processes, Receiving Signals). Arrival numbers and what a scan leaves are this project's own.
-use Rattle.std.specs.Prelude.{◌≡◌, ℕ, ◌+◌, ◌<◌, ◌≤◌, ◌^◌, List, [], ◌∷◌, All, AllPairs, Option, Some, None, option_and_then}
+use Rattle.std.specs.Prelude.{◌≡◌, ℕ, Bool, true, false, ◌+◌, ◌<◌, ◌≤◌, ◌^◌, List, [], ◌∷◌, All, AllPairs, Option, Some, None, option_and_then}
 use Rattle.std.specs.Option.{option_map}
 use Rattle.std.specs.List.{slice_get}
+use Rattle.sig_terms.specs.declared.reference.Ref.{Ref}
 use Rattle.sig_terms.specs.declared.term.Term.{Term}
-use Rattle.sig_patterns.specs.Inbox.{Inbox, no_messages, arrived_in, without_message, emptied_inbox}
+use Rattle.sig_patterns.specs.Inbox.{Inbox, no_messages, arrived_in, without_message, flushed_down, emptied_inbox}
 use Rattle.sig_inner.specs.declared.append.Append.{Append}
 use Rattle.sig_inner.specs.declared.append.Append.TheVariants.{Added, Memory}
 use Rattle.sig_inner.specs.declared.last_scan.LastScan.{LastScan}
@@ -80,6 +81,14 @@ without_found _ q = q
 
 abbrev pub taken : InnerQueue → InnerQueue
 taken q = without_found q.last q
+
+-- the message of a monitored process's end is removed, where there is one; what the last scan left is forgotten then
+abbrev pub flushed_by : InnerQueue → Bool × Inbox → InnerQueue
+flushed_by q (true, inbox) = record q { inbox = inbox; last = last.Gone }
+flushed_by q (false, inbox) = q
+
+abbrev pub flushed : InnerQueue → Ref → InnerQueue
+flushed q r = flushed_by q (flushed_down q.inbox r)
 
 -- The oldest message is taken out with its number, or there is none and the queue is as before.
 abbrev pub IsPopped : InnerQueue → InnerQueue → Option (ℕ × Term) → Type 0

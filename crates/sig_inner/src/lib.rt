@@ -2,6 +2,7 @@
 #![tactic(auto)]
 
 mod append;
+mod flush;
 mod inner;
 mod last_scan;
 mod scan;

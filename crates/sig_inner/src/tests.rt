@@ -10,7 +10,7 @@ use super::*;
 use sig_base::Steps;
 use sig_lists::Sequence;
 use sig_patterns::{Clause, Clauses, Env, Pattern, Var};
-use sig_terms::{Atom, Name, Pid, Term};
+use sig_terms::{Atom, Name, Pid, Ref, Term};
 use std::alloc::Global;
 use std::marker::Brand;
 use std::sync::ledger::{Blank, Ledger};
@@ -55,16 +55,22 @@ fn clauses(alloc: Global, signs: &[u8]) -> Result<Clauses, Fail> {
     Ok(Sequence::from_vec(clauses))
 }
 
-fn append(alloc: Global, queue: &mut Inner, sign: u8) -> Result<(), Fail>
+fn append_term(queue: &mut Inner, term: Term) -> Result<(), Fail>
     ensures { KeepsPassed queue.old.queue queue.new.queue }
 {
     if 1000 <= queue.next_arrival() {
         return Err("too many messages".into());
     }
-    match queue.append(message(alloc, sign)?) {
+    match queue.append(term) {
         Append::Added => Ok(()),
         Append::Memory { message: _ } => Err("no memory".into()),
     }
+}
+
+fn append(alloc: Global, queue: &mut Inner, sign: u8) -> Result<(), Fail>
+    ensures { KeepsPassed queue.old.queue queue.new.queue }
+{
+    append_term(queue, message(alloc, sign)?)
 }
 
 /// A queue with these messages.
@@ -185,6 +191,46 @@ fn resumes_find_new_messages(rt: HostRuntime) -> Result<(), Fail> {
         let got = waited::<Brand>(rt.alloc(), Blank::new(1), messages, signs, news)?;
         assert_eq!(rt; got, answers, "{messages:?}, {signs:?}");
     }
+    Ok(())
+}
+
+/// The message of the end of what the reference of this serial monitors.
+fn down(alloc: Global, serial: u64) -> Result<Term, Fail> {
+    let reference = Ref {
+        owner: Pid(0),
+        serial,
+    };
+    let process = Term::Atom(atom(alloc, b"p")?);
+    let parts = vec![in alloc;
+        Term::Int(0),
+        Term::Ref(reference),
+        process,
+        Term::Pid(Pid(1)),
+        Term::Int(1),
+    ]?;
+    Ok(Term::Tuple(Sequence::from_vec(parts)))
+}
+
+#[test]
+fn a_flush_removes_the_oldest(rt: HostRuntime) -> Result<(), Fail> {
+    let alloc = rt.alloc();
+    let mut queue = Inner::open(alloc, Pid(0))?;
+    for serial in [1, 2, 1] {
+        append_term(&mut queue, down(alloc, serial)?)?;
+    }
+    let first = Ref {
+        owner: Pid(0),
+        serial: 1,
+    };
+    let other = Ref {
+        owner: Pid(1),
+        serial: 1,
+    };
+    assert!(rt; queue.has_down(first) && !queue.has_down(other));
+    assert!(rt; queue.flush_down(first) && !queue.flush_down(other));
+    let left = popped(alloc, &mut queue)?;
+    let expected = b"2{0,#Ref<0.2>,p,<1>,1}3{0,#Ref<0.1>,p,<1>,1}";
+    assert_eq!(rt; left.as_slice(), expected.as_slice());
     Ok(())
 }
 

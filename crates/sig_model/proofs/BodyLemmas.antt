@@ -1,15 +1,17 @@
 -- What holds of every name in a process holds of every name in what an event does, and the event moves the counts no further than
 -- it may: the bodies that executions and handlings share.
-use Rattle.std.proofs.Common.{◌≡◌, ℕ, ◌+◌, ◌≤◌, List, [], ◌∷◌, ◌++◌, length, Bool, true, false, cond, ◌||◌, ◌==◌, is_some, All, Some, None, refl, arith}
+use Rattle.std.proofs.Common.{◌≡◌, ℕ, ◌+◌, ◌≤◌, List, [], ◌∷◌, ◌++◌, length, Bool, true, false, cond, ◌||◌, ◌==◌, is_some, All, Some, None, refl, ap, arith}
 use Rattle.std.specs.Prelude.{nat_eq}
 use Rattle.std.specs.Option.{option_eq}
-use Rattle.std.proofs.lemmas.List.Elements.{All-nil, All-cons, All-push, All-map, All-weaker}
+use Rattle.std.proofs.lemmas.List.Elements.{All-nil, All-cons, All-push, All-append, All-map, All-weaker}
+use Rattle.sig_terms.specs.declared.reference.Ref.{Ref}
 use Rattle.sig_terms.specs.declared.term.Term.{Term}
 use Rattle.sig_terms.specs.declared.term.Term.TheVariants as term
-use Rattle.sig_terms.specs.Names.{Named, process, names_of_ref, AllNames}
+use Rattle.sig_terms.specs.Names.{Named, process, names_of_ref, names_of, AllNames}
 use Rattle.sig_terms.proofs.NameLemmas.{atom_names}
 use Rattle.sig_kinds.specs.declared.signal.Kind.TheVariants as kind
 use Rattle.sig_kinds.specs.LinkRules.{LinkState, is_active, awaited_from, link, unlink, on_link, on_ack, active_after}
+use Rattle.sig_kinds.specs.WatchRules.{WatchState}
 use Rattle.sig_kinds.specs.SignalNames.{names_of_kind, LinkNames}
 use Rattle.sig_kinds.proofs.LinkNameLemmas.{peers_names}
 use Rattle.sig_kinds.proofs.LinkNameLemmas.{ending_names as links_ending_names}
@@ -18,10 +20,10 @@ use Rattle.sig_patterns.specs.Inbox.{Inbox, Mark}
 use Rattle.sig_script.specs.Scripts.{Declared}
 use Rattle.sig_model.specs.declared.event.Outcome.{Outcome}
 use Rattle.sig_model.specs.ProcessState.{ProcessState}
-use Rattle.sig_model.specs.Bodies.{Post, Body, relinked, appending, dropping, exits_to, ending}
+use Rattle.sig_model.specs.Bodies.{Post, Body, relinked, appending, dropping, exits_to, downs_to, ending}
 use Rattle.sig_model.specs.Bounds.{IsBoundedBody, posts_to}
 use Rattle.sig_model.specs.Names.{InboxNames, TableNames, PostNames, BodyNames}
-use Rattle.sig_model.proofs.PostCounts.{one_post_to, peers_told_once}
+use Rattle.sig_model.proofs.PostCounts.{one_post_to, told_within}
 
 -- the ids of unlinks, after each of the link rules
 either_id : {A : Type 0} (n : ℕ) (b : Bool) (x y : A × LinkState) → x.1.next_id ≤ n + 1 → y.1.next_id ≤ n + 1 → (cond b x y).1.next_id ≤ n + 1
@@ -62,6 +64,12 @@ module _ (P : Named → Type 0) where
       All-map (PostNames P) (λ (peer : ℕ). record { to = peer; kind = kind.Exit reason true }) peers
       (All-weaker (λ (peer : ℕ). P (process peer)) (λ (peer : ℕ). PostNames P (record { to = peer; kind = kind.Exit reason true })) (λ peer g. record { to = g; kind = k }) peers h)
 
+  downs : (borne : List (Ref × ℕ)) (reason : Term) → All (λ (b : Ref × ℕ). All P (names_of_ref b.0) × P (process b.1)) borne → AllNames P reason → All (PostNames P) (downs_to borne reason)
+  downs borne reason h k =
+      All-map (PostNames P) (λ (b : Ref × ℕ). record { to = b.1; kind = kind.Down b.0 reason }) borne
+      (All-weaker (λ (b : Ref × ℕ). All P (names_of_ref b.0) × P (process b.1)) (λ (b : Ref × ℕ). PostNames P (record { to = b.1; kind = kind.Down b.0 reason }))
+      (λ b g. record { to = g.1; kind = All-append P (names_of_ref b.0) (names_of reason) g.0 k }) borne h)
+
   pub empty_inbox : (next : ℕ) → InboxNames P (record { messages = []; next_arrival = next; reserve = None; marks = [] })
   empty_inbox next = record { messages = All-nil (λ (m : ℕ × Term). AllNames P m.1); marks = All-nil (λ (m : Mark). All P (names_of_ref m.reference)) }
 
@@ -71,26 +79,28 @@ module _ (P : Named → Type 0) where
     pub bounds : IsBoundedBody p s b
 
   module _ (p : Declared) (s : ProcessState) where
-    -- it leaves the monitors, or gives them up
-    row : (b : Body) → TableNames P b.state.tables → IsAt p b.state.counts.place
-        → b.state.tables.inbox.next_arrival ≤ s.tables.inbox.next_arrival + 1 → b.state.tables.links.next_id ≤ s.tables.links.next_id + 1
-        → length b.state.tables.watch.borne ≤ length s.tables.watch.borne → ArePosts b.posts → IsKeptBody p s b
-    row b tables at arrivals ids borne posts = record {
-      names = record { tables = tables; posts = posts.names };
-      bounds = record {
-        first = at.0;
-        within = at.1;
-        arrivals = arrivals;
-        ids = ids;
-        posts = λ peer. let one : posts_to peer b.posts ≤ 1 = posts.few peer in omega (arith, one, borne);
-      };
+    -- it sends these signals, to each peer at most one more than there are monitors fewer
+    pub row : (b : Body) → TableNames P b.state.tables → IsAt p b.state.counts.place
+        → b.state.tables.inbox.next_arrival ≤ s.tables.inbox.next_arrival + 1 → b.state.tables.links.next_id ≤ s.tables.links.next_id + 1 → b.state.counts.next_serial ≤ s.counts.next_serial + 1
+        → All (PostNames P) b.posts → ((peer : ℕ) → posts_to peer b.posts + length b.state.tables.watch.borne ≤ length s.tables.watch.borne + 1) → IsKeptBody p s b
+    row b tables at arrivals ids serials names few = record {
+      names = record { tables = tables; posts = names };
+      bounds = record { first = at.0; within = at.1; arrivals = arrivals; ids = ids; serials = serials; posts = few };
     }
+
+    -- it sends at most one signal to a peer, and leaves as many monitors borne
+    pub few_row : (b : Body) → TableNames P b.state.tables → IsAt p b.state.counts.place
+        → b.state.tables.inbox.next_arrival ≤ s.tables.inbox.next_arrival + 1 → b.state.tables.links.next_id ≤ s.tables.links.next_id + 1 → b.state.counts.next_serial ≤ s.counts.next_serial + 1
+        → b.state.tables.watch.borne ≡ s.tables.watch.borne → ArePosts b.posts → IsKeptBody p s b
+    few_row b tables at arrivals ids serials borne posts =
+        row b tables at arrivals ids serials posts.names (λ peer. let one : posts_to peer b.posts ≤ 1 = posts.few peer in rw borne (omega (arith, one)))
 
     -- it leaves the arrivals, the links and the monitors
     pub moving : (b : Body) → TableNames P b.state.tables → IsAt p b.state.counts.place
         → b.state.tables.inbox.next_arrival ≡ s.tables.inbox.next_arrival → b.state.tables.links ≡ s.tables.links
-        → b.state.tables.watch ≡ s.tables.watch → ArePosts b.posts → IsKeptBody p s b
-    moving b tables at arrivals links watch posts = row b tables at (omega (arith, arrivals)) (rw links (omega arith)) (rw watch (omega arith)) posts
+        → b.state.tables.watch ≡ s.tables.watch → b.state.counts.next_serial ≡ s.counts.next_serial → ArePosts b.posts → IsKeptBody p s b
+    moving b tables at arrivals links watch serial posts =
+        few_row b tables at (omega (arith, arrivals)) (rw links (omega arith)) (omega (arith, serial)) (ap (λ (w : WatchState). w.borne) watch) posts
 
     module _ (k : TableNames P s.tables) where
       -- it changes the links, and goes on at this place
@@ -98,19 +108,19 @@ module _ (P : Named → Type 0) where
           → links.next_id ≤ s.tables.links.next_id + 1 → ArePosts posts
           → IsKeptBody p s (record { state = record (relinked s links) { counts = record s.counts { place = place } }; outcome = how; posts = posts })
       relinking place links how posts at h ids sent =
-          row _ (record { env = k.env; inbox = k.inbox; links = h; watch = k.watch; end = k.end }) at (omega arith) ids (omega arith) sent
+          few_row _ (record { env = k.env; inbox = k.inbox; links = h; watch = k.watch; end = k.end }) at (omega arith) ids (omega arith) refl sent
 
       module _ (here : IsAt p s.counts.place) where
         pub dropping_kept : IsKeptBody p s (dropping s)
-        dropping_kept = moving (dropping s) k here refl refl refl no_posts
+        dropping_kept = moving (dropping s) k here refl refl refl refl no_posts
 
         pub appending_kept : (message : Term) → AllNames P message → IsKeptBody p s (appending s message)
         appending_kept message h =
             let inbox : Inbox = s.tables.inbox in
             let all : All (λ (m : ℕ × Term). AllNames P m.1) (inbox.messages ++ (inbox.next_arrival, message) ∷ []) =
             All-push (λ (m : ℕ × Term). AllNames P m.1) inbox.messages (inbox.next_arrival, message) k.inbox.messages h in
-            row (appending s message)
-            (record { env = k.env; inbox = record { messages = all; marks = k.inbox.marks }; links = k.links; watch = k.watch; end = k.end }) here (omega arith) (omega arith) (omega arith) no_posts
+            few_row (appending s message)
+            (record { env = k.env; inbox = record { messages = all; marks = k.inbox.marks }; links = k.links; watch = k.watch; end = k.end }) here (omega arith) (omega arith) (omega arith) refl no_posts
 
         pub ending_kept : (reason : Term) → AllNames P reason → IsKeptBody p s (ending s reason)
         ending_kept reason h =
@@ -123,7 +133,8 @@ module _ (P : Named → Type 0) where
               end = h;
             })
             here (omega arith) (omega arith) (omega arith)
-            (record { names = exits (active_after s.tables.links None) reason (peers_names P s.tables.links k.links) h; few = peers_told_once s.tables.links reason })
+            (All-append (PostNames P) _ _ (exits (active_after s.tables.links None) reason (peers_names P s.tables.links k.links) h) (downs s.tables.watch.borne reason k.watch.borne h))
+            (λ peer. omega (arith, told_within s.tables.links s.tables.watch.borne reason peer))
 
         -- the reason is an atom
         pub ending_atom : (a : List ℕ) → IsKeptBody p s (ending s (term.Atom a))

@@ -40,7 +40,7 @@ any_tables t = record {
 module _ (p : Declared) (s : ProcessState) (k : IsBounded p s) where
   -- what the next instruction does, where it can be executed
   pub executing_bounded : IsWithin p → IfSome (executing p s) (IsBoundedBody p s)
-  executing_bounded w = IfSome_then (executing p s) (executing_kept Any p s (any_tables s.tables) k w (λ i d lt j e l m f g. tt)) (λ b h. h.bounds)
+  executing_bounded w = IfSome_then (executing p s) (executing_kept Any p s (any_tables s.tables) tt k w (λ i d lt j e l m f g. tt)) (λ b h. h.bounds)
 
   -- what the process does with a signal
   pub handling_bounded : (pid : ℕ) (x : Signal) → IsBoundedBody p s (handling pid s x)
@@ -54,6 +54,7 @@ module _ (p : Declared) (s : ProcessState) (k : IsBounded p s) where
     within = h.within;
     arrivals = omega (arith, h.arrivals, k.arrivals, later);
     ids = omega (arith, h.ids, k.ids, later);
+    serials = omega (arith, h.serials, k.serials, later);
     numbers = λ peer.
         let grown : slice_index (numbers_after s.counts.next_numbers b.posts) peer ≤ slice_index s.counts.next_numbers peer + posts_to peer b.posts =
         numbers_grow s.counts.next_numbers b.posts peer in
@@ -74,5 +75,6 @@ bounded_opening p pid count = record {
   within = omega arith;
   arrivals = omega arith;
   ids = omega arith;
+  serials = omega arith;
   numbers = λ peer. let one : slice_index (replicate count 1) peer ≤ 1 = ones count peer in omega (arith, one);
 }

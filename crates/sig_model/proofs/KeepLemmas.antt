@@ -119,7 +119,7 @@ module _ (r : Running) where
     did : IsFinished Kept r.pid r.state e.effect
     did =
         act_finished r.turns part r.pid r.state r.own Kept e.effect e.input
-        (executing_kept (IsNameBelow r.count) r.proc r.state k.below.tables k.bounds k.within (script_names r.count r.proc k.below.proc))
+        (executing_kept (IsNameBelow r.count) r.proc r.state k.below.tables tt k.bounds k.within (script_names r.count r.proc k.below.proc))
         (All-weaker Below (λ (x : Signal). Kept (handling r.pid r.state x)) (λ x h. handling_kept (IsNameBelow r.count) r.proc r.state k.below.tables k.bounds r.pid x h) (handled_in e.input) handled) e.can
 
     sent : All Below e.effect.sends

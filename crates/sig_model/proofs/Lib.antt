@@ -4,6 +4,7 @@ pub mod Waiting
 pub mod ValueNames
 pub mod MatchNames
 pub mod BodyLemmas
+pub mod WatchingLemmas
 pub mod ExecutingLemmas
 pub mod HandlingLemmas
 pub mod RunningNames

@@ -1,13 +1,14 @@
 -- What one event does, before its stamp and the numbers of its signals are put in.
-use Rattle.std.specs.Prelude.{ℕ, ◌+◌, List, [], map, true, Option, Some, None, slice_get, codes}
+use Rattle.std.specs.Prelude.{ℕ, ◌+◌, List, [], ◌++◌, map, true, Option, Some, None, slice_get, codes}
 use Rattle.std.specs.Option.{option_map_or}
+use Rattle.sig_terms.specs.declared.reference.Ref.{Ref}
 use Rattle.sig_terms.specs.declared.term.Term.{Term}
 use Rattle.sig_terms.specs.declared.term.Term.TheVariants as term
 use Rattle.sig_kinds.specs.declared.signal.Kind.{Kind}
 use Rattle.sig_kinds.specs.declared.signal.Kind.TheVariants as kind
 use Rattle.sig_kinds.specs.LinkRules.{LinkState, active_after}
 use Rattle.sig_kinds.specs.LinkRules.{ending as links_ending}
-use Rattle.sig_kinds.specs.WatchRules.{watch_ending}
+use Rattle.sig_kinds.specs.WatchRules.{WatchState, watch_ending}
 use Rattle.sig_patterns.specs.Inbox.{arrived_in, emptied_inbox}
 use Rattle.sig_script.specs.declared.label.Label.{Label}
 use Rattle.sig_model.specs.declared.event.Outcome.{Outcome}
@@ -44,6 +45,10 @@ with_tables s tables = record s { tables = tables }
 abbrev pub relinked : ProcessState → LinkState → ProcessState
 relinked s links = with_tables s (record s.tables { links = links })
 
+-- the process with other monitors and aliases
+abbrev pub rewatched : ProcessState → WatchState → ProcessState
+rewatched s watch = with_tables s (record s.tables { watch = watch })
+
 -- the process goes on at this place, and sends nothing
 abbrev pub going_on : ProcessState → ℕ → Outcome → Body
 going_on s place how = record { state = at_place s place; outcome = how; posts = [] }
@@ -64,17 +69,21 @@ dropping s = record { state = s; outcome = outcome.Dropped; posts = [] }
 abbrev pub exits_to : List ℕ → Term → List Post
 exits_to peers reason = map (λ peer. record { to = peer; kind = kind.Exit reason true }) peers
 
+-- a down with this reason, to the watcher of each of these monitors
+abbrev pub downs_to : List (Ref × ℕ) → Term → List Post
+downs_to borne reason = map (λ b. record { to = b.1; kind = kind.Down b.0 reason }) borne
+
 -- what is left at the end: the variables alone
 abbrev pub ended_tables : Tables → Term → Tables
 ended_tables t reason = record t { inbox = emptied_inbox t.inbox; links = links_ending t.links; watch = watch_ending t.watch; end = Some reason }
 
 -- The process ends with this reason (Processes, Process Termination), and the peers of its active links are told, by ascending
--- pid. Its messages, links, monitors, aliases and markers are gone.
+-- pid, and then those who monitor it, in the order of their monitors' arrival. Its messages, links, monitors, aliases and markers are gone.
 abbrev pub ending : ProcessState → Term → Body
 ending s reason = record {
   state = with_tables s (ended_tables s.tables reason);
   outcome = outcome.Ended reason;
-  posts = exits_to (active_after s.tables.links None) reason;
+  posts = exits_to (active_after s.tables.links None) reason ++ downs_to s.tables.watch.borne reason;
 }
 
 -- the atoms that the machine names

@@ -5,7 +5,8 @@ use Rattle.sig_script.specs.Scripts.{Declared}
 use Rattle.sig_model.specs.ProcessState.{ProcessState}
 use Rattle.sig_model.specs.Bodies.{Post, Body}
 
--- No place lies past the one after the last instruction. An event appends at most one message and begins at most one unlink. It
+-- No place lies past the one after the last instruction. An event appends at most one message, begins at
+-- most one unlink and makes at most one reference. It
 -- sends at most one signal to a peer, but for a process that ends, which tells a peer once for each monitor that it bears of it
 -- too: so for each peer the next number and the monitors borne together are at most one above the last stamp.
 pub record IsBounded (p : Declared) (s : ProcessState) : Type 0 where
@@ -13,6 +14,7 @@ pub record IsBounded (p : Declared) (s : ProcessState) : Type 0 where
   pub within : s.counts.place ≤ length p.instrs + 1
   pub arrivals : s.tables.inbox.next_arrival ≤ s.counts.stamp + 1
   pub ids : s.tables.links.next_id ≤ s.counts.stamp + 1
+  pub serials : s.counts.next_serial ≤ s.counts.stamp + 1
   pub numbers : (peer : ℕ) → slice_index s.counts.next_numbers peer + length s.tables.watch.borne ≤ s.counts.stamp + 1
 
 -- how many of the signals to be sent are to this peer
@@ -25,4 +27,5 @@ pub record IsBoundedBody (p : Declared) (s : ProcessState) (b : Body) : Type 0 w
   pub within : b.state.counts.place ≤ length p.instrs + 1
   pub arrivals : b.state.tables.inbox.next_arrival ≤ s.tables.inbox.next_arrival + 1
   pub ids : b.state.tables.links.next_id ≤ s.tables.links.next_id + 1
+  pub serials : b.state.counts.next_serial ≤ s.counts.next_serial + 1
   pub posts : (peer : ℕ) → posts_to peer b.posts + length b.state.tables.watch.borne ≤ length s.tables.watch.borne + 1

@@ -20,8 +20,11 @@ use Rattle.sig_script.specs.declared.instruction.Instr.TheVariants as instr
 use Rattle.sig_script.specs.declared.instruction.After.{After}
 use Rattle.sig_script.specs.Scripts.{Declared}
 use Rattle.sig_model.specs.declared.event.Outcome.TheVariants as outcome
+use Rattle.sig_model.specs.declared.target.Target.{Target}
+use Rattle.sig_model.specs.declared.target.Target.TheVariants as target
 use Rattle.sig_model.specs.ProcessState.{ProcessState}
 use Rattle.sig_model.specs.Bodies.{Post, Body, place_after, at_place, at_next, with_tables, relinked, going_on, ending, normal, badarg, system_limit}
+use Rattle.sig_model.specs.Watching.{making_ref, monitoring, demonitoring, aliasing, unaliasing}
 
 -- the value of the expression, where it is small enough to be built
 abbrev pub built : Environment → Expr → Option Term
@@ -41,12 +44,23 @@ abbrev pub with_ref : ProcessState → Term → (Ref → Body) → Body
 with_ref s (term.Ref r) go = go r
 with_ref s _ go = ending s badarg
 
--- a message to a process
-abbrev pub sending : ProcessState → Term → Pid → Body
-sending s message p = record {
+-- with the process or the alias that the value names; a value that is neither ends the process with `badarg`
+abbrev pub with_target : ProcessState → Term → (Target → Body) → Body
+with_target s (term.Pid p) go = go (target.Process p)
+with_target s (term.Ref r) go = go (target.Alias r)
+with_target s _ go = ending s badarg
+
+-- a message to a process, or through an alias to the process that made it
+abbrev pub sending : ProcessState → Term → Target → Body
+sending s message (target.Process p) = record {
   state = at_next s;
   outcome = outcome.Sent (term.Pid p) message;
   posts = record { to = p.0; kind = kind.Message message } ∷ [];
+}
+sending s message (target.Alias r) = record {
+  state = at_next s;
+  outcome = outcome.Sent (term.Ref r) message;
+  posts = record { to = r.owner.0; kind = kind.AliasMessage r message } ∷ [];
 }
 
 -- the variable gets the value
@@ -126,10 +140,15 @@ receiving p s None start None = None
 -- the instruction at the process's place; the place after the last one is a stop
 abbrev pub exec_body : Declared → ProcessState → Option Instr → Option Body
 exec_body p s None = Some (ending s normal)
-exec_body p s (Some (instr.Send to message)) = Some (with_value s to (λ t. with_value s message (λ m. with_pid s t (sending s m))))
+exec_body p s (Some (instr.Send to message)) = Some (with_value s to (λ t. with_value s message (λ m. with_target s t (sending s m))))
 exec_body p s (Some (instr.Set var value)) = Some (with_value s value (setting s var.0))
+exec_body p s (Some (instr.MakeRef var)) = Some (making_ref s var.0)
 exec_body p s (Some (instr.Link peer)) = Some (with_value s peer (λ t. with_pid s t (linking s)))
 exec_body p s (Some (instr.Unlink peer)) = Some (with_value s peer (λ t. with_pid s t (unlinking s)))
+exec_body p s (Some (instr.Monitor var target mode)) = Some (with_value s target (λ t. with_pid s t (monitoring s var.0 mode)))
+exec_body p s (Some (instr.Demonitor reference flush)) = Some (with_value s reference (λ t. with_ref s t (demonitoring s flush)))
+exec_body p s (Some (instr.Alias var reply)) = Some (aliasing s var.0 reply)
+exec_body p s (Some (instr.Unalias reference)) = Some (with_value s reference (λ t. with_ref s t (unaliasing s)))
 exec_body p s (Some (instr.Exit reason)) = Some (with_value s reason (ending s))
 exec_body p s (Some (instr.ExitTo target reason)) = Some (with_value s target (λ t. with_value s reason (λ r. with_pid s t (sending_exit s r))))
 exec_body p s (Some (instr.Trap on)) = Some (trapping s on)

@@ -1,15 +1,17 @@
 -- Handling one signal: one equation for each cell of the table of handling, a live and an ended receiver for each kind
--- (Erlang Reference Manual, Processes, Signals, Delivery of Signals, Links and Receiving Exit Signals). Monitors and aliases
--- aren't part of the machine yet: no instruction sends their signals, and they have no effect.
+-- (Erlang Reference Manual, Processes, Signals, Delivery of Signals, Links, Receiving Exit Signals,
+-- Monitors and Process Aliases).
 use Rattle.std.specs.Prelude.{ℕ, Bool, true, false, [], ◌∷◌, is_some, if◌then◌else◌}
 use Rattle.sig_kinds.specs.declared.signal.Kind.{Kind}
 use Rattle.sig_kinds.specs.declared.signal.Kind.TheVariants.{Message, AliasMessage, Link, Unlink, UnlinkAck, Monitor, Demonitor, Exit, Down}
 use Rattle.sig_kinds.specs.declared.signal.Signal.{Signal}
 use Rattle.sig_kinds.specs.LinkRules.{LinkState, on_link, on_unlink, on_ack}
+use Rattle.sig_kinds.specs.WatchRules.{on_alias_message, on_monitor, on_demonitor, on_down}
 use Rattle.sig_model.specs.declared.event.Outcome.TheVariants as outcome
 use Rattle.sig_model.specs.ProcessState.{ProcessState}
 use Rattle.sig_model.specs.Bodies.{Body, relinked, appending, dropping, noproc}
 use Rattle.sig_model.specs.ExitRule.{plain_exit, linked_exit}
+use Rattle.sig_model.specs.Watching.{through_alias, watching, unwatching, told_down}
 
 -- by the rule for a link signal; its answer is whether the link is set up
 abbrev pub linking_up : ProcessState → Bool × LinkState → Body
@@ -38,23 +40,24 @@ acknowledging s (awaited, links) = record {
 -- at the live process pid, a signal of this sender
 abbrev pub live_body : ℕ → ProcessState → ℕ → Kind → Body
 live_body pid s sender (Message term) = appending s term
-live_body pid s sender (AliasMessage reference term) = dropping s
+live_body pid s sender (AliasMessage r term) = through_alias s r term (on_alias_message s.tables.watch r)
 live_body pid s sender Link = linking_up s (on_link s.tables.links sender)
 live_body pid s sender (Unlink id) = unlinking_from s sender id (on_unlink s.tables.links sender)
 live_body pid s sender (UnlinkAck id) = acknowledging s (on_ack s.tables.links sender id)
-live_body pid s sender (Monitor reference) = dropping s
-live_body pid s sender (Demonitor reference) = dropping s
+live_body pid s sender (Monitor r) = watching s (on_monitor s.tables.watch r sender)
+live_body pid s sender (Demonitor r) = unwatching s (on_demonitor s.tables.watch r)
 live_body pid s sender (Exit reason true) = linked_exit pid s sender reason
 live_body pid s sender (Exit reason false) = plain_exit pid s sender reason
-live_body pid s sender (Down reference reason) = dropping s
+live_body pid s sender (Down r reason) = told_down s r sender reason (on_down s.tables.watch r)
 
--- there is no such process any more: the sender of a link signal gets an exit signal of the link
-abbrev pub answering_noproc : ProcessState → ℕ → Body
-answering_noproc s sender = record { state = s; outcome = outcome.NoProc; posts = record { to = sender; kind = Exit noproc true } ∷ [] }
+-- there is no such process any more: the sender of a link signal gets an exit signal of the link, and that of a monitor signal a down
+abbrev pub answering_noproc : ProcessState → ℕ → Kind → Body
+answering_noproc s sender answer = record { state = s; outcome = outcome.NoProc; posts = record { to = sender; kind = answer } ∷ [] }
 
 -- at a process that has ended, a signal of this sender
 abbrev pub ended_body : ProcessState → ℕ → Kind → Body
-ended_body s sender Link = answering_noproc s sender
+ended_body s sender Link = answering_noproc s sender (Exit noproc true)
+ended_body s sender (Monitor r) = answering_noproc s sender (Down r noproc)
 ended_body s sender _ = dropping s
 
 -- what the process pid does with this signal

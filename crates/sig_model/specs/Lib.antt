@@ -1,5 +1,6 @@
 pub mod ProcessState
 pub mod Bodies
+pub mod Watching
 pub mod Executing
 pub mod ExitRule
 pub mod Handling

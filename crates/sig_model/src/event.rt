@@ -25,6 +25,10 @@ pub enum Outcome {
     },
     /// The instruction has no result.
     Done,
+    /// The answer of the instruction.
+    Answered {
+        value: bool,
+    },
     /// A receive took the message.
     Took {
         /// The number of the clause that took it, from 1.
@@ -55,7 +59,11 @@ pub enum Outcome {
     Unlinked,
     /// An acknowledgement had the awaited id.
     Acked,
-    /// The process has ended, and the sender of a link signal was told so.
+    /// A monitor signal came: the process bears its monitor.
+    Watched,
+    /// A demonitor signal ended a monitor that the process bore.
+    Unwatched,
+    /// The process has ended, and the sender of a link or a monitor signal was told so.
     NoProc,
 }
 

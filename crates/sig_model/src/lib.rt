@@ -8,6 +8,7 @@ mod receives;
 mod settled;
 mod stamps;
 mod state;
+mod target;
 
 pub use event::{Did, Event, Events, Outcome};
 pub use numbers::signals_are_numbered;
@@ -15,3 +16,4 @@ pub use receives::only_a_receive_waits;
 pub use settled::one_worker_run_is_settled;
 pub use stamps::stamps_are_kept;
 pub use state::{LAST_STAMP, State};
+pub use target::Target;

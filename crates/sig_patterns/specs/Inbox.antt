@@ -1,10 +1,13 @@
 -- The messages of one process, and where a receive starts to look at them (Erlang Reference Manual, Expressions, Receive;
 -- Processes, Receiving Signals). Arrival numbers are this project's own. Marks are the runtime's way to skip the messages
 -- that are older than a reference.
-use Rattle.std.specs.Prelude.{ℕ, ◌+◌, List, [], ◌∷◌, ◌++◌, map, remove, nat_lt, Option, None, option_and_then}
+use Rattle.std.specs.Prelude.{ℕ, ◌+◌, Bool, true, false, List, [], ◌∷◌, ◌++◌, map, remove, position, nat_lt, Option, None, option_and_then}
 use Rattle.std.specs.List.{find, count_by}
 use Rattle.std.specs.Option.{option_map_or}
-use Rattle.sig_terms.specs.declared.term.Term.{Term}
+use Rattle.sig_terms.specs.declared.term.Term.{Term, out-Term}
+use Rattle.sig_terms.specs.declared.term.Term.TheOpen.{Term-F}
+use Rattle.sig_terms.specs.declared.term.Term.TheOpen as layer
+use Rattle.sig_terms.specs.declared.term.Term.TheVariants as term
 use Rattle.sig_terms.specs.declared.reference.Ref.{Ref}
 use Rattle.sig_terms.specs.Nodes.{same_ref}
 
@@ -37,6 +40,27 @@ arrived_in inbox message = record inbox { messages = inbox.messages ++ (inbox.ne
 -- without the message at a place
 abbrev pub without_message : Inbox → ℕ → Inbox
 without_message inbox at = record inbox { messages = remove inbox.messages at }
+
+-- whether a message tells of the end of what the reference monitors: a tuple of five whose second element is the reference
+-- (module `erlang`, `demonitor/2`)
+abbrev pub is_second_of_five : Ref → List Term → Bool
+is_second_of_five r (a ∷ term.Ref q ∷ b ∷ c ∷ d ∷ []) = same_ref q r
+is_second_of_five r _ = false
+
+abbrev pub is_down_by : Ref → Term-F Term → Bool
+is_down_by r (layer.Tuple elements) = is_second_of_five r elements
+is_down_by r _ = false
+
+abbrev pub is_down : Ref → Term → Bool
+is_down r t = is_down_by r (out-Term t)
+
+-- where the oldest such message is
+abbrev pub down_place : Inbox → Ref → Option ℕ
+down_place inbox r = position (λ m. is_down r m.1) inbox.messages
+
+-- The oldest such message is removed (module `erlang`, `demonitor/2`, `flush`). The answer is whether there was one.
+abbrev pub flushed_down : Inbox → Ref → Bool × Inbox
+flushed_down inbox r = option_map_or (λ at. (true, without_message inbox at)) (down_place inbox r) (false, inbox)
 
 -- no message, no reserve and no mark; the next arrival number stays
 abbrev pub emptied_inbox : Inbox → Inbox

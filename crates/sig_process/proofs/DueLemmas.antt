@@ -1,5 +1,5 @@
 -- What a planned event needs so that it may happen.
-use Rattle.std.proofs.Common.{◌≡◌, ℕ, ◌+◌, ◌-◌, ◌<◌, ◌≤◌, ◌^◌, List, map, Option, Some, refl, ap, ◌∙◌, subst, arith}
+use Rattle.std.proofs.Common.{◌≡◌, ℕ, ◌+◌, ◌-◌, ◌<◌, ◌≤◌, ◌^◌, List, length, map, Option, Some, refl, ap, ◌∙◌, subst, arith}
 use Rattle.std.specs.Prelude.{IfSome, slice_get}
 use Rattle.std.specs.Option.{option_map}
 use Rattle.sig_kinds.specs.declared.signal.Signal.{Signal}
@@ -25,8 +25,8 @@ use Rattle.sig_process.specs.Executions.{IsExecDue, IsHandleDue}
 low : LAST_STAMP + 1 < 2 ^ 63
 low = omega arith
 
--- at most one signal is sent to each peer
-pub committable : (proc : Declared) (p : Progress) (posts : List Outgoing) → IsBounded proc (state_of p) → p.counts.stamp < LAST_STAMP → ((peer : ℕ) → posts_to peer (map post_of posts) ≤ 1) →
+-- to each peer at most one signal more is sent than monitors are borne
+pub committable : (proc : Declared) (p : Progress) (posts : List Outgoing) → IsBounded proc (state_of p) → p.counts.stamp < LAST_STAMP → ((peer : ℕ) → posts_to peer (map post_of posts) ≤ length p.tables.watch.watch.borne + 1) →
     IsCommittable posts p
 committable proc p posts k lt few = record {
   stamp = lt;
@@ -34,6 +34,10 @@ committable proc p posts k lt few = record {
   ids = omega (arith, k.ids, lt, low);
   numbers = λ peer. omega (arith, k.numbers peer, few peer, lt, low);
 }
+
+-- the next serial is far below its end
+pub serials_left : (proc : Declared) (p : Progress) → IsBounded proc (state_of p) → p.counts.stamp < LAST_STAMP → p.counts.next_serial < 2 ^ 63
+serials_left proc p k lt = omega (arith, k.serials, lt, low)
 
 -- the next instruction
 module _ (proc : Declared) (p : Progress) where

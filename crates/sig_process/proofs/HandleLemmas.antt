@@ -25,11 +25,15 @@ use Rattle.sig_process.specs.Soundness.{HasPassedAt}
 module _ (q : InnerQueue) (within : passed q.last ≤ length q.inbox.messages) where
   changed_owner : (c : Change) → (queue_after q c).owner ≡ q.owner
   changed_owner (change.Append message) = refl
+  changed_owner (change.ThroughAlias reference message) = refl
+  changed_owner (change.ToldDown reference message) = refl
   changed_owner (change.End reason) = refl
   changed_owner _ = refl
 
   changed_passes : (c : Change) (clauses : List Clause) (env : Environment) → HasPassed q clauses env → HasPassed (queue_after q c) clauses env
   changed_passes (change.Append message) clauses env k = passed_appended clauses env q message within k
+  changed_passes (change.ThroughAlias reference message) clauses env k = passed_appended clauses env q message within k
+  changed_passes (change.ToldDown reference message) clauses env k = passed_appended clauses env q message within k
   changed_passes (change.End reason) clauses env k = passed_unsaved clauses env (emptied q) refl
   changed_passes _ clauses env k = k
 
@@ -44,6 +48,8 @@ module _ (q : InnerQueue) (within : passed q.last ≤ length q.inbox.messages) w
   changed_place : (s : ProcessState) (c : Change) → (IsSome s.tables.end → passed q.last ≡ 0) →
       passed (queue_after q c).last ≡ (if is_some (changed s c).tables.end then 0 else passed q.last)
   changed_place s (change.Append message) ended = kept s.tables.end (passed (appended q message).last) (passed_append q.last) ended
+  changed_place s (change.ThroughAlias reference message) ended = kept s.tables.end (passed (appended q message).last) (passed_append q.last) ended
+  changed_place s (change.ToldDown reference message) ended = kept s.tables.end (passed (appended q message).last) (passed_append q.last) ended
   changed_place s (change.End reason) ended = refl
   changed_place s _ ended = kept s.tables.end (passed q.last) refl ended
 

@@ -4,7 +4,7 @@ use Rattle.std.specs.Prelude.{Result, Ok, Err}
 use Rattle.sig_model.specs.ProcessState.{ProcessState}
 use Rattle.sig_model.specs.Bodies.{Body}
 use Rattle.sig_process.specs.declared.values.ValueFault.{ValueFault}
-use Rattle.sig_process.specs.declared.values.ValueFault.TheVariants.{TooLarge, NoPid, Memory}
+use Rattle.sig_process.specs.declared.values.ValueFault.TheVariants.{TooLarge, BadArg, Memory}
 use Rattle.sig_process.specs.Planning.{IsRefused, IsUsed}
 
 module _ {A B : Type 0} (s : ProcessState) (first : (A → Body) → Body) (then : A → (B → Body) → Body) where
@@ -12,7 +12,7 @@ module _ {A B : Type 0} (s : ProcessState) (first : (A → Body) → Body) (then
   pub used_for : (a : A) (r : Result B ValueFault) → IsUsed s first (Ok a) → IsUsed s (then a) r → IsUsed s (λ go. first (λ x. then x go)) r
   used_for a (Ok b) is next = λ go. is (λ x. then x go) ∙ next go
   used_for a (Err TooLarge) is next = λ go. ap Some (is (λ x. then x go)) ∙ next go
-  used_for a (Err NoPid) is next = λ go. ap Some (is (λ x. then x go)) ∙ next go
+  used_for a (Err BadArg) is next = λ go. ap Some (is (λ x. then x go)) ∙ next go
   used_for a (Err Memory) is next = λ go. tt
 
 -- what is refused stays refused where it is written otherwise

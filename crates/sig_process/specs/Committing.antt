@@ -16,7 +16,7 @@ use Rattle.sig_model.specs.Bounds.{posts_to}
 use Rattle.sig_model.specs.Finishing.{numbers_after}
 use Rattle.sig_model.specs.Running.{to_itself, to_others, next_of}
 use Rattle.sig_process.specs.declared.changing.Change.{Change}
-use Rattle.sig_process.specs.declared.changing.Change.TheVariants.{Append, End}
+use Rattle.sig_process.specs.declared.changing.Change.TheVariants.{Append, ThroughAlias, ToldDown, End}
 use Rattle.sig_process.specs.declared.plan.Outgoing.{Outgoing}
 use Rattle.sig_process.specs.declared.progress.Progress.{Progress}
 use Rattle.sig_process.specs.Plans.{post_of}
@@ -28,6 +28,7 @@ pub record HasRoom (posts : ℕ) (p : Progress) : Type 0 where
   pub outbox : posts ≤ p.outbox.spare
   pub inner : 0 < p.tables.inner.spare
   pub links : 0 < p.tables.links.spare
+  pub watch : 0 < p.tables.watch.spare
 
 -- no count of the process is at its end, nor will be after it has sent these
 pub record IsCommittable (posts : List Outgoing) (p : Progress) : Type 0 where
@@ -39,6 +40,8 @@ pub record IsCommittable (posts : List Outgoing) (p : Progress) : Type 0 where
 -- the inner queue after a change
 abbrev pub queue_after : InnerQueue → Change → InnerQueue
 queue_after q (Append message) = appended q message
+queue_after q (ThroughAlias reference message) = appended q message
+queue_after q (ToldDown reference message) = appended q message
 queue_after q (End reason) = emptied q
 queue_after q _ = q
 
@@ -85,9 +88,9 @@ pub record HasBegun (posts : ℕ) (before after : Progress) (e : Event) : Type 0
   pub taken_in : after.taken_in.items ≡ before.taken_in.items
   pub outbox : after.outbox.items ≡ before.outbox.items
 
--- the state with this stamp, after these were numbered
-abbrev pub gone_on : ProcessState → ℕ → List Post → ProcessState
-gone_on s stamp posts = record s { counts = record s.counts { stamp = stamp; next_numbers = numbers_after s.counts.next_numbers posts } }
+-- the state with this stamp, after these were numbered from these numbers on
+abbrev pub gone_on : ProcessState → ℕ → List ℕ → List Post → ProcessState
+gone_on s stamp numbers posts = record s { counts = record s.counts { stamp = stamp; next_numbers = numbers_after numbers posts } }
 
 -- the variables of the pattern, bound to the parts of the message of the last scan
 abbrev pub env_found : Pattern → Progress → Option Environment

@@ -1,18 +1,22 @@
 -- What a plan does to the state of a process.
-use Rattle.std.specs.Prelude.{ℕ, map, Option, Some, None}
+use Rattle.std.specs.Prelude.{ℕ, ◌+◌, map, Option, Some, None}
 use Rattle.std.specs.FinMap.{insert}
 use Rattle.sig_terms.specs.declared.pid.Pid.{Pid}
+use Rattle.sig_terms.specs.declared.reference.Ref.{Ref}
 use Rattle.sig_terms.specs.declared.term.Term.{Term}
-use Rattle.sig_patterns.specs.declared.var.Var.{Var}
+use Rattle.sig_terms.specs.declared.term.Term.TheVariants as term
 use Rattle.sig_patterns.specs.Environment.{Environment}
 use Rattle.sig_kinds.specs.LinkRules.{link, unlink, on_link, on_unlink, on_ack, deactivated}
-use Rattle.sig_patterns.specs.Inbox.{arrived_in}
+use Rattle.sig_kinds.specs.WatchRules.{monitor, demonitor, alias, unalias, on_alias_message, on_monitor, on_demonitor, on_down}
+use Rattle.sig_patterns.specs.Inbox.{Inbox, arrived_in, flushed_down}
 use Rattle.sig_model.specs.ProcessState.{ProcessState}
-use Rattle.sig_model.specs.Bodies.{Post, Body, at_place, with_tables, relinked, ended_tables}
+use Rattle.sig_model.specs.Bodies.{Post, Body, at_place, with_tables, relinked, rewatched, ended_tables}
 use Rattle.sig_process.specs.declared.plan.Outgoing.{Outgoing}
 use Rattle.sig_process.specs.declared.changing.Change.{Change}
-use Rattle.sig_process.specs.declared.changing.Change.TheVariants.{Nothing, Link, Unlink, Trap, Append, LinkUp, UnlinkBy, Acknowledge, End}
+use Rattle.sig_process.specs.declared.changing.Change.TheVariants.{Nothing, Link, Unlink, Trap, Append, LinkUp, UnlinkBy, Acknowledge, Monitor, Demonitor, Alias, Unalias, Watched, Unwatched, ThroughAlias, ToldDown, End}
 use Rattle.sig_process.specs.declared.plan.Plan.{Plan}
+use Rattle.sig_process.specs.declared.plan.Binding.{Binding}
+use Rattle.sig_process.specs.declared.plan.Binding.TheVariants as binding
 use Rattle.sig_process.specs.declared.plan.Execution.{Execution}
 
 -- one equation for each change
@@ -25,6 +29,15 @@ changed s (Append message) = with_tables s (record s.tables { inbox = arrived_in
 changed s (LinkUp peer) = relinked s (on_link s.tables.links peer.0).1
 changed s (UnlinkBy peer) = relinked s (on_unlink s.tables.links peer.0).1
 changed s (Acknowledge peer id) = relinked s (on_ack s.tables.links peer.0 id).1
+changed s (Monitor reference target mode) = rewatched s (monitor s.tables.watch reference target.0 mode).1
+changed s (Demonitor reference) = rewatched s (demonitor s.tables.watch reference).1
+changed s (Alias reference reply) = rewatched s (alias s.tables.watch reference reply)
+changed s (Unalias reference) = rewatched s (unalias s.tables.watch reference).1
+changed s (Watched reference watcher) = rewatched s (on_monitor s.tables.watch reference watcher.0)
+changed s (Unwatched reference) = rewatched s (on_demonitor s.tables.watch reference).1
+changed s (ThroughAlias reference message) =
+    with_tables s (record s.tables { inbox = arrived_in s.tables.inbox message; watch = (on_alias_message s.tables.watch reference).1 })
+changed s (ToldDown reference message) = with_tables s (record s.tables { inbox = arrived_in s.tables.inbox message; watch = (on_down s.tables.watch reference).1 })
 changed s (End reason) = with_tables s (ended_tables s.tables reason)
 
 -- the link of an exit signal that is obeyed ends first
@@ -39,18 +52,31 @@ post_of o = record { to = o.to.0; kind = o.kind }
 abbrev pub body_of : ProcessState → Plan → Body
 body_of s plan = record { state = changed (after_obeying s plan.obeyed) plan.change; outcome = plan.outcome; posts = map post_of plan.posts.items }
 
--- the variables, after one of them got a value
-abbrev pub bound_by : Environment → Option (Var × Term) → Environment
-bound_by env None = env
-bound_by env (Some (var, value)) = insert env var.0 value
+-- the variables, after one of them got a value, and the next serial
+abbrev pub bound_by : Environment → Binding → Environment
+bound_by env binding.Nothing = env
+bound_by env (binding.Value var value) = insert env var.0 value
+bound_by env (binding.Made var reference) = insert env var.0 (term.Ref reference)
 
-abbrev pub bound : ProcessState → Option (Var × Term) → ProcessState
-bound s binding = with_tables s (record s.tables { env = bound_by s.tables.env binding })
+abbrev pub serial_by : ℕ → Binding → ℕ
+serial_by serial (binding.Made var reference) = serial + 1
+serial_by serial _ = serial
+
+abbrev pub bound : ProcessState → Binding → ProcessState
+bound s b = record s { tables = record s.tables { env = bound_by s.tables.env b }; counts = record s.counts { next_serial = serial_by s.counts.next_serial b } }
 
 -- the same, after which the process goes on at this place
 abbrev pub placed : Body → ℕ → Body
 placed b place = record b { state = at_place b.state place }
 
+-- the messages, without that of a monitor's end
+abbrev pub inbox_by : Inbox → Option Ref → Inbox
+inbox_by inbox None = inbox
+inbox_by inbox (Some reference) = (flushed_down inbox reference).1
+
+abbrev pub flushed : Body → Option Ref → Body
+flushed b flush = record b { state = with_tables b.state (record b.state.tables { inbox = inbox_by b.state.tables.inbox flush }) }
+
 -- what the execution does
 abbrev pub executed_body : ProcessState → Execution → Body
-executed_body s x = placed (body_of (bound s x.binding) x.plan) x.place
+executed_body s x = placed (flushed (body_of (bound s x.binding) x.plan) x.flush) x.place

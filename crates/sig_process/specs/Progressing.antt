@@ -1,7 +1,6 @@
 -- What the fields of a process mean.
 use Rattle.std.specs.Prelude.{◌≡◌, ℕ, ◌++◌, [], ◌∷◌}
 use Rattle.sig_kinds.specs.declared.signal.Signal.{Signal}
-use Rattle.sig_kinds.specs.WatchRules.{unwatched}
 use Rattle.sig_script.specs.Scripts.{Declared}
 use Rattle.sig_runs.specs.Rules.{Effect}
 use Rattle.sig_model.specs.declared.event.Event.{Event}
@@ -18,7 +17,7 @@ state_of p = record {
     env = p.tables.env;
     inbox = p.tables.inner.queue.inbox;
     links = p.tables.links.links;
-    watch = unwatched p.tables.links.links.owner;
+    watch = p.tables.watch.watch;
     end = p.tables.end;
   };
   traps = p.traps;
@@ -26,7 +25,7 @@ state_of p = record {
     place = p.counts.place;
     executed = p.counts.executed;
     stamp = p.counts.stamp;
-    next_serial = 1;
+    next_serial = p.counts.next_serial;
     next_numbers = p.counts.next_numbers.items;
   };
 }

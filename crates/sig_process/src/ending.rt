@@ -1,16 +1,16 @@
-ghost use Rattle.std.specs.Prelude.{◌≡◌, true, None, IfOk, map};
+ghost use Rattle.std.specs.Prelude.{◌≡◌, ◌++◌, true, None, IfOk, map};
 ghost use Rattle.sig_terms.specs.Words.{is_atom};
 ghost use Rattle.sig_kinds.specs.LinkRules.{active_after};
-ghost use Rattle.sig_model.specs.Bodies.{exits_to, ending};
+ghost use Rattle.sig_model.specs.Bodies.{exits_to, downs_to, ending};
 ghost use Rattle.sig_process.specs.Plans.{after_obeying, post_of, body_of, executed_body};
 ghost use Rattle.sig_process.specs.Progressing.{state_of};
 
 use crate::changing::Change;
-use crate::plan::{Execution, Outgoing, Plan};
+use crate::plan::{Binding, Execution, Outgoing, Plan};
 use crate::progress::Progress;
 use sig_kinds::Kind;
 use sig_model::Outcome;
-use sig_terms::{Pid, Term};
+use sig_terms::{Pid, Ref, Term};
 use std::alloc::{AllocError, Global};
 
 /// An exit signal of a link, with a copy of the reason.
@@ -23,6 +23,22 @@ fn exit_to(alloc: Global, peer: Pid, reason: &Term) -> Result<Outgoing, AllocErr
         linked: true,
     };
     Ok(Outgoing { to: peer, kind })
+}
+
+/// A down of the monitor of this reference, with a copy of the reason.
+fn down_to(
+    alloc: Global,
+    watcher: Pid,
+    reference: Ref,
+    reason: &Term,
+) -> Result<Outgoing, AllocError>
+    ensures { IfOk result (λ down. down ≡ record { to = watcher; kind = Kind.Down reference reason.now }) }
+{
+    let reason = reason.copy(alloc)?;
+    Ok(Outgoing {
+        to: watcher,
+        kind: Kind::Down { reference, reason },
+    })
 }
 
 impl Progress {
@@ -43,12 +59,27 @@ impl Progress {
         Ok(exits)
     }
 
-    /// The process ends with the reason, and tells it the peers of its active links. (Erlang
-    /// Reference Manual, Processes, Process Termination.)
+    /// Behind these signals, a down to each process that monitors this one, in the order of their
+    /// monitors' arrival.
+    fn downs(&self, before: Vec<Outgoing>, reason: &Term) -> Result<Vec<Outgoing>, AllocError>
+        ensures { IfOk result (λ posts. map post_of posts.items ≡ map post_of before.items ++ downs_to self.now.tables.watch.watch.borne reason.now) }
+    {
+        let mut posts = before;
+        let borne = self.tables.watch.all_borne(self.alloc)?;
+        for monitor in borne {
+            let down = down_to(self.alloc, monitor.1, monitor.0, reason)?;
+            posts.push(down)?;
+        }
+        Ok(posts)
+    }
+
+    /// The process ends with the reason, and tells it the peers of its active links, and then those
+    /// who monitor it. (Erlang Reference Manual, Processes, Process Termination.)
     pub(crate) fn ending(&self, obeyed: Option<Pid>, reason: Term) -> Result<Plan, AllocError>
         ensures { IfOk result (λ plan. ending (after_obeying (state_of self.now) obeyed) reason ≡ body_of (state_of self.now) plan) }
     {
-        let posts = self.exits(obeyed, &reason)?;
+        let exits = self.exits(obeyed, &reason)?;
+        let posts = self.downs(exits, &reason)?;
         let told = reason.copy(self.alloc)?;
         Ok(Plan {
             obeyed,
@@ -65,7 +96,8 @@ impl Progress {
     {
         let plan = self.ending(None, reason)?;
         Ok(Execution {
-            binding: None,
+            binding: Binding::Nothing,
+            flush: None,
             place: self.counts.place,
             plan,
         })

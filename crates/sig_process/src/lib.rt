@@ -16,8 +16,10 @@ mod progress;
 mod queues;
 mod reacting;
 mod receiving;
+mod told;
 mod values;
 mod waiting;
+mod watching;
 
 pub use crew::Crew;
 pub use executing::Exec;

@@ -2,7 +2,7 @@ use crate::changing::Change;
 use sig_kinds::Kind;
 use sig_model::Outcome;
 use sig_patterns::Var;
-use sig_terms::{Pid, Term};
+use sig_terms::{Pid, Ref, Term};
 
 /// A signal that an event sends, before it has its stamp and number.
 #[derive(Drop)]
@@ -26,12 +26,25 @@ pub(crate) struct Plan {
     pub posts: Vec<Outgoing>,
 }
 
-/// What the execution of an instruction will do: a handling binds no variable, and leaves the process at
-/// its place.
+/// The variable that an instruction gives a value.
+#[derive(Drop)]
+pub(crate) enum Binding {
+    /// None.
+    Nothing,
+    /// It gets this value.
+    Value { var: Var, value: Term },
+    /// It gets a new reference, whose serial is used up then.
+    Made { var: Var, reference: Ref },
+}
+
+/// What the execution of an instruction will do: a handling binds no variable, flushes nothing, and
+/// leaves the process at its place.
 #[derive(Drop)]
 pub(crate) struct Execution {
     /// The variable that gets a value.
-    pub binding: Option<(Var, Term)>,
+    pub binding: Binding,
+    /// The reference whose message of a monitor's end is removed last.
+    pub flush: Option<Ref>,
     /// Where the process goes on.
     pub place: u32,
     /// All else.

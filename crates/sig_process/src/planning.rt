@@ -7,11 +7,11 @@ ghost use Rattle.sig_process.specs.Plans.{changed, body_of, executed_body};
 ghost use Rattle.sig_process.specs.Progressing.{state_of};
 
 use crate::changing::Change;
-use crate::plan::{Execution, Outgoing, Plan};
+use crate::plan::{Binding, Execution, Outgoing, Plan};
 use crate::progress::Progress;
 use crate::values::ValueFault;
 use sig_kinds::Kind;
-use sig_model::Outcome;
+use sig_model::{Outcome, Target};
 use sig_patterns::Var;
 use sig_script::{Instr, Proc};
 use sig_terms::{Pid, Term};
@@ -58,27 +58,38 @@ impl Progress {
     /// The plan of an instruction that goes on at the label of the target, or at the next place.
     pub(crate) fn going(&self, proc: &Proc, target: Option<u32>, plan: Plan) -> Execution
         requires { self.now.counts.place ≤ length proc.now.instrs }
-        ensures { result ≡ record { binding = None; place = place_after proc.now.labels target self.now.counts.place; plan = plan } }
+        ensures { result ≡ record { binding = Binding.Nothing; flush = None; place = place_after proc.now.labels target self.now.counts.place; plan = plan } }
     {
         Execution {
-            binding: None,
+            binding: Binding::Nothing,
+            flush: None,
             place: self.place_after(proc, target),
             plan,
         }
     }
 
-    /// A message to a process.
-    fn plan_send(&self, proc: &Proc, to: Pid, message: Term) -> Result<Execution, AllocError>
+    /// A message to a process, or through an alias to the process that made it.
+    fn plan_send(&self, proc: &Proc, to: Target, message: Term) -> Result<Execution, AllocError>
         requires { self.now.counts.place ≤ length proc.now.instrs }
         ensures { IfOk result (λ x. sending (state_of self.now) message to ≡ executed_body (state_of self.now) x) }
     {
-        let outcome = Outcome::Sent {
-            to: Term::Pid(to),
-            message: message.copy(self.alloc)?,
+        let told = message.copy(self.alloc)?;
+        let (receiver, named, kind) = match to {
+            Target::Process(pid) => (pid, Term::Pid(pid), Kind::Message { term: message }),
+            Target::Alias(reference) => {
+                let kind = Kind::AliasMessage {
+                    reference,
+                    term: message,
+                };
+                (reference.owner, Term::Ref(reference), kind)
+            }
         };
-        let kind = Kind::Message { term: message };
+        let outcome = Outcome::Sent {
+            to: named,
+            message: told,
+        };
         let plan = self.silent(Change::Nothing, outcome);
-        let plan = plan.sending(self.alloc, to, kind)?;
+        let plan = plan.sending(self.alloc, receiver, kind)?;
         Ok(self.going(proc, None, plan))
     }
 
@@ -93,7 +104,7 @@ impl Progress {
         let var = var.copy(self.alloc)?;
         let plan = self.silent(Change::Nothing, outcome);
         Ok(Execution {
-            binding: Some((var, value)),
+            binding: Binding::Value { var, value },
             ..self.going(proc, None, plan)
         })
     }
@@ -165,13 +176,15 @@ impl Progress {
     {
         match instr {
             Instr::Send { to, message } => {
-                let (to, message) = self.target_and_value_of(to, message)?;
+                let (to, message) = self.values_of(to, message)?;
+                let to = self.address_of(to)?;
                 Ok(self.plan_send(proc, to, message)?)
             }
             Instr::Set { var, value } => {
                 let value = self.value_of(value)?;
                 Ok(self.plan_set(proc, var, value)?)
             }
+            Instr::MakeRef { var } => Ok(self.plan_make_ref(proc, var)?),
             Instr::Receive {
                 clauses: _,
                 after: _,
@@ -184,12 +197,26 @@ impl Progress {
                 let peer = self.target_of(peer)?;
                 Ok(self.plan_unlink(proc, peer)?)
             }
+            Instr::Monitor { var, target, mode } => {
+                let target = self.target_of(target)?;
+                Ok(self.plan_monitor(proc, var, target, *mode)?)
+            }
+            Instr::Demonitor { reference, flush } => {
+                let reference = self.reference_of(reference)?;
+                Ok(self.plan_demonitor(proc, reference, *flush)?)
+            }
+            Instr::Alias { var, reply } => Ok(self.plan_alias(proc, var, *reply)?),
+            Instr::Unalias { reference } => {
+                let reference = self.reference_of(reference)?;
+                Ok(self.plan_unalias(proc, reference))
+            }
             Instr::Exit { reason } => {
                 let reason = self.value_of(reason)?;
                 Ok(self.exiting(reason)?)
             }
             Instr::ExitTo { target, reason } => {
-                let (target, reason) = self.target_and_value_of(target, reason)?;
+                let (target, reason) = self.values_of(target, reason)?;
+                let target = self.pid_of(target)?;
                 Ok(self.plan_exit_to(proc, target, reason)?)
             }
             Instr::Trap { on } => Ok(self.plan_trap(proc, *on)),
@@ -200,8 +227,12 @@ impl Progress {
 
     /// What an instruction that is no receive does. The place after the last instruction is a stop.
     /// A value that is too large ends the process with `system_limit`, and one that has to be a pid
-    /// and is none with `badarg`.
-    pub(crate) fn plan_instr(&self, proc: &Proc, instr: Option<&Instr>) -> Result<Execution, AllocError>
+    /// or a reference and is none with `badarg`.
+    pub(crate) fn plan_instr(
+        &self,
+        proc: &Proc,
+        instr: Option<&Instr>,
+    ) -> Result<Execution, AllocError>
         requires first { 1 ≤ self.now.counts.place }
         requires instr { option_copied instr ≡ slice_get proc.now.instrs (self.now.counts.place - 1) }
         requires other { is_receive (option_copied instr) ≡ false }
@@ -213,7 +244,7 @@ impl Progress {
         match self.plan_row(proc, instr) {
             Ok(plan) => Ok(plan),
             Err(ValueFault::TooLarge) => self.exiting_with(b"system_limit"),
-            Err(ValueFault::NoPid) => self.exiting_with(b"badarg"),
+            Err(ValueFault::BadArg) => self.exiting_with(b"badarg"),
             Err(ValueFault::Memory) => Err(AllocError),
         }
     }

@@ -19,6 +19,7 @@ use sig_model::{Events, LAST_STAMP};
 use sig_patterns::Env;
 use sig_script::{Proc, Script};
 use sig_terms::Pid;
+use sig_watch::Watch;
 use std::alloc::{AllocError, Global};
 use std::marker::Model;
 use std::sync::ledger::Ledger;
@@ -73,12 +74,14 @@ fn beginning(alloc: Global, pid: Pid, count: u32) -> Result<Progress, AllocError
         env: Env::new(alloc),
         inner: Inner::open(alloc, pid)?,
         links: Links::open(alloc, pid),
+        watch: Watch::open(alloc, pid),
         end: None,
     };
     let counts = Counts {
         place: 1,
         executed: 0,
         stamp: 0,
+        next_serial: 1,
         next_numbers: first_numbers(alloc, count)?,
     };
     Ok(Progress {

@@ -4,6 +4,7 @@ use sig_links::Links;
 use sig_model::Events;
 use sig_patterns::Env;
 use sig_terms::Term;
+use sig_watch::Watch;
 use std::alloc::Global;
 
 /// What a process holds.
@@ -15,6 +16,8 @@ pub(crate) struct Tables {
     pub inner: Inner,
     /// The links.
     pub links: Links,
+    /// The monitors and the aliases.
+    pub watch: Watch,
     /// The reason, where it has ended.
     pub end: Option<Term>,
 }
@@ -28,6 +31,8 @@ pub(crate) struct Counts {
     pub executed: u32,
     /// The stamp of its last event, 0 before the first.
     pub stamp: u64,
+    /// The serial of the next reference that it makes.
+    pub next_serial: u64,
     /// The next number for each peer, by pid.
     pub next_numbers: Vec<u64>,
 }

@@ -4,6 +4,7 @@ ghost use Rattle.sig_model.specs.Bodies.{appending, dropping};
 ghost use Rattle.sig_model.specs.ExitRule.{exit_message, exit_rule, plain_exit, linked_exit};
 ghost use Rattle.sig_model.specs.Handling.{linking_up, unlinking_from, acknowledging, live_body, answering_noproc, ended_body, handling};
 ghost use Rattle.sig_process.specs.Plans.{after_obeying, body_of};
+ghost use Rattle.sig_process.specs.Planning.{noproc_answer};
 ghost use Rattle.sig_process.specs.Progressing.{state_of};
 
 use crate::changing::Change;
@@ -12,7 +13,7 @@ use crate::progress::Progress;
 use sig_kinds::{Kind, Signal};
 use sig_lists::Sequence;
 use sig_model::Outcome;
-use sig_terms::{Pid, Term};
+use sig_terms::{Pid, Ref, Term};
 use std::alloc::{AllocError, Global};
 
 /// The message of an exit signal that is trapped.
@@ -39,7 +40,7 @@ impl Progress {
     }
 
     /// The signal has no effect.
-    fn dropping(&self, obeyed: Option<Pid>) -> Plan
+    pub(crate) fn dropping(&self, obeyed: Option<Pid>) -> Plan
         ensures { dropping (after_obeying (state_of self.now) obeyed) ≡ body_of (state_of self.now) result }
     {
         Plan {
@@ -135,15 +136,12 @@ impl Progress {
                 let message = term.copy(self.alloc)?;
                 self.appending(None, message)
             }
-            Kind::AliasMessage {
-                reference: _,
-                term: _,
-            } => Ok(self.dropping(None)),
+            Kind::AliasMessage { reference, term } => self.plan_through_alias(*reference, term),
             Kind::Link => Ok(self.plan_link_up(sender)),
             Kind::Unlink { id } => self.plan_unlink_by(sender, *id),
             Kind::UnlinkAck { id } => Ok(self.plan_acknowledge(sender, *id)),
-            Kind::Monitor { reference: _ } => Ok(self.dropping(None)),
-            Kind::Demonitor { reference: _ } => Ok(self.dropping(None)),
+            Kind::Monitor { reference } => Ok(self.plan_watched(sender, *reference)),
+            Kind::Demonitor { reference } => Ok(self.plan_unwatched(*reference)),
             Kind::Exit {
                 reason,
                 linked: true,
@@ -152,21 +150,21 @@ impl Progress {
                 reason,
                 linked: false,
             } => self.plan_plain_exit(pid, sender, reason),
-            Kind::Down {
-                reference: _,
-                reason: _,
-            } => Ok(self.dropping(None)),
+            Kind::Down { reference, reason } => self.plan_told_down(sender, *reference, reason),
         }
     }
 
-    /// A link signal to a process that has ended.
-    fn plan_noproc(&self, sender: Pid) -> Result<Plan, AllocError>
-        ensures { IfOk result (λ plan. answering_noproc (state_of self.now) sender.0 ≡ body_of (state_of self.now) plan) }
+    /// A link signal, or the monitor signal of this reference, to a process that has ended.
+    fn plan_noproc(&self, sender: Pid, monitor: Option<Ref>) -> Result<Plan, AllocError>
+        ensures { IfOk result (λ plan. answering_noproc (state_of self.now) sender.0 (noproc_answer monitor) ≡ body_of (state_of self.now) plan) }
     {
         let reason = Term::plain_atom(self.alloc, b"noproc")?;
-        let kind = Kind::Exit {
-            reason,
-            linked: true,
+        let kind = match monitor {
+            None => Kind::Exit {
+                reason,
+                linked: true,
+            },
+            Some(reference) => Kind::Down { reference, reason },
         };
         let plan = self.silent(Change::Nothing, Outcome::NoProc);
         plan.sending(self.alloc, sender, kind)
@@ -177,7 +175,8 @@ impl Progress {
         ensures { IfOk result (λ plan. ended_body (state_of self.now) sender.0 kind.now ≡ body_of (state_of self.now) plan) }
     {
         match kind {
-            Kind::Link => self.plan_noproc(sender),
+            Kind::Link => self.plan_noproc(sender, None),
+            Kind::Monitor { reference } => self.plan_noproc(sender, Some(*reference)),
             _ => Ok(self.dropping(None)),
         }
     }

@@ -19,7 +19,13 @@ use std::test::Fail;
 
 /// Lines of a script of two processes, the moves, the outcomes of both, and the next number for
 /// process 1 of a signal of process 0.
-const PLAYS: [(&[u8], &[u8], &[u8], &[u8], u64); 9] = [
+const PLAYS: [(
+    &'static [u8],
+    &'static [u8],
+    &'static [u8],
+    &'static [u8],
+    u64,
+); 12] = [
     // A link signal is dropped while an id is awaited.
     (
         b"process a\nlink @b\nunlink @b\nprocess b\nunlink @a\nlink @a\n",
@@ -68,6 +74,31 @@ const PLAYS: [(&[u8], &[u8], &[u8], &[u8], u64); 9] = [
         b"en-",
         3,
     ),
+    // A message through an alias counts by the moment at which it is handled.
+    (
+        b"process a\nalias A\nsend @b A\nunalias A\nunalias A\n\
+          process b\nreceive\non X\nend\nsend X late\n",
+        b"aa>Bbba<Aa",
+        b"=sy-x",
+        b"mts",
+        2,
+    ),
+    (
+        b"process a\nalias A\nsend @b A\nunalias A\nunalias A\n\
+          process b\nreceive\non X\nend\nsend X early\n",
+        b"aa>Bbb<Aaa",
+        b"=smyx",
+        b"mts",
+        2,
+    ),
+    // A monitor that has ended on both sides, and a down that is on its way then.
+    (
+        b"process a\nmonitor M @b\ndemonitor M\ndemonitor M flush\nprocess b\n",
+        b"a>Bba<A>Ba",
+        b"=d-x",
+        b"we-",
+        3,
+    ),
     // Signals to a process are numbered.
     (
         b"process a\nlink @b\nsend @b hi\nprocess b\n",
@@ -92,11 +123,22 @@ const PLAYS: [(&[u8], &[u8], &[u8], &[u8], u64); 9] = [
     ),
 ];
 
+/// The moves of a play, the outcomes of both processes, and the number of the next signal to process 1.
+#[derive(Clone, Copy, Drop)]
+struct Play {
+    moves: &'static [u8],
+    first: &'static [u8],
+    second: &'static [u8],
+    number: u64,
+}
+
 fn letter(event: &Event) -> u8 {
     match &event.outcome {
         Outcome::Sent { to: _, message: _ } => b's',
         Outcome::Set { value: _ } => b'=',
         Outcome::Done => b'd',
+        Outcome::Answered { value: true } => b'y',
+        Outcome::Answered { value: false } => b'x',
         Outcome::Took {
             clause: _,
             looked: _,
@@ -109,6 +151,8 @@ fn letter(event: &Event) -> u8 {
         Outcome::Linked => b'l',
         Outcome::Unlinked => b'u',
         Outcome::Acked => b'k',
+        Outcome::Watched => b'w',
+        Outcome::Unwatched => b'v',
         Outcome::NoProc => b'n',
     }
 }
@@ -172,15 +216,6 @@ fn moved<L: Ledger>(
     }
 }
 
-/// The two processes of the script.
-fn opened(alloc: Global, text: &[u8]) -> Result<(Process, Process), Fail> {
-    let script = read_script(alloc, text).map_err(|_| "refused")?;
-    let mut procs = Crew::open(alloc, &script)?.procs;
-    let second = procs.pop().ok_or("no process")?;
-    let first = procs.pop().ok_or("only one process")?;
-    Ok((first, second))
-}
-
 fn move_all<L: Ledger>(
     moves: &[u8],
     first: &mut Process,
@@ -193,20 +228,29 @@ fn move_all<L: Ledger>(
     Ok(())
 }
 
-/// Both processes of the script after these moves.
-fn played<L: Ledger>(
-    alloc: Global,
+/// Whether both processes stand as the play says, after its moves.
+fn stands<L: Ledger>(
+    first: &mut Process,
+    second: &mut Process,
     blank: Blank,
-    text: &[u8],
-    moves: &[u8],
-) -> Result<(Process, Process), Fail>
+    play: &Play,
+) -> Result<bool, Fail>
     requires name { blank.name ≡ L.name }
     requires parts { blank.parts ≡ L.parts }
     requires some { 0 < blank.parts }
 {
-    let (mut first, mut second) = opened(alloc, text)?;
     let mut steps: Steps<L> = Steps::open(blank);
-    move_all(moves, &mut first, &mut second, &mut steps)?;
+    move_all(play.moves, first, second, &mut steps)?;
+    let told = tells(first, play.first) && tells(second, play.second);
+    Ok(told && first.count() == 2 && first.next_number(Pid(1)) == play.number)
+}
+
+/// The two processes of the script.
+fn opened(alloc: Global, text: &[u8]) -> Result<(Process, Process), Fail> {
+    let script = read_script(alloc, text).map_err(|_| "refused")?;
+    let mut procs = Crew::open(alloc, &script)?.procs;
+    let second = procs.pop().ok_or("no process")?;
+    let first = procs.pop().ok_or("only one process")?;
     Ok((first, second))
 }
 
@@ -218,14 +262,24 @@ fn script_of(alloc: Global, lines: &[u8]) -> Result<Vec<u8>, Fail> {
     Ok(text)
 }
 
+/// Whether the play goes as the table has it.
+fn goes(alloc: Global, lines: &[u8], play: &Play) -> Result<bool, Fail> {
+    let text = script_of(alloc, lines)?;
+    let (mut first, mut second) = opened(alloc, text.as_slice())?;
+    stands::<Brand>(&mut first, &mut second, Blank::new(1), play)
+}
+
 #[test]
-fn links_go_by_their_rules(rt: HostRuntime) -> Result<(), Fail> {
-    let alloc = rt.alloc();
-    for (lines, moves, a, b, number) in PLAYS {
-        let text = script_of(alloc, lines)?;
-        let (first, second) = played::<Brand>(alloc, Blank::new(1), text.as_slice(), moves)?;
-        assert!(rt; tells(&first, a) && tells(&second, b), "{lines:?} {moves:?}");
-        assert!(rt; first.next_number(Pid(1)) == number, "{lines:?} {moves:?}");
+fn plays_go_by_the_rules(rt: HostRuntime) -> Result<(), Fail> {
+    for (lines, moves, first, second, number) in PLAYS {
+        let row = Play {
+            moves,
+            first,
+            second,
+            number,
+        };
+        let went = goes(rt.alloc(), lines, &row)?;
+        assert!(rt; went, "{lines:?} {moves:?}");
     }
     Ok(())
 }

@@ -1,12 +1,13 @@
 ghost use Rattle.std.specs.Prelude.{◌≡◌};
-ghost use Rattle.sig_model.specs.Executing.{with_value, with_pid};
+ghost use Rattle.sig_model.specs.Executing.{with_value, with_pid, with_ref, with_target};
 ghost use Rattle.sig_process.specs.Planning.{IsUsed};
 ghost use Rattle.sig_process.specs.Progressing.{state_of};
 ghost use Rattle.sig_process.specs.declared.values.ValueFault.TheVariants.{Memory};
 
 use crate::progress::Progress;
+use sig_model::Target;
 use sig_patterns::{BuildFault, Expr, build};
-use sig_terms::{Pid, Term};
+use sig_terms::{Pid, Ref, Term};
 use std::alloc::AllocError;
 
 /// Why an instruction has no use of a value.
@@ -14,8 +15,8 @@ use std::alloc::AllocError;
 pub(crate) enum ValueFault {
     /// It is too large to be built. The process ends with `system_limit`.
     TooLarge,
-    /// It is no pid. The process ends with `badarg`.
-    NoPid,
+    /// It is none of those that the instruction needs. The process ends with `badarg`.
+    BadArg,
     /// Memory was wanting.
     Memory,
 }
@@ -41,17 +42,53 @@ impl Progress {
     }
 
     /// The process that the value names.
-    fn pid_of(&self, value: Term) -> Result<Pid, ValueFault>
+    pub(crate) fn pid_of(&self, value: Term) -> Result<Pid, ValueFault>
         ensures { IsUsed (state_of self.now) (with_pid (state_of self.now) value) result }
     {
         match value {
             Term::Pid(pid) => Ok(pid),
-            Term::Int(_) => Err(ValueFault::NoPid),
-            Term::Atom(_) => Err(ValueFault::NoPid),
-            Term::Ref(_) => Err(ValueFault::NoPid),
-            Term::Tuple(_) => Err(ValueFault::NoPid),
-            Term::List(_) => Err(ValueFault::NoPid),
+            Term::Int(_) => Err(ValueFault::BadArg),
+            Term::Atom(_) => Err(ValueFault::BadArg),
+            Term::Ref(_) => Err(ValueFault::BadArg),
+            Term::Tuple(_) => Err(ValueFault::BadArg),
+            Term::List(_) => Err(ValueFault::BadArg),
         }
+    }
+
+    /// The reference that the value is.
+    fn ref_of(&self, value: Term) -> Result<Ref, ValueFault>
+        ensures { IsUsed (state_of self.now) (with_ref (state_of self.now) value) result }
+    {
+        match value {
+            Term::Ref(reference) => Ok(reference),
+            Term::Int(_) => Err(ValueFault::BadArg),
+            Term::Atom(_) => Err(ValueFault::BadArg),
+            Term::Pid(_) => Err(ValueFault::BadArg),
+            Term::Tuple(_) => Err(ValueFault::BadArg),
+            Term::List(_) => Err(ValueFault::BadArg),
+        }
+    }
+
+    /// The process or the alias that the value names.
+    pub(crate) fn address_of(&self, value: Term) -> Result<Target, ValueFault>
+        ensures { IsUsed (state_of self.now) (with_target (state_of self.now) value) result }
+    {
+        match value {
+            Term::Pid(pid) => Ok(Target::Process(pid)),
+            Term::Ref(reference) => Ok(Target::Alias(reference)),
+            Term::Int(_) => Err(ValueFault::BadArg),
+            Term::Atom(_) => Err(ValueFault::BadArg),
+            Term::Tuple(_) => Err(ValueFault::BadArg),
+            Term::List(_) => Err(ValueFault::BadArg),
+        }
+    }
+
+    /// The reference that the value of the expression is.
+    pub(crate) fn reference_of(&self, expression: &Expr) -> Result<Ref, ValueFault>
+        ensures { IsUsed (state_of self.now) (λ go. with_value (state_of self.now) expression.now (λ t. with_ref (state_of self.now) t go)) result }
+    {
+        let value = self.value_of(expression)?;
+        self.ref_of(value)
     }
 
     /// The process that the value of the expression names.
@@ -62,20 +99,14 @@ impl Progress {
         self.pid_of(value)
     }
 
-    /// The process that the value of the first expression names, and the value of the second. Both
-    /// values are built before it is asked whether the first names a process.
-    pub(crate) fn target_and_value_of(
-        &self,
-        target: &Expr,
-        other: &Expr,
-    ) -> Result<(Pid, Term), ValueFault>
+    /// The values of both expressions.
+    pub(crate) fn values_of(&self, first: &Expr, second: &Expr) -> Result<(Term, Term), ValueFault>
         ensures { IsUsed (state_of self.now)
-            (λ go. with_value (state_of self.now) target.now (λ t. with_value (state_of self.now) other.now (λ v. with_pid (state_of self.now) t (λ p. go (p, v)))))
+            (λ go. with_value (state_of self.now) first.now (λ v. with_value (state_of self.now) second.now (λ w. go (v, w))))
             result }
     {
-        let target = self.value_of(target)?;
-        let other = self.value_of(other)?;
-        let target = self.pid_of(target)?;
-        Ok((target, other))
+        let first = self.value_of(first)?;
+        let second = self.value_of(second)?;
+        Ok((first, second))
     }
 }

@@ -8,7 +8,7 @@ use Rattle.sig_kinds.specs.declared.signal.Signal.{Signal}
 use Rattle.sig_model.specs.declared.event.Did.{Did}
 use Rattle.sig_model.specs.declared.event.Did.TheVariants.{Exec, From}
 use Rattle.sig_model.specs.declared.event.Outcome.{Outcome}
-use Rattle.sig_model.specs.declared.event.Outcome.TheVariants.{Sent, Set, Done, Took, After, Ended, Kept, Dropped, Linked, Unlinked, Acked, NoProc}
+use Rattle.sig_model.specs.declared.event.Outcome.TheVariants.{Sent, Set, Done, Answered, Took, After, Ended, Kept, Dropped, Linked, Unlinked, Acked, Watched, Unwatched, NoProc}
 use Rattle.sig_model.specs.declared.event.Event.{Event}
 use Rattle.sig_model.specs.declared.state.State.{State}
 use Rattle.sig_model.specs.declared.state.State.TheVariants as state
@@ -23,6 +23,8 @@ abbrev pub outcome_text : Outcome → List ℕ
 outcome_text (Sent to message) = codes "sent " ++ term_text to ++ codes " " ++ term_text message
 outcome_text (Set value) = codes "set " ++ term_text value
 outcome_text Done = codes "done"
+outcome_text (Answered true) = codes "answered true"
+outcome_text (Answered false) = codes "answered false"
 outcome_text (Took clause looked message) = codes "took " ++ decimal clause ++ codes " " ++ decimal looked ++ codes " " ++ term_text message
 outcome_text (After looked) = codes "after " ++ decimal looked
 outcome_text (Ended reason) = codes "ended " ++ term_text reason
@@ -31,6 +33,8 @@ outcome_text Dropped = codes "dropped"
 outcome_text Linked = codes "linked"
 outcome_text Unlinked = codes "unlinked"
 outcome_text Acked = codes "acked"
+outcome_text Watched = codes "watched"
+outcome_text Unwatched = codes "unwatched"
 outcome_text NoProc = codes "noproc"
 
 unfoldable pub event_text : Event → List ℕ

@@ -75,6 +75,8 @@ fn put_outcome(into: &mut Vec<u8>, outcome: &Outcome) -> Result<(), AllocError>
             value.print(into)
         }
         Outcome::Done => put(into, b"done"),
+        Outcome::Answered { value: true } => put(into, b"answered true"),
+        Outcome::Answered { value: false } => put(into, b"answered false"),
         Outcome::Took {
             clause,
             looked,
@@ -98,6 +100,8 @@ fn put_outcome(into: &mut Vec<u8>, outcome: &Outcome) -> Result<(), AllocError>
         Outcome::Linked => put(into, b"linked"),
         Outcome::Unlinked => put(into, b"unlinked"),
         Outcome::Acked => put(into, b"acked"),
+        Outcome::Watched => put(into, b"watched"),
+        Outcome::Unwatched => put(into, b"unwatched"),
         Outcome::NoProc => put(into, b"noproc"),
     }
 }

@@ -35,7 +35,7 @@ use Rattle.sig_script.specs.Drafts.{blank, open_proc, all_procs, program_of, beg
 use Rattle.sig_script.specs.Grammar.{located, finished, taken_if, line_taken, body, walk}
 use Rattle.sig_script.specs.Fitting.{IsSmall, IsFit, IsFewKnown}
 use Rattle.sig_script.proofs.FitLemmas.{all-last}
-use Rattle.sig_script.proofs.BoundTermLemmas.{Holds, anything, holds-of, holds-if, holds-on_ok, holds-then, holds-ends, IsTarget, IsMeantForm, said-meant}
+use Rattle.sig_script.proofs.BoundTermLemmas.{Holds, anything, holds-of, holds-if, holds-on_ok, holds-then, holds-ends, IsTarget, IsMeantForm, no-mode, said-meant}
 use Rattle.sig_script.specs.declared.script.TheConstants.{DEFAULT_TURNS, MOST_PROCESSES, MOST_TURNS}
 
 -- each item but the last
@@ -488,7 +488,7 @@ module _ (s : Program) (n : ℕ) (turns : Option ℕ) (procs : List Declared) (b
       let few : length clauses < 2 ^ 32 = omega (arith, lt, h.0) in
       let targets : All (λ t. t < length (labels_at (length procs) s.procs)) (targets_of (instr.Receive clauses after)) =
       receive-targets (length (labels_at (length procs) s.procs)) clauses after h.1 h.3 in
-      instr-more s (length procs) p (instr.Receive clauses after) (few, targets) (All-nil (IsExprBelow (length s.procs)), h.2) k
+      instr-more s (length procs) p (instr.Receive clauses after) (few, targets, no-mode) (All-nil (IsExprBelow (length s.procs)), h.2) k
 
   taken_at-meant : (section : Section) (f : Form) → n < 2 ^ 32 → Each (IsMeant s) 0 (procs ++ open_proc section) → IsOpen s n (length procs) section →
       IsMeantForm (length s.procs) (length (labels_at (length procs) s.procs)) f →

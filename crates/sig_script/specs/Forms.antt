@@ -2,6 +2,8 @@
 use Rattle.std.specs.Prelude.{ℕ, List, [], ◌∷◌, Bool, true, false, not, is_some, is_none, codes, ok_or, length, if◌then◌else◌, Option, Some, None, option_map, Result, Ok, Err}
 use Rattle.std.specs.List.{list_all}
 use Rattle.std.specs.Str.{bytes_eq}
+use Rattle.sig_kinds.specs.declared.alias_mode.AliasMode.{AliasMode}
+use Rattle.sig_kinds.specs.declared.alias_mode.AliasMode.TheVariants as alias_mode
 use Rattle.sig_patterns.specs.declared.expression.Expr.{Expr}
 use Rattle.sig_script.specs.declared.instruction.Instr.{Instr}
 use Rattle.sig_script.specs.declared.instruction.Instr.TheVariants as instr
@@ -43,8 +45,13 @@ abbrev pub verb_of : List ℕ → Option Verb
 verb_of word =
     if bytes_eq word (codes "send") then Some verb.Send
     else if bytes_eq word (codes "set") then Some verb.Set
+    else if bytes_eq word (codes "make_ref") then Some verb.MakeRef
     else if bytes_eq word (codes "link") then Some verb.Link
     else if bytes_eq word (codes "unlink") then Some verb.Unlink
+    else if bytes_eq word (codes "monitor") then Some verb.Monitor
+    else if bytes_eq word (codes "demonitor") then Some verb.Demonitor
+    else if bytes_eq word (codes "alias") then Some verb.Alias
+    else if bytes_eq word (codes "unalias") then Some verb.Unalias
     else if bytes_eq word (codes "exit") then Some verb.Exit
     else if bytes_eq word (codes "exit_to") then Some verb.ExitTo
     else if bytes_eq word (codes "trap") then Some verb.Trap
@@ -125,12 +132,31 @@ switch_of word =
 abbrev pub switch_at : List ℕ → List Token → Result (Bool × List Token) FaultKind
 switch_at line ts = name_at line ts >>= λ x. on_ok (λ on. (on, x.1)) (switch_of x.0)
 
--- what may stand behind the word of an instruction
+-- nothing, or one word, which means something; and the tokens behind it
+abbrev pub word_at : {A : Type 0} → A → (List ℕ → Result A FaultKind) → List ℕ → List Token → Result (A × List Token) FaultKind
+word_at nothing meaning line [] = Ok (nothing, [])
+word_at nothing meaning line (t ∷ ts) = name_at line (t ∷ ts) >>= λ x. on_ok (λ a. (a, x.1)) (meaning x.0)
+
+-- the mode of a monitor's alias
+abbrev pub mode_of : List ℕ → Result (Option AliasMode) FaultKind
+mode_of word =
+    if bytes_eq word (codes "explicit_unalias") then Ok (Some alias_mode.Explicit)
+    else if bytes_eq word (codes "demonitor") then Ok (Some alias_mode.Demonitor)
+    else if bytes_eq word (codes "reply_demonitor") then Ok (Some alias_mode.ReplyDemonitor)
+    else Err Syntax
+
+-- this word, and no other one
+abbrev pub flag_of : List ℕ → List ℕ → Result Bool FaultKind
+flag_of flag word = if bytes_eq word flag then Ok true else Err Syntax
+
+-- what may stand behind the word of an instruction; a mode and a flag may be left out
 pub data Operand : Type 0 where
   an_expr : Operand
   a_variable : Operand
   a_label : Operand
   a_switch : Operand
+  a_mode : Operand
+  a_flag : List ℕ → Operand
 
 -- what an operand says
 abbrev pub Said : Operand → Type 0
@@ -138,6 +164,8 @@ Said an_expr = Expr
 Said a_variable = List ℕ
 Said a_label = ℕ
 Said a_switch = Bool
+Said a_mode = Option AliasMode
+Said (a_flag flag) = Bool
 
 -- what operands say, one after another
 abbrev pub AllSaid : List Operand → Type 0
@@ -150,6 +178,8 @@ operand_at known here line an_expr ts = expr_of known line ts
 operand_at known here line a_variable ts = variable_at line ts
 operand_at known here line a_label ts = target_at known here line ts
 operand_at known here line a_switch ts = switch_at line ts
+operand_at known here line a_mode ts = word_at None mode_of line ts
+operand_at known here line (a_flag flag) ts = word_at false (flag_of flag) line ts
 
 -- these operands, from left to right, and nothing behind them
 abbrev pub all_said : Known → ℕ → List ℕ → (os : List Operand) → List Token → Result (AllSaid os) FaultKind
@@ -164,8 +194,15 @@ made_of known here line os make ts = on_ok make (all_said known here line os ts)
 unfoldable pub instr_of : Known → ℕ → Verb → List ℕ → List Token → Result Instr FaultKind
 instr_of known here verb.Send line ts = made_of known here line (an_expr ∷ an_expr ∷ []) (λ x. instr.Send x.0 x.1.0) ts
 instr_of known here verb.Set line ts = made_of known here line (a_variable ∷ an_expr ∷ []) (λ x. instr.Set (record { 0 = x.0 }) x.1.0) ts
+instr_of known here verb.MakeRef line ts = made_of known here line (a_variable ∷ []) (λ x. instr.MakeRef (record { 0 = x.0 })) ts
 instr_of known here verb.Link line ts = made_of known here line (an_expr ∷ []) (λ x. instr.Link x.0) ts
 instr_of known here verb.Unlink line ts = made_of known here line (an_expr ∷ []) (λ x. instr.Unlink x.0) ts
+instr_of known here verb.Monitor line ts =
+    made_of known here line (a_variable ∷ an_expr ∷ a_mode ∷ []) (λ x. instr.Monitor (record { 0 = x.0 }) x.1.0 x.1.1.0) ts
+instr_of known here verb.Demonitor line ts = made_of known here line (an_expr ∷ a_flag (codes "flush") ∷ []) (λ x. instr.Demonitor x.0 x.1.0) ts
+instr_of known here verb.Alias line ts =
+    made_of known here line (a_variable ∷ a_flag (codes "reply") ∷ []) (λ x. instr.Alias (record { 0 = x.0 }) x.1.0) ts
+instr_of known here verb.Unalias line ts = made_of known here line (an_expr ∷ []) (λ x. instr.Unalias x.0) ts
 instr_of known here verb.Exit line ts = made_of known here line (an_expr ∷ []) (λ x. instr.Exit x.0) ts
 instr_of known here verb.ExitTo line ts = made_of known here line (an_expr ∷ an_expr ∷ []) (λ x. instr.ExitTo x.0 x.1.0) ts
 instr_of known here verb.Trap line ts = made_of known here line (a_switch ∷ []) (λ x. instr.Trap x.0) ts

@@ -1,6 +1,7 @@
 -- The parts of an instruction, and the pids in them.
-use Rattle.std.specs.Prelude.{ℕ, List, [], ◌∷◌, ◌++◌, filter_map, option_to_list}
+use Rattle.std.specs.Prelude.{ℕ, List, [], ◌∷◌, ◌++◌, Option, None, filter_map, option_to_list}
 use Rattle.std.specs.List.{concat}
+use Rattle.sig_kinds.specs.declared.alias_mode.AliasMode.{AliasMode}
 use Rattle.sig_patterns.specs.declared.clause.Clause.{Clause}
 use Rattle.sig_patterns.specs.declared.expression.Expr.{Expr}
 use Rattle.sig_patterns.specs.declared.expression.Expr.TheOpen.{Expr-F}
@@ -12,7 +13,7 @@ use Rattle.sig_patterns.specs.declared.pattern.Pattern.TheOpen as pattern
 use Rattle.sig_patterns.specs.declared.pattern.Pattern.TheFolds.{fold-Pattern}
 use Rattle.sig_script.specs.declared.instruction.After.{After}
 use Rattle.sig_script.specs.declared.instruction.Instr.{Instr}
-use Rattle.sig_script.specs.declared.instruction.Instr.TheVariants.{Send, Set, Link, Unlink, Exit, ExitTo, Receive, Goto}
+use Rattle.sig_script.specs.declared.instruction.Instr.TheVariants.{Send, Set, Link, Unlink, Monitor, Demonitor, Unalias, Exit, ExitTo, Receive, Goto}
 
 -- the expressions of an instruction, in the order of its line
 abbrev pub exprs_of : Instr → List Expr
@@ -20,6 +21,9 @@ exprs_of (Send to message) = to ∷ message ∷ []
 exprs_of (Set var value) = value ∷ []
 exprs_of (Link peer) = peer ∷ []
 exprs_of (Unlink peer) = peer ∷ []
+exprs_of (Monitor var target mode) = target ∷ []
+exprs_of (Demonitor reference flush) = reference ∷ []
+exprs_of (Unalias reference) = reference ∷ []
 exprs_of (Exit reason) = reason ∷ []
 exprs_of (ExitTo target reason) = target ∷ reason ∷ []
 exprs_of _ = []
@@ -34,6 +38,11 @@ abbrev pub targets_of : Instr → List ℕ
 targets_of (Receive clauses after) = filter_map (λ (c : Clause). c.target) clauses ++ filter_map (λ (a : After). a.target) (option_to_list after)
 targets_of (Goto label) = label ∷ []
 targets_of _ = []
+
+-- the mode of a monitor's alias
+abbrev pub mode_in : Instr → Option AliasMode
+mode_in (Monitor var target mode) = mode
+mode_in _ = None
 
 -- the pids in one layer of an expression, where those of its elements are held
 abbrev pub expr_pids : Expr-F (List ℕ) → List ℕ

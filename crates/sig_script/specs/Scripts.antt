@@ -1,11 +1,12 @@
 -- Scripts and their processes, as contracts see them.
-use Rattle.std.specs.Prelude.{ℕ, ◌+◌, ◌<◌, ◌≤◌, ◌^◌, List, length, All}
+use Rattle.std.specs.Prelude.{◌≢◌, ℕ, ◌+◌, ◌<◌, ◌≤◌, ◌^◌, List, length, All, Some}
+use Rattle.sig_kinds.specs.declared.alias_mode.AliasMode.TheVariants as alias_mode
 use Rattle.sig_patterns.specs.declared.clause.Clause.{Clause}
 use Rattle.sig_patterns.specs.declared.expression.Expr.{Expr}
 use Rattle.sig_patterns.specs.declared.pattern.Pattern.{Pattern}
 use Rattle.sig_script.specs.declared.label.Label.{Label}
 use Rattle.sig_script.specs.declared.instruction.Instr.{Instr}
-use Rattle.sig_script.specs.Parts.{exprs_of, clauses_of, targets_of, pids_of, pids_of_pattern}
+use Rattle.sig_script.specs.Parts.{exprs_of, clauses_of, targets_of, mode_in, pids_of, pids_of_pattern}
 use Rattle.sig_script.specs.declared.script.TheConstants.{MOST_PROCESSES, MOST_TURNS}
 
 -- a process: its name, its labels and what it does
@@ -19,9 +20,10 @@ pub record Program : Type 0 where
   pub turns : ℕ
   pub procs : List Declared
 
--- each target of an instruction is one of so many labels, counted from 0, and a receive has fewer than 2^32 clauses
+-- Each target of an instruction is one of so many labels, counted from 0, and a receive has fewer than 2^32 clauses. An alias that
+-- is a monitor too never has the mode of a reply alone.
 abbrev pub IsLawful : ℕ → Instr → Type 0
-IsLawful labels i = (length (clauses_of i) < 2 ^ 32) × All (λ target. target < labels) (targets_of i)
+IsLawful labels i = (length (clauses_of i) < 2 ^ 32) × All (λ target. target < labels) (targets_of i) × (mode_in i ≢ Some alias_mode.Reply)
 
 -- a label stands before one of so many instructions, or behind the last
 abbrev pub IsPlace : ℕ → Label → Type 0

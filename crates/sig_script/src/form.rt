@@ -8,6 +8,8 @@ ghost use Rattle.sig_script.specs.Forms.{
   count_from,
   turns_of,
   switch_of,
+  mode_of,
+  flag_of,
   Operand,
   all_said,
   whole_name,
@@ -30,6 +32,7 @@ use crate::names::{take_name, take_target, take_variable};
 use crate::number::read_count;
 use crate::phrases::take_phrase;
 use crate::token::{Token, TokenKind};
+use sig_kinds::AliasMode;
 use sig_patterns::{Expr, Pattern, Var};
 use sig_terms::Name;
 use sig_terms::bytes::equal_bytes;
@@ -179,6 +182,53 @@ fn one_switch(line: &[u8], tokens: &[Token]) -> Result<bool, Stop>
     }
 }
 
+/// The mode of a monitor's alias.
+fn read_mode(word: &[u8]) -> Result<AliasMode, Stop>
+    ensures { Gives Some result (mode_of word.now) }
+{
+    if equal_bytes(word, b"explicit_unalias") {
+        Ok(AliasMode::Explicit)
+    } else if equal_bytes(word, b"demonitor") {
+        Ok(AliasMode::Demonitor)
+    } else if equal_bytes(word, b"reply_demonitor") {
+        Ok(AliasMode::ReplyDemonitor)
+    } else {
+        Err(Stop::Fault(FaultKind::Syntax))
+    }
+}
+
+/// Nothing, or the mode of a monitor's alias and nothing behind it.
+fn one_mode(line: &[u8], tokens: &[Token]) -> Result<Option<AliasMode>, Stop>
+    requires { AreWellSpelled line.now tokens.now }
+    ensures { Gives (λ mode. (mode, tt)) result (all_said Known.Any 0 line.now (Operand.a_mode ∷ []) tokens.now) }
+{
+    match tokens {
+        [] => Ok(None),
+        [token, rest @ ..] if token.kind == TokenKind::Name => {
+            let mode = read_mode(text_of(line, *token))?;
+            end(rest)?;
+            Ok(Some(mode))
+        }
+        _ => Err(Stop::Fault(FaultKind::Syntax)),
+    }
+}
+
+/// Whether the flag stands there, with nothing behind it; nothing may stand there too.
+fn one_flag(flag: &[u8], line: &[u8], tokens: &[Token]) -> Result<bool, Stop>
+    requires { AreWellSpelled line.now tokens.now }
+    ensures { Gives (λ on. (on, tt)) result (all_said Known.Any 0 line.now (Operand.a_flag flag.now ∷ []) tokens.now) }
+{
+    match tokens {
+        [] => Ok(false),
+        [token, rest @ ..]
+            if token.kind == TokenKind::Name && equal_bytes(text_of(line, *token), flag) => {
+            end(rest)?;
+            Ok(true)
+        }
+        _ => Err(Stop::Fault(FaultKind::Syntax)),
+    }
+}
+
 /// A label of the process with this place among the processes, and nothing behind it.
 fn one_label(
     alloc: Global,
@@ -194,6 +244,57 @@ fn one_label(
     let (label, rest) = take_target(alloc, known, here, line, tokens)?;
     end(rest)?;
     Ok(label)
+}
+
+/// A variable, and nothing behind it.
+fn one_variable(alloc: Global, line: &[u8], tokens: &[Token]) -> Result<Var, Stop>
+    requires { AreWellSpelled line.now tokens.now }
+    ensures { Gives (λ v. (v.0, tt)) result (all_said Known.Any 0 line.now (Operand.a_variable ∷ []) tokens.now) }
+{
+    let (var, rest) = take_variable(alloc, line, tokens)?;
+    end(rest)?;
+    Ok(var)
+}
+
+/// What stands behind `monitor`: the variable, the process, and the mode of the alias.
+#[tactic(auto, unfolding(crate::specs::Forms::instr_of, crate::specs::Forms::made_of))]
+fn read_monitor(alloc: Global, known: &Known, line: &[u8], tokens: &[Token]) -> Result<Instr, Stop>
+    requires known { IsFewKnown known.now }
+    requires spelled { AreWellSpelled line.now tokens.now }
+    ensures { Gives (λ i. i) result (instr_of known.now 0 Verb.Monitor line.now tokens.now) }
+{
+    let (var, rest) = take_variable(alloc, line, tokens)?;
+    let (target, rest) = take_phrase(alloc, known, line, rest)?;
+    let mode = one_mode(line, rest)?;
+    Ok(Instr::Monitor { var, target, mode })
+}
+
+/// What stands behind `demonitor`: the reference, and whether `flush` does.
+#[tactic(auto, unfolding(crate::specs::Forms::instr_of, crate::specs::Forms::made_of))]
+fn read_demonitor(
+    alloc: Global,
+    known: &Known,
+    line: &[u8],
+    tokens: &[Token],
+) -> Result<Instr, Stop>
+    requires known { IsFewKnown known.now }
+    requires spelled { AreWellSpelled line.now tokens.now }
+    ensures { Gives (λ i. i) result (instr_of known.now 0 Verb.Demonitor line.now tokens.now) }
+{
+    let (reference, rest) = take_phrase(alloc, known, line, tokens)?;
+    let flush = one_flag(b"flush", line, rest)?;
+    Ok(Instr::Demonitor { reference, flush })
+}
+
+/// What stands behind `alias`: the variable, and whether `reply` does.
+#[tactic(auto, unfolding(crate::specs::Forms::instr_of, crate::specs::Forms::made_of))]
+fn read_alias(alloc: Global, line: &[u8], tokens: &[Token]) -> Result<Instr, Stop>
+    requires { AreWellSpelled line.now tokens.now }
+    ensures { Gives (λ i. i) result (instr_of Known.Any 0 Verb.Alias line.now tokens.now) }
+{
+    let (var, rest) = take_variable(alloc, line, tokens)?;
+    let reply = one_flag(b"reply", line, rest)?;
+    Ok(Instr::Alias { var, reply })
 }
 
 fn read_name(alloc: Global, line: &[u8], tokens: &[Token]) -> Result<Name, Stop>
@@ -244,6 +345,10 @@ fn read_instr(
             let (var, value) = variable_and_expr(alloc, known, line, tokens)?;
             Ok(Instr::Set { var, value })
         }
+        Verb::MakeRef => {
+            let var = one_variable(alloc, line, tokens)?;
+            Ok(Instr::MakeRef { var })
+        }
         Verb::Link => {
             let peer = one_expr(alloc, known, line, tokens)?;
             Ok(Instr::Link { peer })
@@ -251,6 +356,13 @@ fn read_instr(
         Verb::Unlink => {
             let peer = one_expr(alloc, known, line, tokens)?;
             Ok(Instr::Unlink { peer })
+        }
+        Verb::Monitor => read_monitor(alloc, known, line, tokens),
+        Verb::Demonitor => read_demonitor(alloc, known, line, tokens),
+        Verb::Alias => read_alias(alloc, line, tokens),
+        Verb::Unalias => {
+            let reference = one_expr(alloc, known, line, tokens)?;
+            Ok(Instr::Unalias { reference })
         }
         Verb::Exit => {
             let reason = one_expr(alloc, known, line, tokens)?;

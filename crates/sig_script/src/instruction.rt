@@ -1,5 +1,6 @@
 ghost use Rattle.std.specs.Prelude.{◌≡◌, IfOk};
 
+use sig_kinds::AliasMode;
 use sig_lists::Sequence;
 use sig_patterns::{Clauses, Expr, Var};
 use std::alloc::{AllocError, Global};
@@ -24,6 +25,11 @@ pub enum Instr {
         var: Var,
         value: Expr,
     },
+    /// Makes the variable a new reference. (Erlang Reference Manual, Data Types, Reference; module
+    /// `erlang`, `make_ref/0`.)
+    MakeRef {
+        var: Var,
+    },
     /// Takes the oldest message that a clause matches. (Erlang Reference Manual, Expressions,
     /// Receive.)
     Receive {
@@ -37,6 +43,31 @@ pub enum Instr {
     /// Ends a link. (Erlang Reference Manual, Processes, Links; module `erlang`, `unlink/1`.)
     Unlink {
         peer: Expr,
+    },
+    /// Monitors a process by a new reference, which is an alias too where a mode is given. The mode
+    /// is never `Reply`. (Erlang Reference Manual, Processes, Monitors; module `erlang`,
+    /// `monitor/2` and `monitor/3`.)
+    Monitor {
+        var: Var,
+        target: Expr,
+        mode: Option<AliasMode>,
+    },
+    /// Ends a monitor, and removes the message of its end where `flush` stands. (Erlang Reference
+    /// Manual, Processes, Monitors; module `erlang`, `demonitor/1` and `demonitor/2`.)
+    Demonitor {
+        reference: Expr,
+        flush: bool,
+    },
+    /// Makes the variable a new alias, for one message where `reply` stands. (Erlang Reference
+    /// Manual, Processes, Process Aliases; module `erlang`, `alias/0` and `alias/1`.)
+    Alias {
+        var: Var,
+        reply: bool,
+    },
+    /// Ends an alias. (Erlang Reference Manual, Processes, Process Aliases; module `erlang`,
+    /// `unalias/1`.)
+    Unalias {
+        reference: Expr,
     },
     /// Ends the process with the reason. (Erlang Reference Manual, Processes, Process Termination.)
     Exit {
@@ -110,6 +141,10 @@ impl Instr {
                 let value = value.copy(alloc)?;
                 Ok(Instr::Set { var, value })
             }
+            Instr::MakeRef { var } => {
+                let var = var.copy(alloc)?;
+                Ok(Instr::MakeRef { var })
+            }
             Instr::Link { peer } => {
                 let peer = peer.copy(alloc)?;
                 Ok(Instr::Link { peer })
@@ -117,6 +152,30 @@ impl Instr {
             Instr::Unlink { peer } => {
                 let peer = peer.copy(alloc)?;
                 Ok(Instr::Unlink { peer })
+            }
+            Instr::Monitor { var, target, mode } => {
+                let var = var.copy(alloc)?;
+                let target = target.copy(alloc)?;
+                Ok(Instr::Monitor {
+                    var,
+                    target,
+                    mode: *mode,
+                })
+            }
+            Instr::Demonitor { reference, flush } => {
+                let reference = reference.copy(alloc)?;
+                Ok(Instr::Demonitor {
+                    reference,
+                    flush: *flush,
+                })
+            }
+            Instr::Alias { var, reply } => {
+                let var = var.copy(alloc)?;
+                Ok(Instr::Alias { var, reply: *reply })
+            }
+            Instr::Unalias { reference } => {
+                let reference = reference.copy(alloc)?;
+                Ok(Instr::Unalias { reference })
             }
             Instr::Exit { reason } => {
                 let reason = reason.copy(alloc)?;

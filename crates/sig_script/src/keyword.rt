@@ -14,8 +14,13 @@ use sig_terms::bytes::equal_bytes;
 pub enum Verb {
     Send,
     Set,
+    MakeRef,
     Link,
     Unlink,
+    Monitor,
+    Demonitor,
+    Alias,
+    Unalias,
     Exit,
     ExitTo,
     Trap,
@@ -44,10 +49,20 @@ fn read_verb(word: &[u8]) -> Option<Verb>
         Some(Verb::Send)
     } else if equal_bytes(word, b"set") {
         Some(Verb::Set)
+    } else if equal_bytes(word, b"make_ref") {
+        Some(Verb::MakeRef)
     } else if equal_bytes(word, b"link") {
         Some(Verb::Link)
     } else if equal_bytes(word, b"unlink") {
         Some(Verb::Unlink)
+    } else if equal_bytes(word, b"monitor") {
+        Some(Verb::Monitor)
+    } else if equal_bytes(word, b"demonitor") {
+        Some(Verb::Demonitor)
+    } else if equal_bytes(word, b"alias") {
+        Some(Verb::Alias)
+    } else if equal_bytes(word, b"unalias") {
+        Some(Verb::Unalias)
     } else if equal_bytes(word, b"exit") {
         Some(Verb::Exit)
     } else if equal_bytes(word, b"exit_to") {

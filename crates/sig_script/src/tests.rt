@@ -3,6 +3,7 @@
 ghost use Rattle.std.specs.Prelude.{◌<◌};
 
 use super::*;
+use sig_kinds::AliasMode;
 use sig_patterns::{Clause, Env, Expr, Pattern, Var, build};
 use sig_terms::{Name, Term};
 use std::alloc::{AllocError, Global};
@@ -70,13 +71,47 @@ fn put_receive(
     }
 }
 
+/// A word, the variable that gets a reference, and what comes behind it.
+fn put_made(into: &mut Vec<u8>, word: &[u8], var: &Var, behind: &[u8]) -> Result<(), Fail> {
+    into.extend_from_slice(word)?;
+    into.extend_from_slice(b" ")?;
+    into.extend_from_slice(var.0.bytes())?;
+    Ok(into.extend_from_slice(behind)?)
+}
+
+fn word_of(mode: Option<AliasMode>) -> &'static [u8] {
+    match mode {
+        None => b"plain",
+        Some(AliasMode::Explicit) => b"explicit",
+        Some(AliasMode::Reply) => b"reply",
+        Some(AliasMode::Demonitor) => b"demonitor",
+        Some(AliasMode::ReplyDemonitor) => b"reply_demonitor",
+    }
+}
+
 fn put_instr(into: &mut Vec<u8>, alloc: Global, env: &Env, instr: &Instr) -> Result<(), Fail> {
     match instr {
         Instr::Send { to, message } => put_values(into, alloc, env, b"send", &[to, message]),
         Instr::Set { var: _, value } => put_values(into, alloc, env, b"set", &[value]),
+        Instr::MakeRef { var } => put_made(into, b"make_ref", var, b""),
         Instr::Receive { clauses, after } => Ok(put_receive(into, clauses.as_slice(), after)?),
         Instr::Link { peer } => put_values(into, alloc, env, b"link", &[peer]),
         Instr::Unlink { peer } => put_values(into, alloc, env, b"unlink", &[peer]),
+        Instr::Monitor { var, target, mode } => {
+            put_made(into, b"monitor", var, b" ")?;
+            put_values(into, alloc, env, word_of(*mode), &[target])
+        }
+        Instr::Demonitor {
+            reference,
+            flush: true,
+        } => put_values(into, alloc, env, b"flush", &[reference]),
+        Instr::Demonitor {
+            reference,
+            flush: false,
+        } => put_values(into, alloc, env, b"demonitor", &[reference]),
+        Instr::Alias { var, reply: true } => put_made(into, b"alias", var, b" reply"),
+        Instr::Alias { var, reply: false } => put_made(into, b"alias", var, b""),
+        Instr::Unalias { reference } => put_values(into, alloc, env, b"unalias", &[reference]),
         Instr::Exit { reason } => put_values(into, alloc, env, b"exit", &[reason]),
         Instr::ExitTo { target, reason } => {
             put_values(into, alloc, env, b"exit_to", &[target, reason])
@@ -120,7 +155,7 @@ fn told(alloc: Global, text: &[u8]) -> Result<(u32, Vec<u8>), Fail> {
 #[test]
 fn texts_are_read(rt: HostRuntime) -> Result<(), Fail> {
     let alloc = rt.alloc();
-    let rows: [(&[u8], &[u8]); 15] = [
+    let rows: [(&[u8], &[u8]); 18] = [
         (b"sigscript 1", b""),
         (b"sigscript 1\n", b""),
         (
@@ -166,6 +201,18 @@ fn texts_are_read(rt: HostRuntime) -> Result<(), Fail> {
         (
             b"sigscript 1\nprocess a\nprocess b\nprocess c",
             b"a:\nb:\nc:\n",
+        ),
+        (
+            b"sigscript 1\nprocess a\nmake_ref M\nmonitor M @a\nmonitor M X explicit_unalias\nmonitor M @a demonitor",
+            b"a: make_ref M; monitor M plain <0>; monitor M explicit 'X'; monitor M demonitor <0>;\n",
+        ),
+        (
+            b"sigscript 1\nprocess a\nmonitor M @a reply_demonitor\ndemonitor X\ndemonitor X flush\nunalias {X}",
+            b"a: monitor M reply_demonitor <0>; demonitor 'X'; flush 'X'; unalias {'X'};\n",
+        ),
+        (
+            b"sigscript 1\nprocess flush\nalias A\nlabel reply\nalias B reply\ngoto reply",
+            b"flush: alias A; alias B reply; goto -> 0;\n",
         ),
         (
             b"sigscript 1\nprocess a\ntrap on\ntrap off\nexit_to @b kill\nexit done\nprocess b",
@@ -299,7 +346,7 @@ fn bounds_are_kept(rt: HostRuntime) -> Result<(), Fail> {
 }
 
 /// The texts behind the header line that are refused, each with the line and the kind.
-const REFUSED: [(&[u8], u64, FaultKind); 82] = [
+const REFUSED: [(&[u8], u64, FaultKind); 95] = [
     (b"send @a hi", 2, FaultKind::Syntax),
     (b"foo", 2, FaultKind::Syntax),
     (b"foo 99999999999999999999", 2, FaultKind::IntRange),
@@ -406,6 +453,23 @@ const REFUSED: [(&[u8], u64, FaultKind); 82] = [
     ),
     (b"process a\nreceive\nsend @a x\nend", 4, FaultKind::Syntax),
     (b"process a\nreceive\nreceive\nend", 4, FaultKind::Syntax),
+    (b"make_ref X", 2, FaultKind::Syntax),
+    (b"process a\nmake_ref", 3, FaultKind::Syntax),
+    (b"process a\nmake_ref x", 3, FaultKind::Syntax),
+    (b"process a\nmake_ref X Y", 3, FaultKind::Syntax),
+    (b"process a\nmonitor @a", 3, FaultKind::Syntax),
+    (b"process a\nmonitor M @a reply", 3, FaultKind::Syntax),
+    (b"process a\nmonitor M @a demonitor x", 3, FaultKind::Syntax),
+    (
+        b"process a\nmonitor M @b demonitor",
+        3,
+        FaultKind::UnknownProcess,
+    ),
+    (b"process a\ndemonitor M reply", 3, FaultKind::Syntax),
+    (b"process a\ndemonitor M flush flush", 3, FaultKind::Syntax),
+    (b"process a\nalias A flush", 3, FaultKind::Syntax),
+    (b"process a\nalias A 'reply'", 3, FaultKind::Syntax),
+    (b"process a\nunalias A B", 3, FaultKind::Syntax),
     (b"link @a", 2, FaultKind::Syntax),
     (b"process a\nlink", 3, FaultKind::Syntax),
     (b"process a\nlink @a @a", 3, FaultKind::Syntax),

@@ -38,10 +38,10 @@ names_of_list ts = ap names_of (sym (term.rolls-List ts)) ∙ fold-roll-Term (Li
 
 module _ (P : Named → Type 0) where
   -- of both parts of a list
-  all_before : (xs ys : List Named) → All P (xs ++ ys) → All P xs
+  pub all_before : (xs ys : List Named) → All P (xs ++ ys) → All P xs
   all_before xs ys h = All-same P xs (take (length xs) (xs ++ ys)) (sym (take_at xs ys (length xs) refl)) (All-take P (length xs) (xs ++ ys) h)
 
-  all_behind : (xs ys : List Named) → All P (xs ++ ys) → All P ys
+  pub all_behind : (xs ys : List Named) → All P (xs ++ ys) → All P ys
   all_behind xs ys h = All-same P ys (drop (length xs) (xs ++ ys)) (sym (front_rest (xs ++ ys) xs ys refl)) (All-drop P (length xs) (xs ++ ys) h)
 
   -- of the names in terms, and of each term

@@ -3,7 +3,7 @@ use Rattle.sig_script.specs.declared.instruction.Instr.{Instr}
 use Rattle.sig_model.specs.Executing.{exec_body}
 use Rattle.sig_process.specs.Plans.{executed_body}
 use Rattle.sig_process.specs.Progressing.{state_of}
-use Rattle.sig_process.proofs.DueLemmas.{instr_committable}
+use Rattle.sig_process.proofs.DueLemmas.{instr_committable, serials_left}
 use Rattle.sig_process.proofs.ReceiveLemmas.{performed}
 use Rattle.sig_process.proofs.progress.Progress.perform.Goals as goal
 
@@ -19,3 +19,6 @@ returns c =
     performed c.commit_exec.result c.args.pid.0 c.args.proc.now p c.commit_exec.new.self (executed_body (state_of p) c.in_ok-plan.plan)
     (subst (λ (o : Option Instr). exec_body c.args.proc.now (state_of p) o ≡ Some (executed_body (state_of p) c.in_ok-plan.plan)) c.requires.instr c.in_ok-plan.ensures)
     c.commit_exec.ensures.event c.commit_exec.ensures.unsaved
+
+pub commit_exec-requires-clause-serials : goal.commit_exec-requires-clause-serials
+commit_exec-requires-clause-serials c = serials_left c.args.proc.now c.args.self.now c.requires.due.bounds c.requires.due.stamp

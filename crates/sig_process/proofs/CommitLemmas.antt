@@ -1,0 +1,99 @@
+-- What an execution leaves, from what its steps leave.
+use Rattle.std.proofs.Common.{◌≡◌, ℕ, ◌+◌, List, [], ◌∷◌, ◌++◌, map, ap, ◌∙◌}
+use Rattle.sig_kinds.specs.declared.signal.Signal.{Signal}
+use Rattle.sig_patterns.specs.Inbox.{Inbox}
+use Rattle.sig_inner.specs.InnerQueue.{InnerQueue, InnerTable}
+use Rattle.sig_inner.specs.Receiving.{forgotten}
+use Rattle.sig_model.specs.declared.event.Event.{Event}
+use Rattle.sig_model.specs.declared.event.Did.TheVariants as did
+use Rattle.sig_model.specs.ProcessState.{ProcessState}
+use Rattle.sig_model.specs.Bodies.{Post}
+use Rattle.sig_model.specs.Finishing.{numbered, finished_exec}
+use Rattle.sig_model.specs.Running.{to_itself, to_others}
+use Rattle.sig_process.specs.declared.plan.Execution.{Execution}
+use Rattle.sig_process.specs.declared.progress.Progress.{Progress}
+use Rattle.sig_process.specs.Plans.{post_of, bound, bound_by, serial_by, inbox_by, changed, after_obeying, executed_body}
+use Rattle.sig_process.specs.Committing.{HasBegun, gone_on}
+use Rattle.sig_process.specs.Progressing.{state_of, HasAdvanced}
+
+module _ (pid : ℕ) (x : Execution) (old begun bound_one gone flushed : Progress) (inner : InnerTable) where
+  abbrev posts : List Post
+  posts = map post_of x.plan.posts.items
+
+  abbrev stamp : ℕ
+  stamp = old.counts.stamp + 1
+
+  abbrev event : Event
+  event = record { stamp = stamp; did = did.Exec old.counts.place; outcome = x.plan.outcome }
+
+  -- the signals are sent, and the changes made
+  pub record HasGoneOn : Type 0 where
+    pub state : state_of gone ≡ gone_on (changed (after_obeying (state_of bound_one) x.plan.obeyed) x.plan.change) stamp bound_one.counts.next_numbers.items posts
+    pub executed : gone.counts.executed ≡ bound_one.counts.executed
+    pub owner : gone.tables.inner.queue.owner ≡ bound_one.tables.inner.queue.owner
+    pub events : gone.events ≡ bound_one.events
+    pub handled : gone.handled ≡ bound_one.handled
+    pub own : gone.own.items ≡ bound_one.own.items ++ to_itself pid (numbered pid stamp bound_one.counts.next_numbers.items posts)
+    pub taken_in : gone.taken_in ≡ bound_one.taken_in
+    pub outbox : gone.outbox.items ≡ bound_one.outbox.items ++ to_others pid (numbered pid stamp bound_one.counts.next_numbers.items posts)
+
+  -- a message of a monitor's end is removed, and what a scan left is forgotten
+  pub record HasFlushed : Type 0 where
+    pub inbox : flushed.tables.inner.queue.inbox ≡ inbox_by gone.tables.inner.queue.inbox x.flush
+    pub owner : flushed.tables.inner.queue.owner ≡ gone.tables.inner.queue.owner
+    pub rest : flushed ≡ record gone { tables = record gone.tables { inner = flushed.tables.inner } }
+    pub queue : inner.queue ≡ forgotten flushed.tables.inner.queue
+
+  abbrev after : Progress
+  after = record flushed { tables = record flushed.tables { inner = inner }; counts = record flushed.counts { place = x.place; executed = flushed.counts.executed + 1 } }
+
+  module _ {n : ℕ} (b : HasBegun n old begun event)
+      (m : bound_one ≡ record begun {
+        tables = record begun.tables { env = bound_by begun.tables.env x.binding };
+        counts = record begun.counts { next_serial = serial_by begun.counts.next_serial x.binding };
+      })
+      (g : HasGoneOn) (f : HasFlushed) where
+    same_bound : state_of bound_one ≡ bound (state_of old) x.binding
+    same_bound = ap state_of m ∙ ap (λ (s : ProcessState). bound s x.binding) b.state
+
+    same_numbers : bound_one.counts.next_numbers.items ≡ old.counts.next_numbers.items
+    same_numbers = ap (λ (s : ProcessState). s.counts.next_numbers) same_bound
+
+    same_executed : flushed.counts.executed ≡ old.counts.executed
+    same_executed = ap (λ (p : Progress). p.counts.executed) f.rest ∙ g.executed ∙ ap (λ (s : ProcessState). s.counts.executed) same_bound
+
+    -- the state without the message, at the place
+    abbrev settled : ProcessState → ℕ → ProcessState
+    settled s executed = record s { tables = record s.tables { inbox = inbox_by s.tables.inbox x.flush }; counts = record s.counts { place = x.place; executed = executed } }
+
+    same_inbox : inner.queue.inbox ≡ inbox_by gone.tables.inner.queue.inbox x.flush
+    same_inbox = ap (λ (q : InnerQueue). q.inbox) f.queue ∙ f.inbox
+
+    abbrev with_inbox : Inbox → Progress → ℕ → ProcessState
+    with_inbox inbox p executed = record (state_of p) { tables = record (state_of p).tables { inbox = inbox }; counts = record (state_of p).counts { place = x.place; executed = executed } }
+
+    state_is : state_of after ≡ (finished_exec pid (state_of old) (executed_body (state_of old) x)).state
+    state_is =
+        let s : ProcessState = bound (state_of old) x.binding in
+        let all : ProcessState → List ℕ → ProcessState = λ s numbers. gone_on (changed (after_obeying s x.plan.obeyed) x.plan.change) stamp numbers posts in
+        ap (λ (p : Progress). with_inbox inner.queue.inbox p (flushed.counts.executed + 1)) f.rest
+        ∙ ap (λ (i : Inbox). with_inbox i gone (flushed.counts.executed + 1)) same_inbox
+        ∙ ap (λ (n : ℕ). settled (state_of gone) (n + 1)) same_executed
+        ∙ ap (λ (t : ProcessState). settled t (old.counts.executed + 1)) (g.state ∙ ap (λ t. all t bound_one.counts.next_numbers.items) same_bound ∙ ap (all s) same_numbers)
+
+    sent_from : (field : Progress → List Signal) (part : List Signal → List Signal) → field gone ≡ field bound_one ++ part (numbered pid stamp bound_one.counts.next_numbers.items posts) →
+        field bound_one ≡ field old → field flushed ≡ field gone → field flushed ≡ field old ++ part (numbered pid stamp old.counts.next_numbers.items posts)
+    sent_from field part e same rest =
+        rest ∙ e ∙ ap (λ (l : List Signal). l ++ part (numbered pid stamp bound_one.counts.next_numbers.items posts)) same
+        ∙ ap (λ (numbers : List ℕ). field old ++ part (numbered pid stamp numbers posts)) same_numbers
+
+    pub executed_so : HasAdvanced pid old after (finished_exec pid (state_of old) (executed_body (state_of old) x))
+    executed_so = record {
+      state = state_is;
+      owner = ap (λ (q : InnerQueue). q.owner) f.queue ∙ f.owner ∙ g.owner ∙ ap (λ (p : Progress). p.tables.inner.queue.owner) m ∙ ap (λ (q : InnerQueue). q.owner) b.queue;
+      events = ap (λ (p : Progress). p.events) f.rest ∙ g.events ∙ ap (λ (p : Progress). p.events) m ∙ b.events;
+      handled = ap (λ (p : Progress). p.handled.items) f.rest ∙ ap (λ l. l.items) g.handled ∙ ap (λ (p : Progress). p.handled.items) m ∙ b.handled;
+      own = sent_from (λ p. p.own.items) (to_itself pid) g.own (ap (λ (p : Progress). p.own.items) m ∙ b.own) (ap (λ (p : Progress). p.own.items) f.rest);
+      taken_in = ap (λ (p : Progress). p.taken_in.items) f.rest ∙ ap (λ l. l.items) g.taken_in ∙ ap (λ (p : Progress). p.taken_in.items) m ∙ b.taken_in;
+      outbox = sent_from (λ p. p.outbox.items) (to_others pid) g.outbox (ap (λ (p : Progress). p.outbox.items) m ∙ b.outbox) (ap (λ (p : Progress). p.outbox.items) f.rest);
+    }
