@@ -18,8 +18,6 @@ mod source;
 mod std_sink;
 mod std_source;
 mod steps;
-#[cfg(test)]
-mod tests;
 mod writing;
 
 pub use failing_sink::FailingSink;

@@ -1,11 +1,7 @@
 //! The examples of README.md and docs/, through the top call. tools/examples compares them with the documents.
 
-use crate::Status;
-use crate::tests::run_text;
-use std::test::Fail;
-
 /// Each script that a document shows, and the record that it shows for it, as they stand there.
-const EXAMPLES: [(&[u8], &[u8]); 14] = [
+pub(crate) const EXAMPLES: [(&[u8], &[u8]); 15] = [
     (
         br"sigscript 1
 process worker
@@ -333,6 +329,46 @@ state ended normal
     ),
     (
         br"sigscript 1
+process client
+send @client older
+reserve
+monitor Call @server reply_demonitor
+bind Call
+send @server {ask,Call}
+receive using Call
+on {^Call,Answer}
+on {'DOWN',^Call,process,_,Why}
+end
+process server
+receive
+on {ask,From}
+end
+send From {From,yes}
+",
+        br"sigrecord 1
+process 0 client
+1 exec 1 sent <0> older
+2 from 0 1 kept older
+3 exec 2 done
+4 exec 3 set #Ref<0.1>
+5 exec 4 answered true
+6 exec 5 sent <1> {ask,#Ref<0.1>}
+10 from 1 1 kept {#Ref<0.1>,yes}
+11 exec 6 took 1 1 {#Ref<0.1>,yes}
+12 exec 7 ended normal
+state ended normal
+process 1 server
+5 from 0 1 watched
+7 from 0 2 kept {ask,#Ref<0.1>}
+8 exec 1 took 1 1 {ask,#Ref<0.1>}
+9 exec 2 sent #Ref<0.1> {#Ref<0.1>,yes}
+11 from 0 3 unwatched
+12 exec 3 ended normal
+state ended normal
+",
+    ),
+    (
+        br"sigscript 1
 process a
 send @b x
 send @b y
@@ -527,7 +563,7 @@ state ended normal
 ];
 
 /// Each refused text that LANGUAGE.md shows, and what is told of it.
-const REFUSALS: [(&[u8], &[u8]); 14] = [
+pub(crate) const REFUSALS: [(&[u8], &[u8]); 15] = [
     (b"sigscript 3\n", b"sigrun: line 1: header\n"),
     (
         b"sigscript 1\nprocess a\nreceive\non _x\n",
@@ -574,6 +610,10 @@ const REFUSALS: [(&[u8], &[u8]); 14] = [
         b"sigrun: line 2: too_many_turns\n",
     ),
     (
+        b"sigscript 1\nprocess a\nreceive using R\non {ok,R}\n",
+        b"sigrun: line 4: marker_not_in_clause\n",
+    ),
+    (
         b"sigscript 1\nprocess a\nsend @b hi\n",
         b"sigrun: line 3: unknown_process\n",
     ),
@@ -582,27 +622,3 @@ const REFUSALS: [(&[u8], &[u8]); 14] = [
         b"sigrun: line 3: unknown_label\n",
     ),
 ];
-
-#[test]
-fn examples_of_the_documents_give_their_records(rt: HostRuntime) -> Result<(), Fail> {
-    let alloc = rt.alloc();
-    for (script, record) in EXAMPLES {
-        let (status, out, err) = run_text(alloc, script)?;
-        assert!(rt; status == Status::Done, "{script:?}");
-        assert!(rt; out.held() == record, "{script:?}");
-        assert!(rt; err.held().is_empty(), "{script:?}");
-    }
-    Ok(())
-}
-
-#[test]
-fn refusals_of_the_language_are_told(rt: HostRuntime) -> Result<(), Fail> {
-    let alloc = rt.alloc();
-    for (text, told) in REFUSALS {
-        let (status, out, err) = run_text(alloc, text)?;
-        assert!(rt; status.number() == 1, "{text:?}");
-        assert!(rt; out.held().is_empty(), "{text:?}");
-        assert!(rt; err.held() == told, "{text:?}");
-    }
-    Ok(())
-}

@@ -1,10 +1,7 @@
 //! Worked examples of exits and exit signals, through the top call.
 
-use crate::tests::gives;
-use std::test::Fail;
-
 /// Scripts without their first line, and their records without theirs.
-const EXITS: [(&[u8], &[u8]); 5] = [
+pub(crate) const EXITS: [(&[u8], &[u8]); 5] = [
     (
         b"process a\nexit {bye,1}\nset X unreached\n",
         b"process 0 a\n1 exec 1 ended {bye,1}\nstate ended {bye,1}\n",
@@ -27,7 +24,7 @@ const EXITS: [(&[u8], &[u8]); 5] = [
     ),
 ];
 
-const EXIT_SIGNALS: [(&[u8], &[u8]); 8] = [
+pub(crate) const EXIT_SIGNALS: [(&[u8], &[u8]); 8] = [
     (
         b"process a\ntrap on\nreceive\non never\nend\nprocess b\nexit_to @a kill\n",
         b"process 0 a\n1 exec 1 done\n2 from 1 1 ended killed\nstate ended killed\n\
@@ -69,21 +66,3 @@ const EXIT_SIGNALS: [(&[u8], &[u8]); 8] = [
           process 1 b\n1 exec 1 done\nstate cut\n",
     ),
 ];
-
-#[test]
-fn processes_end_by_their_own_hand(rt: HostRuntime) -> Result<(), Fail> {
-    let alloc = rt.alloc();
-    for (lines, record) in EXITS {
-        assert!(rt; gives(alloc, lines, record)?, "{lines:?}");
-    }
-    Ok(())
-}
-
-#[test]
-fn exit_signals_end_or_are_kept_or_dropped(rt: HostRuntime) -> Result<(), Fail> {
-    let alloc = rt.alloc();
-    for (lines, record) in EXIT_SIGNALS {
-        assert!(rt; gives(alloc, lines, record)?, "{lines:?}");
-    }
-    Ok(())
-}

@@ -13,8 +13,18 @@ mod document_tests;
 #[cfg(test)]
 mod exit_tests;
 #[cfg(test)]
+mod large_tests;
+#[cfg(test)]
 mod link_tests;
 #[cfg(test)]
+mod marker_tests;
+#[cfg(test)]
+mod match_tests;
+#[cfg(test)]
+mod refusal_tests;
+#[cfg(test)]
 mod tests;
+#[cfg(test)]
+mod text_tests;
 #[cfg(test)]
 mod watch_tests;

@@ -1,10 +1,7 @@
 //! Worked examples of links, through the top call.
 
-use crate::tests::gives;
-use std::test::Fail;
-
 /// Scripts without their first line, and their records without theirs.
-const LINK_CALLS: [(&[u8], &[u8]); 4] = [
+pub(crate) const LINK_CALLS: [(&[u8], &[u8]); 4] = [
     (
         b"process a\nlink b\n",
         b"process 0 a\n1 exec 1 ended badarg\nstate ended badarg\n",
@@ -24,7 +21,7 @@ const LINK_CALLS: [(&[u8], &[u8]); 4] = [
     ),
 ];
 
-const LINKED_EXITS: [(&[u8], &[u8]); 3] = [
+pub(crate) const LINKED_EXITS: [(&[u8], &[u8]); 3] = [
     (
         b"process a\ntrap on\nlink @b\nreceive\non {'EXIT',P,R}\nend\n\
           process b\nreceive\non never\nafter\nend\nexit kill\n",
@@ -48,7 +45,7 @@ const LINKED_EXITS: [(&[u8], &[u8]); 3] = [
     ),
 ];
 
-const UNLINKS: [(&[u8], &[u8]); 2] = [
+pub(crate) const UNLINKS: [(&[u8], &[u8]); 2] = [
     (
         b"process a\nlink @b\nunlink @b\nreceive\non never\nend\n\
           process b\nreceive\non never\nafter\nend\nexit boom\n",
@@ -67,7 +64,7 @@ const UNLINKS: [(&[u8], &[u8]); 2] = [
 ];
 
 /// What comes to a process that is cut stays queued.
-const QUEUED: [(&[u8], &[u8]); 4] = [
+pub(crate) const QUEUED: [(&[u8], &[u8]); 4] = [
     (
         b"turns 1\nprocess a\nset X 1\nprocess b\nlink @a\n",
         b"process 0 a\n1 exec 1 set 1\nqueued 1 1 1 link\nstate cut\n\
@@ -91,39 +88,3 @@ const QUEUED: [(&[u8], &[u8]); 4] = [
           process 1 b\n2 from 0 1 linked\n3 exec 1 after 0\n4 exec 2 ended boom\nstate ended boom\n",
     ),
 ];
-
-#[test]
-fn a_link_signal_goes_where_there_is_no_link(rt: HostRuntime) -> Result<(), Fail> {
-    let alloc = rt.alloc();
-    for (lines, record) in LINK_CALLS {
-        assert!(rt; gives(alloc, lines, record)?, "{lines:?}");
-    }
-    Ok(())
-}
-
-#[test]
-fn linked_processes_are_told_of_an_end(rt: HostRuntime) -> Result<(), Fail> {
-    let alloc = rt.alloc();
-    for (lines, record) in LINKED_EXITS {
-        assert!(rt; gives(alloc, lines, record)?, "{lines:?}");
-    }
-    Ok(())
-}
-
-#[test]
-fn unlinked_processes_are_not_told(rt: HostRuntime) -> Result<(), Fail> {
-    let alloc = rt.alloc();
-    for (lines, record) in UNLINKS {
-        assert!(rt; gives(alloc, lines, record)?, "{lines:?}");
-    }
-    Ok(())
-}
-
-#[test]
-fn signals_of_links_stay_queued(rt: HostRuntime) -> Result<(), Fail> {
-    let alloc = rt.alloc();
-    for (lines, record) in QUEUED {
-        assert!(rt; gives(alloc, lines, record)?, "{lines:?}");
-    }
-    Ok(())
-}

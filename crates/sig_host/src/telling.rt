@@ -26,6 +26,7 @@ fn word(kind: FaultKind) -> &'static [u8]
         FaultKind::TooManyProcesses => b"too_many_processes",
         FaultKind::DuplicateLabel => b"duplicate_label",
         FaultKind::TooManyTurns => b"too_many_turns",
+        FaultKind::MarkerNotInClause => b"marker_not_in_clause",
         FaultKind::UnknownProcess => b"unknown_process",
         FaultKind::UnknownLabel => b"unknown_label",
         FaultKind::TooLong => b"too_long",

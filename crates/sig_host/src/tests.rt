@@ -3,6 +3,17 @@
 ghost use Rattle.std.specs.Prelude.{◌<◌};
 
 use super::*;
+use crate::document_tests::{EXAMPLES, REFUSALS};
+use crate::exit_tests::{EXIT_SIGNALS, EXITS};
+use crate::large_tests::LARGE;
+use crate::link_tests::{LINK_CALLS, LINKED_EXITS, QUEUED, UNLINKS};
+use crate::marker_tests::MARKERS;
+use crate::match_tests::MATCHES;
+use crate::refusal_tests::{
+    HEADS, LONG, MARKER_CLAUSES, OPERANDS, OTHER_FIRST_LINES, RECEIVES, TERMS,
+};
+use crate::text_tests::TEXTS;
+use crate::watch_tests::WATCHES;
 use itoa::Buffer;
 use sig_base::{FailingSink, FailingSource, MemorySink, MemorySource, OpenGate, Sink, Source};
 use sig_script::FaultKind;
@@ -30,11 +41,6 @@ const OPEN_RECEIVE: Status = Status::BadScript {
 };
 
 const TOLD_OPEN_RECEIVE: &[u8] = b"sigrun: line 5: syntax\n";
-
-const TOO_LONG: Status = Status::BadScript {
-    line: 0,
-    kind: FaultKind::TooLong,
-};
 
 /// Runs with no arguments, and an `err` that never fails.
 fn run_with<S: Source, O: Sink>(
@@ -90,23 +96,28 @@ fn texts_give_their_records(rt: HostRuntime) -> Result<(), Fail> {
     Ok(())
 }
 
+/// A text of these pieces, each so many times.
+fn text_of(alloc: Global, pieces: &[(&[u8], usize)]) -> Result<Vec<u8>, AllocError> {
+    let mut text = Vec::new(alloc);
+    for (piece, times) in pieces {
+        for _ in 0..*times {
+            text.extend_from_slice(piece)?;
+        }
+    }
+    Ok(text)
+}
+
 #[test]
-fn the_largest_text_is_read(rt: HostRuntime) -> Result<(), Fail> {
+fn long_texts_are_read_up_to_their_limits(rt: HostRuntime) -> Result<(), Fail> {
     let alloc = rt.alloc();
-    let head = b"sigscript 1\n%".as_slice();
-    let rows: [(usize, Status, &[u8]); 2] = [
-        (1048576, Status::Done, b"sigrecord 1\n"),
-        (1048577, TOO_LONG, b""),
-    ];
-    for (size, status, record) in rows {
-        let mut text = Vec::from_slice(alloc, head)?;
-        let rest = vec![in alloc; b'x'; size.saturating_sub(head.len())]?;
-        text.extend_from_slice(rest.as_slice())?;
-        let mut source = MemorySource::new(text, 100000);
-        let mut out = MemorySink::with_room(alloc, 100)?;
-        let (answer, _) = run_with(alloc, &mut source, &mut out)?;
-        assert!(rt; answer == status, "{size}");
-        assert!(rt; out.held() == record, "{size}");
+    for (pieces, refusal) in LONG {
+        let text = text_of(alloc, pieces)?;
+        let (answer, _, _) = run_text(alloc, text.as_slice())?;
+        let status = match refusal {
+            None => Status::Done,
+            Some((line, kind)) => Status::BadScript { line, kind },
+        };
+        assert!(rt; answer == status, "{} bytes", text.len());
     }
     Ok(())
 }
@@ -174,10 +185,7 @@ fn arguments_and_faults_of_err(rt: HostRuntime) -> Result<(), Fail> {
 }
 
 /// Runs the text.
-pub(crate) fn run_text(
-    alloc: Global,
-    text: &[u8],
-) -> Result<(Status, MemorySink, MemorySink), AllocError> {
+fn run_text(alloc: Global, text: &[u8]) -> Result<(Status, MemorySink, MemorySink), AllocError> {
     let mut source = MemorySource::new(Vec::from_slice(alloc, text)?, 100000);
     let mut out = MemorySink::with_room(alloc, ROOM)?;
     let (status, err) = run_with(alloc, &mut source, &mut out)?;
@@ -192,7 +200,7 @@ fn run_lines(alloc: Global, lines: &[u8]) -> Result<(Status, MemorySink, MemoryS
 }
 
 /// Whether the record of the script of these lines is the first line of a record and these lines.
-pub(crate) fn gives(alloc: Global, lines: &[u8], record: &[u8]) -> Result<bool, AllocError> {
+fn gives(alloc: Global, lines: &[u8], record: &[u8]) -> Result<bool, AllocError> {
     let (status, out, err) = run_lines(alloc, lines)?;
     let told = out.held().strip_prefix(b"sigrecord 1\n".as_slice());
     Ok(status == Status::Done && told == Some(record) && err.held().is_empty())
@@ -222,7 +230,7 @@ fn push_signal(
 }
 
 /// Which message a receive takes, and where a run is cut.
-const RECEIVES: [(&[u8], &[u8]); 4] = [
+const TAKEN: [(&[u8], &[u8]); 4] = [
     // a receive takes the oldest message that matches, wherever it stands
     (
         b"process a\nsend @b x\nsend @b {ok,1}\nsend @b y\n\
@@ -401,38 +409,117 @@ const PATTERNS: [(&[u8], &[u8]); 5] = [
     ),
 ];
 
+/// The first of these scripts that gives another record. Both stand without their first line.
+fn first_other<'a>(
+    alloc: Global,
+    rows: &[(&'a [u8], &'a [u8])],
+) -> Result<Option<&'a [u8]>, AllocError> {
+    for (lines, record) in rows {
+        if !gives(alloc, lines, record)? {
+            return Ok(Some(*lines));
+        }
+    }
+    Ok(None)
+}
+
 #[test]
-fn receives_take_the_oldest_match_and_cut_runs_stop(rt: HostRuntime) -> Result<(), Fail> {
+fn scripts_give_their_records(rt: HostRuntime) -> Result<(), Fail> {
     let alloc = rt.alloc();
-    for (lines, record) in RECEIVES {
-        assert!(rt; gives(alloc, lines, record)?, "{lines:?}");
+    let tables: [&[(&[u8], &[u8])]; 14] = [
+        &TAKEN,
+        &VALUES,
+        &GOING,
+        &PATTERNS,
+        &MATCHES,
+        &LARGE,
+        &EXITS,
+        &EXIT_SIGNALS,
+        &LINK_CALLS,
+        &LINKED_EXITS,
+        &UNLINKS,
+        &QUEUED,
+        &WATCHES,
+        &MARKERS,
+    ];
+    for rows in tables {
+        let other = first_other(alloc, rows)?;
+        assert!(rt; other.is_none(), "{other:?}");
+    }
+    Ok(())
+}
+
+/// The first of these texts that gives another record, or of which something is told.
+fn first_unlike<'a>(
+    alloc: Global,
+    rows: &[(&'a [u8], &'a [u8])],
+) -> Result<Option<&'a [u8]>, AllocError> {
+    for (text, record) in rows {
+        let (status, out, err) = run_text(alloc, text)?;
+        if status != Status::Done || out.held() != *record || !err.held().is_empty() {
+            return Ok(Some(*text));
+        }
+    }
+    Ok(None)
+}
+
+#[test]
+fn texts_and_documents_give_their_records(rt: HostRuntime) -> Result<(), Fail> {
+    let alloc = rt.alloc();
+    let tables: [&[(&[u8], &[u8])]; 2] = [&TEXTS, &EXAMPLES];
+    for rows in tables {
+        let unlike = first_unlike(alloc, rows)?;
+        assert!(rt; unlike.is_none(), "{unlike:?}");
     }
     Ok(())
 }
 
 #[test]
-fn expressions_build_their_values(rt: HostRuntime) -> Result<(), Fail> {
+fn refusals_of_the_documents_are_told(rt: HostRuntime) -> Result<(), Fail> {
     let alloc = rt.alloc();
-    for (lines, record) in VALUES {
-        assert!(rt; gives(alloc, lines, record)?, "{lines:?}");
+    for (text, told) in REFUSALS {
+        let (status, out, err) = run_text(alloc, text)?;
+        assert!(rt; status.number() == 1, "{text:?}");
+        assert!(rt; out.held().is_empty(), "{text:?}");
+        assert!(rt; err.held() == told, "{text:?}");
     }
     Ok(())
 }
 
-#[test]
-fn labels_targets_and_ends_lead_on(rt: HostRuntime) -> Result<(), Fail> {
-    let alloc = rt.alloc();
-    for (lines, record) in GOING {
-        assert!(rt; gives(alloc, lines, record)?, "{lines:?}");
+/// The first of these lines behind the header that aren't refused so.
+fn first_accepted<'a>(
+    alloc: Global,
+    rows: &[(&'a [u8], u64, FaultKind)],
+) -> Result<Option<&'a [u8]>, AllocError> {
+    for (lines, line, kind) in rows {
+        let (status, out, _) = run_lines(alloc, lines)?;
+        let refused = Status::BadScript {
+            line: *line,
+            kind: *kind,
+        };
+        if status != refused || !out.held().is_empty() {
+            return Ok(Some(*lines));
+        }
     }
-    Ok(())
+    Ok(None)
 }
 
 #[test]
-fn patterns_match_and_bind(rt: HostRuntime) -> Result<(), Fail> {
+fn texts_are_refused_at_their_line(rt: HostRuntime) -> Result<(), Fail> {
     let alloc = rt.alloc();
-    for (lines, record) in PATTERNS {
-        assert!(rt; gives(alloc, lines, record)?, "{lines:?}");
+    let tables: [&[(&[u8], u64, FaultKind)]; 5] = [
+        &HEADS,
+        &TERMS,
+        &RECEIVES,
+        &OPERANDS,
+        &MARKER_CLAUSES,
+    ];
+    for rows in tables {
+        let accepted = first_accepted(alloc, rows)?;
+        assert!(rt; accepted.is_none(), "{accepted:?}");
+    }
+    for text in OTHER_FIRST_LINES {
+        let (status, _, _) = run_text(alloc, text)?;
+        assert!(rt; status == NO_HEADER, "{text:?}");
     }
     Ok(())
 }
@@ -490,102 +577,23 @@ fn two_processes_play_until_both_are_cut(rt: HostRuntime) -> Result<(), Fail> {
     Ok(())
 }
 
-/// The text of a tuple of these elements.
-fn tuple_text(alloc: Global, elements: &[&[u8]]) -> Result<Vec<u8>, AllocError> {
-    let mut text = Vec::from_slice(alloc, b"{")?;
-    for (place, element) in elements.iter().enumerate() {
-        if place > 0 {
-            text.push(b',')?;
-        }
-        text.extend_from_slice(element)?;
-    }
-    text.push(b'}')?;
-    Ok(text)
-}
-
-/// An event that sets a value: its stamp is its place.
-fn push_set(alloc: Global, text: &mut Vec<u8>, place: u64, value: &[u8]) -> Result<(), AllocError> {
-    let mut rest = Vec::from_slice(alloc, b" set ")?;
-    rest.extend_from_slice(value)?;
-    push_signal(text, place, b" exec ", place, rest.as_slice())
-}
-
-const PAIRS: &[u8] = b"process a\nset X 0\n\
-    set X {X,X}\nset X {X,X}\nset X {X,X}\n\
-    set X {X,X}\nset X {X,X}\nset X {X,X}\n\
-    set X {X,X}\nset X {X,X}\nset X {X,X}\n";
-
-#[test]
-fn the_largest_term_is_set_and_the_next_ends_the_process(rt: HostRuntime) -> Result<(), Fail> {
-    let alloc = rt.alloc();
-    let mut lines = Vec::from_slice(alloc, PAIRS)?;
-    lines.extend_from_slice(b"set X {X}\nset X {X}\n")?;
-    let mut record = Vec::from_slice(alloc, b"process 0 a\n")?;
-    let mut value = Vec::from_slice(alloc, b"0")?;
-    push_set(alloc, &mut record, 1, value.as_slice())?;
-    for place in 2..11 {
-        value = tuple_text(alloc, &[value.as_slice(), value.as_slice()])?;
-        push_set(alloc, &mut record, place, value.as_slice())?;
-    }
-    // It has 1,023 nodes, and 1,024 in a tuple of its own.
-    value = tuple_text(alloc, &[value.as_slice()])?;
-    assert!(rt; value.len() == 2047);
-    push_set(alloc, &mut record, 11, value.as_slice())?;
-    record.extend_from_slice(b"12 exec 12 ended system_limit\nstate ended system_limit\n")?;
-    assert!(rt; gives(alloc, lines.as_slice(), record.as_slice())?);
-    Ok(())
-}
-
-#[test]
-fn size_is_looked_at_before_kind(rt: HostRuntime) -> Result<(), Fail> {
-    let alloc = rt.alloc();
-    let rows: [(&[u8], &[u8]); 4] = [
-        (
-            b"send hi {X,X}\n",
-            b"11 exec 11 ended system_limit\nstate ended system_limit\n",
-        ),
-        (
-            b"send {X,X} hi\n",
-            b"11 exec 11 ended system_limit\nstate ended system_limit\n",
-        ),
-        (
-            b"send @a {X,X}\n",
-            b"11 exec 11 ended system_limit\nstate ended system_limit\n",
-        ),
-        (
-            b"send X hi\n",
-            b"11 exec 11 ended badarg\nstate ended badarg\n",
-        ),
-    ];
-    for (line, end) in rows {
-        let mut lines = Vec::from_slice(alloc, PAIRS)?;
-        lines.extend_from_slice(line)?;
-        let (status, out, _) = run_lines(alloc, lines.as_slice())?;
-        assert!(rt; status == Status::Done);
-        assert!(rt; out.held().ends_with(end), "{line:?}");
-    }
-    Ok(())
-}
-
-#[test]
-fn a_value_of_depth_64_is_the_deepest(rt: HostRuntime) -> Result<(), Fail> {
-    let alloc = rt.alloc();
-    let mut lines = Vec::from_slice(alloc, b"process a\n")?;
-    let mut record = Vec::from_slice(alloc, b"process 0 a\n")?;
-    let mut value = Vec::from_slice(alloc, b"undefined")?;
-    for place in 1..64 {
-        lines.extend_from_slice(b"set X {X}\n")?;
-        value = tuple_text(alloc, &[value.as_slice()])?;
-        push_set(alloc, &mut record, place, value.as_slice())?;
-    }
-    lines.extend_from_slice(b"set X {X}\n")?;
-    record.extend_from_slice(b"64 exec 64 ended system_limit\nstate ended system_limit\n")?;
-    assert!(rt; gives(alloc, lines.as_slice(), record.as_slice())?);
-    Ok(())
-}
-
 /// More texts behind the header line that are refused, with the line and the kind, and what is told.
-const REFUSED: [(&[u8], u64, FaultKind, &[u8]); 7] = [
+const REFUSED: [(&[u8], u64, FaultKind, &[u8]); 9] = [
+    (
+        b"process p1\nprocess p2\nprocess p3\nprocess p4\nprocess p5\nprocess p6\nprocess p7\n\
+          process p8\nprocess p9\nprocess p10\nprocess p11\nprocess p12\nprocess p13\nprocess p14\n\
+          process p15\nprocess p16\nprocess p17\nprocess p18\nprocess p19\nprocess p20\nprocess p21\n\
+          process p22\nprocess p23\nprocess p24\nprocess p25\nprocess p26\nprocess p27\nprocess p28\n\
+          process p29\nprocess p30\nprocess p31\nprocess p32\nprocess p33\nprocess p34\nprocess p35\n\
+          process p36\nprocess p37\nprocess p38\nprocess p39\nprocess p40\nprocess p41\nprocess p42\n\
+          process p43\nprocess p44\nprocess p45\nprocess p46\nprocess p47\nprocess p48\nprocess p49\n\
+          process p50\nprocess p51\nprocess p52\nprocess p53\nprocess p54\nprocess p55\nprocess p56\n\
+          process p57\nprocess p58\nprocess p59\nprocess p60\nprocess p61\nprocess p62\nprocess p63\n\
+          process p64\nprocess p65\n",
+        66,
+        FaultKind::TooManyProcesses,
+        b"sigrun: line 66: too_many_processes\n",
+    ),
     (
         b"process a\ngoto z\n",
         3,
@@ -623,6 +631,12 @@ const REFUSED: [(&[u8], u64, FaultKind, &[u8]); 7] = [
         b"sigrun: line 4: duplicate_name\n",
     ),
     (
+        b"process a\nsend @b hi\nreceive using R\non {^R,X}\non {ok,R}\nend\n",
+        6,
+        FaultKind::MarkerNotInClause,
+        b"sigrun: line 6: marker_not_in_clause\n",
+    ),
+    (
         b"process a\nreceive\non x -> l\nend\nprocess b\nlabel l\n",
         4,
         FaultKind::UnknownLabel,
@@ -640,42 +654,5 @@ fn refusals_are_told_with_line_and_kind(rt: HostRuntime) -> Result<(), Fail> {
         assert!(rt; out.held().is_empty(), "{lines:?}");
         assert!(rt; err.held() == told, "{lines:?}");
     }
-    Ok(())
-}
-
-#[test]
-fn a_text_of_blanks_that_is_too_long_has_no_line(rt: HostRuntime) -> Result<(), Fail> {
-    let alloc = rt.alloc();
-    let rows: [(usize, Status, &[u8]); 2] = [
-        (1048576, NO_HEADER, TOLD_NO_HEADER),
-        (1048577, TOO_LONG, b"sigrun: line 0: too_long\n"),
-    ];
-    for (size, status, told) in rows {
-        let mut source = MemorySource::new(vec![in alloc; b' '; size]?, 100000);
-        let mut out = MemorySink::with_room(alloc, 100)?;
-        let (answer, err) = run_with(alloc, &mut source, &mut out)?;
-        assert!(rt; answer == status, "{size}");
-        assert!(rt; out.held().is_empty(), "{size}");
-        assert!(rt; err.held() == told, "{size}");
-    }
-    Ok(())
-}
-
-#[test]
-fn the_sixty_fifth_process_is_refused(rt: HostRuntime) -> Result<(), Fail> {
-    let alloc = rt.alloc();
-    let mut lines = Vec::new(alloc);
-    for number in 1..65 {
-        lines.extend_from_slice(b"process p")?;
-        push_line(&mut lines, number, b"")?;
-    }
-    let (status, _, _) = run_lines(alloc, lines.as_slice())?;
-    assert!(rt; status == Status::Done);
-    lines.extend_from_slice(b"process p65\n")?;
-    let (status, out, err) = run_lines(alloc, lines.as_slice())?;
-    let kind = FaultKind::TooManyProcesses;
-    assert!(rt; status == Status::BadScript { line: 66, kind });
-    assert!(rt; out.held().is_empty());
-    assert!(rt; err.held() == b"sigrun: line 66: too_many_processes\n".as_slice());
     Ok(())
 }

@@ -1,10 +1,7 @@
 //! Worked examples of monitors and aliases, through the top call.
 
-use crate::tests::gives;
-use std::test::Fail;
-
 /// Scripts without their first line, and their records without theirs.
-const WATCHES: [(&[u8], &[u8]); 11] = [
+pub(crate) const WATCHES: [(&[u8], &[u8]); 11] = [
     // A reply alias is sent to twice.
     (
         b"process a\nalias A reply\nsend @b A\nreceive\non {r,N}\nend\nreceive\non {r,N}\nafter\nend\n\
@@ -80,12 +77,3 @@ const WATCHES: [(&[u8], &[u8]); 11] = [
           4 from 0 1 dropped\n5 exec 4 ended normal\nstate ended normal\n",
     ),
 ];
-
-#[test]
-fn monitors_and_aliases_go_by_their_rules(rt: HostRuntime) -> Result<(), Fail> {
-    let alloc = rt.alloc();
-    for (lines, record) in WATCHES {
-        assert!(rt; gives(alloc, lines, record)?, "{lines:?}");
-    }
-    Ok(())
-}

@@ -1,4 +1,7 @@
 pub mod ScanLemmas
 pub mod Numbering
+pub mod Marking
 pub mod Resuming
+pub mod Asking
+pub mod Starting
 pub mod Answering

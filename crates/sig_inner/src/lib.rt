@@ -5,12 +5,10 @@ mod append;
 mod flush;
 mod inner;
 mod last_scan;
+mod marks;
 mod scan;
 
 pub use append::Append;
 pub use inner::Inner;
 pub use last_scan::LastScan;
 pub use scan::Scan;
-
-#[cfg(test)]
-mod tests;

@@ -10,6 +10,3 @@ pub use alias_answer::AliasAnswer;
 pub use alias_mode::AliasMode;
 pub use signal::{Kind, Signal};
 pub use signals::{Push, Signals};
-
-#[cfg(test)]
-mod tests;

@@ -5,6 +5,3 @@ mod links;
 mod tables;
 
 pub use links::Links;
-
-#[cfg(test)]
-mod tests;

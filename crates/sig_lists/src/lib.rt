@@ -6,6 +6,3 @@ mod sequence;
 
 pub use pushed::Pushed;
 pub use sequence::Sequence;
-
-#[cfg(test)]
-mod tests;

@@ -1,6 +1,6 @@
 -- What holds of every name in a process holds of every name in what an event does, and the event moves the counts no further than
 -- it may: the bodies that executions and handlings share.
-use Rattle.std.proofs.Common.{◌≡◌, ℕ, ◌+◌, ◌≤◌, List, [], ◌∷◌, ◌++◌, length, Bool, true, false, cond, ◌||◌, ◌==◌, is_some, All, Some, None, refl, ap, arith}
+use Rattle.std.proofs.Common.{◌≡◌, ℕ, ◌+◌, ◌≤◌, List, [], ◌∷◌, ◌++◌, length, Bool, true, false, cond, ◌||◌, ◌==◌, is_some, All, Some, None, refl, sym, ap, subst, arith}
 use Rattle.std.specs.Prelude.{nat_eq}
 use Rattle.std.specs.Option.{option_eq}
 use Rattle.std.proofs.lemmas.List.Elements.{All-nil, All-cons, All-push, All-append, All-map, All-weaker}
@@ -16,7 +16,8 @@ use Rattle.sig_kinds.specs.SignalNames.{names_of_kind, LinkNames}
 use Rattle.sig_kinds.proofs.LinkNameLemmas.{peers_names}
 use Rattle.sig_kinds.proofs.LinkNameLemmas.{ending_names as links_ending_names}
 use Rattle.sig_kinds.proofs.WatchNameLemmas.{watch_ending_names}
-use Rattle.sig_patterns.specs.Inbox.{Inbox, Mark}
+use Rattle.sig_patterns.specs.declared.mark.Mark.{Mark}
+use Rattle.sig_patterns.specs.Inbox.{Inbox}
 use Rattle.sig_script.specs.Scripts.{Declared}
 use Rattle.sig_model.specs.declared.event.Outcome.{Outcome}
 use Rattle.sig_model.specs.ProcessState.{ProcessState}
@@ -46,6 +47,14 @@ module _ (links : LinkState) (peer : ℕ) where
 -- the place of an instruction, or the one behind the last
 abbrev pub IsAt : Declared → ℕ → Type 0
 IsAt p place = (1 ≤ place) × (place ≤ length p.instrs + 1)
+
+-- the monitors and aliases of the same process, with the same monitors borne
+pub record BearsAlike (before after : WatchState) : Type 0 where
+  pub owner : after.owner ≡ before.owner
+  pub borne : after.borne ≡ before.borne
+
+pub same_watch : (watch : WatchState) → BearsAlike watch watch
+same_watch watch = record { owner = refl; borne = refl }
 
 module _ (P : Named → Type 0) where
   -- the signals that an event sends, of which at most one is to a peer
@@ -77,30 +86,33 @@ module _ (P : Named → Type 0) where
   pub record IsKeptBody (p : Declared) (s : ProcessState) (b : Body) : Type 0 where
     pub names : BodyNames P b
     pub bounds : IsBoundedBody p s b
+    -- the process makes references of its own
+    pub owner : b.state.tables.watch.owner ≡ s.tables.watch.owner
 
   module _ (p : Declared) (s : ProcessState) where
     -- it sends these signals, to each peer at most one more than there are monitors fewer
     pub row : (b : Body) → TableNames P b.state.tables → IsAt p b.state.counts.place
         → b.state.tables.inbox.next_arrival ≤ s.tables.inbox.next_arrival + 1 → b.state.tables.links.next_id ≤ s.tables.links.next_id + 1 → b.state.counts.next_serial ≤ s.counts.next_serial + 1
-        → All (PostNames P) b.posts → ((peer : ℕ) → posts_to peer b.posts + length b.state.tables.watch.borne ≤ length s.tables.watch.borne + 1) → IsKeptBody p s b
-    row b tables at arrivals ids serials names few = record {
+        → b.state.tables.watch.owner ≡ s.tables.watch.owner → All (PostNames P) b.posts → ((peer : ℕ) → posts_to peer b.posts + length b.state.tables.watch.borne ≤ length s.tables.watch.borne + 1) → IsKeptBody p s b
+    row b tables at arrivals ids serials owner names few = record {
       names = record { tables = tables; posts = names };
       bounds = record { first = at.0; within = at.1; arrivals = arrivals; ids = ids; serials = serials; posts = few };
+      owner = owner;
     }
 
     -- it sends at most one signal to a peer, and leaves as many monitors borne
     pub few_row : (b : Body) → TableNames P b.state.tables → IsAt p b.state.counts.place
         → b.state.tables.inbox.next_arrival ≤ s.tables.inbox.next_arrival + 1 → b.state.tables.links.next_id ≤ s.tables.links.next_id + 1 → b.state.counts.next_serial ≤ s.counts.next_serial + 1
-        → b.state.tables.watch.borne ≡ s.tables.watch.borne → ArePosts b.posts → IsKeptBody p s b
-    few_row b tables at arrivals ids serials borne posts =
-        row b tables at arrivals ids serials posts.names (λ peer. let one : posts_to peer b.posts ≤ 1 = posts.few peer in rw borne (omega (arith, one)))
+        → BearsAlike s.tables.watch b.state.tables.watch → ArePosts b.posts → IsKeptBody p s b
+    few_row b tables at arrivals ids serials alike posts =
+        row b tables at arrivals ids serials alike.owner posts.names (λ peer. let one : posts_to peer b.posts ≤ 1 = posts.few peer in rw alike.borne (omega (arith, one)))
 
     -- it leaves the arrivals, the links and the monitors
     pub moving : (b : Body) → TableNames P b.state.tables → IsAt p b.state.counts.place
         → b.state.tables.inbox.next_arrival ≡ s.tables.inbox.next_arrival → b.state.tables.links ≡ s.tables.links
         → b.state.tables.watch ≡ s.tables.watch → b.state.counts.next_serial ≡ s.counts.next_serial → ArePosts b.posts → IsKeptBody p s b
     moving b tables at arrivals links watch serial posts =
-        few_row b tables at (omega (arith, arrivals)) (rw links (omega arith)) (omega (arith, serial)) (ap (λ (w : WatchState). w.borne) watch) posts
+        few_row b tables at (omega (arith, arrivals)) (rw links (omega arith)) (omega (arith, serial)) (subst (λ w. BearsAlike s.tables.watch w) (sym watch) (same_watch s.tables.watch)) posts
 
     module _ (k : TableNames P s.tables) where
       -- it changes the links, and goes on at this place
@@ -108,7 +120,7 @@ module _ (P : Named → Type 0) where
           → links.next_id ≤ s.tables.links.next_id + 1 → ArePosts posts
           → IsKeptBody p s (record { state = record (relinked s links) { counts = record s.counts { place = place } }; outcome = how; posts = posts })
       relinking place links how posts at h ids sent =
-          few_row _ (record { env = k.env; inbox = k.inbox; links = h; watch = k.watch; end = k.end }) at (omega arith) ids (omega arith) refl sent
+          few_row _ (record { env = k.env; inbox = k.inbox; links = h; watch = k.watch; end = k.end }) at (omega arith) ids (omega arith) (same_watch s.tables.watch) sent
 
       module _ (here : IsAt p s.counts.place) where
         pub dropping_kept : IsKeptBody p s (dropping s)
@@ -120,7 +132,7 @@ module _ (P : Named → Type 0) where
             let all : All (λ (m : ℕ × Term). AllNames P m.1) (inbox.messages ++ (inbox.next_arrival, message) ∷ []) =
             All-push (λ (m : ℕ × Term). AllNames P m.1) inbox.messages (inbox.next_arrival, message) k.inbox.messages h in
             few_row (appending s message)
-            (record { env = k.env; inbox = record { messages = all; marks = k.inbox.marks }; links = k.links; watch = k.watch; end = k.end }) here (omega arith) (omega arith) (omega arith) refl no_posts
+            (record { env = k.env; inbox = record { messages = all; marks = k.inbox.marks }; links = k.links; watch = k.watch; end = k.end }) here (omega arith) (omega arith) (omega arith) (same_watch s.tables.watch) no_posts
 
         pub ending_kept : (reason : Term) → AllNames P reason → IsKeptBody p s (ending s reason)
         ending_kept reason h =
@@ -132,7 +144,7 @@ module _ (P : Named → Type 0) where
               watch = watch_ending_names P s.tables.watch k.watch;
               end = h;
             })
-            here (omega arith) (omega arith) (omega arith)
+            here (omega arith) (omega arith) (omega arith) refl
             (All-append (PostNames P) _ _ (exits (active_after s.tables.links None) reason (peers_names P s.tables.links k.links) h) (downs s.tables.watch.borne reason k.watch.borne h))
             (λ peer. omega (arith, told_within s.tables.links s.tables.watch.borne reason peer))
 

@@ -36,6 +36,7 @@ pub opened_keeps : (pid count turns : ℕ) (p : Declared) → pid < count → Is
 opened_keeps pid count turns p lt within h = record {
   below = opened_below pid count turns p lt h;
   ran = record { runs = refl; events_told = refl; handled_told = refl };
+  owner = refl;
   within = within;
   bounds = bounded_opening p pid count;
   low = omega arith;
@@ -59,6 +60,7 @@ lists_keep r taken out k h g below = record {
     outbox = below;
   };
   ran = k.ran;
+  owner = k.owner;
   within = k.within;
   bounds = k.bounds;
   low = k.low;
@@ -143,6 +145,7 @@ module _ (r : Running) where
           };
           ran =
               (one_more rules (stamps_kept r.turns part) r.pid (opening_local r) (local_of r) r.events r.handled (record { input = e.input; effect = e.effect }) k.ran e.can).ran;
+          owner = subst (λ (f : Effect ProcessState Signal Event). f.state.tables.watch.owner ≡ r.pid) did.is (did.holds.owner ∙ k.owner);
           within = k.within;
           bounds = subst (λ (f : Effect ProcessState Signal Event). IsBounded r.proc f.state) did.is
               (finished_bounded r.proc r.state k.bounds r.pid did.executed did.stamp did.what did.body did.holds.bounds did.later);

@@ -4,12 +4,12 @@ pub mod Waiting
 pub mod ValueNames
 pub mod MatchNames
 pub mod BodyLemmas
-pub mod WatchingLemmas
 pub mod ExecutingLemmas
 pub mod HandlingLemmas
 pub mod RunningNames
 pub mod BoundLemmas
 pub mod Guards
+pub mod SkipLemmas
 pub mod StampLemmas
 pub mod EventLemmas
 pub mod GoingLemmas

@@ -12,7 +12,7 @@ use Rattle.sig_patterns.specs.declared.expression.Expr.{Expr, roll-Expr, map-Exp
 use Rattle.sig_patterns.specs.declared.expression.Expr.TheOpen.{Expr-F}
 use Rattle.sig_patterns.specs.declared.expression.Expr.TheOpen as expression
 use Rattle.sig_patterns.specs.declared.expression.Expr.TheFolds.{fold-roll-Expr, ind-Expr}
-use Rattle.sig_patterns.specs.Environment.{Environment, undefined}
+use Rattle.sig_patterns.specs.Environment.{Environment, undefined, value_of_var}
 use Rattle.sig_patterns.specs.Building.{value_of, value_step}
 use Rattle.sig_script.specs.Parts.{expr_pids, pids_of}
 use Rattle.sig_script.proofs.PidLemmas.{pids_of-roll, all_front, all_behind}
@@ -28,6 +28,9 @@ or_undefined P None h = atom_names P _
 or_undefined P (Some t) h = h
 
 module _ (P : Named → Type 0) (env : Environment) (names : EnvironmentNames P env) where
+  pub var_names : (var : List ℕ) → AllNames P (value_of_var env var)
+  var_names var = or_undefined P (get env var) (names var)
+
   abbrev ValueNames : Expr → Type 0
   ValueNames e = ExprNames P e → AllNames P (value_of env e)
 
@@ -53,7 +56,7 @@ module _ (P : Named → Type 0) (env : Environment) (names : EnvironmentNames P 
   step (expression.Int n) = at (expression.Int n) (λ h. int_names P n)
   step (expression.Atom a) = at (expression.Atom a) (λ h. atom_names P a)
   step (expression.Pid p) = at (expression.Pid p) (λ h. pid_names P p (All-head (λ (q : ℕ). P (process q)) p.0 [] h))
-  step (expression.Var var) = at (expression.Var var) (λ h. or_undefined P (get env var.0) (names var.0))
+  step (expression.Var var) = at (expression.Var var) (λ h. var_names var.0)
   step (expression.Tuple es) = at (expression.Tuple (exprs es)) (λ h. tuple_names P (map (value_of env) (exprs es)) (values es h))
   step (expression.List es) = at (expression.List (exprs es)) (λ h. list_names P (map (value_of env) (exprs es)) (values es h))
 

@@ -9,7 +9,7 @@ use Rattle.sig_kinds.specs.declared.signal.Kind.TheVariants as kind
 use Rattle.sig_kinds.specs.LinkRules.{LinkState, active_after}
 use Rattle.sig_kinds.specs.LinkRules.{ending as links_ending}
 use Rattle.sig_kinds.specs.WatchRules.{WatchState, watch_ending}
-use Rattle.sig_patterns.specs.Inbox.{arrived_in, emptied_inbox}
+use Rattle.sig_patterns.specs.Inbox.{Inbox, arrived_in, emptied_inbox}
 use Rattle.sig_script.specs.declared.label.Label.{Label}
 use Rattle.sig_model.specs.declared.event.Outcome.{Outcome}
 use Rattle.sig_model.specs.declared.event.Outcome.TheVariants as outcome
@@ -41,6 +41,10 @@ at_next s = at_place s (s.counts.place + 1)
 abbrev pub with_tables : ProcessState → Tables → ProcessState
 with_tables s tables = record s { tables = tables }
 
+-- the process with other messages and marks
+abbrev pub inboxed : ProcessState → Inbox → ProcessState
+inboxed s inbox = with_tables s (record s.tables { inbox = inbox })
+
 -- the process with other links
 abbrev pub relinked : ProcessState → LinkState → ProcessState
 relinked s links = with_tables s (record s.tables { links = links })
@@ -56,7 +60,7 @@ going_on s place how = record { state = at_place s place; outcome = how; posts =
 -- the message comes to the end of the list
 abbrev pub appending : ProcessState → Term → Body
 appending s message = record {
-  state = with_tables s (record s.tables { inbox = arrived_in s.tables.inbox message });
+  state = inboxed s (arrived_in s.tables.inbox message);
   outcome = outcome.Kept message;
   posts = [];
 }

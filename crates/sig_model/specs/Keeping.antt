@@ -51,6 +51,8 @@ pub record IsKeeping (r : Running) : Type 0 where
   -- from its opening it has executed an instruction or handled a signal at each of its events, and these signals are the ones
   -- that it handled (Erlang Reference Manual, Processes, Receiving Signals)
   pub ran : RanAlone (own_rules r) r.pid (opening_local r) r.events r.handled (local_of r)
+  -- it makes references of its own
+  pub owner : r.state.tables.watch.owner ≡ r.pid
   -- how far its part of the script and its counts go
   pub within : IsWithin r.proc
   pub bounds : IsBounded r.proc r.state

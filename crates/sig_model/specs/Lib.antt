@@ -1,6 +1,5 @@
 pub mod ProcessState
 pub mod Bodies
-pub mod Watching
 pub mod Executing
 pub mod ExitRule
 pub mod Handling

@@ -11,13 +11,17 @@ use Rattle.sig_model.specs.declared.event.Event.{Event}
 use Rattle.sig_model.specs.declared.event.Did.{Did}
 use Rattle.sig_model.specs.declared.event.Did.TheVariants.{Exec, From}
 use Rattle.sig_model.specs.ProcessState.{ProcessState, opening_state, is_cut}
-use Rattle.sig_model.specs.Executing.{executing}
+use Rattle.sig_model.specs.Executing.{executing, executing_whole}
 use Rattle.sig_model.specs.Handling.{handling}
 use Rattle.sig_model.specs.Finishing.{finished_exec, finished_handle}
 
 -- what the process pid, of this declaration, does with its next instruction, where it can be executed
 abbrev pub execution : ℕ → Declared → ProcessState → Option (Effect ProcessState Signal Event)
 execution pid p s = option_map (finished_exec pid s) (executing p s)
+
+-- the same by a scan of all messages
+abbrev pub execution_whole : ℕ → Declared → ProcessState → Option (Effect ProcessState Signal Event)
+execution_whole pid p s = option_map (finished_exec pid s) (executing_whole p s)
 
 abbrev pub execution_of : ℕ → Option Declared → ProcessState → Option (Effect ProcessState Signal Event)
 execution_of pid None s = None

@@ -6,7 +6,8 @@ use Rattle.sig_terms.specs.declared.term.Term.{Term}
 use Rattle.sig_terms.specs.Names.{Named, process, names_of_ref, AllNames, IsNameBelow}
 use Rattle.sig_kinds.specs.SignalNames.{names_of_kind, LinkNames, WatchNames, IsSignalBelow}
 use Rattle.sig_patterns.specs.Environment.{Environment}
-use Rattle.sig_patterns.specs.Inbox.{Inbox, Mark}
+use Rattle.sig_patterns.specs.declared.mark.Mark.{Mark}
+use Rattle.sig_patterns.specs.Inbox.{Inbox}
 use Rattle.sig_patterns.specs.declared.expression.Expr.{Expr}
 use Rattle.sig_script.specs.declared.instruction.Instr.{Instr}
 use Rattle.sig_script.specs.Parts.{exprs_of, pids_of}

@@ -8,7 +8,7 @@ use Rattle.sig_runs.specs.Rules.{Effect}
 use Rattle.sig_model.specs.declared.event.Event.{Event}
 use Rattle.sig_model.specs.declared.state.TheConstants.{LAST_STAMP}
 use Rattle.sig_model.specs.ProcessState.{ProcessState, opening_state, is_cut}
-use Rattle.sig_model.specs.Machine.{execution, handling_of}
+use Rattle.sig_model.specs.Machine.{execution, execution_whole, handling_of}
 
 pub record Running : Type 0 where
   pub pid : ℕ
@@ -64,6 +64,10 @@ can_exec r = is_none r.state.tables.end && not (is_cut r.turns r.state) && lengt
 -- after its next instruction, where that may be executed
 unfoldable pub exec_next : Running → Option Running
 exec_next r = if can_exec r then option_map (advanced r) (execution r.pid r.proc r.state) else None
+
+-- the same by a scan of all messages
+unfoldable pub exec_next_whole : Running → Option Running
+exec_next_whole r = if can_exec r then option_map (advanced r) (execution_whole r.pid r.proc r.state) else None
 
 -- the signal that it handles next: the oldest own one, else the oldest that was taken in
 abbrev pub next_of : List Signal → List Signal → Option Signal

@@ -12,7 +12,7 @@ mod target;
 
 pub use event::{Did, Event, Events, Outcome};
 pub use numbers::signals_are_numbered;
-pub use receives::only_a_receive_waits;
+pub use receives::{a_mark_skips_no_match, only_a_receive_waits};
 pub use settled::one_worker_run_is_settled;
 pub use stamps::stamps_are_kept;
 pub use state::{LAST_STAMP, State};

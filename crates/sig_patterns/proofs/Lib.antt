@@ -7,4 +7,5 @@ pub mod Placing
 pub mod Extents
 pub mod Examples
 pub mod HitLemmas
-mod MarkLemmas
+pub mod PinLemmas
+pub mod MarkLemmas

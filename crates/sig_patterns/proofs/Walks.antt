@@ -13,7 +13,7 @@ use Rattle.sig_patterns.specs.declared.pattern.Pattern.TheOpen as pattern
 use Rattle.sig_patterns.specs.declared.pattern.Pattern.TheFolds.{fold-roll-Pattern, ind-Pattern}
 use Rattle.sig_patterns.specs.Environment.{Environment, value_of_var}
 use Rattle.sig_patterns.specs.Matching.{Bindings, Matcher, bound_to, asking, binding, match_each, match_cons, match_step, matching, overlaid, match_of, tuple_items, list_items}
-use Rattle.sig_patterns.specs.Fitting.{Places, first_each, first_cons, first_step, first_in, fits_each, fits_all, fits_cons, fits_step, fits}
+use Rattle.sig_patterns.specs.Fitting.{Places, first_each, first_cons, first_step, first_in, fits_all, fits_cons, fits_step, fits}
 use Rattle.sig_terms.proofs.SameTerms.{same_self}
 use Rattle.sig_patterns.proofs.Bindings.{Covers, Goes, or_none, goes_along, covers_first, covers_next, goes_then, goes_asking}
 

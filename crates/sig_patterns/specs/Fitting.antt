@@ -1,6 +1,6 @@
 -- The match once more, for a walk that carries no bindings: at each variable it compares with the term at the variable's
 -- first place in the whole pattern. And what a match binds, place by place.
-use Rattle.std.specs.Prelude.{ℕ, List, [], ◌∷◌, ◌++◌, map, Bool, true, false, ◌&&◌, ◌==◌, nat_le, length, drop, if◌then◌else◌, Option, Some, None, option_and_then}
+use Rattle.std.specs.Prelude.{ℕ, List, [], ◌∷◌, ◌++◌, map, Bool, true, false, ◌&&◌, ◌==◌, length, if◌then◌else◌, Option, Some, None, option_and_then}
 use Rattle.std.specs.Option.{option_or, option_map_or}
 use Rattle.std.specs.Str.{bytes_eq}
 use Rattle.sig_terms.specs.TermTest.{same_term}

@@ -5,3 +5,4 @@ pub mod Matching
 pub mod Fitting
 pub mod Building
 pub mod Scanning
+pub mod Pinning

@@ -29,6 +29,13 @@ behind_clause h = record h { clause = h.clause + 1 }
 abbrev pub behind_message : Hit → Hit
 behind_message h = record h { at = h.at + 1 }
 
+-- the same hit, and the same places, with some more messages before its message
+abbrev pub behind_messages : ℕ → Hit → Hit
+behind_messages older h = record h { at = h.at + older }
+
+abbrev pub found_behind : ℕ → Found → Found
+found_behind older f = record f { at = f.at + older }
+
 -- the first clause that matches the message
 abbrev pub hit_here : List Clause → Environment → Term → Option Hit
 hit_here [] env message = None

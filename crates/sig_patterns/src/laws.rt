@@ -1,9 +1,13 @@
-//! What a match is, in the manual's words, and what a hit of a scan tells. Each function is a theorem on the definitions: its
-//! contract is what was proved, and its body is empty. (Erlang Reference Manual, Pattern Matching; Expressions, Receive.)
+//! What a match is, in the manual's words, what a hit of a scan tells, and which messages a scan may skip. Each function is a
+//! theorem on the definitions: its contract is what was proved, and its body is empty. (Erlang Reference Manual, Pattern
+//! Matching; Expressions, Receive.)
 
-ghost use Rattle.std.specs.Prelude.{◌≡◌, if◌then◌else◌, List, [], ◌∷◌, Some, None, slice_get};
+ghost use Rattle.std.specs.Prelude.{◌≡◌, if◌then◌else◌, List, [], ◌∷◌, ◌++◌, All, length, true, false, Some, None, slice_get};
+ghost use Rattle.std.specs.Option.{option_map};
 ghost use Rattle.std.specs.FinMap as map;
+ghost use Rattle.sig_terms.specs.Nodes.{holds};
 ghost use Rattle.sig_terms.specs.TermTest.{same_term};
+ghost use Rattle.sig_terms.specs.declared.reference.Ref.{Ref};
 ghost use Rattle.sig_terms.specs.declared.term.Term.{Term};
 ghost use Rattle.sig_terms.specs.declared.term.Term.TheVariants as term;
 ghost use Rattle.sig_patterns.specs.declared.clause.Clause.{Clause};
@@ -12,7 +16,8 @@ ghost use Rattle.sig_patterns.specs.declared.pattern.Pattern.{Pattern};
 ghost use Rattle.sig_patterns.specs.declared.pattern.Pattern.TheVariants as pattern;
 ghost use Rattle.sig_patterns.specs.Environment.{Environment, value_of_var};
 ghost use Rattle.sig_patterns.specs.Matching.{match_of};
-ghost use Rattle.sig_patterns.specs.Scanning.{Hit, hit};
+ghost use Rattle.sig_patterns.specs.Pinning.{pins, AskFor};
+ghost use Rattle.sig_patterns.specs.Scanning.{Hit, behind_messages, found_behind, hit, scan};
 
 /// `[P1 | [P2, ..]]` matches as `[P1, P2, ..]` does.
 pub fn a_list_is_a_head_and_a_list()
@@ -42,4 +47,21 @@ pub fn a_hit_tells_its_match()
     ensures clause { (clauses : List Clause) (env : Environment) (messages : List Term) (h : Hit) →
         hit clauses env messages ≡ Some h →
         (c : Clause) × ((slice_get clauses h.clause ≡ Some c) × (h.target ≡ c.target) × (match_of c.pattern env h.message ≡ Some h.env)) }
+{}
+
+/// A pattern that pins a variable whose value is a reference matches only terms that hold the reference.
+pub fn a_pinned_reference_is_held()
+    ensures { (p : Pattern) (env : Environment) (t : Term) (e : Environment) (x : Var) (r : Ref) →
+        match_of p env t ≡ Some e → pins p x ≡ true → value_of_var env x.0 ≡ term.Ref r → holds r t ≡ true }
+{}
+
+/// Where every clause asks for a reference and none of the older messages holds it, a scan finds what a scan of the rest
+/// finds, as many places further.
+pub fn older_messages_are_skipped()
+    ensures found { (clauses : List Clause) (env : Environment) (r : Ref) (older rest : List Term) →
+        AskFor env r clauses → All (λ t. holds r t ≡ false) older →
+        hit clauses env (older ++ rest) ≡ option_map (behind_messages (length older)) (hit clauses env rest) }
+    ensures places { (clauses : List Clause) (env : Environment) (r : Ref) (older rest : List Term) →
+        AskFor env r clauses → All (λ t. holds r t ≡ false) older →
+        scan clauses env (older ++ rest) ≡ option_map (found_behind (length older)) (scan clauses env rest) }
 {}

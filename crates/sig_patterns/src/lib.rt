@@ -8,9 +8,11 @@ mod env;
 mod expression;
 mod found;
 mod laws;
+mod mark;
 mod matching;
 mod measure;
 mod pattern;
+mod pinning;
 mod places;
 mod scanning;
 mod seen;
@@ -24,12 +26,11 @@ pub use expression::{Expr, Exprs};
 pub use found::Found;
 pub use laws::{
     a_hit_tells_its_match, a_list_is_a_head_and_a_list, a_pin_compares_with_the_value_before,
-    a_repeated_variable_compares,
+    a_pinned_reference_is_held, a_repeated_variable_compares, older_messages_are_skipped,
 };
+pub use mark::{MOST_MARKS, Mark, Reserve};
 pub use matching::matches;
 pub use pattern::{Pattern, Patterns};
+pub use pinning::pins;
 pub use scanning::first_match;
 pub use var::Var;
-
-#[cfg(test)]
-mod tests;

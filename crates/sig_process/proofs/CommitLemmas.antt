@@ -1,8 +1,15 @@
 -- What an execution leaves, from what its steps leave.
-use Rattle.std.proofs.Common.{◌≡◌, ℕ, ◌+◌, List, [], ◌∷◌, ◌++◌, map, ap, ◌∙◌}
+use Rattle.std.proofs.Common.{◌≡◌, ℕ, ◌+◌, List, ◌++◌, map, Bool, true, false, Option, Some, None, refl, sym, ap, ◌∙◌}
 use Rattle.sig_kinds.specs.declared.signal.Signal.{Signal}
-use Rattle.sig_patterns.specs.Inbox.{Inbox}
-use Rattle.sig_inner.specs.InnerQueue.{InnerQueue, InnerTable}
+use Rattle.std.specs.Option.{option_map_or}
+use Rattle.std.proofs.lemmas.Bool.{cond_both}
+use Rattle.sig_terms.specs.declared.reference.Ref.{Ref}
+use Rattle.sig_patterns.specs.declared.mark.Reserve.{Reserve}
+use Rattle.sig_patterns.specs.Inbox.{Inbox, is_made_since, bound_in, cleared_in}
+use Rattle.sig_patterns.specs.Inbox.{bound_by as rule_of}
+use Rattle.sig_patterns.proofs.MarkLemmas.{cleared_none}
+use Rattle.sig_inner.specs.InnerQueue.{InnerQueue, InnerTable, marked_by, cleared}
+use Rattle.sig_inner.specs.InnerQueue.{bound as bound_queue}
 use Rattle.sig_inner.specs.Receiving.{forgotten}
 use Rattle.sig_model.specs.declared.event.Event.{Event}
 use Rattle.sig_model.specs.declared.event.Did.TheVariants as did
@@ -16,7 +23,23 @@ use Rattle.sig_process.specs.Plans.{post_of, bound, bound_by, serial_by, inbox_b
 use Rattle.sig_process.specs.Committing.{HasBegun, gone_on}
 use Rattle.sig_process.specs.Progressing.{state_of, HasAdvanced}
 
-module _ (pid : ℕ) (x : Execution) (old begun bound_one gone flushed : Progress) (inner : InnerTable) where
+-- the messages and markers after the rules of the inner queue
+marked : (q : InnerQueue) (answer : Bool × Inbox) → (answer.0 ≡ false → answer.1 ≡ q.inbox) → ((marked_by q answer).inbox ≡ answer.1) × ((marked_by q answer).owner ≡ q.owner)
+marked q (true, inbox) same = (refl, refl)
+marked q (false, inbox) same = (sym (same refl), refl)
+
+bound_none : (owner : ℕ) (inbox : Inbox) (r : Ref) (o : Option Reserve) → (option_map_or {U = Bool × Inbox} (rule_of owner inbox r) o (false, inbox)).0 ≡ false
+    → (option_map_or {U = Bool × Inbox} (rule_of owner inbox r) o (false, inbox)).1 ≡ inbox
+bound_none owner inbox r None e = refl
+bound_none owner inbox r (Some reserve) e = cond_both (is_made_since owner reserve r) _ _ (λ (answer : Bool × Inbox). answer.0 ≡ false → answer.1 ≡ inbox) (λ f g. cc) (λ f g. refl) e
+
+pub bound_so : (q : InnerQueue) (r : Ref) → ((bound_queue q r).inbox ≡ (bound_in q.owner q.inbox r).1) × ((bound_queue q r).owner ≡ q.owner)
+bound_so q r = marked q (bound_in q.owner q.inbox r) (bound_none q.owner q.inbox r q.inbox.reserve)
+
+pub cleared_so : (q : InnerQueue) (r : Ref) → ((cleared q r).inbox ≡ (cleared_in q.inbox r).1) × ((cleared q r).owner ≡ q.owner)
+cleared_so q r = marked q (cleared_in q.inbox r) (cleared_none q.inbox r)
+
+module _ (pid : ℕ) (x : Execution) (old begun bound_one gone arranged : Progress) (inner : InnerTable) where
   abbrev posts : List Post
   posts = map post_of x.plan.posts.items
 
@@ -37,37 +60,40 @@ module _ (pid : ℕ) (x : Execution) (old begun bound_one gone flushed : Progres
     pub taken_in : gone.taken_in ≡ bound_one.taken_in
     pub outbox : gone.outbox.items ≡ bound_one.outbox.items ++ to_others pid (numbered pid stamp bound_one.counts.next_numbers.items posts)
 
-  -- a message of a monitor's end is removed, and what a scan left is forgotten
-  pub record HasFlushed : Type 0 where
-    pub inbox : flushed.tables.inner.queue.inbox ≡ inbox_by gone.tables.inner.queue.inbox x.flush
-    pub owner : flushed.tables.inner.queue.owner ≡ gone.tables.inner.queue.owner
-    pub rest : flushed ≡ record gone { tables = record gone.tables { inner = flushed.tables.inner } }
-    pub queue : inner.queue ≡ forgotten flushed.tables.inner.queue
+  -- the messages and markers are changed, and what a scan left is forgotten
+  pub record HasArranged : Type 0 where
+    pub inbox : arranged.tables.inner.queue.inbox ≡ inbox_by gone.tables.inner.queue.owner gone.tables.inner.queue.inbox x.inbox
+    pub owner : arranged.tables.inner.queue.owner ≡ gone.tables.inner.queue.owner
+    pub rest : arranged ≡ record gone { tables = record gone.tables { inner = arranged.tables.inner } }
+    pub queue : inner.queue ≡ forgotten arranged.tables.inner.queue
 
   abbrev after : Progress
-  after = record flushed { tables = record flushed.tables { inner = inner }; counts = record flushed.counts { place = x.place; executed = flushed.counts.executed + 1 } }
+  after = record arranged { tables = record arranged.tables { inner = inner }; counts = record arranged.counts { place = x.place; executed = arranged.counts.executed + 1 } }
 
   module _ {n : ℕ} (b : HasBegun n old begun event)
       (m : bound_one ≡ record begun {
         tables = record begun.tables { env = bound_by begun.tables.env x.binding };
         counts = record begun.counts { next_serial = serial_by begun.counts.next_serial x.binding };
       })
-      (g : HasGoneOn) (f : HasFlushed) where
+      (g : HasGoneOn) (f : HasArranged) (own : old.tables.inner.queue.owner ≡ old.tables.watch.watch.owner) where
     same_bound : state_of bound_one ≡ bound (state_of old) x.binding
     same_bound = ap state_of m ∙ ap (λ (s : ProcessState). bound s x.binding) b.state
 
     same_numbers : bound_one.counts.next_numbers.items ≡ old.counts.next_numbers.items
     same_numbers = ap (λ (s : ProcessState). s.counts.next_numbers) same_bound
 
-    same_executed : flushed.counts.executed ≡ old.counts.executed
+    same_executed : arranged.counts.executed ≡ old.counts.executed
     same_executed = ap (λ (p : Progress). p.counts.executed) f.rest ∙ g.executed ∙ ap (λ (s : ProcessState). s.counts.executed) same_bound
 
-    -- the state without the message, at the place
+    -- the state with its messages and markers, at the place
     abbrev settled : ProcessState → ℕ → ProcessState
-    settled s executed = record s { tables = record s.tables { inbox = inbox_by s.tables.inbox x.flush }; counts = record s.counts { place = x.place; executed = executed } }
+    settled s executed = record s { tables = record s.tables { inbox = inbox_by old.tables.watch.watch.owner s.tables.inbox x.inbox }; counts = record s.counts { place = x.place; executed = executed } }
 
-    same_inbox : inner.queue.inbox ≡ inbox_by gone.tables.inner.queue.inbox x.flush
-    same_inbox = ap (λ (q : InnerQueue). q.inbox) f.queue ∙ f.inbox
+    same_owner : gone.tables.inner.queue.owner ≡ old.tables.inner.queue.owner
+    same_owner = g.owner ∙ ap (λ (p : Progress). p.tables.inner.queue.owner) m ∙ ap (λ (q : InnerQueue). q.owner) b.queue
+
+    same_inbox : inner.queue.inbox ≡ inbox_by old.tables.watch.watch.owner gone.tables.inner.queue.inbox x.inbox
+    same_inbox = ap (λ (q : InnerQueue). q.inbox) f.queue ∙ f.inbox ∙ ap (λ (n : ℕ). inbox_by n gone.tables.inner.queue.inbox x.inbox) (same_owner ∙ own)
 
     abbrev with_inbox : Inbox → Progress → ℕ → ProcessState
     with_inbox inbox p executed = record (state_of p) { tables = record (state_of p).tables { inbox = inbox }; counts = record (state_of p).counts { place = x.place; executed = executed } }
@@ -76,13 +102,13 @@ module _ (pid : ℕ) (x : Execution) (old begun bound_one gone flushed : Progres
     state_is =
         let s : ProcessState = bound (state_of old) x.binding in
         let all : ProcessState → List ℕ → ProcessState = λ s numbers. gone_on (changed (after_obeying s x.plan.obeyed) x.plan.change) stamp numbers posts in
-        ap (λ (p : Progress). with_inbox inner.queue.inbox p (flushed.counts.executed + 1)) f.rest
-        ∙ ap (λ (i : Inbox). with_inbox i gone (flushed.counts.executed + 1)) same_inbox
+        ap (λ (p : Progress). with_inbox inner.queue.inbox p (arranged.counts.executed + 1)) f.rest
+        ∙ ap (λ (i : Inbox). with_inbox i gone (arranged.counts.executed + 1)) same_inbox
         ∙ ap (λ (n : ℕ). settled (state_of gone) (n + 1)) same_executed
         ∙ ap (λ (t : ProcessState). settled t (old.counts.executed + 1)) (g.state ∙ ap (λ t. all t bound_one.counts.next_numbers.items) same_bound ∙ ap (all s) same_numbers)
 
     sent_from : (field : Progress → List Signal) (part : List Signal → List Signal) → field gone ≡ field bound_one ++ part (numbered pid stamp bound_one.counts.next_numbers.items posts) →
-        field bound_one ≡ field old → field flushed ≡ field gone → field flushed ≡ field old ++ part (numbered pid stamp old.counts.next_numbers.items posts)
+        field bound_one ≡ field old → field arranged ≡ field gone → field arranged ≡ field old ++ part (numbered pid stamp old.counts.next_numbers.items posts)
     sent_from field part e same rest =
         rest ∙ e ∙ ap (λ (l : List Signal). l ++ part (numbered pid stamp bound_one.counts.next_numbers.items posts)) same
         ∙ ap (λ (numbers : List ℕ). field old ++ part (numbered pid stamp numbers posts)) same_numbers
@@ -90,7 +116,7 @@ module _ (pid : ℕ) (x : Execution) (old begun bound_one gone flushed : Progres
     pub executed_so : HasAdvanced pid old after (finished_exec pid (state_of old) (executed_body (state_of old) x))
     executed_so = record {
       state = state_is;
-      owner = ap (λ (q : InnerQueue). q.owner) f.queue ∙ f.owner ∙ g.owner ∙ ap (λ (p : Progress). p.tables.inner.queue.owner) m ∙ ap (λ (q : InnerQueue). q.owner) b.queue;
+      owner = ap (λ (q : InnerQueue). q.owner) f.queue ∙ f.owner ∙ same_owner;
       events = ap (λ (p : Progress). p.events) f.rest ∙ g.events ∙ ap (λ (p : Progress). p.events) m ∙ b.events;
       handled = ap (λ (p : Progress). p.handled.items) f.rest ∙ ap (λ l. l.items) g.handled ∙ ap (λ (p : Progress). p.handled.items) m ∙ b.handled;
       own = sent_from (λ p. p.own.items) (to_itself pid) g.own (ap (λ (p : Progress). p.own.items) m ∙ b.own) (ap (λ (p : Progress). p.own.items) f.rest);

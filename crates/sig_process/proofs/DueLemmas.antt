@@ -7,7 +7,7 @@ use Rattle.sig_script.specs.Scripts.{Declared}
 use Rattle.sig_model.specs.declared.state.TheConstants.{LAST_STAMP}
 use Rattle.sig_model.specs.Bodies.{Body}
 use Rattle.sig_model.specs.Bounds.{IsBounded, IsBoundedBody, posts_to}
-use Rattle.sig_model.specs.Executing.{executing, exec_body}
+use Rattle.sig_model.specs.Executing.{from_mark, executing, exec_body}
 use Rattle.sig_model.specs.Handling.{handling}
 use Rattle.sig_model.specs.Finishing.{finished_exec}
 use Rattle.sig_model.specs.Machine.{execution}
@@ -41,15 +41,15 @@ serials_left proc p k lt = omega (arith, k.serials, lt, low)
 
 -- the next instruction
 module _ (proc : Declared) (p : Progress) where
-  pub executing_here : executing proc (state_of p) ≡ exec_body proc (state_of p) (slice_get proc.instrs (p.counts.place - 1))
+  pub executing_here : executing proc (state_of p) ≡ exec_body from_mark proc (state_of p) (slice_get proc.instrs (p.counts.place - 1))
   unfolding executing
   executing_here = refl
 
-  pub execution_here : (pid : ℕ) (body : Body) → exec_body proc (state_of p) (slice_get proc.instrs (p.counts.place - 1)) ≡ Some body →
+  pub execution_here : (pid : ℕ) (body : Body) → exec_body from_mark proc (state_of p) (slice_get proc.instrs (p.counts.place - 1)) ≡ Some body →
       execution pid proc (state_of p) ≡ Some (finished_exec pid (state_of p) body)
   execution_here pid body e = ap (option_map (finished_exec pid (state_of p))) (executing_here ∙ e)
 
-  pub instr_committable : (x : Execution) → IsExecDue proc p → exec_body proc (state_of p) (slice_get proc.instrs (p.counts.place - 1)) ≡ Some (executed_body (state_of p) x) →
+  pub instr_committable : (x : Execution) → IsExecDue proc p → exec_body from_mark proc (state_of p) (slice_get proc.instrs (p.counts.place - 1)) ≡ Some (executed_body (state_of p) x) →
       IsCommittable x.plan.posts.items p
   instr_committable x due e =
       let b : IsBoundedBody proc (state_of p) (executed_body (state_of p) x) =

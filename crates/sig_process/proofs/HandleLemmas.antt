@@ -1,16 +1,21 @@
 -- What the handling of a signal keeps of the saved place.
-use Rattle.std.proofs.Common.{◌≡◌, ℕ, ◌≤◌, List, length, Option, Some, None, refl, sym, ap, ◌∙◌, subst}
+use Rattle.std.proofs.Common.{◌≡◌, ℕ, ◌≤◌, List, length, All, Option, Some, None, refl, sym, ap, ◌∙◌, subst}
 use Rattle.std.specs.Prelude.{IsSome, OnOk, Result, Ok, Err, is_some, if◌then◌else◌}
 use Rattle.sig_terms.specs.declared.pid.Pid.{Pid}
+use Rattle.sig_terms.specs.declared.reference.Ref.{Ref}
 use Rattle.sig_terms.specs.declared.term.Term.{Term}
 use Rattle.sig_patterns.specs.declared.clause.Clause.{Clause}
 use Rattle.sig_patterns.specs.Environment.{Environment}
+use Rattle.sig_patterns.specs.declared.mark.Mark.{Mark}
+use Rattle.sig_patterns.specs.Inbox.{start_of}
+use Rattle.sig_patterns.proofs.MarkLemmas.{start_arrived}
 use Rattle.sig_inner.specs.InnerQueue.{InnerQueue, appended, emptied}
 use Rattle.sig_inner.proofs.Resuming.{passed_append, passed_appended, passed_unsaved}
 use Rattle.sig_inner.specs.Receiving.{passed, HasPassed}
 use Rattle.sig_script.specs.declared.instruction.Instr.{Instr}
 use Rattle.sig_script.specs.declared.instruction.Instr.TheVariants as instr
 use Rattle.sig_model.specs.ProcessState.{ProcessState}
+use Rattle.sig_model.specs.Executing.{using_ref}
 use Rattle.sig_process.specs.declared.changing.Change.{Change}
 use Rattle.sig_process.specs.declared.changing.Change.TheVariants as change
 use Rattle.sig_process.specs.declared.progress.Progress.{Progress}
@@ -22,7 +27,7 @@ use Rattle.sig_process.specs.Committing.{queue_after}
 use Rattle.sig_process.specs.Soundness.{HasPassedAt}
 
 -- what a change keeps of the place
-module _ (q : InnerQueue) (within : passed q.last ≤ length q.inbox.messages) where
+module _ (q : InnerQueue) (within : passed q.last ≤ length q.inbox.messages) (early : All (λ (m : Mark). m.arrival ≤ q.inbox.next_arrival) q.inbox.marks) where
   changed_owner : (c : Change) → (queue_after q c).owner ≡ q.owner
   changed_owner (change.Append message) = refl
   changed_owner (change.ThroughAlias reference message) = refl
@@ -30,15 +35,22 @@ module _ (q : InnerQueue) (within : passed q.last ≤ length q.inbox.messages) w
   changed_owner (change.End reason) = refl
   changed_owner _ = refl
 
-  changed_passes : (c : Change) (clauses : List Clause) (env : Environment) → HasPassed q clauses env → HasPassed (queue_after q c) clauses env
-  changed_passes (change.Append message) clauses env k = passed_appended clauses env q message within k
-  changed_passes (change.ThroughAlias reference message) clauses env k = passed_appended clauses env q message within k
-  changed_passes (change.ToldDown reference message) clauses env k = passed_appended clauses env q message within k
-  changed_passes (change.End reason) clauses env k = passed_unsaved clauses env (emptied q) refl
-  changed_passes _ clauses env k = k
+  -- a message comes behind each start
+  arrived_passes : (using : Option Ref) (clauses : List Clause) (env : Environment) (message : Term) → HasPassed q (start_of q.inbox using) clauses env
+      → HasPassed (appended q message) (start_of (appended q message).inbox using) clauses env
+  arrived_passes using clauses env message k =
+      subst (λ start. HasPassed (appended q message) start clauses env) (sym (start_arrived q.inbox message using early)) (passed_appended clauses env q message (start_of q.inbox using) within k)
+
+  changed_passes : (c : Change) (using : Option Ref) (clauses : List Clause) (env : Environment) → HasPassed q (start_of q.inbox using) clauses env
+      → HasPassed (queue_after q c) (start_of (queue_after q c).inbox using) clauses env
+  changed_passes (change.Append message) using clauses env k = arrived_passes using clauses env message k
+  changed_passes (change.ThroughAlias reference message) using clauses env k = arrived_passes using clauses env message k
+  changed_passes (change.ToldDown reference message) using clauses env k = arrived_passes using clauses env message k
+  changed_passes (change.End reason) using clauses env k = passed_unsaved clauses env (emptied q) (start_of (emptied q).inbox using) refl
+  changed_passes _ using clauses env k = k
 
   passes_at : (c : Change) (env : Environment) (i : Option Instr) → HasPassedAt i q env → HasPassedAt i (queue_after q c) env
-  passes_at c env (Some (instr.Receive clauses after)) k = changed_passes c clauses env k
+  passes_at c env (Some (instr.Receive using clauses after)) k = changed_passes c (using_ref env using) clauses env k
   passes_at c env _ k = tt
 
   kept : (o : Option Term) (n : ℕ) → n ≡ passed q.last → (IsSome o → passed q.last ≡ 0) → n ≡ (if is_some o then 0 else passed q.last)
@@ -61,16 +73,17 @@ obeyed_end s (Some peer) = refl
 pub handled_keeps : {T E : Type 0} (o : Result T E) (before after : Progress) (plan : Plan) →
     OnOk o ((after.tables.env ≡ before.tables.env) × (after.counts.place ≡ before.counts.place)) → OnOk o (after.tables.end ≡ (changed (after_obeying (state_of before) plan.obeyed) plan.change).tables.end) →
     OnOk o (after.tables.inner.queue ≡ queue_after before.tables.inner.queue plan.change) → passed before.tables.inner.queue.last ≤ length before.tables.inner.queue.inbox.messages →
+    All (λ (m : Mark). m.arrival ≤ before.tables.inner.queue.inbox.next_arrival) before.tables.inner.queue.inbox.marks →
     (IsSome before.tables.end → passed before.tables.inner.queue.last ≡ 0) → OnOk o (KeepsSaved before after)
-handled_keeps (Ok _) before after plan steady end queue within ended =
+handled_keeps (Ok _) before after plan steady end queue within early ended =
     let q = before.tables.inner.queue in
     record {
-      owner = ap (λ (r : InnerQueue). r.owner) queue ∙ changed_owner q within plan.change;
+      owner = ap (λ (r : InnerQueue). r.owner) queue ∙ changed_owner q within early plan.change;
       place = steady.1;
       saved =
           ap (λ (r : InnerQueue). passed r.last) queue
-          ∙ changed_place q within (after_obeying (state_of before) plan.obeyed) plan.change (λ some. ended (subst IsSome (obeyed_end (state_of before) plan.obeyed) some))
+          ∙ changed_place q within early (after_obeying (state_of before) plan.obeyed) plan.change (λ some. ended (subst IsSome (obeyed_end (state_of before) plan.obeyed) some))
           ∙ ap (λ (o : Option Term). if is_some o then 0 else passed q.last) (sym end);
-      none = λ i k. rw (queue, steady.0) (passes_at q within plan.change before.tables.env i k);
+      none = λ i k. rw (queue, steady.0) (passes_at q within early plan.change before.tables.env i k);
     }
-handled_keeps (Err _) before after plan steady end queue within ended = tt
+handled_keeps (Err _) before after plan steady end queue within early ended = tt

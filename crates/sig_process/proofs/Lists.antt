@@ -1,5 +1,5 @@
 -- Lists from a place on, and the processes of a crew.
-use Rattle.std.proofs.Common.{◌≡◌, ℕ, ◌+◌, ◌<◌, ◌≤◌, List, [], ◌∷◌, ◌++◌, length, drop, Option, Some, None, refl, sym, ◌∙◌, ap, append_assoc, Bool, ◌||◌, arith}
+use Rattle.std.proofs.Common.{◌≡◌, ℕ, zero, suc, ◌+◌, ◌<◌, ◌≤◌, List, [], ◌∷◌, ◌++◌, length, drop, Option, Some, None, refl, sym, ◌∙◌, ap, append_assoc, Bool, ◌||◌, arith}
 use Rattle.std.specs.Prelude.{slice_get, slice_set, IfSome, MatchOption}
 use Rattle.std.specs.List.{IsItemAtMut}
 use Rattle.std.specs.Borrow.{MutBor}
@@ -59,3 +59,9 @@ pub opened_clear : (pid count turns : ℕ) (procs : List Declared) → IsClear (
 opened_clear pid count turns [] = All-nil (λ r. r.outbox ≡ [])
 opened_clear pid count turns (p ∷ ps) =
     All-cons (λ r. r.outbox ≡ []) (opened pid count turns p) (opened_from (pid + 1) count turns ps) refl (opened_clear (pid + 1) count turns ps)
+
+-- an element of what lies behind a place
+pub slice_get-drop : {X : Type 0} (xs : List X) (n i : ℕ) → slice_get xs (n + i) ≡ slice_get (drop n xs) i
+slice_get-drop xs zero i = let e : zero + i ≡ i = omega arith in ap (slice_get xs) e
+slice_get-drop [] (suc n) i = refl
+slice_get-drop (x ∷ xs) (suc n) i = let e : suc n + i ≡ suc (n + i) = omega arith in ap (slice_get (x ∷ xs)) e ∙ slice_get-drop xs n i

@@ -1,6 +1,6 @@
 -- What the calls of a process keep, and what they lead to.
 use Rattle.std.proofs.Common.{◌≡◌, ℕ, ◌-◌, ◌<◌, ◌^◌, List, [], ◌∷◌, length, true, false, Option, Some, None, refl, sym, ap, ◌∙◌, subst, arith}
-use Rattle.std.specs.Prelude.{All, IfSome, IsSome, IsSomeAnd, MatchOption, MatchResult, OnOk, Result, Ok, Err, slice_get, is_some, if◌then◌else◌}
+use Rattle.std.specs.Prelude.{All, IfSome, IfOk, IsSome, IsSomeAnd, MatchOption, MatchResult, OnOk, Result, Ok, Err, slice_get, is_some, if◌then◌else◌}
 use Rattle.std.specs.Option.{option_map}
 use Rattle.std.proofs.lemmas.List.Elements.{All-nil, All-head, All-tail}
 use Rattle.std.proofs.lemmas.Option.{slice_get_within, get_or_from_slice_get}
@@ -22,6 +22,8 @@ use Rattle.sig_model.specs.ProcessState.{ProcessState}
 use Rattle.sig_model.specs.Machine.{handling_of}
 use Rattle.sig_model.specs.Running.{Running, opened, advanced, can_exec, can_handle, exec_next, handle_next, handled_first, next_of}
 use Rattle.sig_model.specs.Keeping.{IsArriving, IsLeaving, IsKeeping}
+use Rattle.sig_model.specs.Executing.{SkipsNone}
+use Rattle.sig_model.proofs.SkipLemmas.{next_same, waits_next}
 use Rattle.sig_model.proofs.Guards.{CanExec, CanHandle, can_exec_tells, can_handle_tells, exec_due, handle_due}
 use Rattle.sig_model.proofs.KeepLemmas.{opened_keeps, arrived_keeps, outbox_keeps, leaving_arrives, exec_keeps, handle_keeps}
 use Rattle.sig_process.specs.declared.executing.Exec.{Exec}
@@ -32,7 +34,7 @@ use Rattle.sig_process.specs.Progressing.{state_of, running_of, standing_of, IsS
 use Rattle.sig_process.specs.Committing.{HasHandled}
 use Rattle.sig_process.specs.Soundness.{IsSaved, IsSound}
 use Rattle.sig_process.specs.Executions.{IsExecDue, IsHandleDue, IsUnmoved, HasExecuted, HasGone, KeepsSaved}
-use Rattle.sig_process.specs.Steps.{IsExec, IsHandled}
+use Rattle.sig_process.specs.Steps.{IsExec, IsWholeExec, IsHandled}
 use Rattle.sig_process.proofs.SavedPlace.{unsaved_none, unsaved_passes}
 
 -- where no place is saved
@@ -111,9 +113,9 @@ module _ (pid count turns : ℕ) (proc : Declared) where
     pub exec_is_due : IsSound pid count turns proc before → turns < 2 ^ 32 → can_exec (runs before) ≡ true → IsExecDue proc before
     exec_is_due k few h =
         let can : CanExec (runs before) = can_exec_tells (runs before) h in
-        record { within = k.keeps.within; bounds = k.keeps.bounds; stamp = can.stamp; turns = omega (arith, can.turns, few); alive = can.alive; saved = k.saved }
+        record { within = k.keeps.within; bounds = k.keeps.bounds; stamp = can.stamp; turns = omega (arith, can.turns, few); alive = can.alive; owner = k.owner ∙ sym k.keeps.owner; saved = k.saved }
 
-    executed_next : can_exec (runs before) ≡ true → HasExecuted pid proc before after → exec_next (runs before) ≡ Some (runs after)
+    pub executed_next : can_exec (runs before) ≡ true → HasExecuted pid proc before after → exec_next (runs before) ≡ Some (runs after)
     executed_next h x =
         exec_due (runs before) h ∙ ap (option_map (advanced (runs before))) x.due ∙ ap Some (sym (advanced_is x.effect x.advanced))
 
@@ -202,6 +204,17 @@ module _ (pid count turns : ℕ) (proc : Declared) where
   module _ {E : Type 0} (o : Result Exec E) (stood : Standing) (after : Progress) where
     abbrev pub exec_answer : Type 0
     exec_answer = MatchResult o (IsExec stood (standing_of pid count turns proc after)) (λ _. runs after ≡ stood.running)
+
+  module _ (before after : Progress) where
+    whole_tells : (how : Exec) → IsWithin proc → can_exec (runs before) ≡ true → SkipsNone proc (state_of before) → HasGone pid proc before after how →
+        IsWholeExec (standing_of pid count turns proc before) (standing_of pid count turns proc after) how
+    whole_tells Stepped w h none x = next_same (runs before) w none ∙ executed_next before after h x
+    whole_tells Waiting w h none x = next_same (runs before) w none ∙ waits_next (runs before) h x.waits
+
+    pub whole_tells_so : {E : Type 0} (o : Result Exec E) → IsWithin proc → can_exec (runs before) ≡ true → SkipsNone proc (state_of before) → MatchResult o (HasGone pid proc before after) (λ _. IsUnmoved before after) →
+        IfOk o (IsWholeExec (standing_of pid count turns proc before) (standing_of pid count turns proc after))
+    whole_tells_so (Ok how) w h none x = whole_tells how w h none x
+    whole_tells_so (Err _) w h none u = tt
 
   module _ {T E : Type 0} (o : Result T E) (stood : Standing) (after : Progress) where
     abbrev pub handle_answer : Type 0

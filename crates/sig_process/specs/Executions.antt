@@ -1,6 +1,9 @@
 -- What an execution and a handling do to the fields of a process.
-use Rattle.std.specs.Prelude.{◌≡◌, ℕ, ◌+◌, ◌-◌, ◌<◌, ◌^◌, length, slice_get, Some, None, is_some, IsSomeAnd, false, if◌then◌else◌, Option}
+use Rattle.std.specs.Prelude.{◌≡◌, ℕ, ◌+◌, ◌-◌, ◌<◌, ◌^◌, List, length, slice_get, Some, None, is_some, IsSomeAnd, false, if◌then◌else◌, Option}
 use Rattle.sig_kinds.specs.declared.signal.Signal.{Signal}
+use Rattle.sig_patterns.specs.declared.clause.Clause.{Clause}
+use Rattle.sig_patterns.specs.Scanning.{Hit}
+use Rattle.sig_inner.specs.declared.last_scan.LastScan.TheVariants as last
 use Rattle.sig_script.specs.declared.instruction.Instr.{Instr}
 use Rattle.sig_script.specs.Scripts.{Declared, IsWithin}
 use Rattle.sig_runs.specs.Rules.{Effect}
@@ -9,7 +12,7 @@ use Rattle.sig_model.specs.declared.event.Event.{Event}
 use Rattle.sig_model.specs.declared.state.TheConstants.{LAST_STAMP}
 use Rattle.sig_model.specs.ProcessState.{ProcessState}
 use Rattle.sig_model.specs.Bounds.{IsBounded}
-use Rattle.sig_model.specs.Executing.{IsWaiting}
+use Rattle.sig_model.specs.Executing.{hit_from, IsWaiting}
 use Rattle.sig_model.specs.Machine.{execution}
 use Rattle.sig_model.specs.Running.{next_of}
 use Rattle.sig_process.specs.declared.executing.Exec.{Exec}
@@ -25,6 +28,8 @@ pub record IsExecDue (proc : Declared) (p : Progress) : Type 0 where
   pub stamp : p.counts.stamp < LAST_STAMP
   pub turns : p.counts.executed + 1 < 2 ^ 32
   pub alive : p.tables.end ≡ None
+  -- its references are those that its marks may have
+  pub owner : p.tables.inner.queue.owner ≡ p.tables.watch.watch.owner
   pub saved : IsSaved (slice_get proc.instrs (p.counts.place - 1)) p
 
 -- the next signal may be handled
@@ -56,6 +61,14 @@ pub record HasWaited (proc : Declared) (before after : Progress) : Type 0 where
   pub waits : IsWaiting proc (state_of before)
   pub unmoved : IsUnmoved before after
   pub saved : passed after.tables.inner.queue.last ≡ length before.tables.inner.queue.inbox.messages
+
+-- The last scan has found this hit among the messages behind the first `start` ones, with the clause of this number, and looked at
+-- so many messages.
+pub record IsHit (clauses : List Clause) (p : Progress) (number count start : ℕ) (h : Hit) : Type 0 where
+  pub is : hit_from start clauses (state_of p) ≡ Some h
+  pub left : p.tables.inner.queue.last ≡ last.Found (start + h.at)
+  pub clause : number ≡ h.clause + 1
+  pub looked : count ≡ h.at + 1
 
 -- one of both
 abbrev pub HasGone : ℕ → Declared → Progress → Progress → Exec → Type 0

@@ -2,21 +2,21 @@
 use Rattle.std.specs.Prelude.{ℕ, ◌+◌, map, Option, Some, None}
 use Rattle.std.specs.FinMap.{insert}
 use Rattle.sig_terms.specs.declared.pid.Pid.{Pid}
-use Rattle.sig_terms.specs.declared.reference.Ref.{Ref}
-use Rattle.sig_terms.specs.declared.term.Term.{Term}
 use Rattle.sig_terms.specs.declared.term.Term.TheVariants as term
 use Rattle.sig_patterns.specs.Environment.{Environment}
 use Rattle.sig_kinds.specs.LinkRules.{link, unlink, on_link, on_unlink, on_ack, deactivated}
 use Rattle.sig_kinds.specs.WatchRules.{monitor, demonitor, alias, unalias, on_alias_message, on_monitor, on_demonitor, on_down}
-use Rattle.sig_patterns.specs.Inbox.{Inbox, arrived_in, flushed_down}
+use Rattle.sig_patterns.specs.Inbox.{Inbox, arrived_in, flushed_down, reserved, bound_in, cleared_in}
 use Rattle.sig_model.specs.ProcessState.{ProcessState}
-use Rattle.sig_model.specs.Bodies.{Post, Body, at_place, with_tables, relinked, rewatched, ended_tables}
+use Rattle.sig_model.specs.Bodies.{Post, Body, at_place, with_tables, inboxed, relinked, rewatched, ended_tables}
 use Rattle.sig_process.specs.declared.plan.Outgoing.{Outgoing}
 use Rattle.sig_process.specs.declared.changing.Change.{Change}
 use Rattle.sig_process.specs.declared.changing.Change.TheVariants.{Nothing, Link, Unlink, Trap, Append, LinkUp, UnlinkBy, Acknowledge, Monitor, Demonitor, Alias, Unalias, Watched, Unwatched, ThroughAlias, ToldDown, End}
 use Rattle.sig_process.specs.declared.plan.Plan.{Plan}
 use Rattle.sig_process.specs.declared.plan.Binding.{Binding}
 use Rattle.sig_process.specs.declared.plan.Binding.TheVariants as binding
+use Rattle.sig_process.specs.declared.plan.InboxChange.{InboxChange}
+use Rattle.sig_process.specs.declared.plan.InboxChange.TheVariants as inbox_change
 use Rattle.sig_process.specs.declared.plan.Execution.{Execution}
 
 -- one equation for each change
@@ -25,7 +25,7 @@ changed s Nothing = s
 changed s (Link peer) = relinked s (link s.tables.links peer.0).1
 changed s (Unlink peer) = relinked s (unlink s.tables.links peer.0).1
 changed s (Trap on) = record s { traps = on }
-changed s (Append message) = with_tables s (record s.tables { inbox = arrived_in s.tables.inbox message })
+changed s (Append message) = inboxed s (arrived_in s.tables.inbox message)
 changed s (LinkUp peer) = relinked s (on_link s.tables.links peer.0).1
 changed s (UnlinkBy peer) = relinked s (on_unlink s.tables.links peer.0).1
 changed s (Acknowledge peer id) = relinked s (on_ack s.tables.links peer.0 id).1
@@ -69,14 +69,17 @@ bound s b = record s { tables = record s.tables { env = bound_by s.tables.env b 
 abbrev pub placed : Body → ℕ → Body
 placed b place = record b { state = at_place b.state place }
 
--- the messages, without that of a monitor's end
-abbrev pub inbox_by : Inbox → Option Ref → Inbox
-inbox_by inbox None = inbox
-inbox_by inbox (Some reference) = (flushed_down inbox reference).1
+-- the messages and the markers of a process, one equation for each change
+abbrev pub inbox_by : ℕ → Inbox → InboxChange → Inbox
+inbox_by owner inbox inbox_change.Nothing = inbox
+inbox_by owner inbox (inbox_change.Flush reference) = (flushed_down inbox reference).1
+inbox_by owner inbox (inbox_change.Reserve serial) = reserved inbox serial
+inbox_by owner inbox (inbox_change.Bind reference) = (bound_in owner inbox reference).1
+inbox_by owner inbox (inbox_change.Clear reference) = (cleared_in inbox reference).1
 
-abbrev pub flushed : Body → Option Ref → Body
-flushed b flush = record b { state = with_tables b.state (record b.state.tables { inbox = inbox_by b.state.tables.inbox flush }) }
+abbrev pub arranged : ℕ → Body → InboxChange → Body
+arranged owner b change = record b { state = inboxed b.state (inbox_by owner b.state.tables.inbox change) }
 
 -- what the execution does
 abbrev pub executed_body : ProcessState → Execution → Body
-executed_body s x = placed (flushed (body_of (bound s x.binding) x.plan) x.flush) x.place
+executed_body s x = placed (arranged s.tables.watch.owner (body_of (bound s x.binding) x.plan) x.inbox) x.place

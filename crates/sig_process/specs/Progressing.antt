@@ -4,22 +4,27 @@ use Rattle.sig_kinds.specs.declared.signal.Signal.{Signal}
 use Rattle.sig_script.specs.Scripts.{Declared}
 use Rattle.sig_runs.specs.Rules.{Effect}
 use Rattle.sig_model.specs.declared.event.Event.{Event}
-use Rattle.sig_model.specs.ProcessState.{ProcessState}
+use Rattle.sig_model.specs.ProcessState.{Tables, ProcessState}
 use Rattle.sig_inner.specs.Receiving.{passed}
 use Rattle.sig_model.specs.Running.{Running, to_itself, to_others}
 use Rattle.sig_process.specs.declared.progress.Progress.{Progress}
+use Rattle.sig_process.specs.declared.progress.Tables.{Tables as Kept}
 use Rattle.sig_process.specs.Standing.{Standing}
+
+-- what it holds
+abbrev pub tables_of : Kept → Tables
+tables_of t = record {
+  env = t.env;
+  inbox = t.inner.queue.inbox;
+  links = t.links.links;
+  watch = t.watch.watch;
+  end = t.end;
+}
 
 -- the state of the process
 abbrev pub state_of : Progress → ProcessState
 state_of p = record {
-  tables = record {
-    env = p.tables.env;
-    inbox = p.tables.inner.queue.inbox;
-    links = p.tables.links.links;
-    watch = p.tables.watch.watch;
-    end = p.tables.end;
-  };
+  tables = tables_of p.tables;
   traps = p.traps;
   counts = record {
     place = p.counts.place;

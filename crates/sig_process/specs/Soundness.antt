@@ -1,19 +1,21 @@
 -- What holds of every process.
 use Rattle.std.specs.Prelude.{◌≡◌, ℕ, ◌-◌, slice_get, Option, Some, IsSome}
 use Rattle.sig_patterns.specs.Environment.{Environment}
+use Rattle.sig_patterns.specs.Inbox.{start_of}
 use Rattle.sig_inner.specs.InnerQueue.{InnerQueue}
 use Rattle.sig_inner.specs.Receiving.{HasPassed, passed}
 use Rattle.sig_script.specs.declared.instruction.Instr.{Instr}
 use Rattle.sig_script.specs.declared.instruction.Instr.TheVariants as instr
 use Rattle.sig_script.specs.Scripts.{Declared}
+use Rattle.sig_model.specs.Executing.{using_ref}
 use Rattle.sig_model.specs.Keeping.{IsKeeping}
 use Rattle.sig_process.specs.declared.progress.Progress.{Progress}
 use Rattle.sig_process.specs.Progressing.{running_of}
 
--- Where the instruction is a receive, none of its clauses matches a message before the saved place. Where no place is saved
--- this holds of every instruction.
+-- Where the instruction is a receive, none of its clauses matches a message from its mark's start up to the saved place. Where no
+-- place is saved this holds of every instruction.
 abbrev pub HasPassedAt : Option Instr → InnerQueue → Environment → Type 0
-HasPassedAt (Some (instr.Receive clauses after)) queue env = HasPassed queue clauses env
+HasPassedAt (Some (instr.Receive using clauses after)) queue env = HasPassed queue (start_of queue.inbox (using_ref env using)) clauses env
 HasPassedAt _ queue env = Unit {0}
 
 -- the place that the last scan has saved

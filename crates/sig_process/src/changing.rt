@@ -3,10 +3,10 @@
 ghost use Rattle.std.specs.Prelude.{◌≡◌, ◌<◌, ◌≤◌, ◌^◌, MatchResult};
 ghost use Rattle.sig_inner.specs.InnerQueue.{appended};
 ghost use Rattle.sig_process.specs.Committing.{KeepsRest, queue_after};
-ghost use Rattle.sig_process.specs.Plans.{bound_by, serial_by, changed, after_obeying};
+ghost use Rattle.sig_process.specs.Plans.{bound_by, serial_by, inbox_by, changed, after_obeying};
 ghost use Rattle.sig_process.specs.Progressing.{state_of};
 
-use crate::plan::Binding;
+use crate::plan::{Binding, InboxChange};
 use crate::progress::Progress;
 use sig_inner::Append;
 use sig_kinds::AliasMode;
@@ -126,6 +126,29 @@ impl Progress {
     {
         if let Some(peer) = peer {
             self.tables.links.on_exit(peer);
+        }
+    }
+
+    /// Makes the last change of an execution in the messages and the markers.
+    #[tactic(auto, using(crate::proofs::CommitLemmas::bound_so, crate::proofs::CommitLemmas::cleared_so))]
+    pub(crate) fn change_inbox(&mut self, change: InboxChange)
+        ensures inbox { self.new.tables.inner.queue.inbox ≡ inbox_by self.old.tables.inner.queue.owner self.old.tables.inner.queue.inbox change }
+        ensures owner { self.new.tables.inner.queue.owner ≡ self.old.tables.inner.queue.owner }
+        ensures rest { self.new ≡ record self.old { tables = record self.old.tables { inner = self.new.tables.inner } } }
+    {
+        let inner = &mut self.tables.inner;
+        match change {
+            InboxChange::Nothing => {}
+            InboxChange::Flush { reference } => {
+                inner.flush_down(reference);
+            }
+            InboxChange::Reserve { serial } => inner.reserve(serial),
+            InboxChange::Bind { reference } => {
+                inner.bind(reference);
+            }
+            InboxChange::Clear { reference } => {
+                inner.clear(reference);
+            }
         }
     }
 

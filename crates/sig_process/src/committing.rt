@@ -5,7 +5,7 @@ ghost use Rattle.sig_inner.specs.Receiving.{is_saved};
 ghost use Rattle.sig_model.specs.Finishing.{numbered, finished_exec, finished_handle};
 ghost use Rattle.sig_model.specs.Running.{to_itself, to_others, next_of};
 ghost use Rattle.sig_process.specs.Committing.{HasRoom, IsCommittable, HasBegun, HasHandled, HasTaken, gone_on, env_found, queue_after, behind_first, others_behind};
-ghost use Rattle.sig_process.specs.Plans.{changed, after_obeying, inbox_by, post_of, body_of, executed_body};
+ghost use Rattle.sig_process.specs.Plans.{changed, after_obeying, post_of, body_of, executed_body};
 ghost use Rattle.sig_process.specs.Progressing.{state_of, IsSame, HasAdvanced};
 
 use crate::changing::Change;
@@ -15,7 +15,7 @@ use crate::progress::Progress;
 use crate::waiting::{next_signal, pop_next};
 use sig_model::{Did, Event, LAST_STAMP, Outcome};
 use sig_patterns::{Pattern, bind_match};
-use sig_terms::{Pid, Ref};
+use sig_terms::Pid;
 use std::alloc::AllocError;
 
 impl Progress {
@@ -74,6 +74,7 @@ impl Progress {
         requires committable { IsCommittable execution.plan.posts.items self.old }
         requires turns { self.old.counts.executed + 1 < 2 ^ 32 }
         requires serials { self.old.counts.next_serial < 2 ^ 63 }
+        requires owner { self.old.tables.inner.queue.owner ≡ self.old.tables.watch.watch.owner }
         ensures event { MatchResult result
             (λ _. HasAdvanced pid.0 self.old self.new (finished_exec pid.0 (state_of self.old) (executed_body (state_of self.old) execution)))
             (λ _. IsSame self.old self.new) }
@@ -81,7 +82,7 @@ impl Progress {
     {
         let Execution {
             binding,
-            flush,
+            inbox,
             place,
             plan,
         } = execution;
@@ -100,22 +101,11 @@ impl Progress {
             return Err(fault);
         }
         self.go_on(pid, stamp, plan.obeyed, plan.change, plan.posts);
-        self.flush(flush);
+        self.change_inbox(inbox);
         self.counts.place = place;
         self.counts.executed += 1;
         self.tables.inner.forget();
         Ok(())
-    }
-
-    /// The message of a monitor's end is removed, where there is one.
-    fn flush(&mut self, flush: Option<Ref>)
-        ensures inbox { self.new.tables.inner.queue.inbox ≡ inbox_by self.old.tables.inner.queue.inbox flush }
-        ensures owner { self.new.tables.inner.queue.owner ≡ self.old.tables.inner.queue.owner }
-        ensures rest { self.new ≡ record self.old { tables = record self.old.tables { inner = self.new.tables.inner } } }
-    {
-        if let Some(reference) = flush {
-            self.tables.inner.flush_down(reference);
-        }
     }
 
     /// What the handling of the next signal did is told by its event.

@@ -6,7 +6,7 @@ ghost use Rattle.sig_process.specs.Plans.{after_obeying, post_of, body_of, execu
 ghost use Rattle.sig_process.specs.Progressing.{state_of};
 
 use crate::changing::Change;
-use crate::plan::{Binding, Execution, Outgoing, Plan};
+use crate::plan::{Binding, Execution, InboxChange, Outgoing, Plan};
 use crate::progress::Progress;
 use sig_kinds::Kind;
 use sig_model::Outcome;
@@ -97,7 +97,7 @@ impl Progress {
         let plan = self.ending(None, reason)?;
         Ok(Execution {
             binding: Binding::Nothing,
-            flush: None,
+            inbox: InboxChange::Nothing,
             place: self.counts.place,
             plan,
         })

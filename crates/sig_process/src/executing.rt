@@ -47,9 +47,13 @@ impl Progress {
         ensures ticks { steps.new ≤ steps.old + tests_of (state_of self.old) (passed self.old.tables.inner.queue.last) (slice_get proc.now.instrs (self.old.counts.place - 1)) }
     {
         match proc.instr(self.counts.place) {
-            Some(Instr::Receive { clauses, after }) => {
-                self.receive(pid, proc, clauses, after, steps)
-            }
+            Some(
+                Instr::Receive {
+                    using,
+                    clauses,
+                    after,
+                },
+            ) => self.receive(pid, proc, using, clauses, after, steps),
             other => {
                 self.perform(pid, proc, other)?;
                 Ok(Exec::Stepped)

@@ -22,6 +22,7 @@ impl Progress {
         ensures saved { OnOk result (KeepsSaved self.old self.new) }
     {
         prove!(self.tables.inner.passed() <= self.tables.inner.len());
+        prove!(self.tables.inner.next_arrival() <= u64::MAX);
         let Some(signal) = next_signal(&self.own, &self.taken_in) else {
             unreachable!()
         };

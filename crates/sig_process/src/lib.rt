@@ -16,15 +16,10 @@ mod progress;
 mod queues;
 mod reacting;
 mod receiving;
-mod told;
 mod values;
 mod waiting;
-mod watching;
 
 pub use crew::Crew;
 pub use executing::Exec;
 pub use parts::Parts;
 pub use process::Process;
-
-#[cfg(test)]
-mod tests;

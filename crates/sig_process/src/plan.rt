@@ -37,14 +37,29 @@ pub(crate) enum Binding {
     Made { var: Var, reference: Ref },
 }
 
-/// What the execution of an instruction will do: a handling binds no variable, flushes nothing, and
+/// What the execution of an instruction changes last in the messages and the receive markers.
+#[derive(Drop)]
+pub(crate) enum InboxChange {
+    /// Nothing.
+    Nothing,
+    /// The message of the end of the monitor of this reference is removed.
+    Flush { reference: Ref },
+    /// A place behind all messages is reserved, with this next serial of a reference.
+    Reserve { serial: u64 },
+    /// The reserve is bound to the reference, where it may be.
+    Bind { reference: Ref },
+    /// The mark of the reference is taken out.
+    Clear { reference: Ref },
+}
+
+/// What the execution of an instruction will do: a handling binds no variable, changes no marker, and
 /// leaves the process at its place.
 #[derive(Drop)]
 pub(crate) struct Execution {
     /// The variable that gets a value.
     pub binding: Binding,
-    /// The reference whose message of a monitor's end is removed last.
-    pub flush: Option<Ref>,
+    /// What changes last in the messages and the markers.
+    pub inbox: InboxChange,
     /// Where the process goes on.
     pub place: u32,
     /// All else.

@@ -1,20 +1,20 @@
-ghost use Rattle.std.specs.Prelude.{◌≡◌, ◌+◌, ◌-◌, ◌≤◌, [], ◌∷◌, length, slice_get, option_copied, Some, None, false, IfOk};
+ghost use Rattle.std.specs.Prelude.{◌≡◌, ◌+◌, ◌-◌, ◌≤◌, [], ◌∷◌, length, slice_get, option_copied, Some, None, true, false, IfOk};
 ghost use Rattle.sig_model.specs.ProcessState.{ProcessState};
 ghost use Rattle.sig_model.specs.Bodies.{place_after, going_on};
-ghost use Rattle.sig_model.specs.Executing.{sending, setting, linking, unlinking, sending_exit, trapping, exec_body};
+ghost use Rattle.sig_model.specs.Executing.{sending, setting, linking, unlinking, sending_exit, trapping, new_ref, making_ref, monitoring, aliasing, demonitoring, unaliasing, reserving, marked_by, binding, clearing, from_mark, exec_body};
 ghost use Rattle.sig_process.specs.Planning.{IsPlanned, is_receive};
 ghost use Rattle.sig_process.specs.Plans.{changed, body_of, executed_body};
 ghost use Rattle.sig_process.specs.Progressing.{state_of};
 
 use crate::changing::Change;
-use crate::plan::{Binding, Execution, Outgoing, Plan};
+use crate::plan::{Binding, Execution, InboxChange, Outgoing, Plan};
 use crate::progress::Progress;
 use crate::values::ValueFault;
-use sig_kinds::Kind;
+use sig_kinds::{AliasMode, Kind};
 use sig_model::{Outcome, Target};
 use sig_patterns::Var;
 use sig_script::{Instr, Proc};
-use sig_terms::{Pid, Term};
+use sig_terms::{Pid, Ref, Term};
 use std::alloc::{AllocError, Global};
 
 impl Plan {
@@ -58,11 +58,11 @@ impl Progress {
     /// The plan of an instruction that goes on at the label of the target, or at the next place.
     pub(crate) fn going(&self, proc: &Proc, target: Option<u32>, plan: Plan) -> Execution
         requires { self.now.counts.place ≤ length proc.now.instrs }
-        ensures { result ≡ record { binding = Binding.Nothing; flush = None; place = place_after proc.now.labels target self.now.counts.place; plan = plan } }
+        ensures { result ≡ record { binding = Binding.Nothing; inbox = InboxChange.Nothing; place = place_after proc.now.labels target self.now.counts.place; plan = plan } }
     {
         Execution {
             binding: Binding::Nothing,
-            flush: None,
+            inbox: InboxChange::Nothing,
             place: self.place_after(proc, target),
             plan,
         }
@@ -168,11 +168,196 @@ impl Progress {
         self.going(proc, Some(label), plan)
     }
 
+    /// The reference that the process makes next.
+    fn new_ref(&self) -> Ref
+        ensures { result ≡ new_ref (state_of self.now) }
+    {
+        Ref {
+            owner: self.tables.watch.owner(),
+            serial: self.counts.next_serial,
+        }
+    }
+
+    /// A change with nothing sent, by which a variable gets the reference.
+    fn made(&self, change: Change, reference: Ref) -> Plan
+        ensures { (s : ProcessState) → body_of s result ≡ record { state = changed s change; outcome = Outcome.Set (Term.Ref reference); posts = [] } }
+    {
+        let value = Term::Ref(reference);
+        self.silent(change, Outcome::Set { value })
+    }
+
+    /// The execution of this plan, by which the variable gets the reference.
+    fn making(
+        &self,
+        proc: &Proc,
+        var: &Var,
+        reference: Ref,
+        plan: Plan,
+    ) -> Result<Execution, AllocError>
+        requires { self.now.counts.place ≤ length proc.now.instrs }
+        ensures { IfOk result (λ x. x ≡ record { binding = Binding.Made var.now reference; inbox = InboxChange.Nothing; place = self.now.counts.place + 1; plan = plan }) }
+    {
+        let var = var.copy(self.alloc)?;
+        Ok(Execution {
+            binding: Binding::Made { var, reference },
+            ..self.going(proc, None, plan)
+        })
+    }
+
+    /// A reference that is nothing else.
+    fn plan_make_ref(&self, proc: &Proc, var: &Var) -> Result<Execution, AllocError>
+        requires { self.now.counts.place ≤ length proc.now.instrs }
+        ensures { IfOk result (λ x. making_ref (state_of self.now) var.now.0 ≡ executed_body (state_of self.now) x) }
+    {
+        let reference = self.new_ref();
+        let plan = self.made(Change::Nothing, reference);
+        self.making(proc, var, reference, plan)
+    }
+
+    /// A monitor of a process. Its signal is sent but to oneself.
+    fn plan_monitor(
+        &self,
+        proc: &Proc,
+        var: &Var,
+        target: Pid,
+        mode: Option<AliasMode>,
+    ) -> Result<Execution, AllocError>
+        requires { self.now.counts.place ≤ length proc.now.instrs }
+        ensures { IfOk result (λ x. monitoring (state_of self.now) var.now.0 mode target ≡ executed_body (state_of self.now) x) }
+    {
+        let reference = self.new_ref();
+        let change = Change::Monitor {
+            reference,
+            target,
+            mode,
+        };
+        let mut plan = self.made(change, reference);
+        if target != self.tables.watch.owner() {
+            plan = plan.sending(self.alloc, target, Kind::Monitor { reference })?;
+        }
+        self.making(proc, var, reference, plan)
+    }
+
+    /// A new alias.
+    fn plan_alias(&self, proc: &Proc, var: &Var, reply: bool) -> Result<Execution, AllocError>
+        requires { self.now.counts.place ≤ length proc.now.instrs }
+        ensures { IfOk result (λ x. aliasing (state_of self.now) var.now.0 reply ≡ executed_body (state_of self.now) x) }
+    {
+        let reference = self.new_ref();
+        let plan = self.made(Change::Alias { reference, reply }, reference);
+        self.making(proc, var, reference, plan)
+    }
+
+    /// The end of the monitor of a reference. With `flush` the message of its end is removed.
+    fn plan_demonitor(
+        &self,
+        proc: &Proc,
+        reference: Ref,
+        flush: bool,
+    ) -> Result<Execution, AllocError>
+        requires { self.now.counts.place ≤ length proc.now.instrs }
+        ensures { IfOk result (λ x. demonitoring (state_of self.now) flush reference ≡ executed_body (state_of self.now) x) }
+    {
+        let outcome = if flush {
+            let value = self.tables.inner.has_down(reference);
+            Outcome::Answered { value }
+        } else {
+            Outcome::Done
+        };
+        let mut plan = self.silent(Change::Demonitor { reference }, outcome);
+        if let Some(target) = self.tables.watch.told(reference) {
+            plan = plan.sending(self.alloc, target, Kind::Demonitor { reference })?;
+        }
+        let inbox = if flush {
+            InboxChange::Flush { reference }
+        } else {
+            InboxChange::Nothing
+        };
+        Ok(Execution {
+            inbox,
+            ..self.going(proc, None, plan)
+        })
+    }
+
+    /// The end of an alias.
+    fn plan_unalias(&self, proc: &Proc, reference: Ref) -> Execution
+        requires { self.now.counts.place ≤ length proc.now.instrs }
+        ensures { unaliasing (state_of self.now) reference ≡ executed_body (state_of self.now) result }
+    {
+        let value = self.tables.watch.alias_mode(reference).is_some();
+        let plan = self.silent(Change::Unalias { reference }, Outcome::Answered { value });
+        self.going(proc, None, plan)
+    }
+
+    /// The answer of an instruction that changes nothing but messages and markers.
+    fn answering(&self, proc: &Proc, value: bool, inbox: InboxChange) -> Execution
+        requires { self.now.counts.place ≤ length proc.now.instrs }
+        ensures execution { result ≡ record { binding = Binding.Nothing; inbox = inbox; place = self.now.counts.place + 1; plan = result.plan } }
+        ensures body { (s : ProcessState) → body_of s result.plan ≡ record { state = s; outcome = Outcome.Answered value; posts = [] } }
+    {
+        let plan = self.silent(Change::Nothing, Outcome::Answered { value });
+        Execution {
+            inbox,
+            ..self.going(proc, None, plan)
+        }
+    }
+
+    /// A value that is no reference has no mark.
+    fn unmarked(&self, proc: &Proc) -> Execution
+        requires { self.now.counts.place ≤ length proc.now.instrs }
+        ensures { marked_by (state_of self.now) (false, self.now.tables.inner.queue.inbox) ≡ executed_body (state_of self.now) result }
+    {
+        self.answering(proc, false, InboxChange::Nothing)
+    }
+
+    /// A place behind all messages is reserved for the next references.
+    fn plan_reserve(&self, proc: &Proc) -> Execution
+        requires { self.now.counts.place ≤ length proc.now.instrs }
+        ensures { reserving (state_of self.now) ≡ executed_body (state_of self.now) result }
+    {
+        let serial = self.counts.next_serial;
+        let plan = self.silent(Change::Nothing, Outcome::Done);
+        Execution {
+            inbox: InboxChange::Reserve { serial },
+            ..self.going(proc, None, plan)
+        }
+    }
+
+    /// The reserve is bound to the reference that the variable's value is.
+    fn plan_bind(&self, proc: &Proc, var: &Var) -> Execution
+        requires within { self.now.counts.place ≤ length proc.now.instrs }
+        requires owner { self.now.tables.inner.queue.owner ≡ self.now.tables.watch.watch.owner }
+        ensures { binding (state_of self.now) var.now ≡ executed_body (state_of self.now) result }
+    {
+        match self.ref_of_var(var) {
+            None => self.unmarked(proc),
+            Some(reference) => {
+                let value = self.tables.inner.may_bind(reference);
+                self.answering(proc, value, InboxChange::Bind { reference })
+            }
+        }
+    }
+
+    /// The mark of the reference that the variable's value is is taken out.
+    fn plan_clear(&self, proc: &Proc, var: &Var) -> Execution
+        requires { self.now.counts.place ≤ length proc.now.instrs }
+        ensures { clearing (state_of self.now) var.now ≡ executed_body (state_of self.now) result }
+    {
+        match self.ref_of_var(var) {
+            None => self.unmarked(proc),
+            Some(reference) => {
+                let value = self.tables.inner.has_mark(reference);
+                self.answering(proc, value, InboxChange::Clear { reference })
+            }
+        }
+    }
+
     /// What an instruction of the process does, one arm for each row of the table of instructions.
     fn plan_row(&self, proc: &Proc, instr: &Instr) -> Result<Execution, ValueFault>
         requires within { self.now.counts.place ≤ length proc.now.instrs }
         requires other { is_receive (Some instr.now) ≡ false }
-        ensures { IsPlanned (state_of self.now) (exec_body proc.now (state_of self.now) (Some instr.now)) result }
+        requires owner { self.now.tables.inner.queue.owner ≡ self.now.tables.watch.watch.owner }
+        ensures { IsPlanned (state_of self.now) (exec_body from_mark proc.now (state_of self.now) (Some instr.now)) result }
     {
         match instr {
             Instr::Send { to, message } => {
@@ -186,6 +371,7 @@ impl Progress {
             }
             Instr::MakeRef { var } => Ok(self.plan_make_ref(proc, var)?),
             Instr::Receive {
+                using: _,
                 clauses: _,
                 after: _,
             } => unreachable!(),
@@ -210,6 +396,9 @@ impl Progress {
                 let reference = self.reference_of(reference)?;
                 Ok(self.plan_unalias(proc, reference))
             }
+            Instr::Reserve => Ok(self.plan_reserve(proc)),
+            Instr::Bind { var } => Ok(self.plan_bind(proc, var)),
+            Instr::Clear { var } => Ok(self.plan_clear(proc, var)),
             Instr::Exit { reason } => {
                 let reason = self.value_of(reason)?;
                 Ok(self.exiting(reason)?)
@@ -236,7 +425,8 @@ impl Progress {
         requires first { 1 ≤ self.now.counts.place }
         requires instr { option_copied instr ≡ slice_get proc.now.instrs (self.now.counts.place - 1) }
         requires other { is_receive (option_copied instr) ≡ false }
-        ensures { IfOk result (λ x. exec_body proc.now (state_of self.now) (option_copied instr.entry) ≡ Some (executed_body (state_of self.now) x)) }
+        requires owner { self.now.tables.inner.queue.owner ≡ self.now.tables.watch.watch.owner }
+        ensures { IfOk result (λ x. exec_body from_mark proc.now (state_of self.now) (option_copied instr.entry) ≡ Some (executed_body (state_of self.now) x)) }
     {
         let Some(instr) = instr else {
             return self.exiting_with(b"normal");

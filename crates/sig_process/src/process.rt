@@ -2,24 +2,21 @@ ghost use Rattle.std.specs.Prelude.{ℕ, ◌≡◌, ◌+◌, ◌<◌, ◌≤◌,
 ghost use Rattle.sig_inner.specs.InnerQueue.{opened as no_queue};
 ghost use Rattle.sig_script.specs.Scripts.{Declared};
 ghost use Rattle.sig_model.specs.ProcessState.{is_cut};
+ghost use Rattle.sig_model.specs.Executing.{SkipsNone};
 ghost use Rattle.sig_model.specs.Running.{opened, can_exec, can_handle, next_of, is_early};
 ghost use Rattle.sig_process.specs.Progressing.{running_of};
-ghost use Rattle.sig_process.specs.Steps.{IsExec, IsHandled};
+ghost use Rattle.sig_process.specs.Steps.{IsExec, IsWholeExec, IsHandled};
 ghost use Rattle.sig_process.specs.Tests.{most_tests};
 
 use crate::executing::Exec;
 use crate::progress::{Counts, Progress, Tables};
 use crate::waiting::next_signal;
 use sig_base::Steps;
-use sig_inner::Inner;
 use sig_kinds::Signals;
-use sig_links::Links;
 use sig_lists::Sequence;
 use sig_model::{Events, LAST_STAMP};
-use sig_patterns::Env;
 use sig_script::{Proc, Script};
 use sig_terms::Pid;
-use sig_watch::Watch;
 use std::alloc::{AllocError, Global};
 use std::marker::Model;
 use std::sync::ledger::Ledger;
@@ -70,13 +67,7 @@ fn beginning(alloc: Global, pid: Pid, count: u32) -> Result<Progress, AllocError
     ensures running { IfOk result (λ p. (turns : ℕ) (proc : Declared) → running_of pid.0 count turns proc p ≡ opened pid.0 count turns proc) }
     ensures queue { IfOk result (λ p. p.tables.inner.queue ≡ no_queue pid.0) }
 {
-    let tables = Tables {
-        env: Env::new(alloc),
-        inner: Inner::open(alloc, pid)?,
-        links: Links::open(alloc, pid),
-        watch: Watch::open(alloc, pid),
-        end: None,
-    };
+    let tables = Tables::open(alloc, pid)?;
     let counts = Counts {
         place: 1,
         executed: 0,
@@ -164,12 +155,15 @@ impl Process {
 
     /// Executes the next instruction. `Waiting` exactly where it is a receive without `after` and
     /// no message matches; then the process is as before, and the next execution looks only at the
-    /// messages that come behind. A receive makes at most as many tests of a message as it has
-    /// clauses, for each message that it looks at. The error is want of memory; then the process is
-    /// as before, but for the saved place. (Erlang Reference Manual, Expressions.)
+    /// messages that come behind. A receive through a marker looks only at the messages from its mark
+    /// on, and where no message before the mark holds the reference, it is the receive that looks at
+    /// all of them. A receive makes at most as many tests of a message as it has clauses, for each
+    /// message that it looks at. The error is want of memory; then the process is as before, but for
+    /// the saved place. (Erlang Reference Manual, Expressions.)
     pub fn exec<L: Ledger>(&mut self, steps: &mut Steps<L>) -> Result<Exec, AllocError>
         requires { can_exec self.old.running ≡ true }
         ensures exec { MatchResult result (IsExec self.old self.new) (λ _. self.new.running ≡ self.old.running) }
+        ensures whole { SkipsNone self.old.running.proc self.old.running.state → IfOk result (IsWholeExec self.old self.new) }
         ensures ticks { steps.new ≤ steps.old + most_tests self.old }
     {
         self.progress.exec(self.pid, &self.proc, steps)

@@ -1,11 +1,16 @@
+ghost use Rattle.std.specs.Prelude.{◌≡◌, IfOk};
+ghost use Rattle.sig_inner.specs.InnerQueue.{opened as no_queue};
+ghost use Rattle.sig_model.specs.ProcessState.{opening_tables};
+ghost use Rattle.sig_process.specs.Progressing.{tables_of};
+
 use sig_inner::Inner;
 use sig_kinds::Signals;
 use sig_links::Links;
 use sig_model::Events;
 use sig_patterns::Env;
-use sig_terms::Term;
+use sig_terms::{Pid, Term};
 use sig_watch::Watch;
-use std::alloc::Global;
+use std::alloc::{AllocError, Global};
 
 /// What a process holds.
 #[derive(Drop)]
@@ -20,6 +25,22 @@ pub(crate) struct Tables {
     pub watch: Watch,
     /// The reason, where it has ended.
     pub end: Option<Term>,
+}
+
+impl Tables {
+    /// Those of a process that has done nothing yet: all is empty. The error is want of memory.
+    pub(crate) fn open(alloc: Global, pid: Pid) -> Result<Tables, AllocError>
+        ensures tables { IfOk result (λ t. tables_of t ≡ opening_tables pid.0) }
+        ensures queue { IfOk result (λ t. t.inner.queue ≡ no_queue pid.0) }
+    {
+        Ok(Tables {
+            env: Env::new(alloc),
+            inner: Inner::open(alloc, pid)?,
+            links: Links::open(alloc, pid),
+            watch: Watch::open(alloc, pid),
+            end: None,
+        })
+    }
 }
 
 /// What only counts.

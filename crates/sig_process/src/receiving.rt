@@ -1,11 +1,13 @@
-ghost use Rattle.std.specs.Prelude.{◌≡◌, ◌-◌, ◌+◌, ◌*◌, ◌<◌, ◌≤◌, ◌^◌, length, slice_get, Some, None, false, IfSome, IsSomeAnd, MatchResult, OnOk};
-ghost use Rattle.sig_inner.specs.declared.last_scan.LastScan.TheVariants.{Found};
-ghost use Rattle.sig_inner.specs.Receiving.{scanned, looked_in, answer_to, after_scan, is_saved, passed, HasPassed, IsScanWithin};
+ghost use Rattle.std.specs.Prelude.{ℕ, ◌≡◌, ◌-◌, ◌+◌, ◌*◌, ◌<◌, ◌≤◌, ◌^◌, length, slice_get, Some, None, false, MatchResult, OnOk, OnErr};
+ghost use Rattle.sig_inner.specs.Receiving.{scanned, looked_in, answer_to, after_scan, is_saved, passed, HasPassed, IsScanWithin, IsAsked};
+ghost use Rattle.sig_patterns.specs.Inbox.{start_of};
+ghost use Rattle.sig_patterns.specs.Scanning.{Hit};
+ghost use Rattle.sig_script.specs.Scripts.{AreMarked};
 ghost use Rattle.sig_model.specs.Bodies.{going_on, place_after};
 ghost use Rattle.sig_model.specs.Bounds.{IsBounded};
-ghost use Rattle.sig_model.specs.Executing.{head, hit_from, taking};
+ghost use Rattle.sig_model.specs.Executing.{taking};
 ghost use Rattle.sig_model.specs.Finishing.{finished_exec};
-ghost use Rattle.sig_process.specs.Executions.{IsExecDue, HasGone, IsUnmoved};
+ghost use Rattle.sig_process.specs.Executions.{IsExecDue, IsHit, HasGone, IsUnmoved};
 ghost use Rattle.sig_process.specs.Progressing.{state_of, IsSame, HasAdvanced};
 ghost use Rattle.sig_process.specs.Soundness.{IsSaved};
 ghost use Rattle.sig_process.specs.Tests.{tests_of};
@@ -17,9 +19,9 @@ use crate::progress::Progress;
 use sig_base::Steps;
 use sig_inner::{Inner, Scan};
 use sig_model::{LAST_STAMP, Outcome};
-use sig_patterns::{Clauses, Env};
+use sig_patterns::{Clauses, Env, Var};
 use sig_script::{After, Instr, Proc};
-use sig_terms::Pid;
+use sig_terms::{Pid, Ref};
 use std::alloc::AllocError;
 use std::sync::ledger::Ledger;
 
@@ -29,20 +31,22 @@ fn scan_messages<L: Ledger>(
     inner: &mut Inner,
     clauses: &Clauses,
     env: &Env,
+    using: Option<Ref>,
     steps: &mut Steps<L>,
 ) -> Scan
     requires few { length clauses.now < 2 ^ 32 }
-    requires passed { HasPassed inner.old.queue clauses.now env.now }
-    ensures answer { result ≡ answer_to inner.old.queue (scanned inner.old.queue clauses.now env.now) }
-    ensures left { inner.new.queue ≡ after_scan inner.old.queue (scanned inner.old.queue clauses.now env.now) }
-    ensures within { IsScanWithin (length clauses.now) (length inner.old.queue.inbox.messages) result }
-    ensures passed { HasPassed inner.new.queue clauses.now env.now }
-    ensures ticks { steps.new ≤ steps.old + length clauses.now * (looked_in inner.old.queue (scanned inner.old.queue clauses.now env.now) - passed inner.old.queue.last) }
+    requires asked { IsAsked inner.old.queue «using» clauses.now env.now }
+    requires passed { HasPassed inner.old.queue (start_of inner.old.queue.inbox «using») clauses.now env.now }
+    ensures answer { result ≡ answer_to inner.old.queue (start_of inner.old.queue.inbox «using») (scanned inner.old.queue (start_of inner.old.queue.inbox «using») clauses.now env.now) }
+    ensures left { inner.new.queue ≡ after_scan inner.old.queue (start_of inner.old.queue.inbox «using») (scanned inner.old.queue (start_of inner.old.queue.inbox «using») clauses.now env.now) }
+    ensures within { IsScanWithin (length clauses.now) (length inner.old.queue.inbox.messages - start_of inner.old.queue.inbox «using») result }
+    ensures passed { HasPassed inner.new.queue (start_of inner.new.queue.inbox «using») clauses.now env.now }
+    ensures ticks { steps.new ≤ steps.old + length clauses.now * (looked_in inner.old.queue (start_of inner.old.queue.inbox «using») (scanned inner.old.queue (start_of inner.old.queue.inbox «using») clauses.now env.now) - (passed inner.old.queue.last - start_of inner.old.queue.inbox «using»)) }
 {
     if inner.is_saved() {
-        inner.resume(clauses, env, None, steps)
+        inner.resume(clauses, env, using, steps)
     } else {
-        inner.receive(clauses, env, None, steps)
+        inner.receive(clauses, env, using, steps)
     }
 }
 
@@ -60,12 +64,10 @@ impl Progress {
         requires stamp { self.old.counts.stamp < LAST_STAMP }
         requires turns { self.old.counts.executed + 1 < 2 ^ 32 }
         requires inside { self.old.counts.place ≤ length proc.now.instrs }
-        requires found { IsSomeAnd (hit_from head clauses.now (state_of self.old)) (λ h.
-            (self.old.tables.inner.queue.last ≡ Found h.at) × (clause ≡ h.clause + 1) × (looked ≡ h.at + 1)) }
-        ensures taken { MatchResult result
-            (λ _. IfSome (hit_from head clauses.now (state_of self.old)) (λ h.
-            HasAdvanced pid.0 self.old self.new (finished_exec pid.0 (state_of self.old) (taking proc.now (state_of self.old) head h))))
-            (λ _. self.new ≡ self.old) }
+        requires found { (start : ℕ) × (h : Hit) × IsHit clauses.now self.old clause looked start h }
+        ensures taken { (start : ℕ) (h : Hit) → IsHit clauses.now self.old clause looked start h →
+            OnOk result (HasAdvanced pid.0 self.old self.new (finished_exec pid.0 (state_of self.old) (taking proc.now (state_of self.old) start (start + h.at) h))) }
+        ensures err { OnErr result (self.new ≡ self.old) }
         ensures unsaved { OnOk result (is_saved self.new.tables.inner.queue.last ≡ false) }
     {
         let Some(chosen) = clauses.get(clause as usize - 1) else {
@@ -96,6 +98,7 @@ impl Progress {
         requires stamp { self.old.counts.stamp < LAST_STAMP }
         requires turns { self.old.counts.executed + 1 < 2 ^ 32 }
         requires inside { self.old.counts.place ≤ length proc.now.instrs }
+        requires owner { self.old.tables.inner.queue.owner ≡ self.old.tables.watch.watch.owner }
         ensures gone { MatchResult result
             (λ _. HasAdvanced pid.0 self.old self.new (finished_exec pid.0 (state_of self.old)
             (going_on (state_of self.old) (place_after proc.now.labels target self.old.counts.place) (Outcome.After looked))))
@@ -111,18 +114,27 @@ impl Progress {
         &mut self,
         pid: Pid,
         proc: &Proc,
+        using: &Option<Var>,
         clauses: &Clauses,
         after: &Option<After>,
         steps: &mut Steps<L>,
     ) -> Result<Exec, AllocError>
         requires due { IsExecDue proc.now self.old }
         requires few { length clauses.now < 2 ^ 32 }
-        requires here { slice_get proc.now.instrs (self.old.counts.place - 1) ≡ Some (Instr.Receive clauses.now after.now) }
+        requires marked { AreMarked «using».now clauses.now }
+        requires here { slice_get proc.now.instrs (self.old.counts.place - 1) ≡ Some (Instr.Receive «using».now clauses.now after.now) }
         ensures gone { MatchResult result (HasGone pid.0 proc.now self.old self.new) (λ _. IsUnmoved self.old self.new) }
         ensures saved { IsSaved (slice_get proc.now.instrs (self.new.counts.place - 1)) self.new }
-        ensures ticks { steps.new ≤ steps.old + tests_of (state_of self.old) (passed self.old.tables.inner.queue.last) (Some (Instr.Receive clauses.now after.now)) }
+        ensures ticks { steps.new ≤ steps.old + tests_of (state_of self.old) (passed self.old.tables.inner.queue.last) (Some (Instr.Receive «using».now clauses.now after.now)) }
     {
-        match scan_messages(&mut self.tables.inner, clauses, &self.tables.env, steps) {
+        let using = self.using_ref(using);
+        match scan_messages(
+            &mut self.tables.inner,
+            clauses,
+            &self.tables.env,
+            using,
+            steps,
+        ) {
             Scan::Found { clause, looked } => {
                 self.take_found(pid, proc, clauses, clause, looked)?;
                 Ok(Exec::Stepped)

@@ -1,12 +1,12 @@
 ghost use Rattle.std.specs.Prelude.{◌≡◌};
-ghost use Rattle.sig_model.specs.Executing.{with_value, with_pid, with_ref, with_target};
+ghost use Rattle.sig_model.specs.Executing.{with_value, with_pid, with_ref, with_target, ref_of_var, using_ref};
 ghost use Rattle.sig_process.specs.Planning.{IsUsed};
 ghost use Rattle.sig_process.specs.Progressing.{state_of};
 ghost use Rattle.sig_process.specs.declared.values.ValueFault.TheVariants.{Memory};
 
 use crate::progress::Progress;
 use sig_model::Target;
-use sig_patterns::{BuildFault, Expr, build};
+use sig_patterns::{BuildFault, Expr, Var, build};
 use sig_terms::{Pid, Ref, Term};
 use std::alloc::AllocError;
 
@@ -97,6 +97,26 @@ impl Progress {
     {
         let value = self.value_of(expression)?;
         self.pid_of(value)
+    }
+
+    /// The reference that the variable's value is. `None` where it is none.
+    pub(crate) fn ref_of_var(&self, var: &Var) -> Option<Ref>
+        ensures { result ≡ ref_of_var self.now.tables.env var.now }
+    {
+        match self.tables.env.get(var) {
+            Some(Term::Ref(reference)) => Some(*reference),
+            _ => None,
+        }
+    }
+
+    /// The reference of a receive's marker.
+    pub(crate) fn using_ref(&self, using: &Option<Var>) -> Option<Ref>
+        ensures { result ≡ using_ref self.now.tables.env «using».now }
+    {
+        match using {
+            None => None,
+            Some(var) => self.ref_of_var(var),
+        }
     }
 
     /// The values of both expressions.

@@ -8,6 +8,9 @@ use Rattle.std.proofs.lemmas.Bool.Decides.{nat_tests}
 use Rattle.std.proofs.lemmas.List.{map-append, length-map}
 use Rattle.std.proofs.lemmas.List.Elements.{All-nil, All-cons, All-head, All-tail, All-append, All-push, All-weaker}
 use Rattle.sig_patterns.specs.declared.clause.Clause.{Clause}
+use Rattle.sig_patterns.specs.declared.pattern.Pattern.{Pattern}
+use Rattle.sig_patterns.specs.declared.var.Var.{Var}
+use Rattle.sig_patterns.specs.Pinning.{pins}
 use Rattle.sig_script.specs.declared.label.Label.{Label}
 use Rattle.sig_script.specs.declared.instruction.After.{After}
 use Rattle.sig_script.specs.declared.instruction.Instr.{Instr}
@@ -23,15 +26,15 @@ use Rattle.sig_script.specs.declared.draft.Section.TheVariants.{Before, Outside,
 use Rattle.sig_script.specs.declared.draft.Draft.{Draft}
 use Rattle.sig_script.specs.declared.form.Form.{Form}
 use Rattle.sig_script.specs.declared.form.Form.TheVariants as form
-use Rattle.sig_script.specs.Scripts.{Declared, Program, IsLawful, IsPlace, IsWithin, IsExprBelow, IsPatternBelow, IsInstrBelow, IsSound}
+use Rattle.sig_script.specs.Scripts.{Declared, Program, AreMarked, IsLawful, IsPlace, IsWithin, IsExprBelow, IsPatternBelow, IsInstrBelow, IsSound}
 use Rattle.sig_script.specs.Parts.{targets_of}
 use Rattle.sig_script.specs.Faults.{Fault, ◌>>=◌, on_ok}
 use Rattle.sig_script.specs.Lines.{lines_of, onto_first}
 use Rattle.sig_script.specs.Tokens.{text}
 use Rattle.sig_script.specs.Names.{labels_at}
 use Rattle.sig_script.specs.PatternTexts.{pattern_of}
-use Rattle.sig_script.specs.Forms.{tokens_of, keyword_of, may_stand, ends, arrow_of, count_from, turns_of, whole_name, on_of, instr_of, form_of, form_behind, said_by, said}
-use Rattle.sig_script.specs.Drafts.{blank, open_proc, all_procs, program_of, begun, labelled, with_instr, taken_at}
+use Rattle.sig_script.specs.Forms.{tokens_of, keyword_of, may_stand, ends, arrow_of, count_from, turns_of, whole_name, marker_of, on_of, instr_of, form_of, form_behind, said_by, said}
+use Rattle.sig_script.specs.Drafts.{blank, open_proc, all_procs, program_of, begun, labelled, with_instr, is_marked, with_clause, taken_at}
 use Rattle.sig_script.specs.Grammar.{located, finished, taken_if, line_taken, body, walk}
 use Rattle.sig_script.specs.Fitting.{IsSmall, IsFit, IsFewKnown}
 use Rattle.sig_script.proofs.FitLemmas.{all-last}
@@ -103,14 +106,16 @@ fit_at n turns procs (Outside p) (form.Label name) h =
     holds-on_ok (IsSmall (n + 1)) (IsFit (n + 1)) (λ q. record { turns = turns; procs = procs; section = Outside q }) (labelled p name)
     (small_labelled n p name (all-last (IsSmall n) procs p h.small)) (λ q s. fit_last n turns procs p q h s)
 fit_at n turns procs (Outside p) (form.Do i) h = fit_last n turns procs p (with_instr p i) h (small_instr n p i (all-last (IsSmall n) procs p h.small))
-fit_at n turns procs (Outside p) form.Receive h = record { few = h.few; small = all-later n (procs ++ p ∷ []) h.small }
+fit_at n turns procs (Outside p) (form.Receive using) h = record { few = h.few; small = all-later n (procs ++ p ∷ []) h.small }
 fit_at n turns procs (Outside p) _ h = tt
-fit_at n turns procs (Inside p clauses after) (form.On pattern target) h = record { few = h.few; small = all-later n (procs ++ p ∷ []) h.small }
-fit_at n turns procs (Inside p clauses after) (form.After next) h = record { few = h.few; small = all-later n (procs ++ p ∷ []) h.small }
-fit_at n turns procs (Inside p clauses after) form.End h =
-    fit_last n turns procs p (with_instr p (instr.Receive clauses after)) (record { few = h.few; small = h.small })
-    (small_instr n p (instr.Receive clauses after) (all-last (IsSmall n) procs p h.small))
-fit_at n turns procs (Inside p clauses after) _ h = tt
+fit_at n turns procs (Inside p using clauses after) (form.On pattern target) h =
+    holds-on_ok (λ _. Unit {0}) (IsFit (n + 1)) (λ more. record { turns = turns; procs = procs; section = Inside p using more after }) (with_clause using clauses pattern target)
+    (anything (with_clause using clauses pattern target)) (λ more _. record { few = h.few; small = all-later n (procs ++ p ∷ []) h.small })
+fit_at n turns procs (Inside p using clauses after) (form.After next) h = record { few = h.few; small = all-later n (procs ++ p ∷ []) h.small }
+fit_at n turns procs (Inside p using clauses after) form.End h =
+    fit_last n turns procs p (with_instr p (instr.Receive using clauses after)) (record { few = h.few; small = h.small })
+    (small_instr n p (instr.Receive using clauses after) (all-last (IsSmall n) procs p h.small))
+fit_at n turns procs (Inside p using clauses after) _ h = tt
 
 fit_said : (n : ℕ) (d : Draft) (said : Option Form) → IsFit n d → Holds (IsFit (n + 1)) (taken_if d said)
 fit_said n d None h = fit_later n d h
@@ -132,7 +137,7 @@ holds-located P Q n f (Err e) h k = tt
 holds-finished : (Q : Program → Type 0) (n : ℕ) (d : Draft) (section : Section) → Q (program_of d) → Holds Q (finished n d section)
 holds-finished Q n d Before h = h
 holds-finished Q n d (Outside p) h = h
-holds-finished Q n d (Inside p clauses after) h = tt
+holds-finished Q n d (Inside p using clauses after) h = tt
 
 module _ (known : Known) (P : ℕ → Draft → Type 0) (Q : Program → Type 0) (m : ℕ)
     (step : (n : ℕ) (d : Draft) (line : List ℕ) → n < m → P n d → Holds (P (n + 1)) (line_taken known d line))
@@ -240,7 +245,8 @@ form-counted known here keyword.Process line ts =
     holds-on_ok (λ _. Unit {0}) (SaysAs keyword.Process) form.Process (whole_name line ts) (anything (whole_name line ts)) (λ n _ cs. refl)
 form-counted known here keyword.Label line ts =
     holds-on_ok (λ _. Unit {0}) (SaysAs keyword.Label) form.Label (whole_name line ts) (anything (whole_name line ts)) (λ n _ cs. refl)
-form-counted known here keyword.Receive line ts = holds-ends (SaysAs keyword.Receive) form.Receive ts (λ cs. refl)
+form-counted known here keyword.Receive line ts =
+    holds-on_ok (λ _. Unit {0}) (SaysAs keyword.Receive) form.Receive (marker_of line ts) (anything (marker_of line ts)) (λ u _ cs. refl)
 form-counted known here keyword.On line ts = on-counted known here line ts
 form-counted known here keyword.After line ts =
     holds-on_ok (λ _. Unit {0}) (SaysAs keyword.After) (λ target. form.After (record { target = target })) (arrow_of known here line ts) (anything (arrow_of known here line ts)) (λ o _ cs. refl)
@@ -311,12 +317,14 @@ taken_at-counted turns procs (Outside p) (form.Label name) =
     holds-on_ok (λ q. length q.labels ≡ length p.labels + 1) (CountedAs (one_more (counts (procs ++ p ∷ [])))) (λ q. record { turns = turns; procs = procs; section = Outside q })
     (labelled p name) (labelled-counted p name) (λ q h. counts-more procs p q h)
 taken_at-counted turns procs (Outside p) (form.Do i) = counts-last procs p (with_instr p i) refl
-taken_at-counted turns procs (Outside p) form.Receive = refl
+taken_at-counted turns procs (Outside p) (form.Receive using) = refl
 taken_at-counted turns procs (Outside p) _ = tt
-taken_at-counted turns procs (Inside p clauses after) (form.On pattern target) = refl
-taken_at-counted turns procs (Inside p clauses after) (form.After next) = refl
-taken_at-counted turns procs (Inside p clauses after) form.End = counts-last procs p (with_instr p (instr.Receive clauses after)) refl
-taken_at-counted turns procs (Inside p clauses after) _ = tt
+taken_at-counted turns procs (Inside p using clauses after) (form.On pattern target) =
+    holds-on_ok (λ _. Unit {0}) (CountedAs (counts (procs ++ p ∷ []))) (λ more. record { turns = turns; procs = procs; section = Inside p using more after })
+    (with_clause using clauses pattern target) (anything (with_clause using clauses pattern target)) (λ more _. refl)
+taken_at-counted turns procs (Inside p using clauses after) (form.After next) = refl
+taken_at-counted turns procs (Inside p using clauses after) form.End = counts-last procs p (with_instr p (instr.Receive using clauses after)) refl
+taken_at-counted turns procs (Inside p using clauses after) _ = tt
 
 taken_if-counted : (d : Draft) (o : Option Form) → Holds (CountedAs (counted_said o (counts (all_procs d)))) (taken_if d o)
 taken_if-counted d None = refl
@@ -377,9 +385,10 @@ record IsMeant (s : Program) (here : ℕ) (p : Declared) : Type 0 where
 abbrev IsOpen : Program → ℕ → ℕ → Section → Type 0
 IsOpen s n here Before = Unit {0}
 IsOpen s n here (Outside p) = Unit {0}
-IsOpen s n here (Inside p clauses after) =
+IsOpen s n here (Inside p using clauses after) =
     (length clauses ≤ n) × All (λ (c : Clause). IsTarget (length (labels_at here s.procs)) c.target) clauses
     × All (λ (c : Clause). IsPatternBelow (length s.procs) c.pattern) clauses × IfSome after (λ (a : After). IsTarget (length (labels_at here s.procs)) a.target)
+    × AreMarked using clauses
 
 record IsMeantDraft (s : Program) (n : ℕ) (d : Draft) : Type 0 where
   turns : IfSome d.turns (λ t. t ≤ MOST_TURNS)
@@ -419,7 +428,7 @@ label-more s here p name h =
 open-later : (s : Program) (n here : ℕ) (section : Section) → IsOpen s n here section → IsOpen s (n + 1) here section
 open-later s n here Before h = tt
 open-later s n here (Outside p) h = tt
-open-later s n here (Inside p clauses after) h = (omega (arith, h.0), h.1, h.2, h.3)
+open-later s n here (Inside p using clauses after) h = (omega (arith, h.0), h.1, h.2, h.3, h.4)
 
 few-turns : (n : ℕ) → nat_le n MOST_TURNS ≡ true → n ≤ MOST_TURNS
 few-turns n h = grind (arith, nat_tests)
@@ -450,13 +459,22 @@ all-kept P None h = All-nil P
 all-kept P (Some x) h = All-cons P x [] h (All-nil P)
 
 -- the targets of a receive are those of its clauses and that of its `after`
-receive-targets : (labels : ℕ) (clauses : List Clause) (after : Option After) → All (λ (c : Clause). IsTarget labels c.target) clauses →
-    IfSome after (λ (a : After). IsTarget labels a.target) → All (λ t. t < labels) (targets_of (instr.Receive clauses after))
-receive-targets labels clauses after h k =
+receive-targets : (labels : ℕ) (using : Option Var) (clauses : List Clause) (after : Option After) → All (λ (c : Clause). IsTarget labels c.target) clauses →
+    IfSome after (λ (a : After). IsTarget labels a.target) → All (λ t. t < labels) (targets_of (instr.Receive using clauses after))
+receive-targets labels using clauses after h k =
     let target : Clause → Option ℕ = λ c. c.target in
     let behind : After → Option ℕ = λ a. a.target in
     All-append (λ t. t < labels) (filter_map target clauses) (filter_map behind (option_to_list after)) (all-given (λ t. t < labels) target clauses h)
     (all-given (λ t. t < labels) behind (option_to_list after) (all-kept (λ a. IsTarget labels a.target) after k))
+
+-- the clauses of a receive pin the variable of its marker
+none-marked : (using : Option Var) → AreMarked using []
+none-marked None = tt
+none-marked (Some x) = All-nil (λ (c : Clause). pins c.pattern x ≡ true)
+
+marked-more : (using : Option Var) (clauses : List Clause) (c : Clause) → is_marked using c.pattern ≡ true → AreMarked using clauses → AreMarked using (clauses ++ c ∷ [])
+marked-more None clauses c e h = tt
+marked-more (Some x) clauses c e h = All-push (λ (c : Clause). pins c.pattern x ≡ true) clauses c h e
 
 -- from here on the names are those of a script, and n is a line of a text that isn't too long
 module _ (s : Program) (n : ℕ) (turns : Option ℕ) (procs : List Declared) (bounded : IfSome turns (λ t. t ≤ MOST_TURNS)) where
@@ -473,22 +491,31 @@ module _ (s : Program) (n : ℕ) (turns : Option ℕ) (procs : List Declared) (b
     receive = tt;
   }
 
-  clause-more : (p : Declared) (clauses : List Clause) (after : Option After) (c : Clause) → IsOpen s n (length procs) (Inside p clauses after) →
-      IsPatternBelow (length s.procs) c.pattern → IsTarget (length (labels_at (length procs) s.procs)) c.target → IsOpen s (n + 1) (length procs) (Inside p (clauses ++ c ∷ []) after)
-  clause-more p clauses after c h b t = (
+  clause-more : (p : Declared) (using : Option Var) (clauses : List Clause) (after : Option After) (c : Clause) → IsOpen s n (length procs) (Inside p using clauses after) →
+      IsPatternBelow (length s.procs) c.pattern → IsTarget (length (labels_at (length procs) s.procs)) c.target → is_marked using c.pattern ≡ true →
+      IsOpen s (n + 1) (length procs) (Inside p using (clauses ++ c ∷ []) after)
+  clause-more p using clauses after c h b t m = (
     omega (arith, h.0, length-append clauses (c ∷ [])),
     All-push (λ (c : Clause). IsTarget (length (labels_at (length procs) s.procs)) c.target) clauses c h.1 t,
     All-push (λ (c : Clause). IsPatternBelow (length s.procs) c.pattern) clauses c h.2 b,
     h.3,
+    marked-more using clauses c m h.4,
   )
 
-  receive-more : (p : Declared) (clauses : List Clause) (after : Option After) → n < 2 ^ 32 → IsOpen s n (length procs) (Inside p clauses after) →
-      IsMeant s (length procs) p → IsMeant s (length procs) (with_instr p (instr.Receive clauses after))
-  receive-more p clauses after lt h k =
+  with_clause-meant : (p : Declared) (using : Option Var) (clauses : List Clause) (after : Option After) (pattern : Pattern) (target : Option ℕ) →
+      IsOpen s n (length procs) (Inside p using clauses after) → IsPatternBelow (length s.procs) pattern → IsTarget (length (labels_at (length procs) s.procs)) target →
+      Holds (λ more. IsOpen s (n + 1) (length procs) (Inside p using more after)) (with_clause using clauses pattern target)
+  with_clause-meant p using clauses after pattern target h b t =
+      holds-if (λ (more : List Clause). IsOpen s (n + 1) (length procs) (Inside p using more after)) (is_marked using pattern) _ _
+      (λ m. clause-more p using clauses after (record { pattern = pattern; target = target }) h b t m) (λ _. tt)
+
+  receive-more : (p : Declared) (using : Option Var) (clauses : List Clause) (after : Option After) → n < 2 ^ 32 → IsOpen s n (length procs) (Inside p using clauses after) →
+      IsMeant s (length procs) p → IsMeant s (length procs) (with_instr p (instr.Receive using clauses after))
+  receive-more p using clauses after lt h k =
       let few : length clauses < 2 ^ 32 = omega (arith, lt, h.0) in
-      let targets : All (λ t. t < length (labels_at (length procs) s.procs)) (targets_of (instr.Receive clauses after)) =
-      receive-targets (length (labels_at (length procs) s.procs)) clauses after h.1 h.3 in
-      instr-more s (length procs) p (instr.Receive clauses after) (few, targets, no-mode) (All-nil (IsExprBelow (length s.procs)), h.2) k
+      let targets : All (λ t. t < length (labels_at (length procs) s.procs)) (targets_of (instr.Receive using clauses after)) =
+      receive-targets (length (labels_at (length procs) s.procs)) using clauses after h.1 h.3 in
+      instr-more s (length procs) p (instr.Receive using clauses after) (few, targets, no-mode, h.4) (All-nil (IsExprBelow (length s.procs)), h.2) k
 
   taken_at-meant : (section : Section) (f : Form) → n < 2 ^ 32 → Each (IsMeant s) 0 (procs ++ open_proc section) → IsOpen s n (length procs) section →
       IsMeantForm (length s.procs) (length (labels_at (length procs) s.procs)) f →
@@ -504,18 +531,26 @@ module _ (s : Program) (n : ℕ) (turns : Option ℕ) (procs : List Declared) (b
       holds-on_ok (IsMeant s (length procs)) (IsMeantDraft s (n + 1)) (λ q. record { turns = turns; procs = procs; section = Outside q })
       (labelled p name) (label-more s (length procs) p name (current p h)) (λ q m. changed p q h m)
   taken_at-meant (Outside p) (form.Do i) lt h o k = changed p (with_instr p i) h (instr-more s (length procs) p i k.0 k.1 (current p h))
-  taken_at-meant (Outside p) form.Receive lt h o k = record {
+  taken_at-meant (Outside p) (form.Receive using) lt h o k = record {
     turns = bounded;
     procs = h;
-    receive = (omega arith, All-nil (λ (c : Clause). IsTarget (length (labels_at (length procs) s.procs)) c.target), All-nil (λ (c : Clause). IsPatternBelow (length s.procs) c.pattern), tt);
+    receive = (
+      omega arith,
+      All-nil (λ (c : Clause). IsTarget (length (labels_at (length procs) s.procs)) c.target),
+      All-nil (λ (c : Clause). IsPatternBelow (length s.procs) c.pattern),
+      tt,
+      none-marked using,
+    );
   }
   taken_at-meant (Outside p) _ lt h o k = tt
-  taken_at-meant (Inside p clauses after) (form.On pattern target) lt h o k =
-      record { turns = bounded; procs = h; receive = clause-more p clauses after (record { pattern = pattern; target = target }) o k.0 k.1 }
-  taken_at-meant (Inside p clauses after) (form.After next) lt h o k = record { turns = bounded; procs = h; receive = (omega (arith, o.0), o.1, o.2, k) }
-  taken_at-meant (Inside p clauses after) form.End lt h o k =
-      changed p (with_instr p (instr.Receive clauses after)) h (receive-more p clauses after lt o (current p h))
-  taken_at-meant (Inside p clauses after) _ lt h o k = tt
+  taken_at-meant (Inside p using clauses after) (form.On pattern target) lt h o k =
+      holds-on_ok (λ (more : List Clause). IsOpen s (n + 1) (length procs) (Inside p using more after)) (IsMeantDraft s (n + 1))
+      (λ more. record { turns = turns; procs = procs; section = Inside p using more after }) (with_clause using clauses pattern target)
+      (with_clause-meant p using clauses after pattern target o k.0 k.1) (λ more m. record { turns = bounded; procs = h; receive = m })
+  taken_at-meant (Inside p using clauses after) (form.After next) lt h o k = record { turns = bounded; procs = h; receive = (omega (arith, o.0), o.1, o.2, k, o.4) }
+  taken_at-meant (Inside p using clauses after) form.End lt h o k =
+      changed p (with_instr p (instr.Receive using clauses after)) h (receive-more p using clauses after lt o (current p h))
+  taken_at-meant (Inside p using clauses after) _ lt h o k = tt
 
 taken_if-meant : (s : Program) (n : ℕ) (d : Draft) (o : Option Form) → n < 2 ^ 32 → IsMeantDraft s n d →
     IfSome o (IsMeantForm (length s.procs) (length (labels_at (length d.procs) s.procs))) → Holds (IsMeantDraft s (n + 1)) (taken_if d o)

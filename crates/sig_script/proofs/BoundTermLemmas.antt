@@ -35,7 +35,7 @@ use Rattle.sig_script.specs.Signs.{is_open_brace, is_open_bracket, is_arrow, is_
 use Rattle.sig_script.specs.Phrases.{Read, Spelling, behind, elements, closed, is_before_tail, ending, bracketed, single, phrase_by, phrase_front, phrase_at, phrase_of}
 use Rattle.sig_script.specs.Expressions.{expr_enclosing, expr_spelling, expr_of}
 use Rattle.sig_script.specs.PatternTexts.{pattern_signed, pattern_enclosing, pattern_spelling, pattern_of}
-use Rattle.sig_script.specs.Forms.{Operand, an_expr, a_label, a_mode, word_at, mode_of, AllSaid, operand_at, all_said, made_of, tokens_of, keyword_of, may_stand, ends, target_at, arrow_of, count_from, turns_of, whole_name, on_of, instr_of, form_of, form_behind, said_by, said}
+use Rattle.sig_script.specs.Forms.{Operand, an_expr, a_label, a_mode, word_at, mode_of, AllSaid, operand_at, all_said, made_of, tokens_of, keyword_of, may_stand, ends, target_at, arrow_of, count_from, turns_of, whole_name, marker_of, on_of, instr_of, form_of, form_behind, said_by, said}
 use Rattle.sig_script.proofs.PidLemmas.{int_pids, atom_pids, var_pids, pid_pids, tuple_pids, list_pids, any_pattern_pids, bind_pattern_pids, pin_pattern_pids, int_pattern_pids, atom_pattern_pids, pid_pattern_pids, tuple_pattern_pids, list_pattern_pids, nested_pids}
 use Rattle.sig_patterns.specs.declared.building.TheConstants.{MOST_NODES, MOST_DEPTH}
 
@@ -321,13 +321,13 @@ module _ (s : Program) (here : ℕ) (line : List ℕ) where
   unfolding made_of
   made-meant os make ts h = holds-on_ok (AreMeant os) IsMeantInstr make (all_said (Among s) here line os ts) (operands-meant os ts) h
 
-  -- An instruction has the expressions and the labels of its operands, and no clauses. A first verb stands here so that each is looked at by itself.
+  -- An instruction has the expressions and the labels of its operands, and no marker and no clauses. A first verb stands here so that each is looked at by itself.
   instr-meant : (v : Verb) (ts : List Token) → Holds IsMeantInstr (instr_of (Among s) here v line ts)
   unfolding instr_of
-  instr-meant verb.Stop ts = made-meant _ _ ts (λ x h. ((no-clauses, h.1, no-mode), (h.0, All-nil (λ (c : Clause). IsPatternBelow (length s.procs) c.pattern))))
+  instr-meant verb.Stop ts = made-meant _ _ ts (λ x h. ((no-clauses, h.1, no-mode, tt), (h.0, All-nil (λ (c : Clause). IsPatternBelow (length s.procs) c.pattern))))
   instr-meant verb.Monitor ts =
-      made-meant _ _ ts (λ x h. ((no-clauses, h.1, All-head IsMonitorMode x.1.1.0 [] h.2), (h.0, All-nil (λ (c : Clause). IsPatternBelow (length s.procs) c.pattern))))
-  instr-meant _ ts = made-meant _ _ ts (λ x h. ((no-clauses, h.1, no-mode), (h.0, All-nil (λ (c : Clause). IsPatternBelow (length s.procs) c.pattern))))
+      made-meant _ _ ts (λ x h. ((no-clauses, h.1, All-head IsMonitorMode x.1.1.0 [] h.2, tt), (h.0, All-nil (λ (c : Clause). IsPatternBelow (length s.procs) c.pattern))))
+  instr-meant _ ts = made-meant _ _ ts (λ x h. ((no-clauses, h.1, no-mode, tt), (h.0, All-nil (λ (c : Clause). IsPatternBelow (length s.procs) c.pattern))))
 
   abbrev IsMeantHere : Form → Type 0
   IsMeantHere f = IsMeantForm (length s.procs) (length (labels_at here s.procs)) f
@@ -348,7 +348,7 @@ module _ (s : Program) (here : ℕ) (line : List ℕ) where
   form-meant keyword.Turns ts = turns-meant ts
   form-meant keyword.Process ts = holds-on_ok (λ _. Unit {0}) IsMeantHere form.Process (whole_name line ts) (anything (whole_name line ts)) (λ n _. tt)
   form-meant keyword.Label ts = holds-on_ok (λ _. Unit {0}) IsMeantHere form.Label (whole_name line ts) (anything (whole_name line ts)) (λ n _. tt)
-  form-meant keyword.Receive ts = holds-ends IsMeantHere form.Receive ts tt
+  form-meant keyword.Receive ts = holds-on_ok (λ _. Unit {0}) IsMeantHere form.Receive (marker_of line ts) (anything (marker_of line ts)) (λ u _. tt)
   form-meant keyword.On ts = on-meant ts
   form-meant keyword.After ts =
       holds-on_ok (IsTarget (length (labels_at here s.procs))) IsMeantHere (λ target. form.After (record { target = target })) (arrow_of (Among s) here line ts) (arrow-below ts) (λ o h. h)

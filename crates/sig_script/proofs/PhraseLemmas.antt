@@ -1,14 +1,13 @@
 -- Elements, one after another.
-use Rattle.std.proofs.Common.{◌≡◌, ℕ, zero, suc, ◌+◌, ◌-◌, ◌<◌, ◌≤◌, List, [], ◌∷◌, ◌++◌, length, get_or, take, drop, Ok, true, false, Bool, refl, sym, ap, subst, ◌∙◌, arith}
+use Rattle.std.proofs.Common.{◌≡◌, ℕ, zero, suc, ◌+◌, ◌-◌, ◌<◌, ◌≤◌, List, [], ◌∷◌, ◌++◌, length, get_or, take, drop, Ok, true, refl, sym, ap, subst, ◌∙◌, arith}
 use Rattle.std.proofs.lemmas.List.{take_all}
-use Rattle.sig_script.specs.declared.token.TokenKind.{TokenKind}
 use Rattle.sig_script.specs.declared.token.TokenKind.TheVariants.{Name}
 use Rattle.sig_script.specs.declared.token.Token.{Token}
 use Rattle.sig_script.specs.declared.known.Known.{Known}
 use Rattle.sig_script.specs.Faults.{◌>>=◌}
 use Rattle.sig_script.specs.Tokens.{text, AreWellSpelled}
 use Rattle.sig_script.specs.Signs.{is_comma}
-use Rattle.sig_script.specs.Phrases.{Read, Spelling, behind, elements, closed, phrase_by, phrase_front, phrase_at}
+use Rattle.sig_script.specs.Phrases.{Read, Spelling, behind, elements, phrase_by, phrase_front, phrase_at}
 
 -- tokens, by the first and the rest
 head_and_rest : (ts : List Token) (d : Token) → 1 ≤ length ts → ts ≡ get_or ts 0 d ∷ take (length ts - 1) (drop 1 ts)

@@ -1,13 +1,17 @@
 -- What was read so far, and with one form more.
-use Rattle.std.specs.Prelude.{ℕ, ◌+◌, List, [], ◌∷◌, ◌++◌, length, nat_le, if◌then◌else◌, Some, None, Result, Ok, Err}
+use Rattle.std.specs.Prelude.{ℕ, ◌+◌, List, [], ◌∷◌, ◌++◌, length, nat_le, Bool, true, if◌then◌else◌, Option, Some, None, Result, Ok, Err}
 use Rattle.std.specs.Option.{option_map_or}
 use Rattle.std.specs.List.{list_any}
 use Rattle.std.specs.Str.{bytes_eq}
+use Rattle.sig_patterns.specs.declared.clause.Clause.{Clause}
+use Rattle.sig_patterns.specs.declared.pattern.Pattern.{Pattern}
+use Rattle.sig_patterns.specs.declared.var.Var.{Var}
+use Rattle.sig_patterns.specs.Pinning.{pins}
 use Rattle.sig_script.specs.declared.label.Label.{Label}
 use Rattle.sig_script.specs.declared.instruction.Instr.{Instr}
 use Rattle.sig_script.specs.declared.instruction.Instr.TheVariants as instr
 use Rattle.sig_script.specs.declared.fault.FaultKind.{FaultKind}
-use Rattle.sig_script.specs.declared.fault.FaultKind.TheVariants.{Syntax, DuplicateName, TooManyProcesses, DuplicateLabel, TooManyTurns}
+use Rattle.sig_script.specs.declared.fault.FaultKind.TheVariants.{Syntax, DuplicateName, TooManyProcesses, DuplicateLabel, TooManyTurns, MarkerNotInClause}
 use Rattle.sig_script.specs.declared.draft.Section.{Section}
 use Rattle.sig_script.specs.declared.draft.Section.TheVariants.{Before, Outside, Inside}
 use Rattle.sig_script.specs.declared.draft.Draft.{Draft}
@@ -25,7 +29,7 @@ blank = record { turns = None; procs = []; section = Before }
 abbrev pub open_proc : Section → List Declared
 open_proc Before = []
 open_proc (Outside p) = p ∷ []
-open_proc (Inside p clauses after) = p ∷ []
+open_proc (Inside p using clauses after) = p ∷ []
 
 -- the processes so far
 abbrev pub all_procs : Draft → List Declared
@@ -52,6 +56,16 @@ labelled p name =
 abbrev pub with_instr : Declared → Instr → Declared
 with_instr p i = record p { instrs = p.instrs ++ i ∷ [] }
 
+-- the marker's variable is pinned in the pattern; a receive without a marker asks for none
+abbrev pub is_marked : Option Var → Pattern → Bool
+is_marked None pattern = true
+is_marked (Some x) pattern = pins pattern x
+
+-- one clause more
+abbrev pub with_clause : Option Var → List Clause → Pattern → Option ℕ → Result (List Clause) FaultKind
+with_clause using clauses pattern target =
+    if is_marked using pattern then Ok (clauses ++ record { pattern = pattern; target = target } ∷ []) else Err MarkerNotInClause
+
 -- a form behind what was read so far; a receive with all its lines is one instruction
 abbrev pub taken_at : Draft → Section → Form → Result Draft FaultKind
 taken_at d Before (form.Turns n) = if nat_le n MOST_TURNS then Ok (record d { turns = Some n }) else Err TooManyTurns
@@ -59,11 +73,11 @@ taken_at d Before (form.Process name) = begun d name
 taken_at d (Outside p) (form.Process name) = begun d name
 taken_at d (Outside p) (form.Label name) = on_ok (λ q. record d { section = Outside q }) (labelled p name)
 taken_at d (Outside p) (form.Do i) = Ok (record d { section = Outside (with_instr p i) })
-taken_at d (Outside p) form.Receive = Ok (record d { section = Inside p [] None })
-taken_at d (Inside p clauses after) (form.On pattern target) =
-    Ok (record d { section = Inside p (clauses ++ record { pattern = pattern; target = target } ∷ []) after })
-taken_at d (Inside p clauses after) (form.After next) = Ok (record d { section = Inside p clauses (Some next) })
-taken_at d (Inside p clauses after) form.End = Ok (record d { section = Outside (with_instr p (instr.Receive clauses after)) })
+taken_at d (Outside p) (form.Receive using) = Ok (record d { section = Inside p using [] None })
+taken_at d (Inside p using clauses after) (form.On pattern target) =
+    on_ok (λ more. record d { section = Inside p using more after }) (with_clause using clauses pattern target)
+taken_at d (Inside p using clauses after) (form.After next) = Ok (record d { section = Inside p using clauses (Some next) })
+taken_at d (Inside p using clauses after) form.End = Ok (record d { section = Outside (with_instr p (instr.Receive using clauses after)) })
 taken_at d _ _ = Err Syntax
 
 abbrev pub taken : Draft → Form → Result Draft FaultKind

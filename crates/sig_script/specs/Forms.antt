@@ -5,6 +5,7 @@ use Rattle.std.specs.Str.{bytes_eq}
 use Rattle.sig_kinds.specs.declared.alias_mode.AliasMode.{AliasMode}
 use Rattle.sig_kinds.specs.declared.alias_mode.AliasMode.TheVariants as alias_mode
 use Rattle.sig_patterns.specs.declared.expression.Expr.{Expr}
+use Rattle.sig_patterns.specs.declared.var.Var.{Var}
 use Rattle.sig_script.specs.declared.instruction.Instr.{Instr}
 use Rattle.sig_script.specs.declared.instruction.Instr.TheVariants as instr
 use Rattle.sig_script.specs.declared.fault.FaultKind.{FaultKind}
@@ -55,6 +56,9 @@ verb_of word =
     else if bytes_eq word (codes "exit") then Some verb.Exit
     else if bytes_eq word (codes "exit_to") then Some verb.ExitTo
     else if bytes_eq word (codes "trap") then Some verb.Trap
+    else if bytes_eq word (codes "reserve") then Some verb.Reserve
+    else if bytes_eq word (codes "bind") then Some verb.Bind
+    else if bytes_eq word (codes "clear") then Some verb.Clear
     else if bytes_eq word (codes "goto") then Some verb.Goto
     else if bytes_eq word (codes "stop") then Some verb.Stop
     else None
@@ -96,7 +100,7 @@ may_be_inside has_after _ = false
 abbrev pub may_stand : Option ℕ → Section → Keyword → Bool
 may_stand turns Before word = may_begin turns word
 may_stand turns (Outside p) word = may_be_outside word
-may_stand turns (Inside p clauses after) word = may_be_inside (is_some after) word
+may_stand turns (Inside p using clauses after) word = may_be_inside (is_some after) word
 
 -- no token is left
 abbrev pub ends : {A : Type 0} → A → List Token → Result A FaultKind
@@ -206,12 +210,21 @@ instr_of known here verb.Unalias line ts = made_of known here line (an_expr ∷ 
 instr_of known here verb.Exit line ts = made_of known here line (an_expr ∷ []) (λ x. instr.Exit x.0) ts
 instr_of known here verb.ExitTo line ts = made_of known here line (an_expr ∷ an_expr ∷ []) (λ x. instr.ExitTo x.0 x.1.0) ts
 instr_of known here verb.Trap line ts = made_of known here line (a_switch ∷ []) (λ x. instr.Trap x.0) ts
+instr_of known here verb.Reserve line ts = made_of known here line [] (λ x. instr.Reserve) ts
+instr_of known here verb.Bind line ts = made_of known here line (a_variable ∷ []) (λ x. instr.Bind (record { 0 = x.0 })) ts
+instr_of known here verb.Clear line ts = made_of known here line (a_variable ∷ []) (λ x. instr.Clear (record { 0 = x.0 })) ts
 instr_of known here verb.Goto line ts = made_of known here line (a_label ∷ []) (λ x. instr.Goto x.0) ts
 instr_of known here verb.Stop line ts = made_of known here line [] (λ x. instr.Stop) ts
 
 -- a name, and nothing behind it
 abbrev pub whole_name : List ℕ → List Token → Result (List ℕ) FaultKind
 whole_name line ts = name_at line ts >>= λ x. ends x.0 x.1
+
+-- nothing, or `using X`: the variable of a receive's marker
+abbrev pub marker_of : List ℕ → List Token → Result (Option Var) FaultKind
+marker_of line [] = Ok None
+marker_of line (t ∷ ts) =
+    name_at line (t ∷ ts) >>= λ x. flag_of (codes "using") x.0 >>= λ is_using. variable_at line x.1 >>= λ y. ends (Some (record { 0 = y.0 })) y.1
 
 -- `on P`, `on P -> L`
 abbrev pub on_of : Known → ℕ → List ℕ → List Token → Result Form FaultKind
@@ -222,7 +235,7 @@ unfoldable pub form_of : Known → ℕ → Keyword → List ℕ → List Token �
 form_of known here keyword.Turns line ts = turns_of line ts
 form_of known here keyword.Process line ts = on_ok form.Process (whole_name line ts)
 form_of known here keyword.Label line ts = on_ok form.Label (whole_name line ts)
-form_of known here keyword.Receive line ts = ends form.Receive ts
+form_of known here keyword.Receive line ts = on_ok form.Receive (marker_of line ts)
 form_of known here keyword.On line ts = on_of known here line ts
 form_of known here keyword.After line ts = on_ok (λ target. form.After (record { target = target })) (arrow_of known here line ts)
 form_of known here keyword.End line ts = ends form.End ts

@@ -3,6 +3,7 @@ use Rattle.std.specs.Prelude.{ℕ, List, [], ◌∷◌, ◌++◌, Option, None, 
 use Rattle.std.specs.List.{concat}
 use Rattle.sig_kinds.specs.declared.alias_mode.AliasMode.{AliasMode}
 use Rattle.sig_patterns.specs.declared.clause.Clause.{Clause}
+use Rattle.sig_patterns.specs.declared.var.Var.{Var}
 use Rattle.sig_patterns.specs.declared.expression.Expr.{Expr}
 use Rattle.sig_patterns.specs.declared.expression.Expr.TheOpen.{Expr-F}
 use Rattle.sig_patterns.specs.declared.expression.Expr.TheOpen as expression
@@ -28,14 +29,19 @@ exprs_of (Exit reason) = reason ∷ []
 exprs_of (ExitTo target reason) = target ∷ reason ∷ []
 exprs_of _ = []
 
+-- the variable of a receive's marker
+abbrev pub using_of : Instr → Option Var
+using_of (Receive using clauses after) = using
+using_of _ = None
+
 -- the clauses of a receive
 abbrev pub clauses_of : Instr → List Clause
-clauses_of (Receive clauses after) = clauses
+clauses_of (Receive using clauses after) = clauses
 clauses_of _ = []
 
 -- the labels at which a process may go on behind an instruction, by their places among its labels
 abbrev pub targets_of : Instr → List ℕ
-targets_of (Receive clauses after) = filter_map (λ (c : Clause). c.target) clauses ++ filter_map (λ (a : After). a.target) (option_to_list after)
+targets_of (Receive using clauses after) = filter_map (λ (c : Clause). c.target) clauses ++ filter_map (λ (a : After). a.target) (option_to_list after)
 targets_of (Goto label) = label ∷ []
 targets_of _ = []
 

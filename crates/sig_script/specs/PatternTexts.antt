@@ -1,5 +1,5 @@
 -- Patterns (Erlang Reference Manual, Pattern Matching; the text is this project's own).
-use Rattle.std.specs.Prelude.{ℕ, List, [], ◌∷◌, true, Bool, ◌||◌, if◌then◌else◌, Result, Ok, Err}
+use Rattle.std.specs.Prelude.{ℕ, List, [], ◌∷◌, true, ◌||◌, if◌then◌else◌, Result, Ok, Err}
 use Rattle.sig_patterns.specs.declared.pattern.Pattern.{Pattern}
 use Rattle.sig_patterns.specs.declared.pattern.Pattern.TheVariants as pattern
 use Rattle.sig_script.specs.declared.fault.FaultKind.{FaultKind}

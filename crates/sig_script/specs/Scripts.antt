@@ -1,12 +1,14 @@
 -- Scripts and their processes, as contracts see them.
-use Rattle.std.specs.Prelude.{◌≢◌, ℕ, ◌+◌, ◌<◌, ◌≤◌, ◌^◌, List, length, All, Some}
+use Rattle.std.specs.Prelude.{◌≡◌, ◌≢◌, ℕ, ◌+◌, ◌<◌, ◌≤◌, ◌^◌, List, length, All, IfSome, true, Option, Some}
 use Rattle.sig_kinds.specs.declared.alias_mode.AliasMode.TheVariants as alias_mode
 use Rattle.sig_patterns.specs.declared.clause.Clause.{Clause}
 use Rattle.sig_patterns.specs.declared.expression.Expr.{Expr}
 use Rattle.sig_patterns.specs.declared.pattern.Pattern.{Pattern}
+use Rattle.sig_patterns.specs.declared.var.Var.{Var}
+use Rattle.sig_patterns.specs.Pinning.{pins}
 use Rattle.sig_script.specs.declared.label.Label.{Label}
 use Rattle.sig_script.specs.declared.instruction.Instr.{Instr}
-use Rattle.sig_script.specs.Parts.{exprs_of, clauses_of, targets_of, mode_in, pids_of, pids_of_pattern}
+use Rattle.sig_script.specs.Parts.{exprs_of, using_of, clauses_of, targets_of, mode_in, pids_of, pids_of_pattern}
 use Rattle.sig_script.specs.declared.script.TheConstants.{MOST_PROCESSES, MOST_TURNS}
 
 -- a process: its name, its labels and what it does
@@ -20,10 +22,16 @@ pub record Program : Type 0 where
   pub turns : ℕ
   pub procs : List Declared
 
+-- where a receive has a marker, each of its clauses has the marker's variable pinned in its pattern
+abbrev pub AreMarked : Option Var → List Clause → Type 0
+AreMarked using clauses = IfSome using (λ x. All (λ (c : Clause). pins c.pattern x ≡ true) clauses)
+
 -- Each target of an instruction is one of so many labels, counted from 0, and a receive has fewer than 2^32 clauses. An alias that
--- is a monitor too never has the mode of a reply alone.
+-- is a monitor too never has the mode of a reply alone. Each clause of a receive with a marker pins its variable.
 abbrev pub IsLawful : ℕ → Instr → Type 0
-IsLawful labels i = (length (clauses_of i) < 2 ^ 32) × All (λ target. target < labels) (targets_of i) × (mode_in i ≢ Some alias_mode.Reply)
+IsLawful labels i =
+    (length (clauses_of i) < 2 ^ 32) × All (λ target. target < labels) (targets_of i) × (mode_in i ≢ Some alias_mode.Reply)
+    × AreMarked (using_of i) (clauses_of i)
 
 -- a label stands before one of so many instructions, or behind the last
 abbrev pub IsPlace : ℕ → Label → Type 0

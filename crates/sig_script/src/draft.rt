@@ -3,7 +3,7 @@ ghost use Rattle.std.specs.List.{list_any};
 ghost use Rattle.std.specs.Str.{bytes_eq};
 ghost use Rattle.sig_script.specs.Faults.{Gives};
 ghost use Rattle.sig_script.specs.Scripts.{Declared, Program};
-ghost use Rattle.sig_script.specs.Drafts.{open_proc, all_procs, begun, labelled, with_instr, taken_at, taken};
+ghost use Rattle.sig_script.specs.Drafts.{open_proc, all_procs, begun, labelled, with_instr, is_marked, with_clause, taken_at, taken};
 ghost use Rattle.sig_script.specs.Grammar.{finished, line_taken};
 ghost use Rattle.sig_script.specs.Reading.{IsReading};
 ghost use Rattle.sig_script.specs.Fitting.{IsFewKnown, IsSmall, IsFit};
@@ -18,7 +18,7 @@ use crate::label_table::LabelTable;
 use crate::reader::ScriptError;
 use crate::script::{DEFAULT_TURNS, MOST_PROCESSES, MOST_TURNS};
 use sig_lists::Sequence;
-use sig_patterns::{Clause, Clauses, Pattern};
+use sig_patterns::{Clause, Clauses, Pattern, Var, pins};
 use sig_terms::Name;
 use sig_terms::bytes::equal_bytes;
 use std::alloc::Global;
@@ -30,8 +30,9 @@ pub enum Section {
     Before,
     /// In this process, outside a receive.
     Outside(DraftProc),
-    /// In a receive of this process, behind these clauses, and behind its `after` where it has one.
-    Inside(DraftProc, Clauses, Option<After>),
+    /// In a receive of this process, with the variable of its marker where it has one, behind these
+    /// clauses, and behind its `after` where it has one.
+    Inside(DraftProc, Option<Var>, Clauses, Option<After>),
 }
 
 /// What was read so far.
@@ -56,7 +57,7 @@ fn close(procs: DraftProcs, section: Section) -> Result<DraftProcs, Stop>
             procs.add(proc)?;
             Ok(procs)
         }
-        Section::Inside(proc, _clauses, _after) => {
+        Section::Inside(proc, _using, _clauses, _after) => {
             procs.add(proc)?;
             Ok(procs)
         }
@@ -158,7 +159,7 @@ fn take_before(
         Form::Process(name) => begin(alloc, turns, procs, Section::Before, name),
         Form::Label(_) => Err(Stop::Fault(FaultKind::Syntax)),
         Form::Do(_) => Err(Stop::Fault(FaultKind::Syntax)),
-        Form::Receive => Err(Stop::Fault(FaultKind::Syntax)),
+        Form::Receive { using: _ } => Err(Stop::Fault(FaultKind::Syntax)),
         Form::On(_, _) => Err(Stop::Fault(FaultKind::Syntax)),
         Form::After(_) => Err(Stop::Fault(FaultKind::Syntax)),
         Form::End => Err(Stop::Fault(FaultKind::Syntax)),
@@ -183,7 +184,7 @@ fn take_outside(
         }
         Form::Label(name) => Section::Outside(add_label(proc, name)?),
         Form::Do(instr) => Section::Outside(add_instr(proc, instr)?),
-        Form::Receive => Section::Inside(proc, Sequence::new(alloc), None),
+        Form::Receive { using } => Section::Inside(proc, using, Sequence::new(alloc), None),
         Form::Turns(_) => return Err(Stop::Fault(FaultKind::Syntax)),
         Form::On(_, _) => return Err(Stop::Fault(FaultKind::Syntax)),
         Form::After(_) => return Err(Stop::Fault(FaultKind::Syntax)),
@@ -196,10 +197,28 @@ fn take_outside(
     })
 }
 
-/// A clause behind these.
-fn add_clause(clauses: Clauses, pattern: Pattern, target: Option<u32>) -> Result<Clauses, Stop>
-    ensures { Gives (λ cs. cs) result (Ok (clauses ++ record { pattern = pattern; target = target } ∷ [])) }
+/// Whether the pattern pins the variable of the receive's marker, where it has one.
+fn pins_marker(marker: &Option<Var>, pattern: &Pattern) -> bool
+    ensures { result ≡ is_marked marker.now pattern.now }
 {
+    match marker {
+        Some(var) => pins(pattern, var),
+        None => true,
+    }
+}
+
+/// A clause behind these, in a receive with this marker.
+fn add_clause(
+    marker: &Option<Var>,
+    clauses: Clauses,
+    pattern: Pattern,
+    target: Option<u32>,
+) -> Result<Clauses, Stop>
+    ensures { Gives (λ cs. cs) result (with_clause marker.now clauses pattern target) }
+{
+    if !pins_marker(marker, &pattern) {
+        return Err(Stop::Fault(FaultKind::MarkerNotInClause));
+    }
     let mut clauses = clauses;
     clauses.add(Clause { pattern, target })?;
     Ok(clauses)
@@ -210,23 +229,32 @@ fn take_inside(
     turns: Option<u32>,
     procs: DraftProcs,
     proc: DraftProc,
+    marker: Option<Var>,
     clauses: Clauses,
     after: Option<After>,
     form: Form,
 ) -> Result<Draft, Stop>
-    ensures { Gives (λ d. d) result (taken (record { turns = turns; procs = procs; section = Section.Inside proc clauses after }) form) }
+    ensures { Gives (λ d. d) result (taken (record { turns = turns; procs = procs; section = Section.Inside proc marker clauses after }) form) }
 {
     let section = match form {
         Form::On(pattern, target) => {
-            Section::Inside(proc, add_clause(clauses, pattern, target)?, after)
+            let clauses = add_clause(&marker, clauses, pattern, target)?;
+            Section::Inside(proc, marker, clauses, after)
         }
-        Form::After(after) => Section::Inside(proc, clauses, Some(after)),
-        Form::End => Section::Outside(add_instr(proc, Instr::Receive { clauses, after })?),
+        Form::After(after) => Section::Inside(proc, marker, clauses, Some(after)),
+        Form::End => {
+            let receive = Instr::Receive {
+                using: marker,
+                clauses,
+                after,
+            };
+            Section::Outside(add_instr(proc, receive)?)
+        }
         Form::Turns(_) => return Err(Stop::Fault(FaultKind::Syntax)),
         Form::Process(_) => return Err(Stop::Fault(FaultKind::Syntax)),
         Form::Label(_) => return Err(Stop::Fault(FaultKind::Syntax)),
         Form::Do(_) => return Err(Stop::Fault(FaultKind::Syntax)),
-        Form::Receive => return Err(Stop::Fault(FaultKind::Syntax)),
+        Form::Receive { using: _ } => return Err(Stop::Fault(FaultKind::Syntax)),
     };
     Ok(Draft {
         turns,
@@ -250,8 +278,8 @@ fn take_form(alloc: Global, draft: Draft, n: u64, form: Form) -> Result<Draft, S
     match section {
         Section::Before => take_before(alloc, turns, procs, form),
         Section::Outside(proc) => take_outside(alloc, turns, procs, proc, form),
-        Section::Inside(proc, clauses, after) => {
-            take_inside(turns, procs, proc, clauses, after, form)
+        Section::Inside(proc, marker, clauses, after) => {
+            take_inside(turns, procs, proc, marker, clauses, after, form)
         }
     }
 }
@@ -279,7 +307,7 @@ pub fn take_line(
 pub fn finish(draft: Draft, n: u64) -> Result<DraftScript, ScriptError>
     ensures { IsReading (finished n draft draft.section) result }
 {
-    if let Section::Inside(_, _, _) = &draft.section {
+    if let Section::Inside(_, _, _, _) = &draft.section {
         return Err(ScriptError::Fault {
             line: n,
             kind: FaultKind::Syntax,

@@ -22,6 +22,8 @@ pub enum FaultKind {
     DuplicateLabel,
     /// The turns are more than [`MOST_TURNS`](crate::MOST_TURNS).
     TooManyTurns,
+    /// A clause of a receive with a marker doesn't pin the marker's variable in its pattern.
+    MarkerNotInClause,
     /// No process has the name behind an `@`.
     UnknownProcess,
     /// No label of the process has the name.

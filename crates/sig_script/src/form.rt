@@ -13,6 +13,7 @@ ghost use Rattle.sig_script.specs.Forms.{
   Operand,
   all_said,
   whole_name,
+  marker_of,
   on_of,
   instr_of,
   form_of,
@@ -49,8 +50,8 @@ pub enum Form {
     Label(Name),
     /// An instruction that is no receive.
     Do(Instr),
-    /// A receive begins.
-    Receive,
+    /// A receive begins, with the variable of its marker where it has one.
+    Receive { using: Option<Var> },
     /// A clause of a receive: its pattern, and the label at which it goes on.
     On(Pattern, Option<u32>),
     /// What a receive does that finds no message.
@@ -306,6 +307,23 @@ fn read_name(alloc: Global, line: &[u8], tokens: &[Token]) -> Result<Name, Stop>
     Ok(name)
 }
 
+/// Nothing, or `using` and a variable.
+fn read_marker(alloc: Global, line: &[u8], tokens: &[Token]) -> Result<Option<Var>, Stop>
+    requires { AreWellSpelled line.now tokens.now }
+    ensures { Gives (λ v. v) result (marker_of line.now tokens.now) }
+{
+    match tokens {
+        [] => Ok(None),
+        [token, rest @ ..]
+            if token.kind == TokenKind::Name && equal_bytes(text_of(line, *token), b"using") => {
+            let (var, rest) = take_variable(alloc, line, rest)?;
+            end(rest)?;
+            Ok(Some(var))
+        }
+        _ => Err(Stop::Fault(FaultKind::Syntax)),
+    }
+}
+
 fn read_on(
     alloc: Global,
     known: &Known,
@@ -376,6 +394,18 @@ fn read_instr(
             let on = one_switch(line, tokens)?;
             Ok(Instr::Trap { on })
         }
+        Verb::Reserve => {
+            end(tokens)?;
+            Ok(Instr::Reserve)
+        }
+        Verb::Bind => {
+            let var = one_variable(alloc, line, tokens)?;
+            Ok(Instr::Bind { var })
+        }
+        Verb::Clear => {
+            let var = one_variable(alloc, line, tokens)?;
+            Ok(Instr::Clear { var })
+        }
         Verb::Goto => {
             let label = one_label(alloc, known, here, line, tokens)?;
             Ok(Instr::Goto { label })
@@ -406,8 +436,8 @@ fn read_form(
         Keyword::Process => Ok(Form::Process(read_name(alloc, line, tokens)?)),
         Keyword::Label => Ok(Form::Label(read_name(alloc, line, tokens)?)),
         Keyword::Receive => {
-            end(tokens)?;
-            Ok(Form::Receive)
+            let using = read_marker(alloc, line, tokens)?;
+            Ok(Form::Receive { using })
         }
         Keyword::On => read_on(alloc, known, here, line, tokens),
         Keyword::After => {
@@ -429,7 +459,7 @@ fn stands(draft: &Draft, word: Keyword) -> bool
     match &draft.section {
         Section::Before => word.may_begin(draft.turns),
         Section::Outside(_) => word.may_be_outside(),
-        Section::Inside(_, _, after) => word.may_be_inside(after.is_some()),
+        Section::Inside(_, _, _, after) => word.may_be_inside(after.is_some()),
     }
 }
 

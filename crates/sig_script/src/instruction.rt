@@ -30,9 +30,11 @@ pub enum Instr {
     MakeRef {
         var: Var,
     },
-    /// Takes the oldest message that a clause matches. (Erlang Reference Manual, Expressions,
-    /// Receive.)
+    /// Takes the oldest message that a clause matches. Where `using` names a variable, each clause's
+    /// pattern pins it, and the scan begins at the marker of its value. (Erlang Reference Manual,
+    /// Expressions, Receive; the runtime's instruction `recv_marker_use`.)
     Receive {
+        using: Option<Var>,
         clauses: Clauses,
         after: Option<After>,
     },
@@ -83,6 +85,19 @@ pub enum Instr {
     Trap {
         on: bool,
     },
+    /// Sets a marker behind the messages that are there, for a reference that is made next. (The
+    /// runtime's instruction `recv_marker_reserve`.)
+    Reserve,
+    /// Binds the marker that was set to the reference that is the variable's value. (The runtime's
+    /// instruction `recv_marker_bind`.)
+    Bind {
+        var: Var,
+    },
+    /// Takes the marker of the reference that is the variable's value away. (The runtime's
+    /// instruction `recv_marker_clear`.)
+    Clear {
+        var: Var,
+    },
     /// Goes on at a label: its place among those of the process, from 0.
     Goto {
         label: u32,
@@ -102,6 +117,18 @@ impl After {
         After {
             target: self.target,
         }
+    }
+}
+
+fn copy_marker(alloc: Global, marker: &Option<Var>) -> Result<Option<Var>, AllocError>
+    ensures { IfOk result (λ x. x ≡ marker.now) }
+{
+    match marker {
+        Some(var) => {
+            let var = var.copy(alloc)?;
+            Ok(Some(var))
+        }
+        None => Ok(None),
     }
 }
 
@@ -145,6 +172,20 @@ impl Instr {
                 let var = var.copy(alloc)?;
                 Ok(Instr::MakeRef { var })
             }
+            Instr::Receive {
+                using,
+                clauses,
+                after,
+            } => {
+                let using = copy_marker(alloc, using)?;
+                let clauses = copy_clauses(alloc, clauses)?;
+                let after = copy_after(after);
+                Ok(Instr::Receive {
+                    using,
+                    clauses,
+                    after,
+                })
+            }
             Instr::Link { peer } => {
                 let peer = peer.copy(alloc)?;
                 Ok(Instr::Link { peer })
@@ -187,10 +228,14 @@ impl Instr {
                 Ok(Instr::ExitTo { target, reason })
             }
             Instr::Trap { on } => Ok(Instr::Trap { on: *on }),
-            Instr::Receive { clauses, after } => {
-                let clauses = copy_clauses(alloc, clauses)?;
-                let after = copy_after(after);
-                Ok(Instr::Receive { clauses, after })
+            Instr::Reserve => Ok(Instr::Reserve),
+            Instr::Bind { var } => {
+                let var = var.copy(alloc)?;
+                Ok(Instr::Bind { var })
+            }
+            Instr::Clear { var } => {
+                let var = var.copy(alloc)?;
+                Ok(Instr::Clear { var })
             }
             Instr::Goto { label } => Ok(Instr::Goto { label: *label }),
             Instr::Stop => Ok(Instr::Stop),

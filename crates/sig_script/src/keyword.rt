@@ -24,6 +24,9 @@ pub enum Verb {
     Exit,
     ExitTo,
     Trap,
+    Reserve,
+    Bind,
+    Clear,
     Goto,
     Stop,
 }
@@ -69,6 +72,12 @@ fn read_verb(word: &[u8]) -> Option<Verb>
         Some(Verb::ExitTo)
     } else if equal_bytes(word, b"trap") {
         Some(Verb::Trap)
+    } else if equal_bytes(word, b"reserve") {
+        Some(Verb::Reserve)
+    } else if equal_bytes(word, b"bind") {
+        Some(Verb::Bind)
+    } else if equal_bytes(word, b"clear") {
+        Some(Verb::Clear)
     } else if equal_bytes(word, b"goto") {
         Some(Verb::Goto)
     } else if equal_bytes(word, b"stop") {

@@ -27,6 +27,3 @@ pub use label::{Label, Labels};
 pub use process::{Proc, Procs};
 pub use reader::{MOST_BYTES, ScriptError, read_script};
 pub use script::{DEFAULT_TURNS, MOST_PROCESSES, MOST_TURNS, Script};
-
-#[cfg(test)]
-mod tests;

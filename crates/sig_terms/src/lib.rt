@@ -22,6 +22,3 @@ pub use reading::{Front, READ_DEPTH, READ_NODES, read, read_front, texts_tell_te
 pub use reference::Ref;
 pub use refusal::ReadTerm;
 pub use term::{Term, Terms, same_is_equality};
-
-#[cfg(test)]
-mod tests;

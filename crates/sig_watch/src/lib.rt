@@ -7,6 +7,3 @@ mod watch;
 
 pub use sig_kinds::AliasAnswer;
 pub use watch::Watch;
-
-#[cfg(test)]
-mod tests;

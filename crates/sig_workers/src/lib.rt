@@ -5,3 +5,6 @@ mod one_worker;
 mod visiting;
 
 pub use one_worker::run_one;
+
+#[cfg(test)]
+mod tests;

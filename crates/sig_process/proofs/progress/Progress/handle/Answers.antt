@@ -13,4 +13,4 @@ returns-clause-saved c =
     let p = c.args.self.now in
     let within : passed p.tables.inner.queue.last ≤ length p.tables.inner.queue.inbox.messages = omega (arith, c.passed.ensures.count, c.passed.ensures.within) in
     let done = c.commit_handle.ensures in
-    handled_keeps c.commit_handle.result p c.commit_handle.new.self c.in_ok-plan.plan done.steady done.end done.queue within c.requires.due.saved.ended
+    handled_keeps c.commit_handle.result p c.commit_handle.new.self c.in_ok-plan.plan done.steady done.end done.queue within c.next_arrival.ensures.marks c.requires.due.saved.ended

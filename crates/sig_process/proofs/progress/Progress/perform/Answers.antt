@@ -1,6 +1,6 @@
 use Rattle.std.proofs.Common.{◌≡◌, Option, Some, subst}
 use Rattle.sig_script.specs.declared.instruction.Instr.{Instr}
-use Rattle.sig_model.specs.Executing.{exec_body}
+use Rattle.sig_model.specs.Executing.{from_mark, exec_body}
 use Rattle.sig_process.specs.Plans.{executed_body}
 use Rattle.sig_process.specs.Progressing.{state_of}
 use Rattle.sig_process.proofs.DueLemmas.{instr_committable, serials_left}
@@ -11,13 +11,13 @@ pub commit_exec-requires-clause-committable : goal.commit_exec-requires-clause-c
 commit_exec-requires-clause-committable c =
     let p = c.args.self.now in
     instr_committable c.args.proc.now p c.in_ok-plan.plan c.requires.due
-    (subst (λ (o : Option Instr). exec_body c.args.proc.now (state_of p) o ≡ Some (executed_body (state_of p) c.in_ok-plan.plan)) c.requires.instr c.in_ok-plan.ensures)
+    (subst (λ (o : Option Instr). exec_body from_mark c.args.proc.now (state_of p) o ≡ Some (executed_body (state_of p) c.in_ok-plan.plan)) c.requires.instr c.in_ok-plan.ensures)
 
 pub returns : goal.returns
 returns c =
     let p = c.args.self.now in
     performed c.commit_exec.result c.args.pid.0 c.args.proc.now p c.commit_exec.new.self (executed_body (state_of p) c.in_ok-plan.plan)
-    (subst (λ (o : Option Instr). exec_body c.args.proc.now (state_of p) o ≡ Some (executed_body (state_of p) c.in_ok-plan.plan)) c.requires.instr c.in_ok-plan.ensures)
+    (subst (λ (o : Option Instr). exec_body from_mark c.args.proc.now (state_of p) o ≡ Some (executed_body (state_of p) c.in_ok-plan.plan)) c.requires.instr c.in_ok-plan.ensures)
     c.commit_exec.ensures.event c.commit_exec.ensures.unsaved
 
 pub commit_exec-requires-clause-serials : goal.commit_exec-requires-clause-serials

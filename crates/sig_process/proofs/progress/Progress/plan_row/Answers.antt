@@ -1,8 +1,7 @@
 use Rattle.std.proofs.Common.{ap, ◌∙◌, Some}
 use Rattle.std.proofs.lemmas.Result.{err_from_is_err_and}
 use Rattle.sig_model.specs.Bodies.{ending}
-use Rattle.sig_model.specs.Executing.{with_pid, with_target, sending, setting, linking, unlinking, sending_exit}
-use Rattle.sig_model.specs.Watching.{monitoring, demonitoring, unaliasing}
+use Rattle.sig_model.specs.Executing.{with_pid, with_target, sending, setting, linking, unlinking, monitoring, demonitoring, unaliasing, sending_exit}
 use Rattle.sig_process.specs.Progressing.{state_of}
 use Rattle.sig_process.proofs.ValueLemmas.{refused_alike}
 use Rattle.sig_process.proofs.progress.Progress.plan_row.Goals as goal

@@ -1,0 +1,329 @@
+//! Two processes step by step, with their signals on the way as long as the test says.
+//!
+//! A move is written as a sign: `a` and `b` execute the next instruction of process 0 and of process
+//! 1, `A` and `B` handle the next signal there, `>` delivers what 0 has sent, and `<` what 1 has
+//! sent. The letter of each outcome stands in `letter`.
+
+ghost use Rattle.std.specs.Prelude.{◌≡◌, ◌<◌};
+
+use sig_base::Steps;
+use sig_kinds::{Kind, Signal, Signals};
+use sig_model::{Event, Outcome};
+use sig_process::{Crew, Process};
+use sig_script::{Script, read_script};
+use sig_terms::Pid;
+use std::alloc::Global;
+use std::marker::Brand;
+use std::sync::ledger::{Blank, Ledger};
+use std::test::Fail;
+
+/// Lines of a script of two processes, the moves, the outcomes of both, and the next number for
+/// process 1 of a signal of process 0.
+const PLAYS: [(
+    &'static [u8],
+    &'static [u8],
+    &'static [u8],
+    &'static [u8],
+    u64,
+); 12] = [
+    // A link signal is dropped while an id is awaited.
+    (
+        b"process a\nlink @b\nunlink @b\nprocess b\nunlink @a\nlink @a\n",
+        b"a>Babb<AA>BB<A",
+        b"ddu-k",
+        b"ldduk",
+        4,
+    ),
+    // An acknowledgement of another id is dropped.
+    (
+        b"process a\nlink @b\nunlink @b\nlink @b\nunlink @b\nprocess b\n",
+        b"aaaa>BBBB<AA",
+        b"dddd-k",
+        b"lulu",
+        5,
+    ),
+    // An unlink of an inactive link is acknowledged.
+    (
+        b"process a\nlink @b\nunlink @b\nprocess b\nunlink @a\n",
+        b"a>Bab><AB<>AB",
+        b"dduk",
+        b"lduk",
+        4,
+    ),
+    // An exit of an inactive link is dropped.
+    (
+        b"process a\nlink @b\nunlink @b\nstop\nprocess b\nexit boom\n",
+        b"a>Bab<Aa",
+        b"dd-e",
+        b"le",
+        3,
+    ),
+    // An exit of an active link is obeyed, and the peer that told it isn't told.
+    (
+        b"process a\nlink @b\nstop\nprocess b\nexit boom\n",
+        b"a>Bb<A",
+        b"de",
+        b"le",
+        2,
+    ),
+    // A link to a process that has ended comes back.
+    (
+        b"process a\nlink @b\nunlink @b\nprocess b\n",
+        b"baa>BB<A",
+        b"dd-",
+        b"en-",
+        3,
+    ),
+    // A message through an alias counts by the moment at which it is handled.
+    (
+        b"process a\nalias A\nsend @b A\nunalias A\nunalias A\n\
+          process b\nreceive\non X\nend\nsend X late\n",
+        b"aa>Bbba<Aa",
+        b"=sy-x",
+        b"mts",
+        2,
+    ),
+    (
+        b"process a\nalias A\nsend @b A\nunalias A\nunalias A\n\
+          process b\nreceive\non X\nend\nsend X early\n",
+        b"aa>Bbb<Aaa",
+        b"=smyx",
+        b"mts",
+        2,
+    ),
+    // A monitor that has ended on both sides, and a down that is on its way then.
+    (
+        b"process a\nmonitor M @b\ndemonitor M\ndemonitor M flush\nprocess b\n",
+        b"a>Bba<A>Ba",
+        b"=d-x",
+        b"we-",
+        3,
+    ),
+    // Signals to a process are numbered.
+    (
+        b"process a\nlink @b\nsend @b hi\nprocess b\n",
+        b"",
+        b"",
+        b"",
+        1,
+    ),
+    (
+        b"process a\nlink @b\nsend @b hi\nprocess b\n",
+        b"a",
+        b"d",
+        b"",
+        2,
+    ),
+    (
+        b"process a\nlink @b\nsend @b hi\nprocess b\n",
+        b"aa",
+        b"ds",
+        b"",
+        3,
+    ),
+];
+
+/// The moves of a play, the outcomes of both processes, and the number of the next signal to process 1.
+#[derive(Clone, Copy, Drop)]
+struct Play {
+    moves: &'static [u8],
+    first: &'static [u8],
+    second: &'static [u8],
+    number: u64,
+}
+
+fn letter(event: &Event) -> u8 {
+    match &event.outcome {
+        Outcome::Sent { to: _, message: _ } => b's',
+        Outcome::Set { value: _ } => b'=',
+        Outcome::Done => b'd',
+        Outcome::Answered { value: true } => b'y',
+        Outcome::Answered { value: false } => b'x',
+        Outcome::Took {
+            clause: _,
+            looked: _,
+            message: _,
+        } => b't',
+        Outcome::After { looked: _ } => b'a',
+        Outcome::Ended { reason: _ } => b'e',
+        Outcome::Kept { message: _ } => b'm',
+        Outcome::Dropped => b'-',
+        Outcome::Linked => b'l',
+        Outcome::Unlinked => b'u',
+        Outcome::Acked => b'k',
+        Outcome::Watched => b'w',
+        Outcome::Unwatched => b'v',
+        Outcome::NoProc => b'n',
+    }
+}
+
+/// Whether these are the outcomes of the process's events.
+fn tells(process: &Process, letters: &[u8]) -> bool {
+    let events = process.events().as_slice();
+    if events.len() != letters.len() {
+        return false;
+    }
+    for (event, expected) in events.iter().zip(letters.iter()) {
+        if letter(event) != *expected {
+            return false;
+        }
+    }
+    true
+}
+
+fn execute<L: Ledger>(process: &mut Process, steps: &mut Steps<L>) -> Result<(), Fail> {
+    if !process.can_exec() {
+        return Err("no instruction can be executed".into());
+    }
+    process.exec(steps)?;
+    Ok(())
+}
+
+fn handle(process: &mut Process) -> Result<(), Fail> {
+    if !process.can_handle() {
+        return Err("no signal can be handled".into());
+    }
+    process.handle()?;
+    Ok(())
+}
+
+fn deliver(from: &mut Process, to: &mut Process) -> Result<(), Fail> {
+    for _ in 0..100 {
+        let Some(signal) = from.next_out() else {
+            return Ok(());
+        };
+        if signal.to != to.pid() || from.count() != to.count() {
+            return Err("not a signal to the other process".into());
+        }
+        to.arrive(signal)?;
+    }
+    Err("too many signals".into())
+}
+
+fn moved<L: Ledger>(
+    sign: u8,
+    first: &mut Process,
+    second: &mut Process,
+    steps: &mut Steps<L>,
+) -> Result<(), Fail> {
+    match sign {
+        b'a' => execute(first, steps),
+        b'b' => execute(second, steps),
+        b'A' => handle(first),
+        b'B' => handle(second),
+        b'>' => deliver(first, second),
+        _ => deliver(second, first),
+    }
+}
+
+fn move_all<L: Ledger>(
+    moves: &[u8],
+    first: &mut Process,
+    second: &mut Process,
+    steps: &mut Steps<L>,
+) -> Result<(), Fail> {
+    for sign in moves {
+        moved(*sign, first, second, steps)?;
+    }
+    Ok(())
+}
+
+/// Whether both processes stand as the play says, after its moves.
+fn stands<L: Ledger>(
+    first: &mut Process,
+    second: &mut Process,
+    blank: Blank,
+    play: &Play,
+) -> Result<bool, Fail>
+    requires name { blank.name ≡ L.name }
+    requires parts { blank.parts ≡ L.parts }
+    requires some { 0 < blank.parts }
+{
+    let mut steps: Steps<L> = Steps::open(blank);
+    move_all(play.moves, first, second, &mut steps)?;
+    let told = tells(first, play.first) && tells(second, play.second);
+    Ok(told && first.count() == 2 && first.next_number(Pid(1)) == play.number)
+}
+
+/// The processes of the script of these lines.
+fn opened(alloc: Global, lines: &[u8]) -> Result<Crew, Fail> {
+    let mut text = Vec::new(alloc);
+    text.extend_from_slice(b"sigscript 1\n")?;
+    text.extend_from_slice(lines)?;
+    let script = read_script(alloc, text.as_slice()).map_err(|_| "refused")?;
+    Ok(Crew::open(alloc, &script)?)
+}
+
+/// Whether the first two of these processes stand as the play says, after its moves.
+fn stand<L: Ledger>(procs: &mut [Process], blank: Blank, play: &Play) -> Result<bool, Fail>
+    requires name { blank.name ≡ L.name }
+    requires parts { blank.parts ≡ L.parts }
+    requires some { 0 < blank.parts }
+{
+    let Some((first, rest)) = procs.split_first_mut() else {
+        return Err("no process".into());
+    };
+    let Some(second) = rest.first_mut() else {
+        return Err("only one process".into());
+    };
+    stands::<L>(first, second, blank, play)
+}
+
+/// Whether the play goes as the table has it.
+fn goes(alloc: Global, lines: &[u8], play: &Play) -> Result<bool, Fail> {
+    let mut crew = opened(alloc, lines)?;
+    stand::<Brand>(crew.procs.as_mut_slice(), Blank::new(1), play)
+}
+
+#[test]
+fn plays_go_by_the_rules(rt: HostRuntime) -> Result<(), Fail> {
+    for (lines, moves, first, second, number) in PLAYS {
+        let row = Play {
+            moves,
+            first,
+            second,
+            number,
+        };
+        let went = goes(rt.alloc(), lines, &row)?;
+        assert!(rt; went, "{lines:?} {moves:?}");
+    }
+    Ok(())
+}
+
+#[test]
+fn a_crew_has_the_processes_of_its_script(rt: HostRuntime) -> Result<(), Fail> {
+    let alloc = rt.alloc();
+    let script = read_script(alloc, b"sigscript 1\nprocess a\nprocess b").map_err(|_| "refused")?;
+    let mut crew = Crew::open(alloc, &script)?;
+    assert!(rt; crew.get_mut(Pid(1)).is_some_and(|p| p.pid() == Pid(1)));
+    assert!(rt; crew.get_mut(Pid(2)).is_none());
+    Ok(())
+}
+
+/// How many signals wait for process 1 of the script, after a first one of process 0 was taken in.
+fn waiting_after_one(alloc: Global, script: &Script) -> Result<usize, Fail> {
+    if script.count() < 2 {
+        return Err("only one process".into());
+    }
+    let mut process = Process::open(alloc, script, Pid(1))?;
+    let mut signals = Signals::new(alloc);
+    let signal = Signal {
+        from: Pid(0),
+        to: Pid(1),
+        number: 1,
+        stamp: 1,
+        kind: Kind::Link,
+    };
+    signals.room(1)?;
+    signals.add(signal);
+    process.take_in(&mut signals)?;
+    Ok(process.taken_in_count())
+}
+
+#[test]
+fn a_signal_that_is_taken_in_waits(rt: HostRuntime) -> Result<(), Fail> {
+    let alloc = rt.alloc();
+    let script = read_script(alloc, b"sigscript 1\nprocess a\nprocess b").map_err(|_| "refused")?;
+    assert_eq!(rt; waiting_after_one(alloc, &script)?, 1);
+    Ok(())
+}
