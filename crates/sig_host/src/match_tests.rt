@@ -1,7 +1,7 @@
-//! What matches what, and what it binds, through the top call.
+//! What matches what, what it binds, and what a receive takes, through the top call.
 
 /// Scripts without their first line, and their records without theirs.
-pub(crate) const MATCHES: [(&[u8], &[u8]); 1] = [
+pub(crate) const MATCHES: [(&[u8], &[u8]); 7] = [
     // A process for each pattern and term.
     (
         b"process p0\nset X a\nsend @p0 {a}\nreceive\non _\nafter\nend\nset Bound {X,Y,H,I,T}\nprocess p1\n\
@@ -122,6 +122,95 @@ pub(crate) const MATCHES: [(&[u8], &[u8]); 1] = [
           5 exec 4 set {a,undefined,a,undefined,[b]}\n6 exec 5 ended normal\nstate ended normal\n\
           process 35 p35\n1 exec 1 set a\n2 exec 2 sent <35> {[a,b],[c]}\n3 from 35 1 kept {[a,b],[c]}\n\
           4 exec 3 after 1\n5 exec 4 set {a,undefined,undefined,undefined,undefined}\n6 exec 5 ended normal\n\
+          state ended normal\n",
+    ),
+    // What a variable is after a match.
+    (
+        b"process p0\nset X a\nsend @p0 b\nreceive\non _\nafter\nend\nset Bound X\nprocess p1\nset X a\n\
+          send @p1 b\nreceive\non X\nafter\nend\nset Bound X\nprocess p2\nset X a\nsend @p2 [b]\nreceive\n\
+          on Y\nafter\nend\nset Bound {X,Y}\nprocess p3\nset X a\nsend @p3 {1,@p2}\nreceive\non {X,Y}\nafter\n\
+          end\nset Bound [Y,X]\nprocess p4\nset X a\nsend @p4 {b,a}\nreceive\non {X,^X}\nafter\nend\n\
+          set Bound X\nprocess p5\nset X a\nsend @p5 {a,b}\nreceive\non {^X,X}\nafter\nend\nset Bound X\n\
+          process p6\nset X a\nsend @p6 [b,c,d]\nreceive\non [H|T]\nafter\nend\nset Bound {T,H}\nprocess p7\n\
+          set X a\nsend @p7 [b,c]\nreceive\non [H|[I|T]]\nafter\nend\nset Bound [T,I,H]\nprocess p8\nset X a\n\
+          send @p8 {b,b}\nreceive\non {X,^X}\nafter\nend\nset Bound X\n",
+        b"process 0 p0\n1 exec 1 set a\n2 exec 2 sent <0> b\n3 from 0 1 kept b\n4 exec 3 took 1 1 b\n\
+          5 exec 4 set a\n6 exec 5 ended normal\nstate ended normal\nprocess 1 p1\n1 exec 1 set a\n\
+          2 exec 2 sent <1> b\n3 from 1 1 kept b\n4 exec 3 took 1 1 b\n5 exec 4 set b\n6 exec 5 ended normal\n\
+          state ended normal\nprocess 2 p2\n1 exec 1 set a\n2 exec 2 sent <2> [b]\n3 from 2 1 kept [b]\n\
+          4 exec 3 took 1 1 [b]\n5 exec 4 set {a,[b]}\n6 exec 5 ended normal\nstate ended normal\n\
+          process 3 p3\n1 exec 1 set a\n2 exec 2 sent <3> {1,<2>}\n3 from 3 1 kept {1,<2>}\n\
+          4 exec 3 took 1 1 {1,<2>}\n5 exec 4 set [<2>,1]\n6 exec 5 ended normal\nstate ended normal\n\
+          process 4 p4\n1 exec 1 set a\n2 exec 2 sent <4> {b,a}\n3 from 4 1 kept {b,a}\n\
+          4 exec 3 took 1 1 {b,a}\n5 exec 4 set b\n6 exec 5 ended normal\nstate ended normal\nprocess 5 p5\n\
+          1 exec 1 set a\n2 exec 2 sent <5> {a,b}\n3 from 5 1 kept {a,b}\n4 exec 3 took 1 1 {a,b}\n\
+          5 exec 4 set b\n6 exec 5 ended normal\nstate ended normal\nprocess 6 p6\n1 exec 1 set a\n\
+          2 exec 2 sent <6> [b,c,d]\n3 from 6 1 kept [b,c,d]\n4 exec 3 took 1 1 [b,c,d]\n\
+          5 exec 4 set {[c,d],b}\n6 exec 5 ended normal\nstate ended normal\nprocess 7 p7\n1 exec 1 set a\n\
+          2 exec 2 sent <7> [b,c]\n3 from 7 1 kept [b,c]\n4 exec 3 took 1 1 [b,c]\n5 exec 4 set [[],c,b]\n\
+          6 exec 5 ended normal\nstate ended normal\nprocess 8 p8\n1 exec 1 set a\n2 exec 2 sent <8> {b,b}\n\
+          3 from 8 1 kept {b,b}\n4 exec 3 after 1\n5 exec 4 set a\n6 exec 5 ended normal\nstate ended normal\n",
+    ),
+    // What expressions build.
+    (
+        b"process a\nset X a\nset B X\nset B Y\nset B 9\nset B {b,{},[X,@d]}\nset B [{Y},[]]\nprocess b\n\
+          process c\nprocess d\n",
+        b"process 0 a\n1 exec 1 set a\n2 exec 2 set a\n3 exec 3 set undefined\n4 exec 4 set 9\n\
+          5 exec 5 set {b,{},[a,<3>]}\n6 exec 6 set [{undefined},[]]\n7 exec 7 ended normal\n\
+          state ended normal\nprocess 1 b\n1 exec 1 ended normal\nstate ended normal\nprocess 2 c\n\
+          1 exec 1 ended normal\nstate ended normal\nprocess 3 d\n1 exec 1 ended normal\nstate ended normal\n",
+    ),
+    // The first clause that matches takes the message.
+    (
+        b"process p0\nset X a\nsend @p0 {a}\nreceive\non {a}\non ^X\non 1\non _\nend\nprocess p1\nset X a\n\
+          send @p1 a\nreceive\non {a}\non ^X\non 1\non _\nend\nprocess p2\nset X a\nsend @p2 1\nreceive\n\
+          on {a}\non ^X\non 1\non _\nend\nprocess p3\nset X a\nsend @p3 b\nreceive\non {a}\non ^X\non 1\n\
+          on _\nend\n",
+        b"process 0 p0\n1 exec 1 set a\n2 exec 2 sent <0> {a}\n3 from 0 1 kept {a}\n4 exec 3 took 1 1 {a}\n\
+          5 exec 4 ended normal\nstate ended normal\nprocess 1 p1\n1 exec 1 set a\n2 exec 2 sent <1> a\n\
+          3 from 1 1 kept a\n4 exec 3 took 2 1 a\n5 exec 4 ended normal\nstate ended normal\nprocess 2 p2\n\
+          1 exec 1 set a\n2 exec 2 sent <2> 1\n3 from 2 1 kept 1\n4 exec 3 took 3 1 1\n5 exec 4 ended normal\n\
+          state ended normal\nprocess 3 p3\n1 exec 1 set a\n2 exec 2 sent <3> b\n3 from 3 1 kept b\n\
+          4 exec 3 took 4 1 b\n5 exec 4 ended normal\nstate ended normal\n",
+    ),
+    // Which message a receive takes, and which are left.
+    (
+        b"process p0\nsend @p0 a\nsend @p0 b\nreceive\non b\non a\nafter\nend\nreceive\nend\nprocess p1\n\
+          send @p1 x\nsend @p1 {ok,1}\nsend @p1 y\nreceive\non {ok,N}\nafter\nend\nreceive\nend\nprocess p2\n\
+          send @p2 x\nsend @p2 y\nsend @p2 {ok,1}\nreceive\non {ok,N}\non y\nafter\nend\nreceive\nend\n\
+          process p3\nsend @p3 a\nsend @p3 b\nsend @p3 a\nreceive\non _\non a\nafter\nend\nreceive\nend\n\
+          process p4\nsend @p4 {ok,1}\nsend @p4 {ok,2}\nreceive\non x\non {ok,N}\nafter\nend\nreceive\nend\n\
+          process p5\nsend @p5 a\nsend @p5 b\nreceive\non {ok,N}\nafter\nend\nreceive\nend\nprocess p6\n\
+          receive\non _\nafter\nend\nreceive\nend\n",
+        b"process 0 p0\n1 exec 1 sent <0> a\n2 from 0 1 kept a\n3 exec 2 sent <0> b\n4 from 0 2 kept b\n\
+          5 exec 3 took 2 1 a\nleft 2 b\nstate waiting\nprocess 1 p1\n1 exec 1 sent <1> x\n2 from 1 1 kept x\n\
+          3 exec 2 sent <1> {ok,1}\n4 from 1 2 kept {ok,1}\n5 exec 3 sent <1> y\n6 from 1 3 kept y\n\
+          7 exec 4 took 1 2 {ok,1}\nleft 1 x\nleft 3 y\nstate waiting\nprocess 2 p2\n1 exec 1 sent <2> x\n\
+          2 from 2 1 kept x\n3 exec 2 sent <2> y\n4 from 2 2 kept y\n5 exec 3 sent <2> {ok,1}\n\
+          6 from 2 3 kept {ok,1}\n7 exec 4 took 2 2 y\nleft 1 x\nleft 3 {ok,1}\nstate waiting\nprocess 3 p3\n\
+          1 exec 1 sent <3> a\n2 from 3 1 kept a\n3 exec 2 sent <3> b\n4 from 3 2 kept b\n\
+          5 exec 3 sent <3> a\n6 from 3 3 kept a\n7 exec 4 took 1 1 a\nleft 2 b\nleft 3 a\nstate waiting\n\
+          process 4 p4\n1 exec 1 sent <4> {ok,1}\n2 from 4 1 kept {ok,1}\n3 exec 2 sent <4> {ok,2}\n\
+          4 from 4 2 kept {ok,2}\n5 exec 3 took 2 1 {ok,1}\nleft 2 {ok,2}\nstate waiting\nprocess 5 p5\n\
+          1 exec 1 sent <5> a\n2 from 5 1 kept a\n3 exec 2 sent <5> b\n4 from 5 2 kept b\n5 exec 3 after 2\n\
+          left 1 a\nleft 2 b\nstate waiting\nprocess 6 p6\n1 exec 1 after 0\nstate waiting\n",
+    ),
+    // A flush removes the oldest.
+    (
+        b"process a\nmake_ref R\nmake_ref S\nsend @a {0,R,p,@a,1}\nsend @a {0,S,p,@a,1}\n\
+          send @a {0,R,p,@a,1}\ndemonitor R flush\nreceive\nend\n",
+        b"process 0 a\n1 exec 1 set #Ref<0.1>\n2 exec 2 set #Ref<0.2>\n\
+          3 exec 3 sent <0> {0,#Ref<0.1>,p,<0>,1}\n4 from 0 1 kept {0,#Ref<0.1>,p,<0>,1}\n\
+          5 exec 4 sent <0> {0,#Ref<0.2>,p,<0>,1}\n6 from 0 2 kept {0,#Ref<0.2>,p,<0>,1}\n\
+          7 exec 5 sent <0> {0,#Ref<0.1>,p,<0>,1}\n8 from 0 3 kept {0,#Ref<0.1>,p,<0>,1}\n\
+          9 exec 6 answered true\nleft 2 {0,#Ref<0.2>,p,<0>,1}\nleft 3 {0,#Ref<0.1>,p,<0>,1}\nstate waiting\n",
+    ),
+    // A receive that waited goes on behind what it has looked at.
+    (
+        b"process a\nreceive\non {ok,N}\nend\nprocess b\nsend @a x\nsend @a y\nsend @a {ok,1}\n",
+        b"process 0 a\n2 from 1 1 kept x\n3 from 1 2 kept y\n4 from 1 3 kept {ok,1}\n\
+          5 exec 1 took 1 3 {ok,1}\n6 exec 2 ended normal\nstate ended normal\nprocess 1 b\n\
+          1 exec 1 sent <0> x\n2 exec 2 sent <0> y\n3 exec 3 sent <0> {ok,1}\n4 exec 4 ended normal\n\
           state ended normal\n",
     ),
 ];

@@ -253,7 +253,27 @@ pub(crate) const OPERANDS: [(&[u8], u64, FaultKind); 31] = [
 ];
 
 /// Refusals of markers: the lines behind the header, and the line and the kind.
-pub(crate) const MARKER_CLAUSES: [(&[u8], u64, FaultKind); 14] = [
+pub(crate) const MARKER_CLAUSES: [(&[u8], u64, FaultKind); 18] = [
+    (
+        b"process a\nreceive using X\non ^Y\nend",
+        4,
+        FaultKind::MarkerNotInClause,
+    ),
+    (
+        b"process a\nreceive using X\non X\nend",
+        4,
+        FaultKind::MarkerNotInClause,
+    ),
+    (
+        b"process a\nreceive using X\non [^Y,X]\nend",
+        4,
+        FaultKind::MarkerNotInClause,
+    ),
+    (
+        b"process a\nreceive using X\non [X|T]\nend",
+        4,
+        FaultKind::MarkerNotInClause,
+    ),
     (b"reserve", 2, FaultKind::Syntax),
     (b"process a\nreceive using\nend", 3, FaultKind::Syntax),
     (b"process a\nreceive using x\nend", 3, FaultKind::Syntax),

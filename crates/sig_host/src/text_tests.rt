@@ -1,7 +1,14 @@
 //! Texts in all their spellings, through the top call.
 
 /// Scripts and their records.
-pub(crate) const TEXTS: [(&[u8], &[u8]); 24] = [
+pub(crate) const TEXTS: [(&[u8], &[u8]); 25] = [
+    (
+        b"sigscript 1\nprocess a\nreceive using X\non ^X\nafter\nend\nreceive using X\non {a,^X}\nafter\nend\n\
+          receive using X\non [{^X}]\nafter\nend\nreceive using X\non [^X|T]\nafter\nend\nreceive using X\n\
+          on [H|^X]\nafter\nend\n",
+        b"sigrecord 1\nprocess 0 a\n1 exec 1 after 0\n2 exec 2 after 0\n3 exec 3 after 0\n4 exec 4 after 0\n\
+          5 exec 5 after 0\n6 exec 6 ended normal\nstate ended normal\n",
+    ),
     (b"sigscript 1", b"sigrecord 1\n"),
     (b"sigscript 1\n", b"sigrecord 1\n"),
     (
