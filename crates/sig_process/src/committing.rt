@@ -19,16 +19,25 @@ use sig_terms::Pid;
 use std::alloc::AllocError;
 
 impl Progress {
-    /// Makes all room, and notes the event. Where memory is refused all but the room is as before.
-    fn begin(&mut self, event: Event, posts: usize) -> Result<(), AllocError>
-        ensures { MatchResult result (λ _. HasBegun posts self.old self.new event) (λ _. IsSame self.old self.new) }
+    /// Makes room for all that an event may change, with so many signals to be sent.
+    fn make_room(&mut self, posts: usize) -> Result<(), AllocError>
+        ensures same { IsSame self.old self.new }
+        ensures room { OnOk result (HasRoom posts self.new) }
+        ensures handled { OnOk result (0 < self.new.handled.spare) }
     {
         self.own.room(posts)?;
         self.outbox.room(posts)?;
         self.handled.room(1)?;
         self.tables.inner.room()?;
         self.tables.links.room()?;
-        self.tables.watch.room()?;
+        self.tables.watch.room()
+    }
+
+    /// Makes all room, and notes the event. Where memory is refused all but the room is as before.
+    fn begin(&mut self, event: Event, posts: usize) -> Result<(), AllocError>
+        ensures { MatchResult result (λ _. HasBegun posts self.old self.new event) (λ _. IsSame self.old self.new) }
+    {
+        self.make_room(posts)?;
         self.events.add(event)
     }
 

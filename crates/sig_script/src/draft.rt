@@ -157,12 +157,7 @@ fn take_before(
     match form {
         Form::Turns(n) => set_turns(procs, turns, n),
         Form::Process(name) => begin(alloc, turns, procs, Section::Before, name),
-        Form::Label(_) => Err(Stop::Fault(FaultKind::Syntax)),
-        Form::Do(_) => Err(Stop::Fault(FaultKind::Syntax)),
-        Form::Receive { using: _ } => Err(Stop::Fault(FaultKind::Syntax)),
-        Form::On(_, _) => Err(Stop::Fault(FaultKind::Syntax)),
-        Form::After(_) => Err(Stop::Fault(FaultKind::Syntax)),
-        Form::End => Err(Stop::Fault(FaultKind::Syntax)),
+        _other => Err(Stop::Fault(FaultKind::Syntax)),
     }
 }
 
@@ -250,11 +245,7 @@ fn take_inside(
             };
             Section::Outside(add_instr(proc, receive)?)
         }
-        Form::Turns(_) => return Err(Stop::Fault(FaultKind::Syntax)),
-        Form::Process(_) => return Err(Stop::Fault(FaultKind::Syntax)),
-        Form::Label(_) => return Err(Stop::Fault(FaultKind::Syntax)),
-        Form::Do(_) => return Err(Stop::Fault(FaultKind::Syntax)),
-        Form::Receive { using: _ } => return Err(Stop::Fault(FaultKind::Syntax)),
+        _other => return Err(Stop::Fault(FaultKind::Syntax)),
     };
     Ok(Draft {
         turns,
