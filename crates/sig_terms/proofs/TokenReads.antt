@@ -3,17 +3,15 @@ use Rattle.std.proofs.Common.{◌≡◌, ℕ, zero, suc, ◌+◌, ◌-◌, ◌*�
 use Rattle.std.specs.Prelude.{ℤ, pos, negsuc, ◌==◌, nat_le, decimal, codes, ◌&&◌, ◌||◌}
 use Rattle.std.specs.Fmt.{signed_decimal}
 use Rattle.std.specs.List.{list_all, prefix_len}
-use Rattle.std.specs.Str.{bytes_eq}
 use Rattle.std.proofs.lemmas.Bool.Decides.{nat_tests}
 use Rattle.std.proofs.lemmas.Fmt.{decimal_digit, decimal_by_steps}
 use Rattle.std.proofs.lemmas.List.{take_at, drop_at}
 use Rattle.std.proofs.lemmas.List.Sums.{prefix_len-le-length}
-use Rattle.std.proofs.lemmas.Slice.Eq.{bytes_eq-Decides}
 use Rattle.sig_terms.specs.Words.{is_lower, is_digit, is_name_byte, is_name, is_atom_byte, is_atom}
 use Rattle.sig_terms.specs.Readable.{is_wide}
 use Rattle.sig_terms.specs.declared.pid.Pid.{Pid}
 use Rattle.sig_terms.specs.declared.reference.Ref.{Ref}
-use Rattle.sig_terms.specs.Tokens.{◌>>=◌, digits_on, number_at, int_at, after_text, name_at, quoted_at, pid_at, reference_at}
+use Rattle.sig_terms.specs.Tokens.{◌>>=◌, digits_on, number_at, int_at, name_at, quoted_at, pid_at, reference_at}
 use Rattle.sig_terms.proofs.Choices.{by_test, both_true}
 use Rattle.sig_terms.proofs.TokenTexts.{front_passes}
 use Rattle.sig_terms.specs.declared.bytes.TheConstants.{MOST_WORD_BYTES}

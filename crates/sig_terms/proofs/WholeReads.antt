@@ -1,7 +1,7 @@
 -- What the reader of a front answers, by the laws of what is written and read.
 use Rattle.std.proofs.Common.{◌≡◌, ℕ, ◌+◌, ◌-◌, ◌≤◌, List, [], ◌++◌, length, take, Option, Some, None, sym, ap, subst, ◌∙◌, arith, length-append, add_comm}
 use Rattle.std.specs.Prelude.{IfSome}
-use Rattle.std.proofs.lemmas.List.{take_at, append-nil}
+use Rattle.std.proofs.lemmas.List.{take_at}
 use Rattle.std.proofs.lemmas.Option.{none-some, same_Some}
 use Rattle.sig_terms.specs.TermText.{term_text}
 use Rattle.sig_terms.specs.Nodes.{node_count, depth_of}

@@ -17,15 +17,31 @@ abbrev pub Gives : {X Y : Type 0} → (X → Y) → Result X ReadTerm → Option
 Gives view (Ok x) read = read ≡ Some (view x)
 Gives view (Err e) read = Fails e read
 
+-- the readers of what has no elements, as readers of terms
+abbrev pub int_term_at : List ℕ → Option (Term × List ℕ)
+int_term_at bytes = int_at bytes >>= λ x. Some (term.Int x.0, x.1)
+
+abbrev pub name_term_at : List ℕ → Option (Term × List ℕ)
+name_term_at bytes = name_at bytes >>= λ x. Some (term.Atom x.0, x.1)
+
+abbrev pub quoted_term_at : List ℕ → Option (Term × List ℕ)
+quoted_term_at bytes = quoted_at bytes >>= λ x. Some (term.Atom x.0, x.1)
+
+abbrev pub pid_term_at : List ℕ → Option (Term × List ℕ)
+pid_term_at bytes = pid_at bytes >>= λ x. Some (term.Pid x.0, x.1)
+
+abbrev pub reference_term_at : List ℕ → Option (Term × List ℕ)
+reference_term_at bytes = reference_at bytes >>= λ x. Some (term.Ref x.0, x.1)
+
 -- a term without elements
 unfoldable pub leaf_at : List ℕ → Option (Term × List ℕ)
 leaf_at [] = None
 leaf_at (b ∷ bs) =
-    if b == 45 || is_digit b then (int_at (b ∷ bs) >>= λ x. Some (term.Int x.0, x.1))
-    else if is_lower b then (name_at (b ∷ bs) >>= λ x. Some (term.Atom x.0, x.1))
-    else if b == 39 then (quoted_at bs >>= λ x. Some (term.Atom x.0, x.1))
-    else if b == 60 then (pid_at bs >>= λ x. Some (term.Pid x.0, x.1))
-    else if b == 35 then (reference_at bs >>= λ x. Some (term.Ref x.0, x.1))
+    if b == 45 || is_digit b then int_term_at (b ∷ bs)
+    else if is_lower b then name_term_at (b ∷ bs)
+    else if b == 39 then quoted_term_at bs
+    else if b == 60 then pid_term_at bs
+    else if b == 35 then reference_term_at bs
     else None
 
 -- behind an element: a comma and more, or the end

@@ -24,13 +24,14 @@ abbrev pub number_at : ℕ → List ℕ → Option (ℕ × List ℕ)
 number_at most [] = None
 number_at most (b ∷ bs) = if is_digit b then (if b == 48 then Some (0, bs) else Some (digits_on most (b - 48) bs)) else None
 
+-- behind `-`, an integer of 64 bits below zero
+abbrev pub negative_at : List ℕ → Option (ℤ × List ℕ)
+negative_at bytes = number_at (2 ^ 63) bytes >>= λ x. if x.0 == 0 then None else Some (negsuc (x.0 - 1), x.1)
+
 -- an integer of 64 bits, signed
 abbrev pub int_at : List ℕ → Option (ℤ × List ℕ)
 int_at [] = None
-int_at (b ∷ bs) =
-    if b == 45
-    then (number_at (2 ^ 63) bs >>= λ x. if x.0 == 0 then None else Some (negsuc (x.0 - 1), x.1))
-    else (number_at (2 ^ 63 - 1) (b ∷ bs) >>= λ x. Some (pos x.0, x.1))
+int_at (b ∷ bs) = if b == 45 then negative_at bs else (number_at (2 ^ 63 - 1) (b ∷ bs) >>= λ x. Some (pos x.0, x.1))
 
 -- what follows the text
 abbrev pub after_text : List ℕ → List ℕ → Option (List ℕ)

@@ -86,6 +86,23 @@ fn append_all(items: &[Term], into: &mut Vec<u8>) -> Result<(), AllocError>
     }
 }
 
+/// Appends the texts of the terms, between two brackets.
+#[cycle(append)]
+fn append_between(
+    open: &[u8],
+    items: &[Term],
+    close: &[u8],
+    into: &mut Vec<u8>,
+) -> Result<(), AllocError>
+    ensures text { OnOk result (into.new.items ≡ into.old.items ++ open.now ++ joined (map term_text items.now) ++ close.now) }
+    ensures front { OnErr result (take (length into.old.items) into.new.items ≡ into.old.items) }
+    ensures terms { OnOk result (list_all (λ b. b) (map is_term items.now) ≡ true) }
+{
+    into.extend_from_slice(open)?;
+    append_all(items, into)?;
+    into.extend_from_slice(close)
+}
+
 /// Appends the text of an integer.
 fn append_int(n: i64, into: &mut Vec<u8>) -> Result<(), AllocError>
     ensures text { OnOk result (into.new.items ≡ into.old.items ++ signed_decimal n) }
@@ -167,16 +184,8 @@ impl Term {
             Term::Atom(atom) => atom.print(into),
             Term::Pid(pid) => pid.print(into),
             Term::Ref(reference) => reference.print(into),
-            Term::Tuple(items) => {
-                into.extend_from_slice(b"{")?;
-                append_all(items.as_slice(), into)?;
-                into.extend_from_slice(b"}")
-            }
-            Term::List(items) => {
-                into.extend_from_slice(b"[")?;
-                append_all(items.as_slice(), into)?;
-                into.extend_from_slice(b"]")
-            }
+            Term::Tuple(items) => append_between(b"{", items.as_slice(), b"}", into),
+            Term::List(items) => append_between(b"[", items.as_slice(), b"]", into),
         }
     }
 }

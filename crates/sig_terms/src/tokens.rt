@@ -5,8 +5,8 @@ ghost use Rattle.std.specs.Prelude.{◌≡◌, ◌≤◌, ◌^◌, ◌-◌, ◌*
 ghost use Rattle.std.specs.Option.{option_map};
 ghost use Rattle.std.specs.List.{prefix_len};
 ghost use Rattle.sig_terms.specs.Words.{is_name_byte, is_atom_byte};
-ghost use Rattle.sig_terms.specs.Tokens.{digits_on, number_at, int_at, after_text, atom_of, name_at, quoted_at, pid_at, reference_at};
-ghost use Rattle.sig_terms.specs.Fronts.{Gives, leaf_at};
+ghost use Rattle.sig_terms.specs.Tokens.{digits_on, number_at, negative_at, int_at, after_text, atom_of, name_at, quoted_at, pid_at, reference_at};
+ghost use Rattle.sig_terms.specs.Fronts.{Gives, int_term_at, name_term_at, quoted_term_at, pid_term_at, reference_term_at, leaf_at};
 
 use crate::atom::Atom;
 use crate::bytes::{
@@ -57,24 +57,26 @@ fn number(most: u64, bytes: &[u8]) -> Option<(u64, &[u8])>
     }
 }
 
+/// The integer that `-` begins: at most 2^63 below zero, and not zero.
+fn negative(digits: &[u8]) -> Option<(i64, &[u8])>
+    ensures { option_map (λ x. (x.0, x.1.now)) result ≡ negative_at digits.now }
+{
+    let (n, rest) = number(1 << 63, digits)?;
+    if n == 0 {
+        return None;
+    }
+    Some((-((n - 1) as i64) - 1, rest))
+}
+
 /// The integer at the front of the bytes.
 fn int(bytes: &[u8]) -> Option<(i64, &[u8])>
     ensures { option_map (λ x. (x.0, x.1.now)) result ≡ int_at bytes.now }
 {
-    match bytes {
-        [b'-', digits @ ..] => {
-            let (n, rest) = number(1 << 63, digits)?;
-            if n == 0 {
-                None
-            } else {
-                Some((-((n - 1) as i64) - 1, rest))
-            }
-        }
-        _ => {
-            let (n, rest) = number((1 << 63) - 1, bytes)?;
-            Some((n as i64, rest))
-        }
+    if let [b'-', digits @ ..] = bytes {
+        return negative(digits);
     }
+    let (n, rest) = number((1 << 63) - 1, bytes)?;
+    Some((n as i64, rest))
 }
 
 /// What follows the text.
@@ -162,32 +164,57 @@ fn quoted(alloc: Global, bytes: &[u8]) -> Result<(Atom, &[u8]), ReadTerm>
     }
 }
 
+/// The integer at the front of the bytes, as a term.
+fn int_term(bytes: &[u8]) -> Result<(Term, &[u8]), ReadTerm>
+    ensures { Gives (λ x. (x.0, x.1.now)) result (int_term_at bytes.now) }
+{
+    let (n, rest) = int(bytes).ok_or(ReadTerm::BadTerm)?;
+    Ok((Term::Int(n), rest))
+}
+
+/// The atom whose name is at the front of the bytes, as a term.
+fn name_term(alloc: Global, bytes: &[u8]) -> Result<(Term, &[u8]), ReadTerm>
+    ensures { Gives (λ x. (x.0, x.1.now)) result (name_term_at bytes.now) }
+{
+    let (atom, rest) = name(alloc, bytes)?;
+    Ok((Term::Atom(atom), rest))
+}
+
+/// The atom that a quote begins, as a term.
+fn quoted_term(alloc: Global, bytes: &[u8]) -> Result<(Term, &[u8]), ReadTerm>
+    ensures { Gives (λ x. (x.0, x.1.now)) result (quoted_term_at bytes.now) }
+{
+    let (atom, rest) = quoted(alloc, bytes)?;
+    Ok((Term::Atom(atom), rest))
+}
+
+/// The pid that `<` begins, as a term.
+fn pid_term(bytes: &[u8]) -> Result<(Term, &[u8]), ReadTerm>
+    ensures { Gives (λ x. (x.0, x.1.now)) result (pid_term_at bytes.now) }
+{
+    let (pid, rest) = pid(bytes).ok_or(ReadTerm::BadTerm)?;
+    Ok((Term::Pid(pid), rest))
+}
+
+/// The reference that `#` begins, as a term.
+fn reference_term(bytes: &[u8]) -> Result<(Term, &[u8]), ReadTerm>
+    ensures { Gives (λ x. (x.0, x.1.now)) result (reference_term_at bytes.now) }
+{
+    let (reference, rest) = reference(bytes).ok_or(ReadTerm::BadTerm)?;
+    Ok((Term::Ref(reference), rest))
+}
+
 /// The term without elements at the front of the bytes.
 #[tactic(auto, unfolding(crate::specs::Fronts::leaf_at))]
 pub fn leaf(alloc: Global, bytes: &[u8]) -> Result<(Term, &[u8]), ReadTerm>
     ensures { Gives (λ x. (x.0, x.1.now)) result (leaf_at bytes.now) }
 {
     match bytes {
-        [first, ..] if *first == b'-' || is_digit_byte(*first) => {
-            let (n, rest) = int(bytes).ok_or(ReadTerm::BadTerm)?;
-            Ok((Term::Int(n), rest))
-        }
-        [first, ..] if is_lower_byte(*first) => {
-            let (atom, rest) = name(alloc, bytes)?;
-            Ok((Term::Atom(atom), rest))
-        }
-        [b'\'', inside @ ..] => {
-            let (atom, rest) = quoted(alloc, inside)?;
-            Ok((Term::Atom(atom), rest))
-        }
-        [b'<', inside @ ..] => {
-            let (pid, rest) = pid(inside).ok_or(ReadTerm::BadTerm)?;
-            Ok((Term::Pid(pid), rest))
-        }
-        [b'#', inside @ ..] => {
-            let (reference, rest) = reference(inside).ok_or(ReadTerm::BadTerm)?;
-            Ok((Term::Ref(reference), rest))
-        }
+        [first, ..] if *first == b'-' || is_digit_byte(*first) => int_term(bytes),
+        [first, ..] if is_lower_byte(*first) => name_term(alloc, bytes),
+        [b'\'', inside @ ..] => quoted_term(alloc, inside),
+        [b'<', inside @ ..] => pid_term(inside),
+        [b'#', inside @ ..] => reference_term(inside),
         _ => Err(ReadTerm::BadTerm),
     }
 }
