@@ -81,43 +81,45 @@ fn awaited_ids(alloc: Global, links: &Links) -> Result<Vec<u8>, Fail> {
     Ok(ids)
 }
 
+/// Calls, what they answer, the active peers after them, and the peers and ids that are awaited.
+const RULES: [(&[&[u8; 2]], &[u8], &[u8], &[u8]); 18] = [
+    // `link`: once, again, to the owner, and while an id is awaited
+    (&[b"+1"], b"y", b"1", b""),
+    (&[b"+1", b"+1"], b"yn", b"1", b""),
+    (&[b"+0"], b"n", b"", b""),
+    (&[b"+1", b"-1", b"+1"], b"y1y", b"1", b"11"),
+    // `unlink`: of an inactive link, of active ones, and with an older id awaited
+    (&[b"-1", b"-0"], b"nn", b"", b""),
+    (&[b"+1", b"+2", b"-2", b"-1"], b"yy12", b"", b"1221"),
+    (&[b"+1", b"-1", b"+1", b"-1"], b"y1y2", b"", b"12"),
+    // a link signal: once, again, while an id is awaited, and after the acknowledgement
+    (&[b"l1", b"l1"], b"yn", b"1", b""),
+    (&[b"+1", b"-1", b"l1"], b"y1n", b"", b"11"),
+    (&[b"+1", b"-1", b"11", b"l1"], b"y1yy", b"1", b""),
+    // an unlink signal: of an active and of an inactive link
+    (&[b"l1", b"u1", b"u1"], b"yyn", b"", b""),
+    (&[b"+1", b"-1", b"u1"], b"y1n", b"", b"11"),
+    // an acknowledgement: of another id, of another peer, of no unlink, and of the awaited one
+    (&[b"+1", b"-1", b"+1", b"-1", b"11"], b"y1y2n", b"", b"12"),
+    (&[b"+1", b"-1", b"12"], b"y1n", b"", b"11"),
+    (&[b"+1", b"11"], b"yn", b"1", b""),
+    (&[b"+1", b"-1", b"+1", b"11"], b"y1yy", b"1", b""),
+    // an exit signal: of an active and of an inactive link
+    (&[b"+1", b"e1", b"e1"], b"yyn", b"", b""),
+    (&[b"+1", b"-1", b"e1"], b"y1n", b"", b"11"),
+];
+
 #[test]
 fn rules_hold_line_by_line(rt: HostRuntime) -> Result<(), Fail> {
     let alloc = rt.alloc();
-    let rows: [(&[&[u8; 2]], &[u8], &[u8], &[u8]); 18] = [
-        // `link`: once, again, to the owner, and while an id is awaited
-        (&[b"+1"], b"y", b"1", b""),
-        (&[b"+1", b"+1"], b"yn", b"1", b""),
-        (&[b"+0"], b"n", b"", b""),
-        (&[b"+1", b"-1", b"+1"], b"y1y", b"1", b"11"),
-        // `unlink`: of an inactive link, of active ones, and with an older id awaited
-        (&[b"-1", b"-0"], b"nn", b"", b""),
-        (&[b"+1", b"+2", b"-2", b"-1"], b"yy12", b"", b"1221"),
-        (&[b"+1", b"-1", b"+1", b"-1"], b"y1y2", b"", b"12"),
-        // a link signal: once, again, while an id is awaited, and after the acknowledgement
-        (&[b"l1", b"l1"], b"yn", b"1", b""),
-        (&[b"+1", b"-1", b"l1"], b"y1n", b"", b"11"),
-        (&[b"+1", b"-1", b"11", b"l1"], b"y1yy", b"1", b""),
-        // an unlink signal: of an active and of an inactive link
-        (&[b"l1", b"u1", b"u1"], b"yyn", b"", b""),
-        (&[b"+1", b"-1", b"u1"], b"y1n", b"", b"11"),
-        // an acknowledgement: of another id, of another peer, of no unlink, and of the awaited one
-        (&[b"+1", b"-1", b"+1", b"-1", b"11"], b"y1y2n", b"", b"12"),
-        (&[b"+1", b"-1", b"12"], b"y1n", b"", b"11"),
-        (&[b"+1", b"11"], b"yn", b"1", b""),
-        (&[b"+1", b"-1", b"+1", b"11"], b"y1yy", b"1", b""),
-        // an exit signal: of an active and of an inactive link
-        (&[b"+1", b"e1", b"e1"], b"yyn", b"", b""),
-        (&[b"+1", b"-1", b"e1"], b"y1n", b"", b"11"),
-    ];
-    for (calls, answered, active, awaited) in rows {
+    for (calls, answered, active, awaited) in &RULES {
         let mut links = Links::open(alloc, Pid(0));
         let got = answers(alloc, &mut links, calls)?;
-        assert_eq!(rt; got.as_slice(), answered, "{calls:?}");
+        assert_eq!(rt; got.as_slice(), *answered, "{calls:?}");
         let peers = active_peers(alloc, &links)?;
-        assert_eq!(rt; peers.as_slice(), active, "{calls:?}");
+        assert_eq!(rt; peers.as_slice(), *active, "{calls:?}");
         let ids = awaited_ids(alloc, &links)?;
-        assert_eq!(rt; ids.as_slice(), awaited, "{calls:?}");
+        assert_eq!(rt; ids.as_slice(), *awaited, "{calls:?}");
     }
     Ok(())
 }

@@ -137,50 +137,52 @@ fn from_none(alloc: Global, calls: &[&[u8; 2]]) -> Result<Vec<u8>, Fail> {
     told_by(alloc, &mut watch, calls)
 }
 
+/// Calls; and what they answer, then the monitors held, those borne, and the aliases after them.
+const RULES: [(&[&[u8; 2]], &[u8]); 24] = [
+    // `monitor` of another process, of oneself, and with the modes
+    (&[b"m1", b"m2"], b"yy 12||"),
+    (&[b"o1", b"-1"], b"nn ||"),
+    (&[b"e1", b"d2", b"r3"], b"yyy 123||123"),
+    // `demonitor`: of a monitor that is held, of the same again, of none, and by the modes
+    (&[b"m1", b"-1", b"-1", b"-2"], b"y1nn ||"),
+    (&[b"e1", b"d2", b"r3", b"-1", b"-2", b"-3"], b"yyy111 ||1"),
+    (&[b"a1", b"A2", b"-1", b"-2"], b"..nn ||12"),
+    // `unalias`: of each mode, and again; monitors stay
+    (&[b"e1", b"d2", b"r3", b"u1", b"u2", b"u3"], b"yyyyyy 123||"),
+    (&[b"a1", b"A2", b"u1", b"u2", b"u1", b"u3"], b"..yynn ||"),
+    // a message through an alias: twice for each mode, and after `unalias`
+    (&[b"a1", b">1", b">1"], b".kk ||1"),
+    (&[b"A1", b">1", b">1"], b".kn ||"),
+    (&[b"e1", b">1", b">1"], b"ykk 1||1"),
+    (&[b"d1", b">1", b">1"], b"ykk 1||1"),
+    (&[b"r1", b">1", b">1"], b"y1n ||"),
+    (&[b"a1", b"u1", b">1"], b".yn ||"),
+    // a down: of a monitor that is held, again, after `demonitor`, after the reply, by the modes
+    (&[b"m1", b"!1", b"!1"], b"yyn ||"),
+    (&[b"m1", b"-1", b"!1"], b"y1n ||"),
+    (&[b"r1", b">1", b"!1"], b"y1n ||"),
+    (&[b"e1", b"d2", b"r3", b"!1", b"!2", b"!3"], b"yyyyyy ||1"),
+    (&[b"r1", b"!1", b">1", b"-1"], b"yynn ||"),
+    // monitors that are borne: in their order, one that came twice, and after removals
+    (&[b"+3", b"+1", b"+2"], b"... |312|"),
+    (&[b"+1", b"+2", b"+1", b"x1", b"x1"], b"...yn |2|"),
+    (
+        &[b"+4", b"+3", b"+2", b"+1", b"x3", b"+5"],
+        b"....y. |4215|",
+    ),
+    (
+        &[b"+1", b"+2", b"+3", b"x1", b"+1", b"x2", b"x3"],
+        b"...y.yy |1|",
+    ),
+    (&[b"m1", b"+1", b"x1", b"-1"], b"y.y1 ||"),
+];
+
 #[test]
 fn rules_hold_line_by_line(rt: HostRuntime) -> Result<(), Fail> {
     let alloc = rt.alloc();
-    let rows: [(&[&[u8; 2]], &[u8]); 24] = [
-        // `monitor` of another process, of oneself, and with the modes
-        (&[b"m1", b"m2"], b"yy 12||"),
-        (&[b"o1", b"-1"], b"nn ||"),
-        (&[b"e1", b"d2", b"r3"], b"yyy 123||123"),
-        // `demonitor`: of a monitor that is held, of the same again, of none, and by the modes
-        (&[b"m1", b"-1", b"-1", b"-2"], b"y1nn ||"),
-        (&[b"e1", b"d2", b"r3", b"-1", b"-2", b"-3"], b"yyy111 ||1"),
-        (&[b"a1", b"A2", b"-1", b"-2"], b"..nn ||12"),
-        // `unalias`: of each mode, and again; monitors stay
-        (&[b"e1", b"d2", b"r3", b"u1", b"u2", b"u3"], b"yyyyyy 123||"),
-        (&[b"a1", b"A2", b"u1", b"u2", b"u1", b"u3"], b"..yynn ||"),
-        // a message through an alias: twice for each mode, and after `unalias`
-        (&[b"a1", b">1", b">1"], b".kk ||1"),
-        (&[b"A1", b">1", b">1"], b".kn ||"),
-        (&[b"e1", b">1", b">1"], b"ykk 1||1"),
-        (&[b"d1", b">1", b">1"], b"ykk 1||1"),
-        (&[b"r1", b">1", b">1"], b"y1n ||"),
-        (&[b"a1", b"u1", b">1"], b".yn ||"),
-        // a down: of a monitor that is held, again, after `demonitor`, after the reply, by the modes
-        (&[b"m1", b"!1", b"!1"], b"yyn ||"),
-        (&[b"m1", b"-1", b"!1"], b"y1n ||"),
-        (&[b"r1", b">1", b"!1"], b"y1n ||"),
-        (&[b"e1", b"d2", b"r3", b"!1", b"!2", b"!3"], b"yyyyyy ||1"),
-        (&[b"r1", b"!1", b">1", b"-1"], b"yynn ||"),
-        // monitors that are borne: in their order, one that came twice, and after removals
-        (&[b"+3", b"+1", b"+2"], b"... |312|"),
-        (&[b"+1", b"+2", b"+1", b"x1", b"x1"], b"...yn |2|"),
-        (
-            &[b"+4", b"+3", b"+2", b"+1", b"x3", b"+5"],
-            b"....y. |4215|",
-        ),
-        (
-            &[b"+1", b"+2", b"+3", b"x1", b"+1", b"x2", b"x3"],
-            b"...y.yy |1|",
-        ),
-        (&[b"m1", b"+1", b"x1", b"-1"], b"y.y1 ||"),
-    ];
-    for (calls, expected) in rows {
+    for (calls, expected) in &RULES {
         let told = from_none(alloc, calls)?;
-        assert_eq!(rt; told.as_slice(), expected, "{calls:?}");
+        assert_eq!(rt; told.as_slice(), *expected, "{calls:?}");
     }
     Ok(())
 }
