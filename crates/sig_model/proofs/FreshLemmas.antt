@@ -1,28 +1,28 @@
 -- References are made by their owners: what stands in a process or in a sent signal after an event stood before in the process or in
 -- the handled signal, or the process made it.
-use Rattle.std.proofs.Common.{◌≡◌, ℕ, suc, ◌+◌, ◌≤◌, ◌<◌, max, List, [], ◌∷◌, All, IfSome, Option, Some, None, slice_get, refl, sym, ap, subst, ◌∙◌, inl, inr, ◌⊎◌, ⊎_elim, arith}
+use Rattle.std.proofs.Common.{◌≡◌, ℕ, ◌+◌, ◌≤◌, ◌<◌, max, List, [], ◌∷◌, All, Option, Some, None, sym, ap, subst, ◌∙◌, inl, inr, ◌⊎◌, ⊎_elim, arith}
 use Rattle.std.proofs.lemmas.Bool.{cases_lt, cases_eq}
-use Rattle.std.proofs.lemmas.List.Elements.{All-nil, All-cons, All-head, All-tail, All-weaker}
+use Rattle.std.proofs.lemmas.List.Elements.{All-head, All-tail}
 use Rattle.std.proofs.lemmas.Option.{MatchOption-at_some}
 use Rattle.sig_terms.specs.declared.reference.Ref.{Ref}
-use Rattle.sig_terms.specs.Names.{Named, process, reference}
+use Rattle.sig_terms.specs.Names.{process, reference}
 use Rattle.sig_kinds.specs.declared.signal.Signal.{Signal}
-use Rattle.sig_kinds.specs.SignalNames.{names_of_kind, SignalNames}
+use Rattle.sig_kinds.specs.SignalNames.{names_of_kind}
 use Rattle.sig_patterns.specs.Inbox.{Inbox}
-use Rattle.sig_script.specs.Scripts.{Declared, Program}
+use Rattle.sig_script.specs.Scripts.{Declared}
 use Rattle.sig_runs.specs.Rules.{Effect}
 use Rattle.sig_runs.specs.Fresh.{Holds, StandsAfter, IsNew, MakesFresh}
 use Rattle.sig_model.specs.declared.event.Event.{Event}
 use Rattle.sig_model.specs.declared.event.Did.{Did}
 use Rattle.sig_model.specs.declared.event.Did.TheVariants as did
 use Rattle.sig_model.specs.ProcessState.{ProcessState}
-use Rattle.sig_model.specs.Bodies.{Post, Body}
+use Rattle.sig_model.specs.Bodies.{Body}
 use Rattle.sig_model.specs.Executing.{new_ref, executing}
 use Rattle.sig_model.specs.Handling.{handling}
-use Rattle.sig_model.specs.Finishing.{numbered, finished, finished_exec, finished_handle}
-use Rattle.sig_model.specs.Machine.{execution_of, handling_of, rules_with, rules_of}
-use Rattle.sig_model.specs.Names.{TableNames, PostNames, BodyNames, ScriptNames}
-use Rattle.sig_model.specs.Marking.{IsOther, StandsIn, IsSaid, IsSoundProcess, marking}
+use Rattle.sig_model.specs.Finishing.{numbered, finished, finished_exec}
+use Rattle.sig_model.specs.Machine.{execution_of, handling_of, rules_with}
+use Rattle.sig_model.specs.Names.{PostNames, BodyNames, ScriptNames}
+use Rattle.sig_model.specs.Marking.{IsOther, StandsIn, IsSaid, marking}
 use Rattle.sig_model.proofs.Lookups.{mapped_tells}
 use Rattle.sig_model.proofs.StampLemmas.{numbered_all}
 use Rattle.sig_model.proofs.BodyLemmas.{IsKeptBody}

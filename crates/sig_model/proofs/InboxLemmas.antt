@@ -1,6 +1,6 @@
 -- What an event makes of the messages and the marks of a process, and that its next serial never falls: one case for each row of
 -- the table of instructions, and for each cell of the table of handling.
-use Rattle.std.proofs.Common.{◌≡◌, ℕ, ◌+◌, ◌-◌, ◌≤◌, List, [], ◌∷◌, Bool, true, false, ◌&&◌, not, ◌==◌, is_some, IfSome, Option, Some, None, slice_get, refl, sym, subst, arith}
+use Rattle.std.proofs.Common.{◌≡◌, ℕ, ◌+◌, ◌-◌, ◌≤◌, List, Bool, true, false, ◌&&◌, not, ◌==◌, is_some, IfSome, Option, Some, None, slice_get, refl, sym, subst, arith}
 use Rattle.std.specs.Option.{option_map_or}
 use Rattle.std.proofs.lemmas.Bool.{cond_both}
 use Rattle.sig_terms.specs.declared.pid.Pid.{Pid}
@@ -14,7 +14,7 @@ use Rattle.sig_kinds.specs.declared.signal.Kind.{Kind}
 use Rattle.sig_kinds.specs.declared.signal.Kind.TheVariants.{Message, AliasMessage, Link, Unlink, UnlinkAck, Monitor, Demonitor, Exit, Down}
 use Rattle.sig_kinds.specs.declared.signal.Signal.{Signal}
 use Rattle.sig_kinds.specs.LinkRules.{LinkState, is_active, deactivated, link, unlink, on_link, on_unlink, on_ack}
-use Rattle.sig_kinds.specs.WatchRules.{WatchState, is_held, monitor, on_alias_message, on_demonitor, on_down}
+use Rattle.sig_kinds.specs.WatchRules.{WatchState, monitor, on_alias_message, on_demonitor, on_down}
 use Rattle.sig_patterns.specs.declared.expression.Expr.{Expr}
 use Rattle.sig_patterns.specs.Building.{value_of, is_small}
 use Rattle.sig_patterns.specs.Inbox.{Inbox, arrived_in, without_message, down_place, emptied_inbox, reserved, bound_in, cleared_in}

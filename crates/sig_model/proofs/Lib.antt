@@ -29,3 +29,4 @@ pub mod MarkingLemmas
 pub mod FreshLemmas
 pub mod MarkerLemmas
 pub mod NameLawLemmas
+pub mod MarkedRuns

@@ -1,5 +1,5 @@
 -- The law of sound marks for the machine of a script, and its opening.
-use Rattle.std.proofs.Common.{◌≡◌, ℕ, zero, suc, ◌+◌, ◌-◌, ◌≤◌, ◌<◌, false, length, List, [], ◌∷◌, take, All, IfSome, Option, Some, None, slice_get, refl, sym, ap, subst, ◌∙◌, inl, inr, ◌⊎◌, arith}
+use Rattle.std.proofs.Common.{◌≡◌, ℕ, zero, suc, ◌+◌, ◌-◌, ◌≤◌, ◌<◌, false, length, List, [], ◌∷◌, take, All, IfSome, Option, Some, None, slice_get, refl, sym, ap, subst, ◌∙◌, arith}
 use Rattle.std.specs.Option.{option_map}
 use Rattle.std.proofs.lemmas.Bool.{both_ways}
 use Rattle.std.proofs.lemmas.Option.{MatchOption-at_some, same_Some}
@@ -16,14 +16,12 @@ use Rattle.sig_runs.specs.Crew.{opening_machine}
 use Rattle.sig_runs.specs.Marks.{OwnMade, KeepsSound, AllSound}
 use Rattle.sig_model.specs.declared.event.Event.{Event}
 use Rattle.sig_model.specs.ProcessState.{ProcessState, opening_state}
-use Rattle.sig_model.specs.Bodies.{Body}
-use Rattle.sig_model.specs.Executing.{executing, using_ref, marked_start, IsSoundAt, SkipsNone}
+use Rattle.sig_model.specs.Executing.{using_ref, IsSoundAt, SkipsNone}
 use Rattle.sig_model.specs.Handling.{handling}
 use Rattle.sig_model.specs.Finishing.{finished_exec}
 use Rattle.sig_model.specs.Machine.{execution_of, handling_of, rules_with, rules_of, opening_from, opening_of}
-use Rattle.sig_model.specs.Names.{TableNames}
 use Rattle.sig_model.specs.Marking.{IsOther, StandsIn, IsSoundInbox, IsSoundProcess, marking, execution_whole_of, whole_of}
-use Rattle.sig_model.proofs.Lookups.{at_place, mapped_tells}
+use Rattle.sig_model.proofs.Lookups.{at_place}
 use Rattle.sig_model.proofs.BodyLemmas.{IsKeptBody}
 use Rattle.sig_model.proofs.BoundLemmas.{Any, any_tables}
 use Rattle.sig_model.proofs.ExecutingLemmas.{IsKeptMade, executing_kept}

@@ -1,6 +1,6 @@
 -- Sound marks: each change of the messages and marks keeps them sound, and where they are sound a receive through a marker skips no
 -- message that holds its reference.
-use Rattle.std.proofs.Common.{◌≡◌, ℕ, zero, suc, ◌+◌, ◌≤◌, ◌<◌, ◌&&◌, Bool, true, false, cond, nat_lt, nat_le, List, [], ◌∷◌, ◌++◌, take, drop, length, count_by, remove, All, AllPairs, Option, Some, None, IfSome, refl, sym, ap, subst, ◌∙◌, inl, inr, ◌⊎◌, ⊎_elim, slice_get, lt-ltb, le-ltb, arith}
+use Rattle.std.proofs.Common.{◌≡◌, ℕ, suc, ◌+◌, ◌≤◌, ◌<◌, Bool, true, false, cond, nat_lt, nat_le, List, [], ◌∷◌, ◌++◌, take, drop, length, count_by, remove, All, AllPairs, Option, Some, None, IfSome, refl, sym, ap, subst, ◌∙◌, ⊎_elim, lt-ltb, le-ltb, arith}
 use Rattle.std.specs.Prelude.{◌==◌}
 use Rattle.std.specs.Option.{option_map_or}
 use Rattle.std.proofs.lemmas.Bool.{cond_both, cases_lt, and_parts, eqb-true, leb-true}

@@ -1,5 +1,5 @@
 -- Every event keeps that all processes that are named, in states and in signals, are the script's.
-use Rattle.std.proofs.Common.{◌≡◌, ℕ, zero, suc, ◌+◌, ◌<◌, max, List, [], ◌∷◌, length, All, IfSome, Option, Some, None, slice_get, subst, arith}
+use Rattle.std.proofs.Common.{◌≡◌, ℕ, zero, suc, ◌+◌, ◌<◌, max, List, [], ◌∷◌, length, IfSome, Option, Some, None, slice_get, subst, arith}
 use Rattle.std.proofs.lemmas.List.Elements.{All-nil}
 use Rattle.std.proofs.lemmas.Option.{MatchOption-at_some}
 use Rattle.sig_terms.specs.Names.{IsNameBelow}
@@ -12,9 +12,8 @@ use Rattle.sig_runs.specs.Everywhere.{HoldEverywhere, HoldAfter, EventKeeps}
 use Rattle.sig_model.specs.declared.event.Event.{Event}
 use Rattle.sig_model.specs.declared.event.Did.{Did}
 use Rattle.sig_model.specs.declared.event.Did.TheVariants as did
-use Rattle.sig_model.specs.ProcessState.{ProcessState, opening_state}
+use Rattle.sig_model.specs.ProcessState.{ProcessState}
 use Rattle.sig_model.specs.Bodies.{Body}
-use Rattle.sig_model.specs.Executing.{executing}
 use Rattle.sig_model.specs.Handling.{handling}
 use Rattle.sig_model.specs.Finishing.{finished}
 use Rattle.sig_model.specs.Machine.{execution_of, handling_of, rules_with, opening_from, opening_of}

@@ -44,10 +44,15 @@ pub fn a_run_from_marks_is_a_run()
 {}
 
 /// In each run of a script's machine from its opening, every process that is named, in a state or in
-/// a queued signal, is one of the script's: so is the owner of each reference. (Erlang Reference
-/// Manual, Data Types, Pid and Reference.)
+/// a queued signal, is one of the script's: so is the owner of each reference. So it is in the runs
+/// that look from the marks on, and in those that look at all messages. (Erlang Reference Manual,
+/// Data Types, Pid and Reference.)
 pub fn only_processes_of_the_script_are_named()
-    ensures { (script : Program) (events : List (At Event)) (end : Machine ProcessState Signal) → IsSound script →
+    ensures from_marks { (script : Program) (events : List (At Event)) (end : Machine ProcessState Signal) → IsSound script →
         IsRun (rules_of script) (opening_machine (opening_of script)) events end →
+        HoldEverywhere (names_below (length script.procs)) end }
+    ensures over_all { (script : Program) (events : List (At Event)) (end : Machine ProcessState Signal) → IsSound script →
+        All IsWithin script.procs →
+        IsRun (by_whole (rules_of script) (whole_of script)) (opening_machine (opening_of script)) events end →
         HoldEverywhere (names_below (length script.procs)) end }
 {}
