@@ -1,7 +1,7 @@
 -- The runs of a script's machine from its opening, from the marks and over all messages.
-use Rattle.std.proofs.Common.{List, All, length, slice_get}
+use Rattle.std.proofs.Common.{◌≡◌, ℕ, List, All, length, Some, slice_get}
 use Rattle.sig_kinds.specs.declared.signal.Signal.{Signal}
-use Rattle.sig_script.specs.Scripts.{Program, IsWithin, IsProcBelow, IsSound}
+use Rattle.sig_script.specs.Scripts.{Declared, Program, IsWithin, IsProcBelow, IsSound}
 use Rattle.sig_runs.specs.Machine.{Machine, At, IsRun}
 use Rattle.sig_runs.specs.Crew.{opening_machine}
 use Rattle.sig_runs.specs.Fresh.{MakesFresh}
@@ -12,12 +12,13 @@ use Rattle.sig_runs.proofs.Marks.{run_sound, whole_run, marked_run, settled_whol
 use Rattle.sig_runs.proofs.Everywhere.{run_keeps_facts}
 use Rattle.sig_model.specs.declared.event.Event.{Event}
 use Rattle.sig_model.specs.ProcessState.{ProcessState}
+use Rattle.sig_model.specs.Executing.{SkipsNone}
 use Rattle.sig_model.specs.Machine.{rules_of, opening_of}
 use Rattle.sig_model.specs.Marking.{marking, whole_of}
 use Rattle.sig_model.specs.NameLaw.{names_below}
 use Rattle.sig_model.proofs.Lookups.{at_place}
 use Rattle.sig_model.proofs.FreshLemmas.{makes_fresh}
-use Rattle.sig_model.proofs.MarkerLemmas.{keeps_sound, opening_sound}
+use Rattle.sig_model.proofs.MarkerLemmas.{skips_none, keeps_sound, opening_sound}
 use Rattle.sig_model.proofs.NameLawLemmas.{event_keeps_names, opening_below}
 
 module _ (script : Program) where
@@ -47,6 +48,10 @@ module _ (script : Program) where
 
       pub end_sound : WholeRun → AllSound marking end
       end_sound run = run_sound (rules_of script) marking script_fresh (whole_of script) (keeps_sound script within) events (opening_machine (opening_of script)) end (opening_sound script) (from_mark run)
+
+      -- so no receive through a marker skips a message that could match
+      pub none_skipped : WholeRun → (pid : ℕ) (s : ProcessState) (p : Declared) → slice_get end.procs pid ≡ Some s → slice_get script.procs pid ≡ Some p → SkipsNone p s
+      none_skipped run pid s p at part = skips_none pid s ((end_sound run).marks pid s at) p
 
   pub still_settled : (m : Machine ProcessState Signal) → All IsWithin script.procs → AllSound marking m → IsSettled (rules_of script) m → IsSettled (by_whole (rules_of script) (whole_of script)) m
   still_settled m within sound settled = settled_whole (rules_of script) marking script_fresh (whole_of script) (keeps_sound script within) m sound settled

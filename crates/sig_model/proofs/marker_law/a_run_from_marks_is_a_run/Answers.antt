@@ -1,5 +1,5 @@
 use Rattle.sig_model.proofs.MarkerLemmas.{keeps_sound, opening_sound}
-use Rattle.sig_model.proofs.MarkedRuns.{script_fresh, from_mark, from_head, end_sound, still_settled}
+use Rattle.sig_model.proofs.MarkedRuns.{script_fresh, from_mark, from_head, end_sound, none_skipped, still_settled}
 use Rattle.sig_model.proofs.marker_law.a_run_from_marks_is_a_run.Goals as goal
 
 pub returns-clause-fresh : goal.returns-clause-fresh
@@ -13,6 +13,9 @@ returns-clause-opened c = opening_sound
 
 pub returns-clause-sound : goal.returns-clause-sound
 returns-clause-sound c = end_sound
+
+pub returns-clause-skips_none : goal.returns-clause-skips_none
+returns-clause-skips_none c = none_skipped
 
 pub returns-clause-from_the_mark : goal.returns-clause-from_the_mark
 returns-clause-from_the_mark c = from_mark
