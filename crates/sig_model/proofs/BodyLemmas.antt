@@ -82,51 +82,51 @@ module _ (P : Named → Type 0) where
   pub empty_inbox : (next : ℕ) → InboxNames P (record { messages = []; next_arrival = next; reserve = None; marks = [] })
   empty_inbox next = record { messages = All-nil (λ (m : ℕ × Term). AllNames P m.1); marks = All-nil (λ (m : Mark). All P (names_of_ref m.reference)) }
 
-  -- what an event of a process of this declaration does at s
-  pub record IsKeptBody (p : Declared) (s : ProcessState) (b : Body) : Type 0 where
+  -- what an event of a process of this declaration does at s; its counts go no further than they may where H holds
+  pub record IsKeptBody (H : Type 0) (p : Declared) (s : ProcessState) (b : Body) : Type 0 where
     pub names : BodyNames P b
-    pub bounds : IsBoundedBody p s b
+    pub bounds : H → IsBoundedBody p s b
     -- the process makes references of its own
     pub owner : b.state.tables.watch.owner ≡ s.tables.watch.owner
 
-  module _ (p : Declared) (s : ProcessState) where
+  module _ (H : Type 0) (p : Declared) (s : ProcessState) where
     -- it sends these signals, to each peer at most one more than there are monitors fewer
-    pub row : (b : Body) → TableNames P b.state.tables → IsAt p b.state.counts.place
+    pub row : (b : Body) → TableNames P b.state.tables → (H → IsAt p b.state.counts.place)
         → b.state.tables.inbox.next_arrival ≤ s.tables.inbox.next_arrival + 1 → b.state.tables.links.next_id ≤ s.tables.links.next_id + 1 → b.state.counts.next_serial ≤ s.counts.next_serial + 1
-        → b.state.tables.watch.owner ≡ s.tables.watch.owner → All (PostNames P) b.posts → ((peer : ℕ) → posts_to peer b.posts + length b.state.tables.watch.borne ≤ length s.tables.watch.borne + 1) → IsKeptBody p s b
+        → b.state.tables.watch.owner ≡ s.tables.watch.owner → All (PostNames P) b.posts → ((peer : ℕ) → posts_to peer b.posts + length b.state.tables.watch.borne ≤ length s.tables.watch.borne + 1) → IsKeptBody H p s b
     row b tables at arrivals ids serials owner names few = record {
       names = record { tables = tables; posts = names };
-      bounds = record { first = at.0; within = at.1; arrivals = arrivals; ids = ids; serials = serials; posts = few };
+      bounds = λ h. record { first = (at h).0; within = (at h).1; arrivals = arrivals; ids = ids; serials = serials; posts = few };
       owner = owner;
     }
 
     -- it sends at most one signal to a peer, and leaves as many monitors borne
-    pub few_row : (b : Body) → TableNames P b.state.tables → IsAt p b.state.counts.place
+    pub few_row : (b : Body) → TableNames P b.state.tables → (H → IsAt p b.state.counts.place)
         → b.state.tables.inbox.next_arrival ≤ s.tables.inbox.next_arrival + 1 → b.state.tables.links.next_id ≤ s.tables.links.next_id + 1 → b.state.counts.next_serial ≤ s.counts.next_serial + 1
-        → BearsAlike s.tables.watch b.state.tables.watch → ArePosts b.posts → IsKeptBody p s b
+        → BearsAlike s.tables.watch b.state.tables.watch → ArePosts b.posts → IsKeptBody H p s b
     few_row b tables at arrivals ids serials alike posts =
         row b tables at arrivals ids serials alike.owner posts.names (λ peer. let one : posts_to peer b.posts ≤ 1 = posts.few peer in rw alike.borne (omega (arith, one)))
 
     -- it leaves the arrivals, the links and the monitors
-    pub moving : (b : Body) → TableNames P b.state.tables → IsAt p b.state.counts.place
+    pub moving : (b : Body) → TableNames P b.state.tables → (H → IsAt p b.state.counts.place)
         → b.state.tables.inbox.next_arrival ≡ s.tables.inbox.next_arrival → b.state.tables.links ≡ s.tables.links
-        → b.state.tables.watch ≡ s.tables.watch → b.state.counts.next_serial ≡ s.counts.next_serial → ArePosts b.posts → IsKeptBody p s b
+        → b.state.tables.watch ≡ s.tables.watch → b.state.counts.next_serial ≡ s.counts.next_serial → ArePosts b.posts → IsKeptBody H p s b
     moving b tables at arrivals links watch serial posts =
         few_row b tables at (omega (arith, arrivals)) (rw links (omega arith)) (omega (arith, serial)) (subst (λ w. BearsAlike s.tables.watch w) (sym watch) (same_watch s.tables.watch)) posts
 
     module _ (k : TableNames P s.tables) where
       -- it changes the links, and goes on at this place
-      pub relinking : (place : ℕ) (links : LinkState) (how : Outcome) (posts : List Post) → IsAt p place → LinkNames P links
+      pub relinking : (place : ℕ) (links : LinkState) (how : Outcome) (posts : List Post) → (H → IsAt p place) → LinkNames P links
           → links.next_id ≤ s.tables.links.next_id + 1 → ArePosts posts
-          → IsKeptBody p s (record { state = record (relinked s links) { counts = record s.counts { place = place } }; outcome = how; posts = posts })
+          → IsKeptBody H p s (record { state = record (relinked s links) { counts = record s.counts { place = place } }; outcome = how; posts = posts })
       relinking place links how posts at h ids sent =
           few_row _ (record { env = k.env; inbox = k.inbox; links = h; watch = k.watch; end = k.end }) at (omega arith) ids (omega arith) (same_watch s.tables.watch) sent
 
-      module _ (here : IsAt p s.counts.place) where
-        pub dropping_kept : IsKeptBody p s (dropping s)
+      module _ (here : H → IsAt p s.counts.place) where
+        pub dropping_kept : IsKeptBody H p s (dropping s)
         dropping_kept = moving (dropping s) k here refl refl refl refl no_posts
 
-        pub appending_kept : (message : Term) → AllNames P message → IsKeptBody p s (appending s message)
+        pub appending_kept : (message : Term) → AllNames P message → IsKeptBody H p s (appending s message)
         appending_kept message h =
             let inbox : Inbox = s.tables.inbox in
             let all : All (λ (m : ℕ × Term). AllNames P m.1) (inbox.messages ++ (inbox.next_arrival, message) ∷ []) =
@@ -134,7 +134,7 @@ module _ (P : Named → Type 0) where
             few_row (appending s message)
             (record { env = k.env; inbox = record { messages = all; marks = k.inbox.marks }; links = k.links; watch = k.watch; end = k.end }) here (omega arith) (omega arith) (omega arith) (same_watch s.tables.watch) no_posts
 
-        pub ending_kept : (reason : Term) → AllNames P reason → IsKeptBody p s (ending s reason)
+        pub ending_kept : (reason : Term) → AllNames P reason → IsKeptBody H p s (ending s reason)
         ending_kept reason h =
             row (ending s reason)
             (record {
@@ -149,5 +149,5 @@ module _ (P : Named → Type 0) where
             (λ peer. omega (arith, told_within s.tables.links s.tables.watch.borne reason peer))
 
         -- the reason is an atom
-        pub ending_atom : (a : List ℕ) → IsKeptBody p s (ending s (term.Atom a))
+        pub ending_atom : (a : List ℕ) → IsKeptBody H p s (ending s (term.Atom a))
         ending_atom a = ending_kept (term.Atom a) (atom_names P a)

@@ -20,10 +20,10 @@ use Rattle.sig_model.proofs.ExecutingLemmas.{executing_kept}
 use Rattle.sig_model.proofs.HandlingLemmas.{handling_kept}
 
 -- whatever a process names
-abbrev Any : Named → Type 0
+abbrev pub Any : Named → Type 0
 Any n = Unit {0}
 
-any_tables : (t : Tables) → TableNames Any t
+pub any_tables : (t : Tables) → TableNames Any t
 any_tables t = record {
   env = λ var. some_any (AllNames Any) (get t.env var) (λ x i d lt. tt);
   inbox = record { messages = λ i d lt j e l. tt; marks = λ i d lt j e l. tt };
@@ -40,11 +40,11 @@ any_tables t = record {
 module _ (p : Declared) (s : ProcessState) (k : IsBounded p s) where
   -- what the next instruction does, where it can be executed
   pub executing_bounded : IsWithin p → IfSome (executing p s) (IsBoundedBody p s)
-  executing_bounded w = IfSome_then (executing p s) (executing_kept Any p s (any_tables s.tables) tt k w (λ i d lt j e l m f g. tt)) (λ b h. h.bounds)
+  executing_bounded w = IfSome_then (executing p s) (executing_kept Any (Unit {0}) p s (any_tables s.tables) (λ j. k) (λ j. w) (λ i d lt j e l m f g. tt)) (λ b h. (h (λ n. tt)).bounds tt)
 
   -- what the process does with a signal
   pub handling_bounded : (pid : ℕ) (x : Signal) → IsBoundedBody p s (handling pid s x)
-  handling_bounded pid x = (handling_kept Any p s (any_tables s.tables) k pid x (record { from = tt; to = tt; kind = λ i d lt. tt })).bounds
+  handling_bounded pid x = (handling_kept Any (Unit {0}) p s (any_tables s.tables) (λ j. k) pid x (record { from = tt; to = tt; kind = λ i d lt. tt })).bounds tt
 
   -- with the stamp and the numbers
   pub finished_bounded : (pid executed stamp : ℕ) (what : Did) (b : Body) → IsBoundedBody p s b → s.counts.stamp < stamp

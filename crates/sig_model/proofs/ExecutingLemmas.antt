@@ -124,51 +124,58 @@ module _ (P : Named → Type 0) where
   second : (d e : Expr) → All (ExprNames P) (d ∷ e ∷ []) → ExprNames P e
   second d e h = only e (All-tail (ExprNames P) d (e ∷ []) h)
 
-  module _ (p : Declared) (s : ProcessState) (k : TableNames P s.tables) (fresh : P (reference (new_ref s))) (here : IsAt p s.counts.place) where
+  -- what an instruction does at s; where it makes a reference, P has to hold of that too
+  abbrev pub IsKeptMade : (H : Type 0) → Declared → ProcessState → Body → Type 0
+  IsKeptMade H p s b = (s.counts.next_serial < b.state.counts.next_serial → P (reference (new_ref s))) → IsKeptBody P H p s b
+
+  module _ (H : Type 0) (p : Declared) (s : ProcessState) (k : TableNames P s.tables) (here : H → IsAt p s.counts.place) where
     abbrev Kept : Body → Type 0
-    Kept b = IsKeptBody P p s b
+    Kept b = IsKeptMade H p s b
+
+    ended : (a : List ℕ) → Kept (ending s (term.Atom a))
+    ended a n = ending_atom P H p s k here a
 
     with_value_kept : (e : Expr) (go : Term → Body) → ExprNames P e → ((t : Term) → AllNames P t → Kept (go t)) → Kept (with_value s e go)
     with_value_kept e go h goes =
         let v : Term = value_of s.tables.env e in
         cond_both (is_small v) (Some v) None (λ o. Kept (option_map_or go o (ending s system_limit)))
-        (λ b. goes v (value_names P s.tables.env k.env e h)) (λ b. ending_atom P p s k here (codes "system_limit"))
+        (λ b. goes v (value_names P s.tables.env k.env e h)) (λ b. ended (codes "system_limit"))
 
     with_pid_kept : (t : Term) (go : Pid → Body) → AllNames P t → ((q : Pid) → P (process q.0) → Kept (go q)) → Kept (with_pid s t go)
     with_pid_kept (term.Pid q) go h goes = goes q (pid_tells P q h)
-    with_pid_kept _ go h goes = ending_atom P p s k here (codes "badarg")
+    with_pid_kept _ go h goes = ended (codes "badarg")
 
     with_ref_kept : (t : Term) (go : Ref → Body) → AllNames P t → ((r : Ref) → OfRef r → Kept (go r)) → Kept (with_ref s t go)
     with_ref_kept (term.Ref r) go h goes = let names : P (reference r) × P (process r.owner.0) = ref_tells P r h in goes r (all_of_ref P r names.0 names.1)
-    with_ref_kept _ go h goes = ending_atom P p s k here (codes "badarg")
+    with_ref_kept _ go h goes = ended (codes "badarg")
 
     with_target_kept : (t : Term) (go : Target → Body) → AllNames P t → ((q : Pid) → P (process q.0) → Kept (go (target.Process q))) →
         ((r : Ref) → P (reference r) × P (process r.owner.0) → Kept (go (target.Alias r))) → Kept (with_target s t go)
     with_target_kept (term.Pid q) go h pid_goes ref_goes = pid_goes q (pid_tells P q h)
     with_target_kept (term.Ref r) go h pid_goes ref_goes = ref_goes r (ref_tells P r h)
-    with_target_kept _ go h pid_goes ref_goes = ending_atom P p s k here (codes "badarg")
+    with_target_kept _ go h pid_goes ref_goes = ended (codes "badarg")
 
     -- with the process that the value of an expression names
     with_peer_kept : (e : Expr) (go : Pid → Body) → ExprNames P e → ((q : Pid) → P (process q.0) → Kept (go q)) → Kept (with_value s e (λ t. with_pid s t go))
     with_peer_kept e go h goes = with_value_kept e (λ t. with_pid s t go) h (λ t g. with_pid_kept t go g goes)
 
     -- where the process goes on behind an instruction
-    module _ (w : IsWithin p) (inside : s.counts.place ≤ length p.instrs) where
-      behind : IsAt p (s.counts.place + 1)
-      behind = (omega arith, omega (arith, inside))
+    module _ (w : H → IsWithin p) (inside : H → s.counts.place ≤ length p.instrs) where
+      behind : H → IsAt p (s.counts.place + 1)
+      behind h = (omega arith, omega (arith, inside h))
 
-      label_place : (o : Option Label) → IfSome o (IsPlace (length p.instrs)) → IsAt p (option_map_or (λ l. l.place) o (s.counts.place + 1))
-      label_place None h = behind
-      label_place (Some label) h = h
+      label_place : (o : Option Label) → (H → IfSome o (IsPlace (length p.instrs))) → H → IsAt p (option_map_or (λ l. l.place) o (s.counts.place + 1))
+      label_place None g = behind
+      label_place (Some label) g = g
 
-      target_place : (target : Option ℕ) → IsAt p (place_after p.labels target s.counts.place)
+      target_place : (target : Option ℕ) → H → IsAt p (place_after p.labels target s.counts.place)
       target_place None = behind
-      target_place (Some label) = label_place (slice_get p.labels label) (at_place (IsPlace (length p.instrs)) p.labels label w.places)
+      target_place (Some label) = label_place (slice_get p.labels label) (λ h. at_place (IsPlace (length p.instrs)) p.labels label (w h).places)
 
       linked_by_kept : (peer : Pid) (answer : Bool × LinkState) → P (process peer.0) → LinkNames P answer.1
           → answer.1.next_id ≤ s.tables.links.next_id + 1 → Kept (linked_by s peer answer)
-      linked_by_kept peer (sends, links) g h ids =
-          relinking P p s k _ links _ _ behind h ids
+      linked_by_kept peer (sends, links) g h ids n =
+          relinking P H p s k _ links _ _ behind h ids
           (cond_both sends (record { to = peer.0; kind = kind.Link } ∷ []) [] (ArePosts P) (λ e. one_post P _ g (All-nil P)) (λ e. no_posts P))
 
       unlink_sent : (peer : Pid) (id : Option ℕ) → P (process peer.0) → ArePosts P (unlink_posts peer id)
@@ -177,53 +184,55 @@ module _ (P : Named → Type 0) where
 
       unlinked_by_kept : (peer : Pid) (answer : Option ℕ × LinkState) → P (process peer.0) → LinkNames P answer.1
           → answer.1.next_id ≤ s.tables.links.next_id + 1 → Kept (unlinked_by s peer answer)
-      unlinked_by_kept peer (id, links) g h ids = relinking P p s k _ links _ _ behind h ids (unlink_sent peer id g)
+      unlinked_by_kept peer (id, links) g h ids n = relinking P H p s k _ links _ _ behind h ids (unlink_sent peer id g)
 
       -- a row that makes a reference
-      made : OfRef (new_ref s)
-      made = all_of_ref P (new_ref s) fresh k.watch.owner
+      made : P (reference (new_ref s)) → OfRef (new_ref s)
+      made fresh = all_of_ref P (new_ref s) fresh k.watch.owner
 
-      making_kept : (var : List ℕ) (watch : WatchState) (posts : List Post) → WatchNames P watch → BearsAlike s.tables.watch watch → ArePosts P posts → Kept (making s var watch posts)
-      making_kept var watch posts h alike sent =
+      making_kept : (var : List ℕ) (watch : WatchState) (posts : List Post) → (OfRef (new_ref s) → WatchNames P watch) → BearsAlike s.tables.watch watch → (OfRef (new_ref s) → ArePosts P posts)
+          → Kept (making s var watch posts)
+      making_kept var watch posts h alike sent n =
+          let fresh : P (reference (new_ref s)) = n (omega arith) in
           let value : AllNames P (term.Ref (new_ref s)) = ref_names P (new_ref s) fresh k.watch.owner in
-          few_row P p s _ (record { env = insert_names P s.tables.env var (term.Ref (new_ref s)) k.env value; inbox = k.inbox; links = k.links; watch = h; end = k.end })
-          behind (omega arith) (omega arith) (omega arith) alike sent
+          few_row P H p s _ (record { env = insert_names P s.tables.env var (term.Ref (new_ref s)) k.env value; inbox = k.inbox; links = k.links; watch = h (made fresh); end = k.end })
+          behind (omega arith) (omega arith) (omega arith) alike (sent (made fresh))
 
       making_ref_kept : (var : List ℕ) → Kept (making_ref s var)
-      making_ref_kept var = making_kept var s.tables.watch [] k.watch (same_watch s.tables.watch) (no_posts P)
+      making_ref_kept var = making_kept var s.tables.watch [] (λ r. k.watch) (same_watch s.tables.watch) (λ r. no_posts P)
 
-      monitored_kept : (var : List ℕ) (target : Pid) (answer : Bool × WatchState) → P (process target.0) → WatchNames P answer.1 → BearsAlike s.tables.watch answer.1 → Kept (monitored_by s var target answer)
+      monitored_kept : (var : List ℕ) (target : Pid) (answer : Bool × WatchState) → P (process target.0) → (OfRef (new_ref s) → WatchNames P answer.1) → BearsAlike s.tables.watch answer.1 → Kept (monitored_by s var target answer)
       monitored_kept var target (sends, watch) g h alike =
           making_kept var watch _ h alike
-          (cond_both sends (record { to = target.0; kind = kind.Monitor (new_ref s) } ∷ []) [] (ArePosts P) (λ e. one_post P _ g made) (λ e. no_posts P))
+          (λ r. cond_both sends (record { to = target.0; kind = kind.Monitor (new_ref s) } ∷ []) [] (ArePosts P) (λ e. one_post P _ g r) (λ e. no_posts P))
 
       monitoring_kept : (var : List ℕ) (mode : Option AliasMode) (target : Pid) → P (process target.0) → Kept (monitoring s var mode target)
       monitoring_kept var mode target g =
-          monitored_kept var target (monitor s.tables.watch (new_ref s) target.0 mode) g (monitor_names P s.tables.watch k.watch (new_ref s) target.0 mode made g)
+          monitored_kept var target (monitor s.tables.watch (new_ref s) target.0 mode) g (λ r. monitor_names P s.tables.watch k.watch (new_ref s) target.0 mode r g)
           (monitor_alike s.tables.watch (new_ref s) target.0 mode)
 
       aliasing_kept : (var : List ℕ) (reply : Bool) → Kept (aliasing s var reply)
-      aliasing_kept var reply = making_kept var (alias s.tables.watch (new_ref s) reply) [] (alias_names P s.tables.watch k.watch (new_ref s) reply made) (record { owner = refl; borne = refl }) (no_posts P)
+      aliasing_kept var reply = making_kept var (alias s.tables.watch (new_ref s) reply) [] (λ r. alias_names P s.tables.watch k.watch (new_ref s) reply r) (record { owner = refl; borne = refl }) (λ r. no_posts P)
 
       -- a row that ends a monitor or an alias
       rewatching : (watch : WatchState) (how : Outcome) (posts : List Post) → WatchNames P watch → BearsAlike s.tables.watch watch → ArePosts P posts
           → Kept (record { state = rewatched (at_next s) watch; outcome = how; posts = posts })
-      rewatching watch how posts h alike sent =
-          few_row P p s _ (record { env = k.env; inbox = k.inbox; links = k.links; watch = h; end = k.end }) behind (omega arith) (omega arith) (omega arith) alike sent
+      rewatching watch how posts h alike sent n =
+          few_row P H p s _ (record { env = k.env; inbox = k.inbox; links = k.links; watch = h; end = k.end }) behind (omega arith) (omega arith) (omega arith) alike sent
 
       flushed_into_kept : (b : Body) → Kept b → (at : Option ℕ) → Kept (flushed_into b (without_at b.state.tables.inbox at))
-      flushed_into_kept b h at = record {
+      flushed_into_kept b kept at n = let h : IsKeptBody P H p s b = kept n in record {
         names = record {
           tables = record { env = h.names.tables.env; inbox = flushed_names b.state.tables.inbox h.names.tables.inbox at; links = h.names.tables.links; watch = h.names.tables.watch; end = h.names.tables.end };
           posts = h.names.posts;
         };
-        bounds = record {
-          first = h.bounds.first;
-          within = h.bounds.within;
-          arrivals = rw (same_arrivals b.state.tables.inbox at) h.bounds.arrivals;
-          ids = h.bounds.ids;
-          serials = h.bounds.serials;
-          posts = h.bounds.posts;
+        bounds = λ j. record {
+          first = (h.bounds j).first;
+          within = (h.bounds j).within;
+          arrivals = rw (same_arrivals b.state.tables.inbox at) (h.bounds j).arrivals;
+          ids = (h.bounds j).ids;
+          serials = (h.bounds j).serials;
+          posts = (h.bounds j).posts;
         };
         owner = h.owner;
       }
@@ -243,7 +252,7 @@ module _ (P : Named → Type 0) where
 
       -- a row that changes the reserve and the marks
       remarking : (inbox : Inbox) (how : Outcome) → InboxNames P inbox → inbox.next_arrival ≡ s.tables.inbox.next_arrival → Kept (record { state = inboxed (at_next s) inbox; outcome = how; posts = [] })
-      remarking inbox how h arrivals = moving P p s _ (record { env = k.env; inbox = h; links = k.links; watch = k.watch; end = k.end }) behind arrivals refl refl refl (no_posts P)
+      remarking inbox how h arrivals n = moving P H p s _ (record { env = k.env; inbox = h; links = k.links; watch = k.watch; end = k.end }) behind arrivals refl refl refl (no_posts P)
 
       marked_kept : (answer : Bool × Inbox) → InboxNames P answer.1 → answer.1.next_arrival ≡ s.tables.inbox.next_arrival → Kept (marked_by s answer)
       marked_kept (is, inbox) h arrivals = remarking inbox _ h arrivals
@@ -270,21 +279,21 @@ module _ (P : Named → Type 0) where
 
       receiving_kept : (after : Option After) (start from : ℕ) (o : Option Hit) → IfSome o (λ h. EnvironmentNames P h.env)
           → IfSome (receiving p s after start from o) Kept
-      receiving_kept after start from (Some h) g =
-          moving P p s _
+      receiving_kept after start from (Some h) g = λ n.
+          moving P H p s _
           (record { env = g; inbox = left_names s.tables.inbox k.inbox (from + h.at); links = k.links; watch = k.watch; end = k.end })
           (target_place h.target) refl refl refl refl (no_posts P)
-      receiving_kept (Some after) start from None g = moving P p s _ k (target_place after.target) refl refl refl refl (no_posts P)
+      receiving_kept (Some after) start from None g = λ n. moving P H p s _ k (target_place after.target) refl refl refl refl (no_posts P)
       receiving_kept None start from None g = tt
 
       instr_kept : (i : Instr) → InstrNames i → IfSome (exec_body from_mark p s (Some i)) Kept
       instr_kept (instr.Send to message) h =
           with_value_kept to _ (first to message h) (λ t g. with_value_kept message _ (second to message h) (λ m f. with_target_kept t (sending s m) g
-          (λ q e. moving P p s _ k behind refl refl refl refl (one_post P _ e f))
-          (λ r e. moving P p s _ k behind refl refl refl refl (one_post P _ e.1 (All-append P (names_of_ref r) (names_of m) (all_of_ref P r e.0 e.1) f)))))
+          (λ q e n. moving P H p s _ k behind refl refl refl refl (one_post P _ e f))
+          (λ r e n. moving P H p s _ k behind refl refl refl refl (one_post P _ e.1 (All-append P (names_of_ref r) (names_of m) (all_of_ref P r e.0 e.1) f)))))
       instr_kept (instr.Set var value) h =
           with_value_kept value _ (only value h)
-          (λ v g. moving P p s _ (record { env = insert_names P s.tables.env var.0 v k.env g; inbox = k.inbox; links = k.links; watch = k.watch; end = k.end }) behind refl refl refl refl (no_posts P))
+          (λ v g n. moving P H p s _ (record { env = insert_names P s.tables.env var.0 v k.env g; inbox = k.inbox; links = k.links; watch = k.watch; end = k.end }) behind refl refl refl refl (no_posts P))
       instr_kept (instr.MakeRef var) h = making_ref_kept var.0
       instr_kept (instr.Link peer) h =
           with_peer_kept peer _ (only peer h)
@@ -298,13 +307,13 @@ module _ (P : Named → Type 0) where
       instr_kept (instr.Alias var reply) h = aliasing_kept var.0 reply
       instr_kept (instr.Unalias e) h =
           with_value_kept e _ (only e h) (λ t g. with_ref_kept t _ g (λ r named. unaliasing_kept r))
-      instr_kept (instr.Exit reason) h = with_value_kept reason _ (only reason h) (ending_kept P p s k here)
+      instr_kept (instr.Exit reason) h = with_value_kept reason _ (only reason h) (λ t g n. ending_kept P H p s k here t g)
       instr_kept (instr.ExitTo target reason) h =
           with_value_kept target _ (first target reason h)
-          (λ t g. with_value_kept reason _ (second target reason h) (λ r f. with_pid_kept t _ g (λ q e. moving P p s _ k behind refl refl refl refl (one_post P _ e f))))
-      instr_kept (instr.Trap on) h = moving P p s _ k behind refl refl refl refl (no_posts P)
-      instr_kept (instr.Goto label) h = moving P p s _ k (target_place (Some label)) refl refl refl refl (no_posts P)
-      instr_kept instr.Stop h = ending_atom P p s k here (codes "normal")
+          (λ t g. with_value_kept reason _ (second target reason h) (λ r f. with_pid_kept t _ g (λ q e n. moving P H p s _ k behind refl refl refl refl (one_post P _ e f))))
+      instr_kept (instr.Trap on) h = λ n. moving P H p s _ k behind refl refl refl refl (no_posts P)
+      instr_kept (instr.Goto label) h = λ n. moving P H p s _ k (target_place (Some label)) refl refl refl refl (no_posts P)
+      instr_kept instr.Stop h = ended (codes "normal")
       instr_kept instr.Reserve h = reserving_kept
       instr_kept (instr.Bind var) h = binding_kept var
       instr_kept (instr.Clear var) h = clearing_kept var
@@ -314,17 +323,17 @@ module _ (P : Named → Type 0) where
           (hit_names P s.tables.env k.env clauses (drop start (terms_of s.tables.inbox.messages))
           (All-drop (AllNames P) start (terms_of s.tables.inbox.messages) (All-map (AllNames P) (λ (m : ℕ × Term). m.1) s.tables.inbox.messages k.inbox.messages)))
 
-    body_kept : IsWithin p → (o : Option Instr) → slice_get p.instrs (s.counts.place - 1) ≡ o → IfSome o InstrNames → IfSome (exec_body from_mark p s o) Kept
-    body_kept w None e h = ending_atom P p s k here (codes "normal")
+    body_kept : (H → IsWithin p) → (o : Option Instr) → slice_get p.instrs (s.counts.place - 1) ≡ o → IfSome o InstrNames → IfSome (exec_body from_mark p s o) Kept
+    body_kept w None e h = ended (codes "normal")
     body_kept w (Some i) e h =
-        let lt : s.counts.place - 1 < length p.instrs = slice_get_within p.instrs (s.counts.place - 1) i e in instr_kept w (omega (arith, lt, here.0)) i h
+        let lt : s.counts.place - 1 < length p.instrs = slice_get_within p.instrs (s.counts.place - 1) i e in instr_kept w (λ j. omega (arith, lt, (here j).0)) i h
 
 -- what the next instruction does, where it can be executed
-pub executing_kept : (P : Named → Type 0) (p : Declared) (s : ProcessState) → TableNames P s.tables → P (reference (new_ref s)) → IsBounded p s → IsWithin p
-    → ScriptNames P p → IfSome (executing p s) (IsKeptBody P p s)
+pub executing_kept : (P : Named → Type 0) (H : Type 0) (p : Declared) (s : ProcessState) → TableNames P s.tables → (H → IsBounded p s) → (H → IsWithin p) → ScriptNames P p
+    → IfSome (executing p s) (IsKeptMade P H p s)
 unfolding executing
-executing_kept P p s k fresh b w h =
-    body_kept P p s k fresh (b.first, b.within) w (slice_get p.instrs (s.counts.place - 1)) refl (at_place (InstrNames P) p.instrs (s.counts.place - 1) h)
+executing_kept P H p s k b w h =
+    body_kept P H p s k (λ j. ((b j).first, (b j).within)) w (slice_get p.instrs (s.counts.place - 1)) refl (at_place (InstrNames P) p.instrs (s.counts.place - 1) h)
 
 -- a script that names processes of the script alone
 pub script_names : (count : ℕ) (p : Declared) → IsProcBelow count p → ScriptNames (IsNameBelow count) p

@@ -3,6 +3,7 @@ use Rattle.std.proofs.Common.{◌≡◌, ◌≢◌, ℕ, ◌<◌, ◌≤◌, Lis
 use Rattle.std.specs.Prelude.{All, ◌==◌}
 use Rattle.std.specs.Bool.{MatchBool}
 use Rattle.std.proofs.lemmas.List.Elements.{All-nil, All-cons, All-head, All-append, All-push, All-filter, All-weaker}
+use Rattle.std.proofs.lemmas.Option.{IfSome_then}
 use Rattle.sig_terms.specs.Names.{IsNameBelow}
 use Rattle.sig_kinds.specs.declared.signal.Signal.{Signal}
 use Rattle.sig_kinds.specs.SignalNames.{IsSignalBelow}
@@ -16,6 +17,7 @@ use Rattle.sig_model.specs.declared.event.Event.{Event}
 use Rattle.sig_model.specs.declared.state.TheConstants.{LAST_STAMP}
 use Rattle.sig_model.specs.ProcessState.{ProcessState}
 use Rattle.sig_model.specs.Bodies.{Body}
+use Rattle.sig_model.specs.Executing.{executing}
 use Rattle.sig_model.specs.Handling.{handling}
 use Rattle.sig_model.specs.Machine.{rules_with}
 use Rattle.sig_model.specs.Running.{Running, opened, exec_next, handle_next}
@@ -113,7 +115,7 @@ module _ (r : Running) where
     Below = IsSignalBelow r.count
 
     abbrev Kept : Body → Type 0
-    Kept = IsKeptBody (IsNameBelow r.count) r.proc r.state
+    Kept = IsKeptBody (IsNameBelow r.count) (Unit {0}) r.proc r.state
 
     handled : All Below (handled_in e.input)
     handled = handled_all Below e.input e.next k.below.own k.below.taken_in
@@ -121,8 +123,8 @@ module _ (r : Running) where
     did : IsFinished Kept r.pid r.state e.effect
     did =
         act_finished r.turns part r.pid r.state r.own Kept e.effect e.input
-        (executing_kept (IsNameBelow r.count) r.proc r.state k.below.tables tt k.bounds k.within (script_names r.count r.proc k.below.proc))
-        (All-weaker Below (λ (x : Signal). Kept (handling r.pid r.state x)) (λ x h. handling_kept (IsNameBelow r.count) r.proc r.state k.below.tables k.bounds r.pid x h) (handled_in e.input) handled) e.can
+        (IfSome_then (executing r.proc r.state) (executing_kept (IsNameBelow r.count) (Unit {0}) r.proc r.state k.below.tables (λ j. k.bounds) (λ j. k.within) (script_names r.count r.proc k.below.proc)) (λ b h. h (λ n. tt)))
+        (All-weaker Below (λ (x : Signal). Kept (handling r.pid r.state x)) (λ x h. handling_kept (IsNameBelow r.count) (Unit {0}) r.proc r.state k.below.tables (λ j. k.bounds) r.pid x h) (handled_in e.input) handled) e.can
 
     sent : All Below e.effect.sends
     sent =
@@ -148,7 +150,7 @@ module _ (r : Running) where
           owner = subst (λ (f : Effect ProcessState Signal Event). f.state.tables.watch.owner ≡ r.pid) did.is (did.holds.owner ∙ k.owner);
           within = k.within;
           bounds = subst (λ (f : Effect ProcessState Signal Event). IsBounded r.proc f.state) did.is
-              (finished_bounded r.proc r.state k.bounds r.pid did.executed did.stamp did.what did.body did.holds.bounds did.later);
+              (finished_bounded r.proc r.state k.bounds r.pid did.executed did.stamp did.what did.body (did.holds.bounds tt) did.later);
           low = subst (λ (f : Effect ProcessState Signal Event). f.state.counts.stamp ≤ LAST_STAMP) did.is did.low;
           own = kept.own;
           taken_in = taken_in_all r.turns part r.pid r t e (IsArriving r.pid r.count) e.input r.taken_in k.taken_in;

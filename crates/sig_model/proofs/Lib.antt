@@ -23,3 +23,10 @@ pub mod SettledLemmas
 pub mod KeepLemmas
 pub mod PlacedLemmas
 pub mod NumberLemmas
+pub mod HoldLemmas
+pub mod InboxLemmas
+pub mod MarkingLemmas
+pub mod FreshLemmas
+pub mod MarkerLemmas
+pub mod NameLawLemmas
+pub mod MarkedRuns

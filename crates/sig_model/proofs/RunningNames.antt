@@ -12,7 +12,7 @@ use Rattle.sig_model.specs.Names.{TableNames, IsRunningBelow}
 use Rattle.sig_model.proofs.MatchNames.{empty_names}
 use Rattle.sig_model.proofs.BodyLemmas.{empty_inbox}
 
-opening_names : (P : Named → Type 0) (pid : ℕ) → P (process pid) → TableNames P (opening_tables pid)
+pub opening_names : (P : Named → Type 0) (pid : ℕ) → P (process pid) → TableNames P (opening_tables pid)
 opening_names P pid own = record { env = empty_names P; inbox = empty_inbox P 1; links = unlinked_names P pid own; watch = unwatched_names P pid own; end = tt }
 
 pub opened_below : (pid count turns : ℕ) (p : Declared) → pid < count → IsProcBelow count p → IsRunningBelow (opened pid count turns p)

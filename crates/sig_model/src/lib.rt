@@ -3,6 +3,7 @@
 #![tactic(auto)]
 
 mod event;
+mod marker_law;
 mod numbers;
 mod receives;
 mod settled;
@@ -11,6 +12,7 @@ mod state;
 mod target;
 
 pub use event::{Did, Event, Events, Outcome};
+pub use marker_law::{a_run_from_marks_is_a_run, only_processes_of_the_script_are_named};
 pub use numbers::signals_are_numbered;
 pub use receives::{a_mark_skips_no_match, only_a_receive_waits};
 pub use settled::one_worker_run_is_settled;

@@ -76,15 +76,16 @@ module _ {S X E R : Type 0} (rules : Rules S X E) (marking : Marking S X R) wher
       posted_made f t r h = go (p == f) f t r h
 
   module _ (fresh : MakesFresh marking rules) where
-    -- each choice keeps that all is made
-    pub keeps_made : (m : Machine S X) (c : Choice) (r : Applied S X E) → AllMade marking m → apply rules m c ≡ Some r → AllMade marking r.machine
-    keeps_made m (Executes p) r made h =
+    -- each choice keeps that all is made, where the marks are sound
+    pub keeps_made : (m : Machine S X) (c : Choice) (r : Applied S X E) → AllMade marking m → ((p : ℕ) (s : S) → slice_get m.procs p ≡ Some s → marking.sound p s) → apply rules m c ≡ Some r →
+        AllMade marking r.machine
+    keeps_made m (Executes p) r made marks h =
         let d : DidExecute rules m p (slice_get m.procs p) r = did_execute rules m p (slice_get m.procs p) r h in
         subst (λ z. AllMade marking z.machine) (sym d.is)
         (moved_made m p d.state d.effect m.queued made d.at (fresh.exec_next p d.state d.effect d.defined)
-        (λ r a. ⊎_elim (λ b. inl (made.states p d.state d.at r b)) (λ b. inr b) (fresh.exec_stands p d.state d.effect d.defined r a))
+        (λ r a. ⊎_elim (λ b. inl (made.states p d.state d.at r b)) (λ b. inr b) (fresh.exec_stands p d.state d.effect d.defined (marks p d.state d.at) r a))
         (λ s t r a. a))
-    keeps_made m (Handles p f) r made h =
+    keeps_made m (Handles p f) r made marks h =
         let d : DidHandle rules m p f (slice_get m.procs p) (m.queued f p) r = did_handle rules m p f (slice_get m.procs p) (m.queued f p) r h in
         subst (λ z. AllMade marking z.machine) (sym d.is)
         (moved_made m p d.state (rules.handle p d.state d.signal) (without_oldest f p m.queued) made d.at (fresh.handle_next p d.state d.signal)

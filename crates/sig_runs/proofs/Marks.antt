@@ -41,14 +41,14 @@ module _ {S X E R : Type 0} (rules : Rules S X E) (marking : Marking S X R) (fre
     keeps_sound m (Executes p) r h e =
         let d : DidExecute rules m p (slice_get m.procs p) r = did_execute rules m p (slice_get m.procs p) r e in
         record {
-          made = keeps_made rules marking fresh m (Executes p) r h.made e;
+          made = keeps_made rules marking fresh m (Executes p) r h.made h.marks e;
           marks = subst (λ z. (q : ℕ) (u : S) → slice_get z.machine.procs q ≡ Some u → marking.sound q u) (sym d.is)
               (moved_sound m p d.state d.effect.state h d.at (keeps.exec_sound p d.state d.effect d.defined (h.marks p d.state d.at) (own_made m h p d.state d.at)));
         }
     keeps_sound m (Handles p f) r h e =
         let d : DidHandle rules m p f (slice_get m.procs p) (m.queued f p) r = did_handle rules m p f (slice_get m.procs p) (m.queued f p) r e in
         record {
-          made = keeps_made rules marking fresh m (Handles p f) r h.made e;
+          made = keeps_made rules marking fresh m (Handles p f) r h.made h.marks e;
           marks = subst (λ z. (q : ℕ) (u : S) → slice_get z.machine.procs q ≡ Some u → marking.sound q u) (sym d.is)
               (moved_sound m p d.state (rules.handle p d.state d.signal).state h d.at (keeps.handle_sound p d.state d.signal (h.marks p d.state d.at) (own_made m h p d.state d.at)));
         }
