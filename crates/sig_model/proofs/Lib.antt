@@ -23,3 +23,6 @@ pub mod SettledLemmas
 pub mod KeepLemmas
 pub mod PlacedLemmas
 pub mod NumberLemmas
+pub mod LawLemmas
+pub mod KeptLawLemmas
+pub mod LawfulRunLemmas

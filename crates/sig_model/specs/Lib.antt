@@ -14,3 +14,5 @@ pub mod OneWorker
 pub mod PrintedState
 pub mod SettledRun
 pub mod MadeEvents
+pub mod CrewLaw
+pub mod Still

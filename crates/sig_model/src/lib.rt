@@ -2,6 +2,7 @@
 //! the run of one worker. Its definitions stand in specs/; here are the types of events.
 #![tactic(auto)]
 
+mod crew_law;
 mod event;
 mod numbers;
 mod receives;
@@ -10,6 +11,10 @@ mod stamps;
 mod state;
 mod target;
 
+pub use crew_law::{
+    lawful_crew_comes_to_rest, lawful_crew_goes_by_steps, lawful_crew_is_lawful,
+    lawful_crew_stays_lawful,
+};
 pub use event::{Did, Event, Events, Outcome};
 pub use numbers::signals_are_numbered;
 pub use receives::{a_mark_skips_no_match, only_a_receive_waits};
