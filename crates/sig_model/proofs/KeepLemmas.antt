@@ -157,7 +157,7 @@ module _ (r : Running) where
           outbox = kept.outbox;
         }
 
-step_keeps : (r t : Running) → IsKeeping r → IsStep r t → IsKeeping t
+pub step_keeps : (r t : Running) → IsKeeping r → IsStep r t → IsKeeping t
 step_keeps r t k step =
     let e : IsEvent r.turns (part r) r.pid r t = step_event r.turns (part r) r.pid r t (is_kept r k) step in
     subst IsKeeping (sym e.is) (next_keeps r t e k)

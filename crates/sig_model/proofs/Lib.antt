@@ -30,3 +30,6 @@ pub mod FreshLemmas
 pub mod MarkerLemmas
 pub mod NameLawLemmas
 pub mod MarkedRuns
+pub mod LawLemmas
+pub mod KeptLawLemmas
+pub mod LawfulRunLemmas

@@ -30,6 +30,7 @@ use Rattle.sig_model.specs.SettledRun.{IsMachineOf, IsResting, IsSettledRun}
 use Rattle.sig_model.specs.MadeEvents.{made_in_pass, Makes}
 use Rattle.sig_model.specs.MadeEvents.{none, passes}
 use Rattle.sig_model.specs.Keeping.{IsToItself}
+use Rattle.sig_model.specs.Still.{IsStill, IsStillCrew}
 use Rattle.sig_model.proofs.Lookups.{mapped_none}
 use Rattle.sig_model.proofs.StampLemmas.{stamps_kept}
 use Rattle.sig_model.proofs.Waiting.{waiting_iff}
@@ -37,7 +38,7 @@ use Rattle.sig_model.proofs.Guards.{uncut_stamp, exec_due}
 use Rattle.sig_model.proofs.EventLemmas.{member_of, IsPartOf, IsKeptOf}
 use Rattle.sig_model.proofs.CrewLemmas.{Mate, members, at_member}
 use Rattle.sig_model.proofs.ReachLemmas.{IsReached, IsBetweenVisits, rest_pass}
-use Rattle.sig_model.proofs.StillLemmas.{IsStill, still_pass}
+use Rattle.sig_model.proofs.StillLemmas.{still_pass}
 use Rattle.sig_model.proofs.OpeningLemmas.{opening_reached}
 
 can_exec_at : (r : Running) → r.state.tables.end ≡ None → is_cut r.turns r.state ≡ false → r.own ≡ [] → can_exec r ≡ true
@@ -65,7 +66,7 @@ one_run _ _ b (rests crew h) other = sym (from_rest crew b h other)
 one_run _ a b (goes crew _ h more) other = one_run (pass crew).0 a b more (from_move crew b h other)
 
 module _ (script : Program) where
-  cuts_high : CutsHigh (rules_of script)
+  pub cuts_high : CutsHigh (rules_of script)
   unfolding rules_with
   cuts_high s h =
       or_right (is_none s.tables.end && nat_le script.turns s.counts.executed) (nat_le LAST_STAMP s.counts.stamp) (le-leb LAST_STAMP s.counts.stamp h)
@@ -122,7 +123,7 @@ module _ (script : Program) where
     ]
 
     -- it can do nothing as the machine's process either
-    quiet : IsQuiet (rules_of script) p (member_of r)
+    pub quiet : IsQuiet (rules_of script) p (member_of r)
     unfolding rules_with
     quiet = record { no_handle = no_handle; no_exec = no_exec; from_others = k.others }
 
@@ -178,13 +179,13 @@ module _ (script : Program) where
     unfolding rules_with
     shown = record { states = g.at_work.states ∙ same_states crew; queued = waiting }
 
-    state_of : (p : ℕ) (o : Option Running) (s : ProcessState) → slice_get crew p ≡ o → option_map (λ (r : Running). r.state) o ≡ Some s → ((q : ℕ) (r : Running) → slice_get crew q ≡ Some r → IsStill r) → IsAtRest (rules_of script) g.machine p s
+    state_of : (p : ℕ) (o : Option Running) (s : ProcessState) → slice_get crew p ≡ o → option_map (λ (r : Running). r.state) o ≡ Some s → IsStillCrew crew → IsAtRest (rules_of script) g.machine p s
     state_of p None s there e still = cc
     state_of p (Some r) s there e still =
         subst (λ z. IsAtRest (rules_of script) g.machine p z) (same_Some r.state s e)
         (quiet_at_rest (rules_of script) (stamps_kept script.turns (slice_get script.procs)) cuts_high g.machine p (member_of r) (λ f. waiting f p r there) (low p r (g.kept p r there)) (quiet p r (g.kept p r there) (still p r there)))
 
-    settled : ((q : ℕ) (r : Running) → slice_get crew q ≡ Some r → IsStill r) → IsSettled (rules_of script) g.machine
+    settled : IsStillCrew crew → IsSettled (rules_of script) g.machine
     settled still p s at = state_of p (slice_get crew p) s refl (sym (slice_get-map (λ (r : Running). r.state) crew p) ∙ ap (λ xs. slice_get xs p) (sym shown.states) ∙ at) still
 
   -- these events have led to a crew in which no process can go on
@@ -192,7 +193,7 @@ module _ (script : Program) where
     later : List (At Event)
     made : Makes crew later
     reached : IsReached script (λ q. []) last (es ++ later)
-    still : (q : ℕ) (r : Running) → slice_get last q ≡ Some r → IsStill r
+    still : IsStillCrew last
 
   run_ends : (crew last : List Running) (es : List (At Event)) → RunsTo crew last → IsBetweenVisits script crew es → HasEnded crew last es
   run_ends _ _ es (rests crew h) g =

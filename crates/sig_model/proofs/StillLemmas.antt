@@ -8,17 +8,13 @@ use Rattle.sig_kinds.specs.declared.signal.Signal.{Signal}
 use Rattle.sig_runs.proofs.Lists.{slice_get-set_same}
 use Rattle.sig_model.specs.Running.{Running, can_handle, next_of, handled_one, handled_first, handle_next, exec_next}
 use Rattle.sig_model.specs.OneWorker.{or_stay, handle_all, exec_or_stay, visited, deliver_all, settled_visit, visit_at, visit, events_at, has_moved, pass_from, IsClear}
+use Rattle.sig_model.specs.Still.{IsStill}
 use Rattle.sig_model.proofs.ClearLemmas.{clear_at}
 use Rattle.sig_model.proofs.CountLemmas.{events_get, delivered_events}
 use Rattle.sig_model.proofs.Guards.{CanHandle, Executed, Handled, can_handle_tells, handle_due, handle_refused, exec_next_tells, handle_next_tells}
 use Rattle.sig_model.proofs.EventLemmas.{IsStep}
 use Rattle.sig_model.proofs.GoingLemmas.{Goes, stays, on, goes_trans, goes_handle, goes_exec}
 use Rattle.sig_model.proofs.ReachLemmas.{set_here}
-
--- the process can do nothing: no signal may be handled, and no instruction executed
-pub record IsStill (r : Running) : Type 0 where
-  pub handle : can_handle r ≡ false
-  pub exec : exec_next r ≡ None
 
 -- handling that may happen happens
 first_there : (r : Running) (own taken : List Signal) (x : Signal) → next_of own taken ≡ Some x → (u : Running) × (handled_first r own taken ≡ Some u)

@@ -16,3 +16,5 @@ pub mod SettledRun
 pub mod MadeEvents
 pub mod Marking
 pub mod NameLaw
+pub mod CrewLaw
+pub mod Still

@@ -2,6 +2,7 @@
 //! the run of one worker. Its definitions stand in specs/; here are the types of events.
 #![tactic(auto)]
 
+mod crew_law;
 mod event;
 mod marker_law;
 mod numbers;
@@ -11,6 +12,10 @@ mod stamps;
 mod state;
 mod target;
 
+pub use crew_law::{
+    lawful_crew_comes_to_rest, lawful_crew_goes_by_steps, lawful_crew_is_lawful,
+    lawful_crew_stays_lawful,
+};
 pub use event::{Did, Event, Events, Outcome};
 pub use marker_law::{a_run_from_marks_is_a_run, only_processes_of_the_script_are_named};
 pub use numbers::signals_are_numbered;
