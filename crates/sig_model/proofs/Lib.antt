@@ -23,3 +23,9 @@ pub mod SettledLemmas
 pub mod KeepLemmas
 pub mod PlacedLemmas
 pub mod NumberLemmas
+pub mod TermSizeLemmas
+pub mod MatchParts
+pub mod SizeLemmas
+pub mod ExecutingSizes
+pub mod HandlingSizes
+pub mod SizeLaw

@@ -14,3 +14,4 @@ pub mod OneWorker
 pub mod PrintedState
 pub mod SettledRun
 pub mod MadeEvents
+pub mod TermSizes

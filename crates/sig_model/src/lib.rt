@@ -9,6 +9,7 @@ mod settled;
 mod stamps;
 mod state;
 mod target;
+mod term_sizes;
 
 pub use event::{Did, Event, Events, Outcome};
 pub use numbers::signals_are_numbered;
@@ -17,3 +18,4 @@ pub use settled::one_worker_run_is_settled;
 pub use stamps::stamps_are_kept;
 pub use state::{LAST_STAMP, State};
 pub use target::Target;
+pub use term_sizes::terms_stay_small;
