@@ -62,7 +62,10 @@ removed : (messages : List (ℕ × Term)) (at : ℕ) → AllMessages messages �
 removed messages at h =
     All-append (λ (m : ℕ × Term). IsKeptTerm m.1) _ _ (All-take (λ (m : ℕ × Term). IsKeptTerm m.1) at messages h) (All-drop (λ (m : ℕ × Term). IsKeptTerm m.1) (suc at) messages h)
 
-flushed : (inbox : Inbox) (at : Option ℕ) → AllMessages inbox.messages → AllMessages (option_map_or {U = Bool × Inbox} (λ (i : ℕ). (true, without_message inbox i)) at (false, inbox)).1.messages
+abbrev without_at : Inbox → Option ℕ → Bool × Inbox
+without_at inbox at = option_map_or {U = Bool × Inbox} (λ (i : ℕ). (true, without_message inbox i)) at (false, inbox)
+
+flushed : (inbox : Inbox) (at : Option ℕ) → AllMessages inbox.messages → AllMessages (without_at inbox at).1.messages
 flushed inbox None h = h
 flushed inbox (Some i) h = removed inbox.messages i h
 
@@ -134,7 +137,7 @@ module _ (p : Declared) (s : ProcessState) (k : TableSizes s.tables) where
       (cond_both sends (record { to = target.0; kind = kind.Monitor (new_ref s) } ∷ []) [] (All PostSizes) (λ e. one_post _ tt) (λ e. no_posts))
 
   -- a row that ends a monitor
-  flushed_into_sizes : (b : Body) → BodySizes b → (at : Option ℕ) → BodySizes (flushed_into b (option_map_or {U = Bool × Inbox} (λ (i : ℕ). (true, without_message b.state.tables.inbox i)) at (false, b.state.tables.inbox)))
+  flushed_into_sizes : (b : Body) → BodySizes b → (at : Option ℕ) → BodySizes (flushed_into b (without_at b.state.tables.inbox at))
   flushed_into_sizes b h at = record {
     tables = record { env = h.tables.env; messages = flushed b.state.tables.inbox at h.tables.messages; end = h.tables.end };
     posts = h.posts;
