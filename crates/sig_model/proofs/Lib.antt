@@ -33,3 +33,9 @@ pub mod MarkedRuns
 pub mod LawLemmas
 pub mod KeptLawLemmas
 pub mod LawfulRunLemmas
+pub mod TermSizeLemmas
+pub mod MatchParts
+pub mod SizeLemmas
+pub mod ExecutingSizes
+pub mod HandlingSizes
+pub mod SizeLaw

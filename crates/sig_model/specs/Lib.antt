@@ -18,3 +18,4 @@ pub mod Marking
 pub mod NameLaw
 pub mod CrewLaw
 pub mod Still
+pub mod TermSizes

@@ -11,6 +11,7 @@ mod settled;
 mod stamps;
 mod state;
 mod target;
+mod term_sizes;
 
 pub use crew_law::{
     lawful_crew_comes_to_rest, lawful_crew_goes_by_steps, lawful_crew_is_lawful,
@@ -24,3 +25,4 @@ pub use settled::one_worker_run_is_settled;
 pub use stamps::stamps_are_kept;
 pub use state::{LAST_STAMP, State};
 pub use target::Target;
+pub use term_sizes::terms_stay_small;
