@@ -1,6 +1,6 @@
 -- What holds of every name in a process holds of every name in what an event does, and the event moves the counts no further than
 -- it may: the bodies that executions and handlings share.
-use Rattle.std.proofs.Common.{◌≡◌, ℕ, ◌+◌, ◌≤◌, List, [], ◌∷◌, ◌++◌, length, Bool, true, false, cond, ◌||◌, ◌==◌, is_some, All, Some, None, refl, sym, ap, subst, arith}
+use Rattle.std.proofs.Common.{◌≡◌, ℕ, ◌+◌, ◌≤◌, List, [], ◌∷◌, ◌++◌, length, Bool, true, false, cond, ◌||◌, ◌==◌, is_some, All, Some, None, refl, sym, subst, arith}
 use Rattle.std.specs.Prelude.{nat_eq}
 use Rattle.std.specs.Option.{option_eq}
 use Rattle.std.proofs.lemmas.List.Elements.{All-nil, All-cons, All-push, All-append, All-map, All-weaker}

@@ -5,7 +5,7 @@ use Rattle.std.proofs.lemmas.Bool.{cases_lt, cases_eq}
 use Rattle.std.proofs.lemmas.List.Elements.{All-head, All-tail}
 use Rattle.std.proofs.lemmas.Option.{MatchOption-at_some}
 use Rattle.sig_terms.specs.declared.reference.Ref.{Ref}
-use Rattle.sig_terms.specs.Names.{process, reference}
+use Rattle.sig_terms.specs.Names.{reference}
 use Rattle.sig_kinds.specs.declared.signal.Signal.{Signal}
 use Rattle.sig_kinds.specs.SignalNames.{names_of_kind}
 use Rattle.sig_patterns.specs.Inbox.{Inbox}
