@@ -1,15 +1,16 @@
 -- Lists from a place on, and the processes of a crew.
-use Rattle.std.proofs.Common.{◌≡◌, ℕ, zero, suc, ◌+◌, ◌<◌, ◌≤◌, List, [], ◌∷◌, ◌++◌, length, drop, Option, Some, None, refl, sym, ◌∙◌, ap, append_assoc, Bool, ◌||◌, arith}
-use Rattle.std.specs.Prelude.{slice_get, slice_set, IfSome, MatchOption}
+use Rattle.std.proofs.Common.{◌≡◌, ℕ, zero, suc, ◌+◌, ◌<◌, ◌≤◌, List, [], ◌∷◌, ◌++◌, length, drop, Option, Some, None, refl, sym, ◌∙◌, ap, subst, append_assoc, Bool, ◌||◌, arith}
+use Rattle.std.specs.Prelude.{All, slice_get, slice_set, IfSome, MatchOption}
 use Rattle.std.specs.List.{IsItemAtMut}
 use Rattle.std.specs.Borrow.{MutBor}
 use Rattle.std.specs.List.{list_any}
 use Rattle.std.specs.Option.{option_map}
 use Rattle.std.proofs.lemmas.List.{append-nil, drop_more, drop_all, length-map, map-append, map-set}
-use Rattle.std.proofs.lemmas.List.Elements.{All-nil, All-cons}
+use Rattle.std.proofs.lemmas.List.Elements.{All-nil, All-cons, All-push}
 use Rattle.std.proofs.lemmas.Option.{slice_get-map, slice_get_within, get_or_from_slice_get, slice_get-get_or}
 use Rattle.sig_script.specs.Scripts.{Declared}
 use Rattle.sig_model.specs.Running.{Running, opened}
+use Rattle.sig_model.specs.Keeping.{IsKeeping}
 use Rattle.sig_model.specs.OneWorker.{opened_from, IsClear}
 use Rattle.sig_process.specs.Standing.{Standing, runnings_of}
 
@@ -47,6 +48,10 @@ pub opened_more : (procs : List Declared) (pid count turns : ℕ) (d : Declared)
 opened_more procs pid count turns d p before lt is =
     ap (λ rs. rs ++ opened_from (pid + 1) count turns (drop (pid + 1) procs)) (map-append (λ (q : Standing). q.running) before (p ∷ []))
     ∙ opened_at procs pid count turns (slice_get procs pid) _ p.running (runnings_of before) (slice_get-get_or procs pid d lt) refl is
+
+pub keeping_more : (before : List Standing) (p : Standing) → All IsKeeping (runnings_of before) → IsKeeping p.running → All IsKeeping (runnings_of (before ++ p ∷ []))
+keeping_more before p h k =
+    subst (λ rs. All IsKeeping rs) (sym (map-append (λ (q : Standing). q.running) before (p ∷ []))) (All-push IsKeeping (runnings_of before) p.running h k)
 
 -- all processes are opened
 pub all_opened : (procs : List Declared) (pid turns : ℕ) (so_far : List Running) → length procs ≤ pid →

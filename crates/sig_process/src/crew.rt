@@ -4,6 +4,7 @@ ghost use Rattle.sig_process.specs.Lending.{LendsProcess};
 ghost use Rattle.sig_model.specs.Running.{opened};
 ghost use Rattle.sig_model.specs.OneWorker.{opened_crew, IsClear};
 ghost use Rattle.sig_model.specs.Keeping.{IsPlaced};
+ghost use Rattle.sig_model.specs.CrewLaw.{IsLawfulCrew};
 
 use crate::process::Process;
 use sig_script::Script;
@@ -41,6 +42,7 @@ impl Crew {
         ensures opened { IfOk result (λ c. c ≡ opened_crew script.now) }
         ensures clear { IfOk result IsClear }
         ensures placed { IfOk result IsPlaced }
+        ensures lawful { IfOk result (IsLawfulCrew script.now) }
     {
         let mut procs = Vec::new(alloc);
         for pid in 0..script.count() {

@@ -3,6 +3,7 @@ ghost use Rattle.sig_inner.specs.InnerQueue.{opened as no_queue};
 ghost use Rattle.sig_script.specs.Scripts.{Declared};
 ghost use Rattle.sig_model.specs.ProcessState.{is_cut};
 ghost use Rattle.sig_model.specs.Executing.{SkipsNone};
+ghost use Rattle.sig_model.specs.Keeping.{IsKeeping};
 ghost use Rattle.sig_model.specs.Running.{opened, can_exec, can_handle, next_of, is_early};
 ghost use Rattle.sig_process.specs.Progressing.{running_of};
 ghost use Rattle.sig_process.specs.Steps.{IsExec, IsWholeExec, IsHandled};
@@ -95,6 +96,7 @@ impl Process {
         requires { pid.0 < length script.now.procs }
         ensures opened { IfOk result (λ p. IfSome (slice_get script.now.procs pid.0) (λ d.
             p.running ≡ opened pid.0 (length script.now.procs) script.now.turns d)) }
+        ensures keeps { IfOk result (λ p. IsKeeping p.running) }
         ensures saved { IfOk result (λ p. p.saved ≡ 0) }
     {
         let Some(proc) = script.proc(pid.0) else {
