@@ -8,7 +8,7 @@ use Rattle.std.proofs.lemmas.Bool.Decides.{nat_tests}
 use Rattle.sig_model.specs.declared.event.Event.{Event}
 use Rattle.sig_terms.specs.declared.pid.Pid.{Pid}
 use Rattle.sig_record.specs.declared.merging.Key.{Key}
-use Rattle.sig_record.specs.Merging.{NotAfter, keys_from}
+use Rattle.sig_record.specs.Keys.{NotAfter, keys_from}
 use Rattle.sig_record.proofs.Lists.{drop_at}
 
 -- what a key is sorted by

@@ -12,7 +12,9 @@ use Rattle.sig_terms.specs.declared.pid.Pid.{Pid}
 use Rattle.sig_record.specs.declared.report.Report.{Report}
 use Rattle.sig_record.specs.declared.merging.MergedAt.{MergedAt}
 use Rattle.sig_record.specs.declared.merging.Key.{Key}
-use Rattle.sig_record.specs.Merging.{IsMerged, IsBefore, NotAfter, keys_from, keys_of, is_same, events_in, event_at, stamp_in, stamp_at}
+use Rattle.sig_record.proofs.Chains.{Chain, chain_from, adjacent_from}
+use Rattle.sig_record.specs.Keys.{NotAfter, keys_from, keys_of}
+use Rattle.sig_record.specs.Merging.{IsMerged, IsBefore, is_same, events_in, event_at, stamp_in, stamp_at}
 
 -- how many of these keys are of this event
 abbrev count : MergedAt → List Key → ℕ
@@ -121,30 +123,6 @@ keys_among q [] pids = All-nil _
 keys_among q (r ∷ rs) pids =
     All-append (IsKeyAmong q (r ∷ rs)) (keys_of r) (flat_map keys_of rs) (All-weaker (IsKeyIn r.pid.0 0 r.events) (IsKeyAmong q (r ∷ rs)) (λ k h. key_first q r rs k pids.0 h) _ (keys_in r.pid 0 r.events))
     (All-weaker (IsKeyAmong (q + 1) rs) (IsKeyAmong q (r ∷ rs)) (λ k h. record { at = suc h.at; process = (let f : k.at.pid.0 ≡ q + 1 + h.at = h.process in omega arith); stamp = h.stamp }) _ (keys_among (q + 1) rs pids.1))
-
--- neighbours, by recursion
-abbrev Chain : {A : Type 0} → (A → A → Type 0) → List A → Type 0
-Chain R [] = Unit {0}
-Chain R (x ∷ []) = Unit {0}
-Chain R (x ∷ y ∷ rest) = R x y × Chain R (y ∷ rest)
-
-chain_from : {A : Type 0} (R : A → A → Type 0) (xs : List A) → AllAdjacentBelow R xs (length xs) → Chain R xs
-chain_from R [] h = tt
-chain_from R (x ∷ []) h = tt
-chain_from {A} R (x ∷ y ∷ rest) h = (
-  h 0 x (omega arith),
-  chain_from R (y ∷ rest) (λ k d l.
-      let e : suc k + 1 ≡ suc (k + 1) = omega arith in
-      subst (λ j. R (get_or (y ∷ rest) k d) (get_or (x ∷ y ∷ rest) j d)) e (h (suc k) d (omega arith))),
-)
-
-adjacent_from : {A : Type 0} (R : A → A → Type 0) (xs : List A) → Chain R xs → AllAdjacentBelow R xs (length xs)
-adjacent_from R [] h k d l = absurd (omega arith)
-adjacent_from R (x ∷ []) h k d l = absurd (omega arith)
-adjacent_from R (x ∷ y ∷ rest) h zero d l = h.0
-adjacent_from R (x ∷ y ∷ rest) h (suc k) d l =
-    let e : suc (k + 1) ≡ suc k + 1 = omega arith in
-    subst (λ j. R (get_or (y ∷ rest) k d) (get_or (x ∷ y ∷ rest) j d)) e (adjacent_from R (y ∷ rest) h.1 k d (omega arith))
 
 module _ (reports : List Report) where
   -- neighbours differ, since each event is there once

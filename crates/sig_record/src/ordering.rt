@@ -16,7 +16,7 @@ ghost use Rattle.sig_record.specs.Merging.{IsMerged, events_in, place_of};
 /// The merged events of a record are the order of the events of each crew that the record tells of:
 /// one whose processes did acts with these events.
 pub fn merged_record_is_the_order()
-    ensures record { (script : Program) (reports : List Report)
+    ensures reports { (script : Program) (reports : List Report)
         (members : List (Member ProcessState Signal Event)) (order : List MergedAt) →
         ((p : ℕ) → map (λ a. a.effect.event) (acts_of (slice_get members p)) ≡ events_in (slice_get reports p)) →
         IsMerged reports order → IsOrder (rules_of script) members (map place_of order) }

@@ -1,7 +1,7 @@
-ghost use Rattle.std.specs.Prelude.{◌≡◌, IfOk};
+ghost use Rattle.std.specs.Prelude.{◌≡◌, IfOk, All};
 ghost use Rattle.sig_model.specs.Keeping.{IsPlaced};
 ghost use Rattle.sig_model.specs.OneWorker.{IsClear};
-ghost use Rattle.sig_record.specs.RecordOf.{record_of, sorted_record, AreInOrder};
+ghost use Rattle.sig_record.specs.RecordOf.{record_of, sorted_record, AreInOrder, IsCounted};
 ghost use Rattle.sig_record.specs.Merging.{IsMerged};
 ghost use Rattle.sig_record.specs.SettledRecord.{is_settled};
 
@@ -52,6 +52,7 @@ impl Record {
         requires placed { IsPlaced crew }
         ensures sorted { IfOk result (λ r. r ≡ sorted_record crew) }
         ensures in_order { AreInOrder crew → IfOk result (λ r. r ≡ record_of crew) }
+        ensures counted { All IsCounted crew → IfOk result (λ r. r ≡ record_of crew) }
     {
         let reports = gather_all(alloc, crew.procs)?;
         Ok(Record { reports })

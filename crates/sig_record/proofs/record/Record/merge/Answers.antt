@@ -5,7 +5,8 @@ use Rattle.std.proofs.lemmas.Result.{IfOk-weaker}
 use Rattle.sig_record.specs.declared.report.Report.{Report}
 use Rattle.sig_record.specs.declared.merging.MergedAt.{MergedAt}
 use Rattle.sig_record.specs.declared.merging.Key.{Key}
-use Rattle.sig_record.specs.Merging.{IsMerged, NotAfter, keys_of}
+use Rattle.sig_record.specs.Keys.{keys_of}
+use Rattle.sig_record.specs.Merging.{IsMerged}
 use Rattle.sig_record.proofs.MergeLemmas.{sorted_is_merged}
 use Rattle.sig_record.proofs.record.Record.merge.Goals as goal
 
