@@ -1,5 +1,6 @@
 ghost use Rattle.std.specs.Prelude.{◌≡◌, ◌+◌, ◌<◌, [], ◌||◌, length, drop};
 ghost use Rattle.std.specs.List.{list_any};
+ghost use Rattle.sig_model.specs.Keeping.{IsKeeping};
 ghost use Rattle.sig_model.specs.PrintedState.{is_late_signal, is_late, state_of, printed_state};
 ghost use Rattle.sig_process.specs.PartsOf.{IsPartsOf};
 
@@ -71,10 +72,11 @@ impl Process {
         any_late(&self.progress.own) || any_late(&self.progress.taken_in)
     }
 
-    /// The process's part of a record.
+    /// The process's part of a record. The process kept what every running process keeps.
     pub fn into_parts(self) -> Parts
         requires { self.running.outbox ≡ [] }
-        ensures { IsPartsOf self.running result }
+        ensures parts { IsPartsOf self.running result }
+        ensures keeps { IsKeeping self.running }
     {
         let cut = self.is_cut() || self.has_late();
         let progress = self.progress;

@@ -1,3 +1,11 @@
 pub mod Lists
 pub mod Fronts
+pub mod Chains
+pub mod SortLemmas
+pub mod QueueLemmas
+pub mod CountedLemmas
+pub mod KeyLemmas
+pub mod MergeLemmas
+pub mod OrderLemmas
 pub mod Reports
+pub mod RecordLemmas

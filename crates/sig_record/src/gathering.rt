@@ -1,7 +1,9 @@
-ghost use Rattle.std.specs.Prelude.{◌≡◌, ◌+◌, ◌<◌, ◌++◌, [], ◌∷◌, IfOk, OnOk, map, filter, length, drop};
+ghost use Rattle.std.specs.Prelude.{◌≡◌, ◌++◌, [], IfOk, OnOk, All, map};
+ghost use Rattle.sig_model.specs.Keeping.{IsKeeping};
 ghost use Rattle.sig_model.specs.OneWorker.{IsClear};
 ghost use Rattle.sig_process.specs.Standing.{runnings_of};
-ghost use Rattle.sig_record.specs.RecordOf.{left_of, is_from, queued_below, report_of};
+ghost use Rattle.sig_record.specs.Sorting.{sorted_by, is_lower};
+ghost use Rattle.sig_record.specs.RecordOf.{left_of, sorted_report, sorted_record};
 
 use crate::report::{Left, Lefts, Queued, Report};
 use sig_inner::Inner;
@@ -21,82 +23,44 @@ fn lefts_of(alloc: Global, mut inner: Inner) -> Result<Lefts, AllocError>
     Ok(Sequence::from_vec(lefts))
 }
 
-/// Adds a copy of the signal, where it is of this sender.
-fn add_if_from(
-    alloc: Global,
-    queued: &mut Queued,
-    signal: &Signal,
-    sender: usize,
-) -> Result<(), AllocError>
-    ensures { OnOk result (queued.new ≡ queued.old ++ filter (is_from sender) (signal.now ∷ [])) }
+/// Moves the signals to the end of the others.
+fn move_all(waiting: &mut Vec<Signal>, mut signals: Signals) -> Result<(), AllocError>
+    ensures { OnOk result (waiting.new.items ≡ waiting.old.items ++ signals.items) }
 {
-    if signal.from.0 as usize != sender {
-        return Ok(());
-    }
-    queued.add(signal.copy(alloc)?)
-}
-
-/// Adds a copy of the signal at this place, where it is of this sender.
-fn add_at(
-    alloc: Global,
-    queued: &mut Queued,
-    waiting: &Signals,
-    at: usize,
-    sender: usize,
-) -> Result<(), AllocError>
-    requires { at < length waiting.now.items }
-    ensures { OnOk result (queued.new ++ filter (is_from sender) (drop (at + 1) waiting.now.items) ≡ queued.old ++ filter (is_from sender) (drop at waiting.now.items)) }
-{
-    match waiting.get(at) {
-        Some(signal) => {
-            add_if_from(alloc, queued, signal, sender)?;
-            Ok(())
-        }
-        None => unreachable!(),
-    }
-}
-
-/// Adds copies of the signals of this sender, in their order.
-fn add_from(
-    alloc: Global,
-    queued: &mut Queued,
-    waiting: &Signals,
-    sender: usize,
-) -> Result<(), AllocError>
-    ensures { OnOk result (queued.new ≡ queued.old ++ filter (is_from sender) waiting.now.items) }
-{
-    for at in 0..waiting.len() {
-        add_at(alloc, queued, waiting, at, sender)?;
+    while let Some(signal) = signals.pop_front() {
+        waiting.push(signal)?;
     }
     Ok(())
 }
 
-/// The signals by ascending sender, each sender's in their order.
-#[tactic(auto, unfolding(crate::specs::RecordOf::queued_below))]
-fn queued_of(
-    alloc: Global,
-    count: usize,
-    own: &Signals,
-    others: &Signals,
-) -> Result<Queued, AllocError>
-    ensures { IfOk result (λ queued. queued ≡ queued_below count own.now.items others.now.items) }
+/// Sorts the signals by sender and then number. Of two with one sender and number the one that
+/// stood first stays first.
+fn sort(waiting: &mut Vec<Signal>) -> Result<(), AllocError>
+    ensures { OnOk result (waiting.new.items ≡ sorted_by is_lower waiting.old.items) }
 {
-    let mut queued = Sequence::new(alloc);
-    for sender in 0..count {
-        add_from(alloc, &mut queued, own, sender)?;
-        add_from(alloc, &mut queued, others, sender)?;
-    }
-    Ok(queued)
+    waiting.sort_by_key(|signal| (signal.from.0, signal.number))
 }
 
-/// The report of a process, in a crew of so many.
-fn report(alloc: Global, count: usize, process: Process) -> Result<Report, AllocError>
+/// The signals of a process to itself and those of others, sorted by sender and then number.
+fn queued_of(alloc: Global, own: Signals, taken_in: Signals) -> Result<Queued, AllocError>
+    ensures { IfOk result (λ queued. queued ≡ sorted_by is_lower (own.items ++ taken_in.items)) }
+{
+    let mut waiting = Vec::new(alloc);
+    move_all(&mut waiting, own)?;
+    move_all(&mut waiting, taken_in)?;
+    sort(&mut waiting)?;
+    Ok(Sequence::from_vec(waiting))
+}
+
+/// The report of a process.
+fn report(alloc: Global, process: Process) -> Result<Report, AllocError>
     requires { process.running.outbox ≡ [] }
-    ensures { IfOk result (λ report. report ≡ report_of count process.running) }
+    ensures report { IfOk result (λ report. report ≡ sorted_report process.running) }
+    ensures keeps { IsKeeping process.running }
 {
     let parts = process.into_parts();
     let left = lefts_of(alloc, parts.left)?;
-    let queued = queued_of(alloc, count, &parts.own, &parts.taken_in)?;
+    let queued = queued_of(alloc, parts.own, parts.taken_in)?;
     Ok(Report {
         pid: parts.pid,
         name: parts.name,
@@ -110,12 +74,12 @@ fn report(alloc: Global, count: usize, process: Process) -> Result<Report, Alloc
 /// The reports of the processes.
 pub(crate) fn gather_all(alloc: Global, procs: Vec<Process>) -> Result<Vec<Report>, AllocError>
     requires { IsClear (runnings_of procs.items) }
-    ensures { IfOk result (λ reports. reports.items ≡ map (report_of (length procs.items)) (runnings_of procs.items)) }
+    ensures reports { IfOk result (λ reports. reports.items ≡ sorted_record (runnings_of procs.items)) }
+    ensures keeping { OnOk result (All IsKeeping (runnings_of procs.items)) }
 {
-    let count = procs.len();
     let mut reports = Vec::new(alloc);
     for process in procs {
-        reports.push(report(alloc, count, process)?)?;
+        reports.push(report(alloc, process)?)?;
     }
     Ok(reports)
 }

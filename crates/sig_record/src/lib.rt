@@ -2,10 +2,15 @@
 #![tactic(auto)]
 
 mod gathering;
+mod merging;
+mod ordering;
 mod printing;
 mod record;
 mod report;
+mod settling;
 
+pub use merging::{Merged, MergedAt};
+pub use ordering::merged_record_is_the_order;
 pub use printing::print_record;
 pub use record::Record;
 pub use report::{Left, Lefts, Queued, Report};

@@ -1,14 +1,20 @@
-ghost use Rattle.std.specs.Prelude.{◌≡◌, IfOk};
+ghost use Rattle.std.specs.Prelude.{◌≡◌, IfOk, All};
+ghost use Rattle.sig_model.specs.Keeping.{IsPlaced};
 ghost use Rattle.sig_model.specs.OneWorker.{IsClear};
-ghost use Rattle.sig_record.specs.RecordOf.{record_of};
+ghost use Rattle.sig_record.specs.RecordOf.{record_of, sorted_record, AreInOrder, IsCounted};
+ghost use Rattle.sig_record.specs.Merging.{IsMerged};
+ghost use Rattle.sig_record.specs.SettledRecord.{is_settled};
 
 use crate::gathering::gather_all;
+use crate::merging::{Merged, events_of, keys_of, sort_keys};
 use crate::report::Report;
+use crate::settling::are_settled;
 use sig_process::Crew;
 use std::alloc::{AllocError, Global};
 use std::marker::Model;
 
-/// The record of a run: a report for each process, by pid.
+/// The record of a run: a report for each process, by pid. The signals that a process has not
+/// handled go to it, and stand by ascending sender and then number.
 #[derive(Debug, Drop)]
 pub struct Record {
     pub(crate) reports: Vec<Report>,
@@ -19,12 +25,15 @@ impl Model for Record {
     ghost use Rattle.std.specs.Prelude.{List};
     ghost use Rattle.sig_terms.specs.contracts.term.Term as term;
     ghost use Rattle.sig_record.specs.declared.report.Report.{Report};
+    ghost use Rattle.sig_record.specs.Records.{IsRecord};
 
     ghost Value = { List Report };
 
     ghost coded = { Prim.hlevel (codes, term.the_row.coded) };
 
     ghost view = { λ r. r.reports.items };
+
+    ghost invariant = { λ r. IsRecord r.reports.items };
 }
 
 impl Record {
@@ -35,12 +44,36 @@ impl Record {
         self.reports.as_slice()
     }
 
-    /// The record of the run that this crew has made.
+    /// The record of the run that this crew has made. The signals that a process has not handled are
+    /// sorted by sender and then number; where those of each sender stood by ascending number, that
+    /// only brings together those of one sender. The error is want of memory.
     pub fn gather(alloc: Global, crew: Crew) -> Result<Record, AllocError>
-        requires { IsClear crew }
-        ensures { IfOk result (λ r. r ≡ record_of crew) }
+        requires clear { IsClear crew }
+        requires placed { IsPlaced crew }
+        ensures sorted { IfOk result (λ r. r ≡ sorted_record crew) }
+        ensures in_order { AreInOrder crew → IfOk result (λ r. r ≡ record_of crew) }
+        ensures counted { All IsCounted crew → IfOk result (λ r. r ≡ record_of crew) }
     {
         let reports = gather_all(alloc, crew.procs)?;
         Ok(Record { reports })
+    }
+
+    /// Every event of the record once, by rising stamp, then pid, then place. The error is want of
+    /// memory.
+    pub fn merge(&self, alloc: Global) -> Result<Merged, AllocError>
+        ensures { IfOk result (IsMerged self.now) }
+    {
+        let mut keys = keys_of(alloc, self.reports.as_slice())?;
+        sort_keys(&mut keys);
+        events_of(alloc, keys.as_slice())
+    }
+
+    /// Whether each process that isn't cut, and whose last event, if it has one, has a stamp below
+    /// 2^62, has no signal to handle, or has one whose stamp is at least 2^62, which is never
+    /// handled. It takes no memory.
+    pub fn settled(&self) -> bool
+        ensures { result ≡ is_settled self.now }
+    {
+        are_settled(self.reports.as_slice())
     }
 }
