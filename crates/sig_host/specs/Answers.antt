@@ -4,10 +4,15 @@ use Rattle.sig_base.specs.Flow.{Rose, Adds}
 use Rattle.sig_script.specs.declared.fault.FaultKind.{FaultKind}
 use Rattle.sig_script.specs.Scripts.{Program}
 use Rattle.sig_script.specs.Grammar.{script_of}
+use Rattle.sig_kinds.specs.declared.signal.Signal.{Signal}
+use Rattle.sig_runs.specs.Machine.{Machine}
+use Rattle.sig_runs.specs.Settled.{IsSettled}
+use Rattle.sig_model.specs.ProcessState.{ProcessState}
 use Rattle.sig_model.specs.Running.{Running}
 use Rattle.sig_model.specs.OneWorker.{RunsTo, opened_crew}
-use Rattle.sig_model.specs.SettledRun.{IsSettledRun}
+use Rattle.sig_record.specs.declared.report.Report.{Report}
 use Rattle.sig_record.specs.RecordOf.{record_of}
+use Rattle.sig_record.specs.RunRecord.{whole_rules, IsRecordOfRun}
 use Rattle.sig_record.specs.RecordText.{record_text}
 use Rattle.sig_host.specs.declared.status.Status.{Status}
 use Rattle.sig_host.specs.declared.status.Status.TheVariants.{Done, BadScript, Usage, ReadFault, WriteFault, Memory}
@@ -16,11 +21,19 @@ use Rattle.sig_host.specs.declared.status.Status.TheVariants.{Done, BadScript, U
 abbrev pub IsRefused : ℕ → FaultKind → List ℕ → Type 0
 IsRefused line kind bytes = script_of bytes ≡ Err (record { line = line; kind = kind })
 
--- The text is that of the record of the one-worker run of the script, and what the record tells is a settled run of the
--- script's machine.
-abbrev pub IsRecordOf : Program → List ℕ → Type 0
-IsRecordOf script text =
-    (last : List Running) × RunsTo (opened_crew script) last × IsSettledRun script last × (text ≡ record_text (record_of last))
+-- The text is the printed record of a run of the plain machine on the script: its events, in the order of their stamps, are
+-- possible one after another from the opening, each receive looks at all messages, each signal was handled once, in the order of
+-- its sender, or is printed as queued, and the machine has come to rest (Erlang Reference Manual, Processes, Delivery of Signals;
+-- Expressions, Receive). With one worker it is the record of the run of one worker, of which a script has one.
+pub record IsRecordOf (script : Program) (text : List ℕ) : Type 0 where
+  pub reports : List Report
+  pub is : text ≡ record_text reports
+  pub machine : Machine ProcessState Signal
+  pub run : IsRecordOfRun script machine reports
+  pub settled : IsSettled (whole_rules script) machine
+  pub last : List Running
+  pub alone : RunsTo (opened_crew script) last
+  pub told : reports ≡ record_of last
 
 -- reading the script: what the source had left, its faults before and after, and the script or why there is none
 abbrev pub IsSourceRead : Option (List ℕ) → ℕ → ℕ → Result Program Status → Type 0
@@ -38,11 +51,12 @@ IsScriptRun script held new before after WriteFault =
 IsScriptRun script held new before after Memory = new ≡ held
 IsScriptRun script held new before after _ = ⊥
 
--- what went in and what came out: how many arguments, what the source had left and its faults before and after, and what `out`
--- held and holds and its faults before and after
+-- what went in and what came out: how many arguments, what the source had left and has, its faults before and after, and what
+-- `out` held and holds and its faults before and after
 pub record Sides : Type 0 where
   pub arguments : ℕ
   pub left : Option (List ℕ)
+  pub rest : Option (List ℕ)
   pub source_before : ℕ
   pub source_after : ℕ
   pub held : Option (List ℕ)
@@ -58,11 +72,11 @@ HasRun s Has = IfSome s.left (λ bytes. (script : Program) × (script_of bytes �
 abbrev pub IsSourceFine : Sides → Type 0
 IsSourceFine s = s.source_after ≡ s.source_before
 
--- what each answer says; with any but ReadFault no read failed
+-- what each answer says; with any but ReadFault no read failed, and with Usage the source wasn't read
 abbrev pub IsAnswer : Sides → Status → Type 0
 IsAnswer s Done = (s.arguments ≡ 0) × HasRun s (λ text. Adds s.held s.new text) × IsSourceFine s
 IsAnswer s (BadScript line kind) = (s.arguments ≡ 0) × IfSome s.left (IsRefused line kind) × IsSourceFine s × (s.new ≡ s.held)
-IsAnswer s Usage = (0 < s.arguments) × IsSourceFine s × (s.new ≡ s.held)
+IsAnswer s Usage = (0 < s.arguments) × (s.rest ≡ s.left) × IsSourceFine s × (s.new ≡ s.held)
 IsAnswer s ReadFault = (s.arguments ≡ 0) × Rose s.source_before s.source_after × (s.new ≡ s.held)
 IsAnswer s WriteFault =
     (s.arguments ≡ 0) × Rose s.out_before s.out_after × HasRun s (λ text. (n : ℕ) × Adds s.held s.new (take n text)) × IsSourceFine s

@@ -6,9 +6,9 @@ ghost use Rattle.sig_host.specs.Told.{told_text};
 use crate::status::Status;
 use crate::telling::tell;
 use sig_base::{Gate, ReadAll, Sink, Source, Written, read_all, write_whole};
-use sig_model::one_worker_run_is_settled;
+use sig_model::lawful_crew_comes_to_rest;
 use sig_process::Crew;
-use sig_record::{Record, print_record};
+use sig_record::{Record, a_lawful_crew_tells_a_run, print_record};
 use sig_script::{FaultKind, MOST_BYTES, Script, ScriptError, read_script};
 use sig_workers::run_one;
 use std::alloc::{AllocError, Global};
@@ -42,13 +42,14 @@ fn read_source<S: Source>(alloc: Global, source: &mut S) -> Result<Script, Statu
     }
 }
 
-/// The text of the record of the script's one-worker run.
+/// The text of the record of the script's one-worker run, which is a settled run of its machine.
 fn run_text(alloc: Global, script: &Script) -> Result<Vec<u8>, AllocError>
     ensures { IfOk result (λ text. IsRecordOf script.now text.items) }
 {
     let crew = Crew::open(alloc, script)?;
     let crew = run_one(crew)?;
-    one_worker_run_is_settled();
+    lawful_crew_comes_to_rest();
+    a_lawful_crew_tells_a_run();
     let given = Record::gather(alloc, crew)?;
     let mut text = Vec::new(alloc);
     print_record(&given, &mut text)?;
@@ -74,6 +75,7 @@ fn run_source<S: Source, O: Sink>(alloc: Global, script: &mut S, out: &mut O) ->
     ensures answer { IsAnswer (record {
       arguments = 0;
       left = S.left script.old;
+      rest = S.left script.new;
       source_before = S.faults script.old;
       source_after = S.faults script.new;
       held = O.held out.old;
@@ -92,7 +94,7 @@ fn run_source<S: Source, O: Sink>(alloc: Global, script: &mut S, out: &mut O) ->
 /// and writes the text of the record to `out`. What the record tells is a settled run of the
 /// script's machine.
 ///
-/// `Usage` comes exactly where there are arguments. `BadScript` comes only where the bytes spell no
+/// `Usage` comes exactly where there are arguments, and then the source isn't read. `BadScript` comes only where the bytes spell no
 /// script, with the first line that is refused and why; it is line 0 where they are more than
 /// [`MOST_BYTES`]. `ReadFault` comes only where a read failed, and each other status only where
 /// none did; `WriteFault` comes only where a write to `out` failed, which has taken the beginning
@@ -110,6 +112,7 @@ pub fn run<S: Source, O: Sink, E: Sink, G: Gate>(
     ensures answer { IsAnswer (record {
       arguments = length arguments.now;
       left = S.left script.old;
+      rest = S.left script.new;
       source_before = S.faults script.old;
       source_after = S.faults script.new;
       held = O.held out.old;

@@ -64,7 +64,24 @@ pub(crate) const UNLINKS: [(&[u8], &[u8]); 2] = [
 ];
 
 /// What comes to a process that is cut stays queued.
-pub(crate) const QUEUED: [(&[u8], &[u8]); 4] = [
+pub(crate) const QUEUED: [(&[u8], &[u8]); 5] = [
+    // of three senders, in another order than they came
+    (
+        b"turns 3\nprocess a\nreceive\non go\nend\nsend @hub {a,1}\n\
+          process b\nreceive\non go\nend\nsend @hub {b,1}\nsend @hub {b,2}\n\
+          process hub\nsend @hub h1\nsend @hub h2\nsend @hub h3\n\
+          process c\nsend @a go\nsend @b go\nsend @hub c1\n",
+        b"process 0 a\n2 from 3 1 kept go\n3 exec 1 took 1 1 go\n4 exec 2 sent <2> {a,1}\n\
+          5 exec 3 ended normal\nstate ended normal\n\
+          process 1 b\n3 from 3 1 kept go\n4 exec 1 took 1 1 go\n5 exec 2 sent <2> {b,1}\n\
+          6 exec 3 sent <2> {b,2}\nstate cut\n\
+          process 2 hub\n1 exec 1 sent <2> h1\n2 from 2 1 kept h1\n3 exec 2 sent <2> h2\n\
+          4 from 2 2 kept h2\n5 from 0 1 kept {a,1}\n6 exec 3 sent <2> h3\n\
+          left 1 h1\nleft 2 h2\nleft 3 {a,1}\n\
+          queued 1 1 5 message {b,1}\nqueued 1 2 6 message {b,2}\nqueued 2 3 6 message h3\n\
+          queued 3 1 3 message c1\nstate cut\n\
+          process 3 c\n1 exec 1 sent <0> go\n2 exec 2 sent <1> go\n3 exec 3 sent <2> c1\nstate cut\n",
+    ),
     (
         b"turns 1\nprocess a\nset X 1\nprocess b\nlink @a\n",
         b"process 0 a\n1 exec 1 set 1\nqueued 1 1 1 link\nstate cut\n\

@@ -16,7 +16,10 @@ use crate::text_tests::TEXTS;
 use crate::watch_tests::WATCHES;
 use itoa::Buffer;
 use sig_base::{FailingSink, FailingSource, MemorySink, MemorySource, OpenGate, Sink, Source};
-use sig_script::FaultKind;
+use sig_process::Crew;
+use sig_record::Record;
+use sig_script::{FaultKind, read_script};
+use sig_workers::run_one;
 use std::alloc::{AllocError, Global};
 use std::test::Fail;
 
@@ -654,5 +657,26 @@ fn refusals_are_told_with_line_and_kind(rt: HostRuntime) -> Result<(), Fail> {
         assert!(rt; out.held().is_empty(), "{lines:?}");
         assert!(rt; err.held() == told, "{lines:?}");
     }
+    Ok(())
+}
+
+/// The record of the script's run of one worker.
+fn record_of(alloc: Global, text: &[u8]) -> Result<Record, Fail> {
+    let script = read_script(alloc, text)?;
+    let crew = run_one(Crew::open(alloc, &script)?)?;
+    Ok(Record::gather(alloc, crew)?)
+}
+
+#[test]
+fn events_are_merged_by_their_stamps(rt: HostRuntime) -> Result<(), Fail> {
+    let alloc = rt.alloc();
+    let record = record_of(alloc, ONE_MESSAGE)?;
+    let mut pairs = Vec::new(alloc);
+    for at in record.merge(alloc)?.as_slice() {
+        pairs.push((at.pid.0, at.place))?;
+    }
+    let expected = [(0, 0), (0, 1), (1, 0), (1, 1), (1, 2)];
+    assert!(rt; pairs.as_slice() == expected.as_slice(), "{pairs:?}");
+    assert!(rt; record.settled());
     Ok(())
 }

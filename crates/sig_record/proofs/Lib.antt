@@ -9,3 +9,7 @@ pub mod MergeLemmas
 pub mod OrderLemmas
 pub mod Reports
 pub mod RecordLemmas
+pub mod KeySorting
+pub mod RunRecordLemmas
+pub mod CountedCrews
+pub mod RunLemmas

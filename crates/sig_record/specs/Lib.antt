@@ -4,5 +4,6 @@ pub mod Records
 pub mod Merging
 pub mod Keys
 pub mod SettledRecord
+pub mod RunRecord
 pub mod RecordText
 pub mod Putting

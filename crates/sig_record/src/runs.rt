@@ -1,0 +1,30 @@
+ghost use Rattle.std.specs.Prelude.{◌≡◌, List, map};
+ghost use Rattle.sig_script.specs.Scripts.{Program};
+ghost use Rattle.sig_runs.specs.Machine.{IsRun};
+ghost use Rattle.sig_runs.specs.Crew.{opening_machine, crew_machine};
+ghost use Rattle.sig_runs.specs.Settled.{IsSettled};
+ghost use Rattle.sig_model.specs.Machine.{rules_of, opening_of};
+ghost use Rattle.sig_model.specs.Running.{Running};
+ghost use Rattle.sig_model.specs.OneWorker.{IsClear};
+ghost use Rattle.sig_model.specs.CrewLaw.{IsLawfulCrew, whole_member};
+ghost use Rattle.sig_record.specs.declared.merging.MergedAt.{MergedAt};
+ghost use Rattle.sig_record.specs.RecordOf.{record_of};
+ghost use Rattle.sig_record.specs.Merging.{IsMerged};
+ghost use Rattle.sig_record.specs.RunRecord.{events_listed, whole_rules, IsRecordOfRun};
+
+/// The record of a lawful crew with empty outboxes is the record of a run of the script's plain
+/// machine, in which a receive looks at all messages. Each list that `merge` may give of it is such
+/// a run, event by event, and it leads to the crew's states and queued signals. Where the crew has
+/// come to rest, so has the machine. (Erlang Reference Manual, Processes, Delivery of Signals;
+/// Expressions, Receive.)
+pub fn a_lawful_crew_tells_a_run()
+    ensures merged { (script : Program) (crew : List Running) (order : List MergedAt) → IsLawfulCrew script crew →
+        IsClear crew → IsMerged (record_of crew) order →
+        IsRun (whole_rules script) (opening_machine (opening_of script)) (events_listed (record_of crew) order)
+        (crew_machine (rules_of script) (map whole_member crew)) }
+    ensures record { (script : Program) (crew : List Running) → IsLawfulCrew script crew → IsClear crew →
+        IsRecordOfRun script (crew_machine (rules_of script) (map whole_member crew)) (record_of crew) }
+    ensures settled { (script : Program) (crew : List Running) → IsLawfulCrew script crew → IsClear crew →
+        IsSettled (rules_of script) (crew_machine (rules_of script) (map whole_member crew)) →
+        IsSettled (whole_rules script) (crew_machine (rules_of script) (map whole_member crew)) }
+{}
