@@ -89,18 +89,18 @@ fn append_all(items: &[Term], into: &mut Vec<u8>) -> Result<(), AllocError>
 /// Appends the texts of the terms, between two brackets.
 #[cycle(append)]
 fn append_between(
-    open: &[u8],
+    opening: &[u8],
     items: &[Term],
-    close: &[u8],
+    closing: &[u8],
     into: &mut Vec<u8>,
 ) -> Result<(), AllocError>
-    ensures text { OnOk result (into.new.items ≡ into.old.items ++ open.now ++ joined (map term_text items.now) ++ close.now) }
+    ensures text { OnOk result (into.new.items ≡ into.old.items ++ opening.now ++ joined (map term_text items.now) ++ closing.now) }
     ensures front { OnErr result (take (length into.old.items) into.new.items ≡ into.old.items) }
     ensures terms { OnOk result (list_all (λ b. b) (map is_term items.now) ≡ true) }
 {
-    into.extend_from_slice(open)?;
+    into.extend_from_slice(opening)?;
     append_all(items, into)?;
-    into.extend_from_slice(close)
+    into.extend_from_slice(closing)
 }
 
 /// Appends the text of an integer.
