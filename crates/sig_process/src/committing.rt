@@ -22,6 +22,7 @@ impl Progress {
     /// Makes room for all that an event may change, with so many signals to be sent.
     fn make_room(&mut self, posts: usize) -> Result<(), AllocError>
         ensures same { IsSame self.old self.new }
+        ensures counts { self.new.counts ≡ self.old.counts }
         ensures room { OnOk result (HasRoom posts self.new) }
         ensures handled { OnOk result (0 < self.new.handled.spare) }
     {
