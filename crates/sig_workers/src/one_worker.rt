@@ -1,5 +1,7 @@
 ghost use Rattle.std.specs.Prelude.{◌≡◌, ◌<◌, IfOk, OnOk, true, vec_len};
+ghost use Rattle.sig_script.specs.Scripts.{Program};
 ghost use Rattle.sig_model.specs.Keeping.{IsPlaced};
+ghost use Rattle.sig_model.specs.CrewLaw.{IsLawfulCrew};
 ghost use Rattle.sig_model.specs.OneWorker.{pass, RunsTo, IsClear};
 ghost use Rattle.sig_process.specs.Standing.{runnings_of};
 ghost use Rattle.sig_workers.specs.Room.{room};
@@ -37,6 +39,7 @@ fn run_passes<L: Ledger>(blank: Blank, crew: Crew) -> Result<Crew, AllocError>
     requires placed { IsPlaced crew }
     ensures run { IfOk result (RunsTo crew) }
     ensures clear { IfOk result IsClear }
+    ensures lawful { (script : Program) → IsLawfulCrew script crew → IfOk result (IsLawfulCrew script) }
 {
     let mut steps: Steps<L> = Steps::open(blank);
     let mut procs = crew.procs;
@@ -54,6 +57,7 @@ pub fn run_one(crew: Crew) -> Result<Crew, AllocError>
     requires placed { IsPlaced crew }
     ensures run { IfOk result (RunsTo crew) }
     ensures clear { IfOk result IsClear }
+    ensures lawful { (script : Program) → IsLawfulCrew script crew → IfOk result (IsLawfulCrew script) }
 {
     run_passes::<Brand>(Blank::new(1), crew)
 }

@@ -1,3 +1,4 @@
+use Rattle.sig_model.proofs.LawfulRunLemmas.{run_lawful}
 use Rattle.sig_process.specs.Standing.{runnings_of}
 use Rattle.sig_workers.proofs.RunLemmas.{run_rests, run_goes}
 use Rattle.sig_workers.proofs.one_worker.run_passes.Goals as goal
@@ -5,6 +6,12 @@ use Rattle.sig_workers.proofs.one_worker.run_passes.Goals as goal
 pub returns-then-not-branch-clause-run : goal.returns-then-not-branch-clause-run
 returns-then-not-branch-clause-run g c =
     c.loop-procs.invariant.leads _ (run_rests (runnings_of c.loop-procs.procs.items) (runnings_of c.pass_all.new.procs.items) c.in_ok-pass_all.field-0 c.in_ok-pass_all.ensures.pass c.if-not-branch.true)
+
+pub returns-then-not-branch-clause-lawful : goal.returns-then-not-branch-clause-lawful
+returns-then-not-branch-clause-lawful g c = λ script law.
+    let last = runnings_of c.pass_all.new.procs.items in
+    run_lawful script c.args.crew last
+    (c.loop-procs.invariant.leads last (run_rests (runnings_of c.loop-procs.procs.items) last c.in_ok-pass_all.field-0 c.in_ok-pass_all.ensures.pass c.if-not-branch.true)) law
 
 pub loop-procs-preserved : goal.loop-procs-preserved
 loop-procs-preserved g c = record {
