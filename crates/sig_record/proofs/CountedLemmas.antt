@@ -1,6 +1,6 @@
 -- Signals whose numbers count up stand by ascending number.
-use Rattle.std.proofs.Common.{◌≡◌, ◌≢◌, ℕ, zero, suc, ◌+◌, ◌<◌, ◌≤◌, true, false, List, [], ◌∷◌, ◌++◌, length, get_or, filter, sym, ap, ◌∙◌, subst, inl, inr, ◌⊎◌, arith}
-use Rattle.std.specs.Prelude.{All, ◌==◌}
+use Rattle.std.proofs.Common.{◌≡◌, ℕ, zero, suc, ◌+◌, ◌<◌, true, false, List, [], ◌∷◌, ◌++◌, length, get_or, filter, sym, ap, ◌∙◌, subst, inl, inr, ◌⊎◌, arith}
+use Rattle.std.specs.Prelude.{All}
 use Rattle.std.specs.List.Sorted.{IsNonDecreasingBy}
 use Rattle.std.proofs.lemmas.Bool.{cases_eq, eq-eqb, ne_eqb}
 use Rattle.std.proofs.lemmas.List.{append-nil}
@@ -31,15 +31,15 @@ one_sender r keep s =
           inl
           (filter-append (is_from s) r.own r.taken_in
           ∙ ap (λ (zs : List Signal). zs ++ filter (is_from s) r.taken_in)
-              (filter_all (is_from s) r.own (All-weaker (IsToItself r.pid r.state.counts.stamp) (λ (x : Signal). is_from s x ≡ true) (λ x h. eq-eqb x.from.0 s (h.from ∙ sym same)) r.own keep.own))
+          (filter_all (is_from s) r.own (All-weaker (IsToItself r.pid r.state.counts.stamp) (λ (x : Signal). is_from s x ≡ true) (λ x h. eq-eqb x.from.0 s (h.from ∙ sym same)) r.own keep.own))
           ∙ ap (λ (zs : List Signal). r.own ++ zs)
-              (filter_none (is_from s) r.taken_in (All-weaker (IsArriving r.pid r.count) (λ (x : Signal). is_from s x ≡ false) (λ x h. ne_eqb x.from.0 s (λ e. h.from (e ∙ same))) r.taken_in keep.taken_in))
+          (filter_none (is_from s) r.taken_in (All-weaker (IsArriving r.pid r.count) (λ (x : Signal). is_from s x ≡ false) (λ x h. ne_eqb x.from.0 s (λ e. h.from (e ∙ same))) r.taken_in keep.taken_in))
           ∙ append-nil r.own)
       | inr other ↦
           inr
           (filter-append (is_from s) r.own r.taken_in
           ∙ ap (λ (zs : List Signal). zs ++ filter (is_from s) r.taken_in)
-              (filter_none (is_from s) r.own (All-weaker (IsToItself r.pid r.state.counts.stamp) (λ (x : Signal). is_from s x ≡ false) (λ x h. ne_eqb x.from.0 s (λ e. other (sym e ∙ h.from))) r.own keep.own)))
+          (filter_none (is_from s) r.own (All-weaker (IsToItself r.pid r.state.counts.stamp) (λ (x : Signal). is_from s x ≡ false) (λ x h. ne_eqb x.from.0 s (λ e. other (sym e ∙ h.from))) r.own keep.own)))
     ]
 
 in_order : (r : Running) → IsKeeping r → IsCounted r → IsInOrder r

@@ -1,5 +1,5 @@
 -- The signals that wait, sorted by sender and then number.
-use Rattle.std.proofs.Common.{◌≡◌, ◌≢◌, ℕ, zero, suc, ◌+◌, ◌<◌, ◌≤◌, Bool, true, false, cond, ◌&&◌, ◌||◌, List, [], ◌∷◌, ◌++◌, length, get_or, filter, nat_cmp, is_lt, refl, sym, ap, ◌∙◌, subst, inl, inr, ◌⊎◌, arith, append_assoc}
+use Rattle.std.proofs.Common.{◌≡◌, ℕ, zero, suc, ◌<◌, ◌≤◌, Bool, true, false, cond, ◌&&◌, ◌||◌, List, [], ◌∷◌, ◌++◌, get_or, filter, nat_cmp, is_lt, refl, sym, ap, ◌∙◌, subst, inl, inr, ◌⊎◌, arith, append_assoc}
 use Rattle.std.specs.Prelude.{◌==◌, nat_lt}
 use Rattle.std.specs.Ordering.{ordering_then}
 use Rattle.std.specs.declared.cmp.Ordering.{Ordering}
@@ -8,7 +8,7 @@ use Rattle.std.specs.List.{All}
 use Rattle.std.specs.List.Sorted.{ties, IsSortedBy, IsStableBy, IsSortedByKey, IsStableByKey, IsNonDecreasingBy}
 use Rattle.std.specs.Cmp.{IsStrictWeakOrder}
 use Rattle.std.proofs.lemmas.Cmp.{nat_cmp_total, on_total, then_total}
-use Rattle.std.proofs.lemmas.Bool.{cond-true, cond-false, cases_Bool, cases_lt, cases_order, and_left, and_right, or_from, or_parts, ltb-false, le-ltb, eqb-true, eq-eqb, ne_eqb, true≢false, and_parts, not-true}
+use Rattle.std.proofs.lemmas.Bool.{cond-true, cond-false, cases_Bool, cases_lt, and_left, and_right, or_from, or_parts, ltb-false, le-ltb, eqb-true, eq-eqb, ne_eqb, true≢false, and_parts, not-true}
 use Rattle.std.proofs.lemmas.List.Sorted.{ranks_by}
 use Rattle.std.proofs.lemmas.List.Elements.{All-head, All-tail, All-nil, All-append, All-weaker, All-get_or, filter-append, filter_passes}
 use Rattle.std.proofs.lemmas.List.{append-nil}
@@ -101,8 +101,8 @@ queued_from zero own others = subst (All (λ (x : Signal). x.from.0 < zero)) (sy
 queued_from (suc n) own others =
     subst (All (λ (x : Signal). x.from.0 < suc n)) (sym (queued_next n own others))
     (All-append (λ (x : Signal). x.from.0 < suc n) (queued_below n own others) (filter (is_from n) (own ++ others))
-        (All-weaker (λ (x : Signal). x.from.0 < n) (λ (x : Signal). x.from.0 < suc n) (λ x h. omega arith) _ (queued_from n own others))
-        (All-weaker (λ (x : Signal). x.from.0 ≡ n) (λ (x : Signal). x.from.0 < suc n) (λ x h. omega arith) _ (from_sender n (own ++ others))))
+    (All-weaker (λ (x : Signal). x.from.0 < n) (λ (x : Signal). x.from.0 < suc n) (λ x h. omega arith) _ (queued_from n own others))
+    (All-weaker (λ (x : Signal). x.from.0 ≡ n) (λ (x : Signal). x.from.0 < suc n) (λ x h. omega arith) _ (from_sender n (own ++ others))))
 
 -- none is of a sender that isn't below
 queued_past : (s n : ℕ) (own others : List Signal) → n ≤ s → filter (is_from s) (queued_below n own others) ≡ []
@@ -118,7 +118,7 @@ queued_inside s (suc n) own others lt =
       | inl below ↦
           ap (λ (zs : List Signal). zs ++ filter (is_from s) (filter (is_from n) (own ++ others))) (queued_inside s n own others below)
           ∙ ap (λ (zs : List Signal). filter (is_from s) (own ++ others) ++ zs)
-              (filter_none (is_from s) (filter (is_from n) (own ++ others)) (All-weaker (λ (x : Signal). x.from.0 ≡ n) (λ (x : Signal). is_from s x ≡ false) (λ x h. ne_eqb x.from.0 s (λ e. omega arith)) _ (from_sender n (own ++ others))))
+          (filter_none (is_from s) (filter (is_from n) (own ++ others)) (All-weaker (λ (x : Signal). x.from.0 ≡ n) (λ (x : Signal). is_from s x ≡ false) (λ x h. ne_eqb x.from.0 s (λ e. omega arith)) _ (from_sender n (own ++ others))))
           ∙ append-nil (filter (is_from s) (own ++ others))
       | inr last ↦
           let same : n ≡ s = omega arith in
@@ -154,17 +154,17 @@ all_ahead n (x ∷ xs) ys below all = (ahead_of_sender n x ys (All-head (λ (x :
 one_sender_rises : (n : ℕ) (zs : List Signal) → All (λ (x : Signal). x.from.0 ≡ n) zs → IsNonDecreasingBy (λ (x : Signal). x.number) zs → Rises is_lower zs
 one_sender_rises n zs from ascending =
     rises_far is_lower is_lower_order zs (λ i j d le lt.
-      let a : (get_or zs i d).from.0 ≡ n = All-get_or (λ (x : Signal). x.from.0 ≡ n) zs i d (omega arith) from in
-      let b : (get_or zs j d).from.0 ≡ n = All-get_or (λ (x : Signal). x.from.0 ≡ n) zs j d lt from in
-      not_lower_number (get_or zs j d) (get_or zs i d) (b ∙ sym a) (ascending i j d le lt))
+    let a : (get_or zs i d).from.0 ≡ n = All-get_or (λ (x : Signal). x.from.0 ≡ n) zs i d (omega arith) from in
+    let b : (get_or zs j d).from.0 ≡ n = All-get_or (λ (x : Signal). x.from.0 ≡ n) zs j d lt from in
+    not_lower_number (get_or zs j d) (get_or zs i d) (b ∙ sym a) (ascending i j d le lt))
 
 queued_rises : (n : ℕ) (own others : List Signal) → ((s : ℕ) → IsNonDecreasingBy (λ (x : Signal). x.number) (filter (is_from s) (own ++ others))) → Rises is_lower (queued_below n own others)
 queued_rises zero own others ascending = subst (Rises is_lower) (sym (queued_none own others)) tt
 queued_rises (suc n) own others ascending =
     subst (Rises is_lower) (sym (queued_next n own others))
     (rises_append is_lower (queued_below n own others) (filter (is_from n) (own ++ others)) (queued_rises n own others ascending)
-        (one_sender_rises n (filter (is_from n) (own ++ others)) (from_sender n (own ++ others)) (ascending n))
-        (all_ahead n (queued_below n own others) (filter (is_from n) (own ++ others)) (queued_from n own others) (from_sender n (own ++ others))))
+    (one_sender_rises n (filter (is_from n) (own ++ others)) (from_sender n (own ++ others)) (ascending n))
+    (all_ahead n (queued_below n own others) (filter (is_from n) (own ++ others)) (queued_from n own others) (from_sender n (own ++ others))))
 
 -- Where the signals of each sender stand by ascending number, the sorted ones are those by ascending sender.
 pub sorted_is_queued : (n : ℕ) (own others : List Signal) → ((s : ℕ) → IsNonDecreasingBy (λ (x : Signal). x.number) (filter (is_from s) (own ++ others))) → All (λ (x : Signal). x.from.0 < n) (own ++ others) →

@@ -1,5 +1,5 @@
 -- The record of a crew: what it keeps, and which record it is where the signals of each sender stand by ascending number.
-use Rattle.std.proofs.Common.{◌≡◌, ℕ, ◌+◌, ◌<◌, List, [], ◌∷◌, ◌++◌, map, length, get_or, Option, Some, None, refl, sym, ap, ◌∙◌, subst, arith}
+use Rattle.std.proofs.Common.{◌≡◌, ℕ, ◌<◌, List, [], ◌∷◌, ◌++◌, map, length, get_or, Option, Some, None, refl, sym, ap, ◌∙◌, subst}
 use Rattle.std.specs.Prelude.{slice_get, All}
 use Rattle.std.specs.Option.{option_map, unwrap_or}
 use Rattle.std.proofs.lemmas.Option.{slice_get-map, slice_get_within, get_or_from_slice_get, slice_get-get_or}
@@ -11,7 +11,7 @@ use Rattle.sig_model.specs.Keeping.{IsKeeping, IsPlaced, IsToItself, IsArriving}
 use Rattle.sig_model.specs.SettledRun.{events_of}
 use Rattle.sig_record.specs.declared.report.Report.{Report}
 use Rattle.sig_record.specs.Sorting.{is_lower}
-use Rattle.sig_record.specs.RecordOf.{queued_below, report_with, report_of, sorted_report, record_of, sorted_record, IsInOrder, AreInOrder}
+use Rattle.sig_record.specs.RecordOf.{report_with, report_of, sorted_report, record_of, sorted_record, IsInOrder, AreInOrder}
 use Rattle.sig_record.specs.Records.{IsReport, IsRecord}
 use Rattle.sig_record.specs.Merging.{events_in}
 use Rattle.sig_record.proofs.SortLemmas.{sorted_all}
@@ -23,8 +23,8 @@ report_kept pid r p keep = record {
   process = p;
   to = sorted_all is_lower (λ (x : Signal). x.to.0 ≡ pid) (r.own ++ r.taken_in)
       (All-append (λ (x : Signal). x.to.0 ≡ pid) r.own r.taken_in
-          (All-weaker (IsToItself r.pid r.state.counts.stamp) (λ (x : Signal). x.to.0 ≡ pid) (λ x h. h.to ∙ p) r.own keep.own)
-          (All-weaker (IsArriving r.pid r.count) (λ (x : Signal). x.to.0 ≡ pid) (λ x h. h.to ∙ p) r.taken_in keep.taken_in));
+      (All-weaker (IsToItself r.pid r.state.counts.stamp) (λ (x : Signal). x.to.0 ≡ pid) (λ x h. h.to ∙ p) r.own keep.own)
+      (All-weaker (IsArriving r.pid r.count) (λ (x : Signal). x.to.0 ≡ pid) (λ x h. h.to ∙ p) r.taken_in keep.taken_in));
   rising = sorted_signals_rise (r.own ++ r.taken_in);
 }
 

@@ -1,5 +1,5 @@
 -- The reports of the processes of a crew.
-use Rattle.std.proofs.Common.{◌≡◌, List, [], ◌∷◌, ◌++◌, map, sym, ap, ◌∙◌}
+use Rattle.std.proofs.Common.{◌≡◌, List, [], ◌∷◌, ◌++◌, sym, ap, ◌∙◌}
 use Rattle.std.proofs.lemmas.List.{map-append}
 use Rattle.sig_process.specs.Standing.{Standing, runnings_of}
 use Rattle.sig_record.specs.declared.report.Report.{Report}

@@ -1,5 +1,5 @@
 -- A record of a run that has come to rest (this project's own).
-use Rattle.std.specs.Prelude.{ℕ, ◌-◌, Bool, true, false, ◌||◌, ◌==◌, nat_le, List, length, Option, slice_get}
+use Rattle.std.specs.Prelude.{◌-◌, Bool, true, false, ◌||◌, ◌==◌, nat_le, List, length, slice_get}
 use Rattle.std.specs.List.{list_all, list_any}
 use Rattle.std.specs.Option.{option_map_or}
 use Rattle.sig_kinds.specs.declared.signal.Signal.{Signal}

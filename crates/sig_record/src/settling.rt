@@ -37,7 +37,7 @@ fn any_late(signals: &[Signal]) -> bool
 fn has_none_or_late(queued: &Queued) -> bool
     ensures { result ≡ has_none_or_late queued.now }
 {
-    queued.len() == 0 || any_late(queued.as_slice())
+    queued.is_empty() || any_late(queued.as_slice())
 }
 
 fn is_settled_report(report: &Report) -> bool

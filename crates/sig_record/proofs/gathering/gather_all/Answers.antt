@@ -29,5 +29,5 @@ pub returns-clause-keeping : goal.returns-clause-keeping
 returns-clause-keeping c =
     let empty : into_iter_items c.loop-process.process-iterator ≡ [] = grind (arith, common_steps) in
     let whole : c.loop-process.yielded ≡ c.args.procs.items =
-        sym (append-nil c.loop-process.yielded) ∙ ap (λ (procs : List Standing). c.loop-process.yielded ++ procs) (sym empty) ∙ c.loop-process.invariant.whole in
+    sym (append-nil c.loop-process.yielded) ∙ ap (λ (procs : List Standing). c.loop-process.yielded ++ procs) (sym empty) ∙ c.loop-process.invariant.whole in
     subst (λ (procs : List Standing). All IsKeeping (runnings_of procs)) whole c.loop-process.invariant.keeping
