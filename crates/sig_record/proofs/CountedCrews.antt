@@ -16,7 +16,8 @@ use Rattle.sig_model.specs.Running.{Running}
 use Rattle.sig_model.specs.Keeping.{IsKeeping, IsToItself, IsArriving, own_rules, opening_local, local_of}
 use Rattle.sig_model.specs.Accounts.{sent_by, bound_for, came, went, coming_from, IsNumbered}
 use Rattle.sig_model.specs.CrewLaw.{came_to, left_for, went_from, IsLawfulCrew}
-use Rattle.sig_record.specs.RecordOf.{is_from, IsCounted}
+use Rattle.sig_record.specs.RecordOf.{is_from}
+use Rattle.sig_record.proofs.CountedLemmas.{IsCounted}
 use Rattle.sig_record.proofs.RunRecordLemmas.{none_from}
 
 -- numbers that count up

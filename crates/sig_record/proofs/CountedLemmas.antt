@@ -9,8 +9,13 @@ use Rattle.sig_kinds.specs.declared.signal.Signal.{Signal}
 use Rattle.sig_kinds.specs.Counting.{IsCounting}
 use Rattle.sig_model.specs.Running.{Running}
 use Rattle.sig_model.specs.Keeping.{IsKeeping, IsToItself, IsArriving}
-use Rattle.sig_record.specs.RecordOf.{is_from, IsInOrder, AreInOrder, IsCounted}
+use Rattle.sig_record.specs.RecordOf.{is_from, IsInOrder, AreInOrder}
 use Rattle.sig_record.proofs.QueueLemmas.{filter_all, filter_none}
+
+-- the numbers of the process's own signals count up, and so do those of each other sender
+pub record IsCounted (r : Running) : Type 0 where
+  pub own : (n : ℕ) × IsCounting n r.own
+  pub taken_in : (sender : ℕ) → (n : ℕ) × IsCounting n (filter (is_from sender) r.taken_in)
 
 counted_at : (n : ℕ) (xs : List Signal) → IsCounting n xs → (k : ℕ) (d : Signal) → k < length xs → (get_or xs k d).number ≡ n + k
 counted_at n [] h k d lt = absurd (omega arith)

@@ -4,7 +4,6 @@ use Rattle.std.specs.Prelude.{ℕ, zero, suc, List, [], ◌++◌, map, filter, l
 use Rattle.std.specs.List.Sorted.{IsNonDecreasingBy}
 use Rattle.sig_terms.specs.declared.term.Term.{Term}
 use Rattle.sig_kinds.specs.declared.signal.Signal.{Signal}
-use Rattle.sig_kinds.specs.Counting.{IsCounting}
 use Rattle.sig_model.specs.Running.{Running}
 use Rattle.sig_model.specs.PrintedState.{printed_state}
 use Rattle.sig_record.specs.declared.report.Left.{Left}
@@ -55,8 +54,3 @@ IsInOrder r = (sender : ℕ) → IsNonDecreasingBy (λ (x : Signal). x.number) (
 
 abbrev pub AreInOrder : List Running → Type 0
 AreInOrder crew = All IsInOrder crew
-
--- the numbers of the process's own signals count up, and so do those of each other sender
-pub record IsCounted (r : Running) : Type 0 where
-  pub own : (n : ℕ) × IsCounting n r.own
-  pub taken_in : (sender : ℕ) → (n : ℕ) × IsCounting n (filter (is_from sender) r.taken_in)

@@ -1,8 +1,13 @@
-ghost use Rattle.std.specs.Prelude.{◌≡◌, IfOk, All};
+ghost use Rattle.std.specs.Prelude.{◌≡◌, IfOk, map};
+ghost use Rattle.sig_script.specs.Scripts.{Program};
+ghost use Rattle.sig_runs.specs.Crew.{crew_machine};
+ghost use Rattle.sig_model.specs.Machine.{rules_of};
+ghost use Rattle.sig_model.specs.CrewLaw.{IsLawfulCrew, whole_member};
 ghost use Rattle.sig_model.specs.Keeping.{IsPlaced};
 ghost use Rattle.sig_model.specs.OneWorker.{IsClear};
-ghost use Rattle.sig_record.specs.RecordOf.{record_of, sorted_record, AreInOrder, IsCounted};
+ghost use Rattle.sig_record.specs.RecordOf.{record_of, sorted_record, AreInOrder};
 ghost use Rattle.sig_record.specs.Merging.{IsMerged};
+ghost use Rattle.sig_record.specs.RunRecord.{IsRecordOfRun};
 ghost use Rattle.sig_record.specs.SettledRecord.{is_settled};
 
 use crate::gathering::gather_all;
@@ -46,13 +51,16 @@ impl Record {
 
     /// The record of the run that this crew has made. The signals that a process has not handled are
     /// sorted by sender and then number; where those of each sender stood by ascending number, that
-    /// only brings together those of one sender. The error is want of memory.
+    /// only brings together those of one sender. Of a lawful crew it is the record of a run of the
+    /// script's plain machine, in the order that `merge` lists. The error is want of memory.
     pub fn gather(alloc: Global, crew: Crew) -> Result<Record, AllocError>
         requires clear { IsClear crew }
         requires placed { IsPlaced crew }
         ensures sorted { IfOk result (λ r. r ≡ sorted_record crew) }
         ensures in_order { AreInOrder crew → IfOk result (λ r. r ≡ record_of crew) }
-        ensures counted { All IsCounted crew → IfOk result (λ r. r ≡ record_of crew) }
+        ensures lawful { (script : Program) → IsLawfulCrew script crew → IfOk result (λ r. r ≡ record_of crew) }
+        ensures run { (script : Program) → IsLawfulCrew script crew →
+            IfOk result (IsRecordOfRun script (crew_machine (rules_of script) (map whole_member crew))) }
     {
         let reports = gather_all(alloc, crew.procs)?;
         Ok(Record { reports })

@@ -1,11 +1,17 @@
 use Rattle.std.proofs.Common.{List, ap, sym, subst, ◌∙◌}
-use Rattle.std.specs.Prelude.{All}
+use Rattle.std.specs.Prelude.{map}
 use Rattle.sig_model.specs.Running.{Running}
+use Rattle.sig_runs.specs.Crew.{crew_machine}
+use Rattle.sig_model.specs.Machine.{rules_of}
+use Rattle.sig_model.specs.CrewLaw.{IsLawfulCrew, whole_member}
 use Rattle.sig_model.specs.Keeping.{IsPlaced}
 use Rattle.sig_process.specs.Standing.{runnings_of}
-use Rattle.sig_record.specs.RecordOf.{record_of, AreInOrder, IsCounted}
+use Rattle.sig_record.specs.RecordOf.{record_of, AreInOrder}
+use Rattle.sig_record.specs.RunRecord.{IsRecordOfRun}
 use Rattle.sig_record.specs.Records.{IsRecord}
 use Rattle.sig_record.proofs.CountedLemmas.{counted_in_order}
+use Rattle.sig_record.proofs.CountedCrews.{crew_counted}
+use Rattle.sig_record.proofs.RunLemmas.{record_of_a_run}
 use Rattle.sig_record.proofs.RecordLemmas.{record_kept, same_record}
 use Rattle.sig_record.proofs.record.Record.gather.Goals as goal
 
@@ -21,9 +27,15 @@ returns-clause-in_order c =
     let placed : IsPlaced crew = subst IsPlaced (sym c.crew.view_is) c.requires.placed in
     λ ordered. c.in_ok-reports.ensures.reports ∙ same_record crew placed c.in_ok-reports.ensures.keeping (subst AreInOrder (sym c.crew.view_is) ordered) ∙ ap record_of c.crew.view_is
 
-pub returns-clause-counted : goal.returns-clause-counted
-returns-clause-counted c =
+-- of a lawful crew
+pub returns-clause-lawful : goal.returns-clause-lawful
+returns-clause-lawful c =
     let crew : List Running = runnings_of c.crew.inside.procs.items in
     let placed : IsPlaced crew = subst IsPlaced (sym c.crew.view_is) c.requires.placed in
-    λ counted. c.in_ok-reports.ensures.reports
-    ∙ same_record crew placed c.in_ok-reports.ensures.keeping (counted_in_order crew c.in_ok-reports.ensures.keeping (subst (All IsCounted) (sym c.crew.view_is) counted)) ∙ ap record_of c.crew.view_is
+    λ script law. c.in_ok-reports.ensures.reports
+    ∙ same_record crew placed c.in_ok-reports.ensures.keeping (counted_in_order crew c.in_ok-reports.ensures.keeping (crew_counted script crew (subst (IsLawfulCrew script) (sym c.crew.view_is) law)))
+    ∙ ap record_of c.crew.view_is
+
+pub returns-clause-run : goal.returns-clause-run
+returns-clause-run c =
+    λ script law. subst (IsRecordOfRun script (crew_machine (rules_of script) (map whole_member c.args.crew))) (sym (returns-clause-lawful c script law)) (record_of_a_run script c.args.crew law c.requires.clear)
