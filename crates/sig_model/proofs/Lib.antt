@@ -26,3 +26,5 @@ pub mod NumberLemmas
 pub mod LawLemmas
 pub mod KeptLawLemmas
 pub mod LawfulRunLemmas
+pub mod LawfulEndLemmas
+pub mod OutboxNumbers
