@@ -1,5 +1,5 @@
 -- The crew of a script is lawful from its opening on, through each visit and each pass; and it comes to rest.
-use Rattle.std.proofs.Common.{◌≡◌, ◌≢◌, ℕ, zero, suc, ◌+◌, ◌≤◌, List, [], ◌∷◌, ◌++◌, map, length, Bool, false, ◌||◌, Option, Some, None, refl, sym, ap, ◌∙◌, subst, arith}
+use Rattle.std.proofs.Common.{◌≡◌, ◌≢◌, ℕ, zero, suc, ◌+◌, List, [], ◌∷◌, ◌++◌, map, length, Bool, false, ◌||◌, Option, Some, None, refl, sym, ap, ◌∙◌, subst}
 use Rattle.std.specs.Prelude.{All, slice_get, slice_set}
 use Rattle.std.proofs.lemmas.List.{set-set, set_comm}
 use Rattle.std.proofs.lemmas.Option.{same_Some, slice_get-map, slice_get_within, MatchOption-at_some}
@@ -16,39 +16,20 @@ use Rattle.sig_model.specs.Machine.{rules_of, opening_of}
 use Rattle.sig_model.specs.Running.{Running}
 use Rattle.sig_model.specs.OneWorker.{visited, arrived, deliver_to, deliver_all, visit_at, visit, has_moved, pass_from, pass, RunsTo, rests, goes, IsClear, opened_crew}
 use Rattle.sig_model.specs.Keeping.{IsKeeping}
-use Rattle.sig_model.specs.Still.{IsStill, IsStillCrew}
+use Rattle.sig_model.specs.Still.{IsStillCrew}
 use Rattle.sig_model.specs.CrewLaw.{came_to, went_from, left_for, ArePaired, IsLawfulCrew, whole_member}
 use Rattle.sig_model.specs.Accounts.{sent_by}
 use Rattle.sig_model.proofs.Lookups.{at_place}
 use Rattle.sig_model.proofs.StampLemmas.{stamps_kept}
 use Rattle.sig_model.proofs.GoingLemmas.{Goes, stays, on, goes_visited}
-use Rattle.sig_model.proofs.ClearLemmas.{visit_clear}
 use Rattle.sig_model.proofs.ReachLemmas.{set_here}
-use Rattle.sig_model.proofs.StillLemmas.{still_pass}
+use Rattle.sig_model.proofs.StillLemmas.{run_clear, run_still}
 use Rattle.sig_model.proofs.KeepLemmas.{opened_keeps}
 use Rattle.sig_model.proofs.NumberLemmas.{opened_numbered}
 use Rattle.sig_model.proofs.OpeningLemmas.{IsOpened, opened_tells, opened_length}
 use Rattle.sig_model.proofs.SettledLemmas.{cuts_high, quiet}
 use Rattle.sig_model.proofs.LawLemmas.{kept_of, mate, lawful_clear}
 use Rattle.sig_model.proofs.KeptLawLemmas.{IsMember, lawful_of, step_lawful, receiver, apart, delivery_lawful}
-
-pub one_clear : (n at : ℕ) (moved : Bool) (crew : List Running) → IsClear crew → IsClear (pass_from n at moved crew).0
-unfolding pass_from
-one_clear zero at moved crew clear = clear
-one_clear (suc n) at moved crew clear = one_clear n (at + 1) (moved || has_moved at crew (visit at crew)) (visit at crew) (visit_clear at crew clear)
-
--- the outboxes stay empty
-pub run_clear : (crew last : List Running) → RunsTo crew last → IsClear crew → IsClear last
-run_clear _ _ (rests crew h) clear = one_clear (length crew) 0 false crew clear
-run_clear _ last (goes crew _ h more) clear = run_clear (pass crew).0 last more (one_clear (length crew) 0 false crew clear)
-
--- at the end of a run no process can do anything
-run_still : (crew last : List Running) → RunsTo crew last → IsClear crew → IsStillCrew last
-run_still _ _ (rests crew h) clear =
-    let s : ((pass crew).0 ≡ crew) × ((q : ℕ) (r : Running) → 0 ≤ q → slice_get crew q ≡ Some r → IsStill r) =
-    still_pass (length crew) 0 false crew clear (omega arith) h in
-    λ q r e. s.1 q r (omega arith) (subst (λ xs. slice_get xs q ≡ Some r) s.0 e)
-run_still _ last (goes crew _ h more) clear = run_still (pass crew).0 last more (one_clear (length crew) 0 false crew clear)
 
 module _ (script : Program) where
   module _ (p : ℕ) where

@@ -39,3 +39,5 @@ pub mod SizeLemmas
 pub mod ExecutingSizes
 pub mod HandlingSizes
 pub mod SizeLaw
+pub mod LawfulEndLemmas
+pub mod OutboxNumbers

@@ -31,7 +31,7 @@ states_from : (pid count turns : ℕ) (ps : List Declared) → opening_from pid 
 states_from pid count turns [] = refl
 states_from pid count turns (p ∷ ps) = ap (λ z. opening_state pid count ∷ z) (states_from (pid + 1) count turns ps)
 
-clear_from : (pid count turns : ℕ) (ps : List Declared) → IsClear (opened_from pid count turns ps)
+pub clear_from : (pid count turns : ℕ) (ps : List Declared) → IsClear (opened_from pid count turns ps)
 clear_from pid count turns [] = All-nil (λ (r : Running). r.outbox ≡ [])
 clear_from pid count turns (p ∷ ps) = All-cons (λ (r : Running). r.outbox ≡ []) _ _ refl (clear_from (pid + 1) count turns ps)
 

@@ -38,7 +38,7 @@ use Rattle.sig_model.proofs.Guards.{uncut_stamp, exec_due}
 use Rattle.sig_model.proofs.EventLemmas.{member_of, IsPartOf, IsKeptOf}
 use Rattle.sig_model.proofs.CrewLemmas.{Mate, members, at_member}
 use Rattle.sig_model.proofs.ReachLemmas.{IsReached, IsBetweenVisits, rest_pass}
-use Rattle.sig_model.proofs.StillLemmas.{still_pass}
+use Rattle.sig_model.proofs.StillLemmas.{still_pass, run_still}
 use Rattle.sig_model.proofs.OpeningLemmas.{opening_reached}
 
 can_exec_at : (r : Running) → r.state.tables.end ≡ None → is_cut r.turns r.state ≡ false → r.own ≡ [] → can_exec r ≡ true
@@ -155,7 +155,7 @@ module _ (script : Program) where
         let queue : (r.own ≡ []) × (((r.own ≡ []) × (r.taken_in ≡ [])) ⊎ (is_late r ≡ true)) = queue_rests r.own r.taken_in e refl refl (not_early r e s.handle) in
         inr (stops r.state.tables.end refl e queue.0, queue.1)
 
-    is_resting : IsResting r
+    pub is_resting : IsResting r
     is_resting = rests_by (is_cut r.turns r.state) refl
 
   low : (p : ℕ) (r : Running) → IsKeptOf script p r → All (λ (x : Signal). (rules_of script).stamp x ≤ (rules_of script).last r.state) r.own
@@ -188,12 +188,11 @@ module _ (script : Program) where
     settled : IsStillCrew crew → IsSettled (rules_of script) g.machine
     settled still p s at = state_of p (slice_get crew p) s refl (sym (slice_get-map (λ (r : Running). r.state) crew p) ∙ ap (λ xs. slice_get xs p) (sym shown.states) ∙ at) still
 
-  -- these events have led to a crew in which no process can go on
+  -- these events have led to the last crew
   record HasEnded (crew last : List Running) (es : List (At Event)) : Type 0 where
     later : List (At Event)
     made : Makes crew later
     reached : IsReached script (λ q. []) last (es ++ later)
-    still : IsStillCrew last
 
   run_ends : (crew last : List Running) (es : List (At Event)) → RunsTo crew last → IsBetweenVisits script crew es → HasEnded crew last es
   run_ends _ _ es (rests crew h) g =
@@ -203,7 +202,6 @@ module _ (script : Program) where
         later = [];
         made = none crew h;
         reached = subst (λ xs. IsReached script (λ q. []) xs (es ++ [])) (sym s.0) (subst (λ xs. IsReached script (λ q. []) crew xs) (sym (append-nil es)) g.reached);
-        still = λ q r e. s.1 q r (omega arith) (subst (λ xs. slice_get xs q ≡ Some r) s.0 e);
       }
   run_ends _ last es (goes crew _ h more) g =
       let made : List (At Event) = made_in_pass (length crew) 0 crew in
@@ -212,10 +210,9 @@ module _ (script : Program) where
         later = made ++ rest.later;
         made = passes crew rest.later h rest.made;
         reached = subst (λ xs. IsReached script (λ q. []) last xs) (append_assoc es made rest.later) rest.reached;
-        still = rest.still;
       }
 
-  module _ (last : List Running) (e : HasEnded (opened_crew script) last []) where
+  module _ (last : List Running) (e : HasEnded (opened_crew script) last []) (still : IsStillCrew last) where
     abbrev settled_run : IsSettledRun script last
     settled_run = record {
       events = e.later;
@@ -226,13 +223,13 @@ module _ (script : Program) where
           let k : IsPartOf script.turns (slice_get script.procs) p r = (e.reached.kept p r there).process in
           record { pid = k.0; turns = k.1; proc = k.2 };
       told = e.reached.told;
-      settled = settled last e.later e.reached e.still;
+      settled = settled last e.later e.reached still;
       many = e.reached.many;
-      resting = λ p r there. is_resting p r (e.reached.kept p r there) (e.still p r there);
+      resting = λ p r there. is_resting p r (e.reached.kept p r there) (still p r there);
     }
 
   -- the run of one worker is a settled run of the script's machine, with the events in the order of the passes
   pub one_worker_made : (last : List Running) → RunsTo (opened_crew script) last → (run : IsSettledRun script last) × Makes (opened_crew script) run.events
   one_worker_made last h =
       let e : HasEnded (opened_crew script) last [] = run_ends (opened_crew script) last [] h (opening_reached script) in
-      (settled_run last e, e.made)
+      (settled_run last e (run_still (opened_crew script) last h (opening_reached script).clear), e.made)

@@ -7,9 +7,9 @@ use Rattle.std.proofs.lemmas.Option.{same_Some, slice_get_within}
 use Rattle.sig_kinds.specs.declared.signal.Signal.{Signal}
 use Rattle.sig_runs.proofs.Lists.{slice_get-set_same}
 use Rattle.sig_model.specs.Running.{Running, can_handle, next_of, handled_one, handled_first, handle_next, exec_next}
-use Rattle.sig_model.specs.OneWorker.{or_stay, handle_all, exec_or_stay, visited, deliver_all, settled_visit, visit_at, visit, events_at, has_moved, pass_from, IsClear}
-use Rattle.sig_model.specs.Still.{IsStill}
-use Rattle.sig_model.proofs.ClearLemmas.{clear_at}
+use Rattle.sig_model.specs.OneWorker.{or_stay, handle_all, exec_or_stay, visited, deliver_all, settled_visit, visit_at, visit, events_at, has_moved, pass_from, pass, RunsTo, rests, goes, IsClear}
+use Rattle.sig_model.specs.Still.{IsStill, IsStillCrew}
+use Rattle.sig_model.proofs.ClearLemmas.{clear_at, visit_clear}
 use Rattle.sig_model.proofs.CountLemmas.{events_get, delivered_events}
 use Rattle.sig_model.proofs.Guards.{CanHandle, Executed, Handled, can_handle_tells, handle_due, handle_refused, exec_next_tells, handle_next_tells}
 use Rattle.sig_model.proofs.EventLemmas.{IsStep}
@@ -160,3 +160,21 @@ still_pass (suc n) at moved crew clear le h =
         | inr w ↦ rest.1 q r (omega (arith, from, w.1)) e
       ],
     )
+
+pass_clear : (n at : ℕ) (moved : Bool) (crew : List Running) → IsClear crew → IsClear (pass_from n at moved crew).0
+unfolding pass_from
+pass_clear zero at moved crew clear = clear
+pass_clear (suc n) at moved crew clear = pass_clear n (at + 1) (moved || has_moved at crew (visit at crew)) (visit at crew) (visit_clear at crew clear)
+
+-- the outboxes stay empty
+pub run_clear : (crew last : List Running) → RunsTo crew last → IsClear crew → IsClear last
+run_clear _ _ (rests crew h) clear = pass_clear (length crew) 0 false crew clear
+run_clear _ last (goes crew _ h more) clear = run_clear (pass crew).0 last more (pass_clear (length crew) 0 false crew clear)
+
+-- at the end of a run no process can do anything
+pub run_still : (crew last : List Running) → RunsTo crew last → IsClear crew → IsStillCrew last
+run_still _ _ (rests crew h) clear =
+    let s : ((pass crew).0 ≡ crew) × ((q : ℕ) (r : Running) → 0 ≤ q → slice_get crew q ≡ Some r → IsStill r) =
+    still_pass (length crew) 0 false crew clear (omega arith) h in
+    λ q r e. s.1 q r (omega arith) (subst (λ xs. slice_get xs q ≡ Some r) s.0 e)
+run_still _ last (goes crew _ h more) clear = run_still (pass crew).0 last more (pass_clear (length crew) 0 false crew clear)

@@ -38,7 +38,8 @@ left_for t o = bound_for t (outbox_of o)
 abbrev pub ArePaired : List Running → Type 0
 ArePaired crew = (s t : ℕ) → s ≢ t → came_to s (slice_get crew t) ++ left_for t (slice_get crew s) ≡ went_from t (slice_get crew s)
 
--- The crew is one of the script's processes, each of which keeps what it has to keep; and what passed between them is right.
+-- The crew is the script's processes, each of which keeps what it has to keep; and what was sent between each two of them has come, in
+-- order, or lies in an outbox. So it is at each moment of a run (this project's own).
 pub record IsLawfulCrew (script : Program) (crew : List Running) : Type 0 where
   pub many : length crew ≡ length script.procs
   pub placed : IsPlaced crew

@@ -1,13 +1,17 @@
-ghost use Rattle.std.specs.Prelude.{◌≡◌, ℕ, List, ◌∷◌, map, All, Some, slice_get, slice_set};
+ghost use Rattle.std.specs.Prelude.{◌≡◌, ◌≢◌, ℕ, ◌+◌, List, ◌∷◌, map, length, All, Some, slice_get, slice_set};
 ghost use Rattle.sig_kinds.specs.declared.signal.Signal.{Signal};
+ghost use Rattle.sig_kinds.specs.Counting.{IsCounting};
 ghost use Rattle.sig_script.specs.Scripts.{Program, IsSound, IsWithin};
 ghost use Rattle.sig_runs.specs.Crew.{IsLawful, crew_machine};
+ghost use Rattle.sig_runs.specs.Order.{Place, IsOrder, events_at};
 ghost use Rattle.sig_runs.specs.OnTheWay.{IsLawfulAtWork};
 ghost use Rattle.sig_runs.specs.Settled.{IsSettled};
 ghost use Rattle.sig_model.specs.Machine.{rules_of, opening_of};
 ghost use Rattle.sig_model.specs.Running.{Running, exec_next, handle_next};
 ghost use Rattle.sig_model.specs.OneWorker.{arrived, visit, RunsTo, IsClear, opened_crew};
-ghost use Rattle.sig_model.specs.CrewLaw.{IsLawfulCrew, IsMachineStep, whole_member, crew_at_work, machine_of};
+ghost use Rattle.sig_model.specs.Accounts.{came};
+ghost use Rattle.sig_model.specs.SettledRun.{IsSettledRun};
+ghost use Rattle.sig_model.specs.CrewLaw.{IsLawfulCrew, IsMachineStep, left_for, whole_member, crew_at_work, machine_of};
 ghost use Rattle.sig_model.specs.Still.{IsStillCrew};
 
 /// A lawful crew of processes that run is lawful in the theory of processes that run apart: with
@@ -57,4 +61,20 @@ pub fn lawful_crew_comes_to_rest()
         IsSettled (rules_of script) (crew_machine (rules_of script) (map whole_member crew)) }
     ensures run { (script : Program) (crew last : List Running) → IsLawfulCrew script crew → IsClear crew → RunsTo crew last →
         IsSettled (rules_of script) (crew_machine (rules_of script) (map whole_member last)) }
+{}
+
+/// A lawful crew with empty outboxes, of which no process can do anything, is what a settled run of
+/// the script's machine leads to. The run has the crew's events in the order of their stamps, and of
+/// equal stamps by pid.
+pub fn still_crew_is_a_settled_run()
+    ensures { (script : Program) (crew : List Running) (order : List Place) → IsLawfulCrew script crew → IsClear crew →
+        IsStillCrew crew → IsOrder (rules_of script) (map whole_member crew) order →
+        (run : IsSettledRun script crew) × (run.events ≡ events_at (map whole_member crew) order) }
+{}
+
+/// In a lawful crew the signals that lie in an outbox go on with the numbers of those of the same
+/// sender that came to their receiver before.
+pub fn outboxes_continue_the_numbers()
+    ensures { (script : Program) (crew : List Running) (s t : ℕ) (u : Running) → IsLawfulCrew script crew → s ≢ t →
+        slice_get crew t ≡ Some u → IsCounting (length (came s u) + 1) (left_for t (slice_get crew s)) }
 {}

@@ -15,7 +15,7 @@ mod term_sizes;
 
 pub use crew_law::{
     lawful_crew_comes_to_rest, lawful_crew_goes_by_steps, lawful_crew_is_lawful,
-    lawful_crew_stays_lawful,
+    lawful_crew_stays_lawful, outboxes_continue_the_numbers, still_crew_is_a_settled_run,
 };
 pub use event::{Did, Event, Events, Outcome};
 pub use marker_law::{a_run_from_marks_is_a_run, only_processes_of_the_script_are_named};

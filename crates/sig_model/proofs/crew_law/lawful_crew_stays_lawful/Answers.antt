@@ -1,6 +1,7 @@
 use Rattle.std.proofs.Common.{inl, inr}
 use Rattle.sig_model.proofs.KeptLawLemmas.{step_lawful, receiver, delivery_lawful}
-use Rattle.sig_model.proofs.LawfulRunLemmas.{sound_lawful, visit_lawful, run_lawful, run_clear}
+use Rattle.sig_model.proofs.StillLemmas.{run_clear}
+use Rattle.sig_model.proofs.LawfulRunLemmas.{sound_lawful, visit_lawful, run_lawful}
 use Rattle.sig_model.proofs.crew_law.lawful_crew_stays_lawful.Goals as goal
 
 pub returns-clause-opened : goal.returns-clause-opened
