@@ -9,7 +9,7 @@ use Rattle.sig_model.specs.Running.{Running}
 use Rattle.sig_model.specs.Accounts.{came}
 use Rattle.sig_model.specs.CrewLaw.{came_to, went_from, left_for, IsLawfulCrew}
 
-counting-rest : (n : ℕ) (xs ys : List Signal) → IsCounting n (xs ++ ys) → IsCounting (n + length xs) ys
+pub counting-rest : (n : ℕ) (xs ys : List Signal) → IsCounting n (xs ++ ys) → IsCounting (n + length xs) ys
 counting-rest n [] ys h = subst (λ m. IsCounting m ys) (let e : n ≡ n + 0 = omega arith in e) h
 counting-rest n (x ∷ xs) ys h = subst (λ m. IsCounting m ys) (let e : n + 1 + length xs ≡ n + length (x ∷ xs) = omega arith in e) (counting-rest (n + 1) xs ys h.1)
 

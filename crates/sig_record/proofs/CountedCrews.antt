@@ -15,6 +15,7 @@ use Rattle.sig_model.specs.Machine.{rules_with}
 use Rattle.sig_model.specs.Running.{Running}
 use Rattle.sig_model.specs.Keeping.{IsKeeping, IsToItself, IsArriving, own_rules, opening_local, local_of}
 use Rattle.sig_model.specs.Accounts.{sent_by, bound_for, came, went, coming_from, IsNumbered}
+use Rattle.sig_model.proofs.OutboxNumbers.{counting-rest}
 use Rattle.sig_model.specs.CrewLaw.{came_to, left_for, went_from, IsLawfulCrew}
 use Rattle.sig_record.specs.RecordOf.{is_from}
 use Rattle.sig_record.proofs.CountedLemmas.{IsCounted}
@@ -24,11 +25,6 @@ use Rattle.sig_record.proofs.RunRecordLemmas.{none_from}
 counting_front : (n : ℕ) (xs ys : List Signal) → IsCounting n (xs ++ ys) → IsCounting n xs
 counting_front n [] ys h = tt
 counting_front n (x ∷ xs) ys h = (h.0, counting_front (n + 1) xs ys h.1)
-
-counting_behind : (n : ℕ) (xs ys : List Signal) → IsCounting n (xs ++ ys) → IsCounting (n + length xs) ys
-counting_behind n [] ys h = subst (λ m. IsCounting m ys) (let e : n ≡ n + 0 = omega arith in e) h
-counting_behind n (x ∷ xs) ys h =
-    subst (λ m. IsCounting m ys) (let e : n + 1 + length xs ≡ n + length (x ∷ xs) = omega arith in e) (counting_behind (n + 1) xs ys h.1)
 
 module _ (script : Program) (crew : List Running) (law : IsLawfulCrew script crew) (p : ℕ) (r : Running) (there : slice_get crew p ≡ Some r) where
   abbrev keeping : IsKeeping r
@@ -45,7 +41,7 @@ module _ (script : Program) (crew : List Running) (law : IsLawfulCrew script cre
       let pid : r.pid ≡ p = (law.placed p r there).0 in
       let pair : coming_from r.pid (handles acts) ++ r.own ≡ went r.pid r = own_law (own_rules r) r.pid acts (opening_local r) (local_of r) keeping.ran.runs in
       let counted : IsCounting 1 (went r.pid r) = (law.numbered p r there).counted r.pid (subst (λ n. n < r.count) (sym pid) within) in
-      (1 + length (coming_from r.pid (handles acts)), counting_behind 1 (coming_from r.pid (handles acts)) r.own (subst (IsCounting 1) (sym pair) counted))
+      (1 + length (coming_from r.pid (handles acts)), counting-rest 1 (coming_from r.pid (handles acts)) r.own (subst (IsCounting 1) (sym pair) counted))
 
   counted_from : (s : ℕ) (o : Option Running) → slice_get crew s ≡ o → IsCounting 1 (went_from p o)
   counted_from s None e = tt
@@ -57,7 +53,7 @@ module _ (script : Program) (crew : List Running) (law : IsLawfulCrew script cre
       let pair : came s r ++ left_for p (slice_get crew s) ≡ went_from p (slice_get crew s) =
       subst (λ o. came_to s o ++ left_for p (slice_get crew s) ≡ went_from p (slice_get crew s)) there (law.pairs s p apart) in
       let counted : IsCounting 1 (came s r) = counting_front 1 (came s r) (left_for p (slice_get crew s)) (subst (IsCounting 1) (sym pair) (counted_from s (slice_get crew s) refl)) in
-      (1 + length (filter (is_from s) r.handled), counting_behind 1 (filter (is_from s) r.handled) (filter (is_from s) r.taken_in) (subst (IsCounting 1) (filter-append (is_from s) r.handled r.taken_in) counted))
+      (1 + length (filter (is_from s) r.handled), counting-rest 1 (filter (is_from s) r.handled) (filter (is_from s) r.taken_in) (subst (IsCounting 1) (filter-append (is_from s) r.handled r.taken_in) counted))
 
   theirs : All (λ (x : Signal). x.from.0 ≢ p) r.taken_in
   theirs = All-weaker (IsArriving r.pid r.count) (λ (x : Signal). x.from.0 ≢ p) (λ x h e. h.from (e ∙ sym (law.placed p r there).0)) r.taken_in keeping.taken_in
