@@ -6,12 +6,12 @@ use Rattle.std.specs.Borrow.{MutBor}
 use Rattle.std.specs.List.{list_any}
 use Rattle.std.specs.Option.{option_map}
 use Rattle.std.proofs.lemmas.List.{append-nil, drop_more, drop_all, length-map, map-append, map-set}
-use Rattle.std.proofs.lemmas.List.Elements.{All-nil, All-cons, All-push}
+use Rattle.std.proofs.lemmas.List.Elements.{All-push}
 use Rattle.std.proofs.lemmas.Option.{slice_get-map, slice_get_within, get_or_from_slice_get, slice_get-get_or}
 use Rattle.sig_script.specs.Scripts.{Declared}
 use Rattle.sig_model.specs.Running.{Running, opened}
 use Rattle.sig_model.specs.Keeping.{IsKeeping}
-use Rattle.sig_model.specs.OneWorker.{opened_from, IsClear}
+use Rattle.sig_model.specs.OneWorker.{opened_from}
 use Rattle.sig_process.specs.Standing.{Standing, runnings_of}
 
 -- what stands at a place, and what follows it
@@ -58,12 +58,6 @@ pub all_opened : (procs : List Declared) (pid turns : ℕ) (so_far : List Runnin
     so_far ++ opened_from pid (length procs) turns (drop pid procs) ≡ opened_from 0 (length procs) turns procs → so_far ≡ opened_from 0 (length procs) turns procs
 all_opened procs pid turns so_far le e =
     sym (append-nil so_far) ∙ ap (λ (ds : List Declared). so_far ++ opened_from pid (length procs) turns ds) (sym (drop_all pid procs le)) ∙ e
-
--- no process of a script that is opened has sent a signal
-pub opened_clear : (pid count turns : ℕ) (procs : List Declared) → IsClear (opened_from pid count turns procs)
-opened_clear pid count turns [] = All-nil (λ r. r.outbox ≡ [])
-opened_clear pid count turns (p ∷ ps) =
-    All-cons (λ r. r.outbox ≡ []) (opened pid count turns p) (opened_from (pid + 1) count turns ps) refl (opened_clear (pid + 1) count turns ps)
 
 -- an element of what lies behind a place
 pub slice_get-drop : {X : Type 0} (xs : List X) (n i : ℕ) → slice_get xs (n + i) ≡ slice_get (drop n xs) i

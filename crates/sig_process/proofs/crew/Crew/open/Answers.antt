@@ -1,11 +1,12 @@
 use Rattle.std.proofs.Common.{◌≡◌, sym, ◌∙◌, subst, arith, List, length, ◌<◌, ◌≤◌}
 use Rattle.sig_model.specs.OneWorker.{IsClear, opened_crew}
 use Rattle.sig_model.specs.Keeping.{IsPlaced}
+use Rattle.sig_model.proofs.OpeningLemmas.{clear_from}
 use Rattle.sig_model.proofs.PlacedLemmas.{opened_placed}
 use Rattle.sig_model.proofs.LawfulRunLemmas.{opened_keeping_lawful}
 use Rattle.sig_script.specs.Scripts.{Declared}
 use Rattle.sig_process.specs.Standing.{runnings_of}
-use Rattle.sig_process.proofs.Lists.{opened_more, all_opened, opened_clear, keeping_more}
+use Rattle.sig_process.proofs.Lists.{opened_more, all_opened, keeping_more}
 use Rattle.sig_process.proofs.crew.Crew.open.Goals as goal
 
 pub loop-pid-preserved : goal.loop-pid-preserved
@@ -30,7 +31,7 @@ returns-clause-clear c =
     let procs : List Declared = c.args.script.now.procs in
     let turns = c.args.script.now.turns in
     let le : length procs ≤ c.loop-pid.pid = omega arith in
-    subst IsClear (sym (all_opened procs c.loop-pid.pid turns (runnings_of c.loop-pid.procs.items) le c.loop-pid.invariant.rest)) (opened_clear 0 (length procs) turns procs)
+    subst IsClear (sym (all_opened procs c.loop-pid.pid turns (runnings_of c.loop-pid.procs.items) le c.loop-pid.invariant.rest)) (clear_from 0 (length procs) turns procs)
 
 pub returns-clause-placed : goal.returns-clause-placed
 returns-clause-placed c =
