@@ -1,5 +1,5 @@
 -- Pieces that are told one after another.
-use Rattle.std.proofs.Common.{◌≡◌, ℕ, ◌≤◌, List, [], ◌++◌, Option, Some, None, sym, ◌∙◌, ap, arith, append_assoc, append-nil}
+use Rattle.std.proofs.Common.{◌≡◌, ℕ, ◌≤◌, List, ◌++◌, Option, Some, None, ◌∙◌, ap, arith, append_assoc}
 use Rattle.sig_base.specs.Flow.{Rose, Adds}
 
 then-some : (held : List ℕ) (b c : Option (List ℕ)) (xs ys : List ℕ) → b ≡ Some (held ++ xs) → Adds b c ys → c ≡ Some (held ++ (xs ++ ys))

@@ -680,3 +680,39 @@ fn events_are_merged_by_their_stamps(rt: HostRuntime) -> Result<(), Fail> {
     assert!(rt; record.settled());
     Ok(())
 }
+
+/// A script in which process 1 is cut before it has handled one signal of each of the others, and
+/// one of its own. That of process 0 comes last.
+fn many_senders(alloc: Global, last: u64) -> Result<Vec<u8>, Fail> {
+    let mut text = Vec::from_slice(
+        alloc,
+        b"sigscript 1\nturns 3\nprocess b\nreceive\non go\nend\nsend @hub b1\nsend @hub b2\n",
+    )?;
+    text.extend_from_slice(b"process hub\nsend @hub h1\nsend @hub h2\nsend @hub h3\n")?;
+    text.extend_from_slice(b"process c\nsend @b go\nset X 1\nsend @hub c1\n")?;
+    for number in 0..last {
+        let mut buffer = Buffer::new();
+        text.extend_from_slice(b"process d")?;
+        text.extend_from_slice(buffer.format(number).as_bytes())?;
+        text.extend_from_slice(b"\nset X 1\nset X 2\nsend @hub d\n")?;
+    }
+    Ok(text)
+}
+
+#[test]
+fn signals_of_many_senders_are_sorted(rt: HostRuntime) -> Result<(), Fail> {
+    let alloc = rt.alloc();
+    let text = many_senders(alloc, 24)?;
+    let record = record_of(alloc, text.as_slice())?;
+    let hub = record.reports().get(1).ok_or("no report")?;
+    let mut pairs = Vec::new(alloc);
+    for signal in hub.queued.as_slice() {
+        pairs.push((signal.from.0, signal.number))?;
+    }
+    let mut expected = Vec::from_slice(alloc, &[(0, 2), (1, 3)])?;
+    for sender in 2..27 {
+        expected.push((sender, 1))?;
+    }
+    assert!(rt; pairs == expected, "{pairs:?}");
+    Ok(())
+}

@@ -1,5 +1,5 @@
 -- The numbers of the signals that wait for a process of a lawful crew count up, sender by sender.
-use Rattle.std.proofs.Common.{◌≡◌, ◌≢◌, ℕ, zero, suc, ◌+◌, ◌<◌, ◌≤◌, List, [], ◌∷◌, ◌++◌, length, All, Bool, true, false, Option, Some, None, refl, sym, ap, ◌∙◌, subst, arith, inl, inr, ◌⊎◌}
+use Rattle.std.proofs.Common.{◌≡◌, ◌≢◌, ℕ, suc, ◌+◌, ◌<◌, List, [], ◌∷◌, ◌++◌, length, All, true, false, Option, Some, None, refl, sym, ◌∙◌, subst, inl, inr, ◌⊎◌}
 use Rattle.std.specs.Prelude.{◌==◌, slice_get}
 use Rattle.std.specs.List.{filter}
 use Rattle.std.proofs.lemmas.Bool.Decides.{eqb_tells}
@@ -13,8 +13,8 @@ use Rattle.sig_runs.specs.Replay.{acts_told}
 use Rattle.sig_runs.proofs.Pairs.{own_law}
 use Rattle.sig_model.specs.Machine.{rules_with}
 use Rattle.sig_model.specs.Running.{Running}
-use Rattle.sig_model.specs.Keeping.{IsKeeping, IsToItself, IsArriving, own_rules, opening_local, local_of}
-use Rattle.sig_model.specs.Accounts.{sent_by, bound_for, came, went, coming_from, IsNumbered}
+use Rattle.sig_model.specs.Keeping.{IsKeeping, IsArriving, own_rules, opening_local, local_of}
+use Rattle.sig_model.specs.Accounts.{sent_by, came, went, coming_from}
 use Rattle.sig_model.proofs.OutboxNumbers.{counting-rest}
 use Rattle.sig_model.specs.CrewLaw.{came_to, left_for, went_from, IsLawfulCrew}
 use Rattle.sig_record.specs.RecordOf.{is_from}

@@ -1,7 +1,6 @@
 -- The record of a lawful crew is the record of a run of the script's machine.
-use Rattle.std.proofs.Common.{◌≡◌, ◌≢◌, ℕ, zero, suc, ◌+◌, ◌<◌, List, [], ◌∷◌, ◌++◌, map, length, All, Option, Some, None, refl, sym, ap, ◌∙◌, subst, arith}
+use Rattle.std.proofs.Common.{◌≡◌, ◌≢◌, ℕ, zero, suc, ◌+◌, ◌<◌, List, [], ◌∷◌, map, length, All, Option, Some, None, refl, sym, ap, ◌∙◌, subst, arith}
 use Rattle.std.specs.Prelude.{slice_get}
-use Rattle.std.specs.List.{filter_map}
 use Rattle.std.specs.Option.{option_map}
 use Rattle.std.proofs.lemmas.List.Elements.{All-nil, All-cons, All-weaker}
 use Rattle.std.proofs.lemmas.Option.{slice_get-map, slice_get_within, same_Some, none-some}
@@ -12,7 +11,7 @@ use Rattle.sig_runs.specs.Rules.{KeepStamps}
 use Rattle.sig_runs.specs.Machine.{Machine, At, IsRun}
 use Rattle.sig_runs.specs.LocalRun.{Act}
 use Rattle.sig_runs.specs.Crew.{Member, IsLawful, acts_of, queued_at, crew_machine, opening_machine}
-use Rattle.sig_runs.specs.Order.{Place, IsOrder, act_at, events_at, events_by}
+use Rattle.sig_runs.specs.Order.{IsOrder, act_at, events_at, events_by}
 use Rattle.sig_runs.specs.Settled.{IsSettled}
 use Rattle.sig_runs.proofs.Order.{order_events}
 use Rattle.sig_runs.proofs.Marks.{order_is_whole_run}
@@ -118,11 +117,11 @@ module _ (script : Program) (crew : List Running) (law : IsLawfulCrew script cre
   record_alike events told =
       reports_alike script events machine (length crew) 0 crew script.procs
       (λ i r there.
-        let is : zero + i ≡ i = omega arith in
-        let at : r.events ≡ events_by i events = sym (told i ∙ ap (λ o. events_of o) there) in (
-          (law.processes i r there).proc,
-          ((law.processes i r there).pid ∙ sym is, (law.processes i r there).turns, subst (λ k. r.events ≡ events_by k events) (sym is) at, subst (λ k. HasQueued machine (length crew) k r) (sym is) (has_queued i r there)),
-        ))
+      let is : zero + i ≡ i = omega arith in
+      let at : r.events ≡ events_by i events = sym (told i ∙ ap (λ o. events_of o) there) in (
+        (law.processes i r there).proc,
+        ((law.processes i r there).pid ∙ sym is, (law.processes i r there).turns, subst (λ k. r.events ≡ events_by k events) (sym is) at, subst (λ k. HasQueued machine (length crew) k r) (sym is) (has_queued i r there)),
+      ))
       law.many
       ∙ same_record events
 

@@ -1,5 +1,5 @@
 -- The record of a crew is the record of a run that ends in the crew's machine.
-use Rattle.std.proofs.Common.{◌≡◌, ◌≢◌, ℕ, zero, suc, ◌+◌, ◌<◌, ◌≤◌, List, [], ◌∷◌, ◌++◌, map, length, Bool, true, false, cond, ◌||◌, All, Option, Some, None, refl, sym, ap, ◌∙◌, subst, append_assoc, arith, inl, inr, ◌⊎◌}
+use Rattle.std.proofs.Common.{◌≡◌, ◌≢◌, ℕ, zero, suc, ◌+◌, ◌<◌, List, [], ◌∷◌, ◌++◌, map, length, Bool, true, false, cond, ◌||◌, All, Option, Some, refl, sym, ap, ◌∙◌, subst, append_assoc, arith, inl, inr, ◌⊎◌}
 use Rattle.std.specs.Prelude.{◌==◌, nat_lt, slice_get, if◌then◌else◌}
 use Rattle.std.specs.List.{filter, list_any}
 use Rattle.std.proofs.lemmas.Bool.{eq-eqb, ne_eqb, lt-ltb}
@@ -18,7 +18,7 @@ use Rattle.sig_model.specs.declared.state.State.{State}
 use Rattle.sig_model.specs.ProcessState.{ProcessState, is_cut}
 use Rattle.sig_model.specs.PrintedState.{is_late_signal, is_late, state_of, printed_state}
 use Rattle.sig_model.specs.Running.{Running}
-use Rattle.sig_model.specs.SettledRun.{waiting_of, IsProcessOf}
+use Rattle.sig_model.specs.SettledRun.{waiting_of}
 use Rattle.sig_record.specs.declared.report.Report.{Report}
 use Rattle.sig_record.specs.RecordOf.{left_of, is_from, queued_below, report_of}
 use Rattle.sig_record.specs.RunRecord.{queued_for, run_report, run_reports}
@@ -180,6 +180,6 @@ module _ (script : Program) (events : List (At Event)) (m : Machine ProcessState
       let rest : map (report_of count) rs ≡ run_reports count script.turns events m (p + 1) ds (map (λ (r : Running). r.state) rs) =
       reports_alike (p + 1) rs ds
       (λ i q at. let step : p + suc i ≡ p + 1 + i = omega arith in
-        let g = h (suc i) q at in (g.0, (g.1.0 ∙ step, g.1.1, subst (λ k. q.events ≡ events_by k events) step g.1.2, subst (λ k. HasQueued m count k q) step g.1.3)))
+      let g = h (suc i) q at in (g.0, (g.1.0 ∙ step, g.1.1, subst (λ k. q.events ≡ events_by k events) step g.1.2, subst (λ k. HasQueued m count k q) step g.1.3)))
       (let k : length rs ≡ length ds = omega (arith, e) in k) in
       rw (part) (ap (λ x. x ∷ map (report_of count) rs) one ∙ ap (λ xs. run_report count script.turns events m p r.proc r.state ∷ xs) rest)

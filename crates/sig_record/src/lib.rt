@@ -14,5 +14,5 @@ pub use merging::{Merged, MergedAt};
 pub use ordering::merged_record_is_the_order;
 pub use printing::print_record;
 pub use record::Record;
-pub use runs::a_lawful_crew_tells_a_run;
 pub use report::{Left, Lefts, Queued, Report};
+pub use runs::a_lawful_crew_tells_a_run;
