@@ -13,3 +13,4 @@ pub mod KeySorting
 pub mod RunRecordLemmas
 pub mod CountedCrews
 pub mod RunLemmas
+pub mod RestLemmas

@@ -1,4 +1,4 @@
-ghost use Rattle.std.specs.Prelude.{◌≡◌, List, map};
+ghost use Rattle.std.specs.Prelude.{◌≡◌, List, map, true};
 ghost use Rattle.sig_script.specs.Scripts.{Program};
 ghost use Rattle.sig_runs.specs.Machine.{IsRun};
 ghost use Rattle.sig_runs.specs.Crew.{opening_machine, crew_machine};
@@ -7,15 +7,18 @@ ghost use Rattle.sig_model.specs.Machine.{rules_of, opening_of};
 ghost use Rattle.sig_model.specs.Running.{Running};
 ghost use Rattle.sig_model.specs.OneWorker.{IsClear};
 ghost use Rattle.sig_model.specs.CrewLaw.{IsLawfulCrew, whole_member};
+ghost use Rattle.sig_model.specs.Still.{IsStillCrew};
 ghost use Rattle.sig_record.specs.declared.merging.MergedAt.{MergedAt};
 ghost use Rattle.sig_record.specs.RecordOf.{record_of};
 ghost use Rattle.sig_record.specs.Merging.{IsMerged};
+ghost use Rattle.sig_record.specs.SettledRecord.{is_settled};
 ghost use Rattle.sig_record.specs.RunRecord.{events_listed, whole_rules, IsRecordOfRun};
 
 /// The record of a lawful crew with empty outboxes is the record of a run of the script's plain
 /// machine, in which a receive looks at all messages. Each list that `merge` may give of it is such
 /// a run, event by event, and it leads to the crew's states and queued signals. Where the crew has
-/// come to rest, so has the machine. (Erlang Reference Manual, Processes, Delivery of Signals;
+/// come to rest, so has the machine; where no process of it can do anything, `settled` of the record is
+/// true. (Erlang Reference Manual, Processes, Delivery of Signals;
 /// Expressions, Receive.)
 pub fn a_lawful_crew_tells_a_run()
     ensures merged { (script : Program) (crew : List Running) (order : List MergedAt) → IsLawfulCrew script crew →
@@ -27,4 +30,6 @@ pub fn a_lawful_crew_tells_a_run()
     ensures settled { (script : Program) (crew : List Running) → IsLawfulCrew script crew → IsClear crew →
         IsSettled (rules_of script) (crew_machine (rules_of script) (map whole_member crew)) →
         IsSettled (whole_rules script) (crew_machine (rules_of script) (map whole_member crew)) }
+    ensures still { (script : Program) (crew : List Running) → IsLawfulCrew script crew → IsStillCrew crew →
+        is_settled (record_of crew) ≡ true }
 {}
