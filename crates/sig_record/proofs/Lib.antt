@@ -14,3 +14,11 @@ pub mod RunRecordLemmas
 pub mod CountedCrews
 pub mod RunLemmas
 pub mod RestLemmas
+pub mod ReaderLaws
+pub mod PieceLaws
+pub mod ManyLaws
+pub mod LineLaws
+pub mod RecordLaws
+pub mod TermFronts
+pub mod ItemSteps
+pub mod WidePids
