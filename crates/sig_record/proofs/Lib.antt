@@ -13,3 +13,12 @@ pub mod KeySorting
 pub mod RunRecordLemmas
 pub mod CountedCrews
 pub mod RunLemmas
+pub mod ReaderLaws
+pub mod PieceLaws
+pub mod ManyLaws
+pub mod LineLaws
+pub mod RecordLaws
+pub mod TermFronts
+pub mod ItemSteps
+pub mod WidePids
+pub mod Refused

@@ -7,3 +7,7 @@ pub mod SettledRecord
 pub mod RunRecord
 pub mod RecordText
 pub mod Putting
+pub mod Readers
+pub mod RecordFronts
+pub mod ReadableRecord
+pub mod Refusing

@@ -2,10 +2,16 @@
 #![tactic(auto)]
 
 mod gathering;
+mod lines;
 mod merging;
 mod ordering;
+mod outcomes;
+mod parts;
+mod pieces;
 mod printing;
+mod reading;
 mod record;
+mod refusal;
 mod report;
 mod runs;
 mod settling;
@@ -13,6 +19,8 @@ mod settling;
 pub use merging::{Merged, MergedAt};
 pub use ordering::merged_record_is_the_order;
 pub use printing::print_record;
+pub use reading::{read_record, texts_tell_records_apart};
 pub use record::Record;
+pub use refusal::RecordError;
 pub use report::{Left, Lefts, Queued, Report};
 pub use runs::a_lawful_crew_tells_a_run;

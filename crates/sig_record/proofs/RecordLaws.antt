@@ -1,0 +1,161 @@
+-- The laws of a process's part, and of a record.
+use Rattle.std.proofs.Common.{◌≡◌, ℕ, zero, suc, ◌+◌, Bool, true, false, cond, List, [], ◌∷◌, ◌++◌, length, Option, Some, None, refl, sym, ap, subst, ◌∙◌, arith, length-append, add-zero, zero-add}
+use Rattle.std.specs.Prelude.{◌≢◌, IfSome, All, codes, slice_get, ◌==◌}
+use Rattle.std.specs.List.{flat_map}
+use Rattle.std.proofs.lemmas.Bool.Decides.{Decides-eqb}
+use Rattle.std.proofs.lemmas.List.{append-nil}
+use Rattle.std.proofs.lemmas.List.Elements.{All-nil, All-cons, All-head, All-tail}
+use Rattle.std.proofs.lemmas.Option.{none-some, same_Some}
+use Rattle.sig_terms.specs.Tokens.{◌>>=◌}
+use Rattle.sig_terms.proofs.Choices.{by_test, if_bind}
+use Rattle.sig_kinds.specs.declared.signal.Signal.{Signal}
+use Rattle.sig_model.specs.declared.event.Event.{Event}
+use Rattle.sig_model.specs.declared.state.State.{State}
+use Rattle.sig_model.specs.declared.state.State.TheVariants as state
+use Rattle.sig_record.specs.declared.report.Left.{Left}
+use Rattle.sig_record.specs.declared.report.Report.{Report}
+use Rattle.sig_record.specs.Records.{IsReport, IsRecord}
+use Rattle.sig_record.specs.RecordText.{event_text, left_text, queued_text, state_text, report_text, record_text}
+use Rattle.sig_record.specs.Readers.{behind}
+use Rattle.sig_record.specs.RecordFronts.{begins_by_digit, begins_by, report_of_parts, report_front, reports_front, record_in}
+use Rattle.sig_record.specs.ReadableRecord.{IsReadableEvent, IsReadableLeft, IsReadableReport, IsReadableRecord}
+use Rattle.sig_record.proofs.ReaderLaws.{IsReadAs, Law, Anything, joined_law, behind_law, read_as_law, stopped_law}
+use Rattle.sig_record.proofs.TermFronts.{if_some_at}
+use Rattle.sig_record.proofs.ManyLaws.{Fits, many_law, fits_all, all_fits}
+use Rattle.sig_record.proofs.LineLaws.{events_law, lefts_law, QueuedBehind, all_queued_law, readable_signals, signals_to, signals_rise, signals_fit, state_law, head_law}
+
+-- ---- what follows the lines of one kind
+
+abbrev NoEvent : List ℕ → Type 0
+NoEvent rest = begins_by_digit rest ≡ false
+
+abbrev NoLeft : List ℕ → Type 0
+NoLeft rest = NoEvent rest × (begins_by (codes "left ") rest ≡ false)
+
+abbrev NoQueued : List ℕ → Type 0
+NoQueued rest = NoLeft rest × (begins_by (codes "queued ") rest ≡ false)
+
+lefts_stop : (ls : List Left) (rest : List ℕ) → NoLeft rest → NoEvent (flat_map left_text ls ++ rest)
+unfolding left_text
+lefts_stop [] rest stop = stop.0
+lefts_stop (l ∷ ls) rest stop = refl
+
+signals_stop : (qs : List Signal) (rest : List ℕ) → NoQueued rest → NoLeft (flat_map queued_text qs ++ rest)
+unfolding queued_text
+signals_stop [] rest stop = stop.0
+signals_stop (q ∷ qs) rest stop = (refl, refl)
+
+state_stops : (s : State) (rest : List ℕ) → NoQueued (state_text s ++ rest)
+state_stops (state.Ended reason) rest = ((refl, refl), refl)
+state_stops state.Waiting rest = ((refl, refl), refl)
+state_stops state.Cut rest = ((refl, refl), refl)
+
+-- ---- a process's part
+
+abbrev pub ReportAt : ℕ → Report → Type 0
+ReportAt pid r = IsReport pid r × IsReadableReport r
+
+abbrev parts_of : Report → ((((ℕ × List ℕ) × List Event) × List Left) × List Signal) × State
+parts_of r = (((((r.pid.0, r.name), r.events), r.left), r.queued), r.state)
+
+pub report_law : (pid : ℕ) → Law Anything report_text (ReportAt pid) (report_front pid)
+unfolding report_text report_front
+report_law pid =
+    read_as_law
+    (joined_law (joined_law (joined_law (joined_law (head_law pid) events_law (λ es rest k stop. tt))
+    (stopped_law {z = NoLeft} (λ rest stop. stop.1) lefts_law) (λ ls rest k stop. lefts_stop ls rest stop))
+    (stopped_law {z = NoQueued} (λ rest stop. stop.1) (all_queued_law pid)) (λ qs rest k stop. signals_stop qs rest stop))
+    state_law (λ s rest k stop. state_stops s rest))
+    report_of_parts parts_of report_text (ReportAt pid) (λ r k. refl) (λ x. refl)
+    (λ x k. let same : x.0.0.0.0.0 ≡ pid = (Decides-eqb x.0.0.0.0.0 pid).0 k.0.0.0.0.1 in (
+      record { process = same; to = signals_to pid [] x.0.1 k.0.1; rising = signals_rise pid x.0.1 k.0.1 },
+      record {
+        pid = k.0.0.0.0.0.0;
+        name = k.0.0.0.0.0.1;
+        events = fits_all IsReadableEvent [] x.0.0.0.1 k.0.0.0.1;
+        left = fits_all IsReadableLeft [] x.0.0.1 k.0.0.1;
+        queued = readable_signals pid [] x.0.1 k.0.1;
+        state = k.1;
+      },
+    ))
+    (λ r k.
+    let i = k.0 in
+    let p = k.1 in
+    (((((((p.pid, p.name), (Decides-eqb r.pid.0 pid).1 i.process), all_fits IsReadableEvent [] r.events p.events), all_fits IsReadableLeft [] r.left p.left), signals_fit pid r.queued p.queued i.to i.rising), p.state)))
+
+report_begins : (r : Report) (rest : List ℕ) → begins_by (codes "process ") (report_text r ++ rest) ≡ true
+unfolding report_text
+report_begins r rest = refl
+
+-- ---- records
+
+abbrev pub ReportBehind : List Report → Report → Type 0
+ReportBehind before r = ReportAt (length before) r
+
+pub reports_law : Law (λ rest. begins_by (codes "process ") rest ≡ false) (flat_map report_text) (Fits ReportBehind []) reports_front
+reports_law = many_law (begins_by (codes "process ")) (λ before. report_front (length before)) report_text ReportBehind (λ before. report_law (length before)) refl (λ _ r rest k. report_begins r rest)
+
+-- the reports from this pid on
+abbrev RecordFrom : ℕ → List Report → Type 0
+RecordFrom first rs = (i : ℕ) (r : Report) → slice_get rs i ≡ Some r → IsReport (first + i) r
+
+later_pid : (before : List Report) (x : Report) (i : ℕ) → length (before ++ x ∷ []) + i ≡ length before + suc i
+later_pid before x i = omega (arith, length-append before (x ∷ []))
+
+record_of_fits : (before rs : List Report) → Fits ReportBehind before rs → RecordFrom (length before) rs
+record_of_fits before [] fits i r e = absurd (none-some r e)
+record_of_fits before (x ∷ rs) fits zero r e =
+    subst (IsReport (length before + 0)) (same_Some x r e) (subst (λ (n : ℕ). IsReport n x) (sym (add-zero (length before))) fits.0.0)
+record_of_fits before (x ∷ rs) fits (suc i) r e = subst (λ (n : ℕ). IsReport n r) (later_pid before x i) (record_of_fits (before ++ x ∷ []) rs fits.1 i r e)
+
+readable_of_fits : (before rs : List Report) → Fits ReportBehind before rs → All IsReadableReport rs
+readable_of_fits before [] fits = All-nil IsReadableReport
+readable_of_fits before (x ∷ rs) fits = All-cons IsReadableReport x rs fits.0.1 (readable_of_fits (before ++ x ∷ []) rs fits.1)
+
+fits_of_record : (before rs : List Report) → RecordFrom (length before) rs → All IsReadableReport rs → Fits ReportBehind before rs
+fits_of_record before [] kept each = tt
+fits_of_record before (x ∷ rs) kept each = (
+  (subst (λ (n : ℕ). IsReport n x) (add-zero (length before)) (kept zero x refl), All-head IsReadableReport x rs each),
+  fits_of_record (before ++ x ∷ []) rs (λ i r e. subst (λ (n : ℕ). IsReport n r) (sym (later_pid before x i)) (kept (suc i) r e)) (All-tail IsReadableReport x rs each),
+)
+
+from_zero : (rs : List Report) → Fits ReportBehind [] rs → IsReadableRecord rs
+from_zero rs fits = record { kept = λ i r e. subst (λ (n : ℕ). IsReport n r) (zero-add i) (record_of_fits [] rs fits i r e); each = readable_of_fits [] rs fits }
+
+whole_law : Law (λ rest. begins_by (codes "process ") rest ≡ false) record_text (Fits ReportBehind []) (behind (codes "sigrecord 1\n") reports_front)
+whole_law = behind_law (codes "sigrecord 1\n") reports_law
+
+nothing_left : (xs : List ℕ) → (length xs == 0) ≡ true → xs ≡ []
+nothing_left [] h = refl
+nothing_left (x ∷ xs) h = absurd (omega (arith, (Decides-eqb (length (x ∷ xs)) 0).0 h))
+
+-- what is read is a readable record, of which these bytes are the text
+abbrev pub IsTextOf : List ℕ → List Report → Type 0
+IsTextOf bytes rs = IsReadableRecord rs × (bytes ≡ record_text rs)
+
+pub record_found : (bytes : List ℕ) → IfSome (record_in bytes) (IsTextOf bytes)
+unfolding record_in
+record_found bytes =
+    if_bind (IsReadAs record_text (Fits ReportBehind []) bytes) (IsTextOf bytes) (behind (codes "sigrecord 1\n") reports_front bytes) (λ x. cond (length x.1 == 0) (Some x.0) None) (whole_law.found bytes) (λ x r.
+    by_test (λ o. IfSome o (IsTextOf bytes)) (length x.1 == 0) (Some x.0) None
+    (λ h. (from_zero x.0 r.0, r.1 ∙ ap (λ (t : List ℕ). record_text x.0 ++ t) (nothing_left x.1 h) ∙ append-nil (record_text x.0)))
+    (λ h. tt))
+
+-- a readable record is read again
+pub record_again : (rs : List Report) → IsReadableRecord rs → record_in (record_text rs) ≡ Some rs
+unfolding record_in
+record_again rs readable =
+    let fits : Fits ReportBehind [] rs = fits_of_record [] rs (λ i r e. subst (λ (n : ℕ). IsReport n r) (sym (zero-add i)) (readable.kept i r e)) readable.each in
+    let read : behind (codes "sigrecord 1\n") reports_front (record_text rs ++ []) ≡ Some (rs, []) = whole_law.again rs [] fits refl in
+    ap record_in (sym (append-nil (record_text rs))) ∙ ap (λ (o : Option (List Report × List ℕ)). o >>= λ x. cond (length x.1 == 0) (Some x.0) None) read
+
+-- different readable records have different texts
+pub one_record : (a b : List Report) → IsReadableRecord a → IsReadableRecord b → record_text a ≡ record_text b → a ≡ b
+one_record a b p q e = same_Some a b (sym (record_again a p) ∙ ap record_in e ∙ record_again b q)
+
+-- what a reader of whole texts answers
+pub tells : (bytes : List ℕ) (rs : List Report) → record_in bytes ≡ Some rs → IsTextOf bytes rs
+tells bytes rs e = if_some_at (IsTextOf bytes) (record_in bytes) rs e (record_found bytes)
+
+pub no_text : (bytes : List ℕ) → record_in bytes ≡ None → (rs : List Report) → IsReadableRecord rs → bytes ≢ record_text rs
+no_text bytes e rs p h = none-some rs (sym e ∙ ap record_in h ∙ record_again rs p)

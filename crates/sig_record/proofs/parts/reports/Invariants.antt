@@ -1,0 +1,10 @@
+use Rattle.std.proofs.Common.{◌≡◌, ◌-◌, [], length}
+use Rattle.std.specs.Prelude.{codes}
+use Rattle.sig_record.specs.Readers.{items_on}
+use Rattle.sig_record.specs.RecordFronts.{begins_by, report_front}
+use Rattle.sig_record.proofs.parts.reports.Given as goal
+
+-- what is left goes on from the items so far
+abbrev pub invariant-loop : goal.invariant-loop
+invariant-loop l =
+    items_on (begins_by (codes "process ")) (λ before. report_front (length before)) (length l.bytes - l.counter) l.items l.rest ≡ items_on (begins_by (codes "process ")) (λ before. report_front (length before)) (length l.bytes) [] l.bytes

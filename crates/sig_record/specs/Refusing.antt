@@ -1,0 +1,14 @@
+-- What a reader of lines answers, by what stands at the front of the bytes.
+use Rattle.std.specs.Prelude.{◌≡◌, Option, Some, None, Result, Ok, Err}
+use Rattle.sig_record.specs.declared.refusal.Refusal.{Refusal}
+use Rattle.sig_record.specs.declared.refusal.Refusal.TheVariants as refused
+
+-- nothing stands there, or memory ran out
+abbrev pub Refuses : {Y : Type 0} → Refusal → Option Y → Type 0
+Refuses (refused.Bad left) read = read ≡ None
+Refuses refused.Memory read = Unit {0}
+
+-- what stands there, seen by view, unless memory ran out
+abbrev pub Yields : {X Y : Type 0} → (X → Y) → Result X Refusal → Option Y → Type 0
+Yields view (Ok x) read = read ≡ Some (view x)
+Yields view (Err e) read = Refuses e read
