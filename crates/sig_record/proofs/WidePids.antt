@@ -1,9 +1,8 @@
 -- No process's part has a pid of more than 32 bits.
-use Rattle.std.proofs.Common.{◌≡◌, ℕ, ◌^◌, ◌≤◌, ◌<◌, List, Option, Some, None, refl, ap, sym, ◌∙◌, arith, subst}
+use Rattle.std.proofs.Common.{◌≡◌, ℕ, ◌^◌, ◌≤◌, List, Option, Some, None, refl, arith}
 use Rattle.std.specs.Prelude.{IfSome, ◌==◌, true}
 use Rattle.std.proofs.lemmas.Bool.Decides.{Decides-eqb}
 use Rattle.sig_terms.specs.Words.{is_token}
-use Rattle.sig_terms.specs.Tokens.{◌>>=◌}
 use Rattle.sig_record.specs.RecordText.{head_text}
 use Rattle.sig_record.specs.RecordFronts.{head_front, report_front}
 use Rattle.sig_record.specs.ReadableRecord.{IsNarrow}

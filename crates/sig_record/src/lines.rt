@@ -210,7 +210,11 @@ pub(crate) fn state_line(alloc: Global, bytes: &[u8]) -> Result<(State, &[u8]), 
 }
 
 /// The first line of this process's part: its pid and its name.
-pub(crate) fn head_line(alloc: Global, pid: u32, bytes: &[u8]) -> Result<((u32, Name), &[u8]), Refusal>
+pub(crate) fn head_line(
+    alloc: Global,
+    pid: u32,
+    bytes: &[u8],
+) -> Result<((u32, Name), &[u8]), Refusal>
     ensures { Yields (λ x. (x.0, x.1.now)) result (head_front pid bytes.now) }
 {
     match head(alloc, pid, bytes) {
