@@ -17,7 +17,7 @@ use crate::watch_tests::WATCHES;
 use itoa::Buffer;
 use sig_base::{FailingSink, FailingSource, MemorySink, MemorySource, OpenGate, Sink, Source};
 use sig_process::Crew;
-use sig_record::Record;
+use sig_record::{Record, RecordError, print_record, read_record};
 use sig_script::{FaultKind, read_script};
 use sig_workers::run_one;
 use std::alloc::{AllocError, Global};
@@ -30,6 +30,16 @@ const ONE_MESSAGE: &[u8] = b"sigscript 1\nprocess a\nsend @b hi\nprocess b\nrece
 
 const ONE_MESSAGE_RECORD: &[u8] =
     b"sigrecord 1\nprocess 0 a\n1 exec 1 sent <1> hi\n2 exec 2 ended normal\nstate ended normal\nprocess 1 b\n2 from 0 1 kept hi\n3 exec 1 took 1 1 hi\n4 exec 2 ended normal\nstate ended normal\n";
+
+/// `01` where `1` has to stand.
+const PADDED_PID: &[u8] = b"sigrecord 1\nprocess 0 a\n1 exec 1 sent <01> hi\nstate waiting\n";
+
+/// A process's name begins with a small letter.
+const LARGE_NAME: &[u8] = b"sigrecord 1\nprocess 0 A\nstate waiting\n";
+
+/// The second signal has a lower number than the first.
+const OUT_OF_ORDER: &[u8] =
+    b"sigrecord 1\nprocess 0 a\nqueued 1 2 1 link\nqueued 1 1 1 link\nstate cut\n";
 
 const NO_HEADER: Status = Status::BadScript {
     line: 1,
@@ -714,5 +724,48 @@ fn signals_of_many_senders_are_sorted(rt: HostRuntime) -> Result<(), Fail> {
         expected.push((sender, 1))?;
     }
     assert!(rt; pairs == expected, "{pairs:?}");
+    Ok(())
+}
+
+/// The line at which the bytes are no record's text, where they are none.
+fn refused_line(alloc: Global, bytes: &[u8]) -> Option<u64> {
+    match read_record(alloc, bytes) {
+        Err(RecordError::BadRecord { line }) => Some(line),
+        _ => None,
+    }
+}
+
+#[test]
+fn records_are_read_back(rt: HostRuntime) -> Result<(), Fail> {
+    let alloc = rt.alloc();
+    let record = read_record(alloc, ONE_MESSAGE_RECORD)?;
+    let mut text = Vec::new(alloc);
+    print_record(&record, &mut text)?;
+    assert!(rt; text.as_slice() == ONE_MESSAGE_RECORD);
+    Ok(())
+}
+
+#[test]
+fn other_texts_are_no_records(rt: HostRuntime) -> Result<(), Fail> {
+    let alloc = rt.alloc();
+    let whole = ONE_MESSAGE_RECORD.len();
+    let mut lengths = Vec::new(alloc);
+    for length in 0..=whole {
+        if refused_line(alloc, &ONE_MESSAGE_RECORD[..length]).is_none() {
+            lengths.push(length)?;
+        }
+    }
+    // the record of no process, and that of the first one
+    assert!(rt;
+        lengths.as_slice() == [12, 86, whole].as_slice(),
+        "{lengths:?}"
+    );
+    let rows = [
+        refused_line(alloc, &ONE_MESSAGE_RECORD[..whole - 1]),
+        refused_line(alloc, PADDED_PID),
+        refused_line(alloc, LARGE_NAME),
+        refused_line(alloc, OUT_OF_ORDER),
+    ];
+    assert!(rt; rows == [Some(10), Some(3), Some(2), Some(4)], "{rows:?}");
     Ok(())
 }

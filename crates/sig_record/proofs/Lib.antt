@@ -9,11 +9,11 @@ pub mod MergeLemmas
 pub mod OrderLemmas
 pub mod Reports
 pub mod RecordLemmas
+pub mod RestLemmas
 pub mod KeySorting
 pub mod RunRecordLemmas
 pub mod CountedCrews
 pub mod RunLemmas
-pub mod RestLemmas
 pub mod ReaderLaws
 pub mod PieceLaws
 pub mod ManyLaws
@@ -22,3 +22,4 @@ pub mod RecordLaws
 pub mod TermFronts
 pub mod ItemSteps
 pub mod WidePids
+pub mod Refused

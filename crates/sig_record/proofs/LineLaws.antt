@@ -1,5 +1,5 @@
 -- The laws of a record's lines, and of the lines of one kind.
-use Rattle.std.proofs.Common.{◌≡◌, ℕ, ◌+◌, ◌-◌, ◌^◌, ◌≤◌, Bool, true, false, cond, not, List, [], ◌∷◌, ◌++◌, length, Option, Some, None, refl, sym, ap, subst, ◌∙◌, append_assoc, arith, length-append, zero-le}
+use Rattle.std.proofs.Common.{◌≡◌, ℕ, ◌-◌, ◌^◌, true, false, cond, not, List, [], ◌∷◌, ◌++◌, length, Some, None, refl, sym, ap, ◌∙◌, append_assoc, arith, length-append, zero-le}
 use Rattle.std.specs.Prelude.{IfSome, All, codes, decimal, slice_get, ◌==◌}
 use Rattle.std.specs.List.{flat_map}
 use Rattle.std.specs.List.Sorted.{IsSortedBy}
@@ -18,8 +18,8 @@ use Rattle.sig_record.specs.declared.report.Left.{Left}
 use Rattle.sig_record.specs.Sorting.{is_lower}
 use Rattle.sig_record.specs.RecordText.{did_text, outcome_text, event_text, left_text, queued_text, state_text, head_text}
 use Rattle.sig_record.specs.Readers.{ended}
-use Rattle.sig_record.specs.RecordFronts.{wide, term_front, pid_of, event_front, left_front, signal_of, signal_front, may_follow, queued_front, state_front, head_front, begins_by_digit, begins_by, events_front, lefts_front, all_queued_front}
-use Rattle.sig_record.specs.ReadableRecord.{is_process_name, IsNarrow, IsWide, IsReadableEvent, IsReadableLeft, IsReadableSignal, IsReadableState}
+use Rattle.sig_record.specs.RecordFronts.{term_front, pid_of, event_front, left_front, signal_of, signal_front, may_follow, queued_front, state_front, head_front, begins_by_digit, begins_by, events_front, lefts_front, all_queued_front}
+use Rattle.sig_record.specs.ReadableRecord.{is_process_name, IsNarrow, IsReadableEvent, IsReadableLeft, IsReadableSignal, IsReadableState}
 use Rattle.sig_record.proofs.Chains.{Chain, chain_from, adjacent_from}
 use Rattle.sig_record.proofs.ReaderLaws.{IsReadAs, Law, Anything, joined_law, spaced_law, ended_law, behind_law, read_as_law, passing_law, word_found, alone_found, made_again}
 use Rattle.sig_record.proofs.PieceLaws.{narrow_law, wide_law, term_law, name_law, did_law, did_stops, outcome_law, kind_law}

@@ -1,5 +1,5 @@
 -- Items that stand one behind the other, as long as the bytes begin so.
-use Rattle.std.proofs.Common.{◌≡◌, ℕ, zero, suc, ◌+◌, ◌≤◌, Bool, true, false, cond, List, [], ◌∷◌, ◌++◌, length, Option, Some, None, refl, sym, ap, subst, ◌∙◌, append_assoc, arith, length-append}
+use Rattle.std.proofs.Common.{◌≡◌, ℕ, zero, suc, ◌≤◌, Bool, true, false, List, [], ◌∷◌, ◌++◌, length, Some, None, refl, sym, ap, subst, ◌∙◌, append_assoc, arith, length-append}
 use Rattle.std.specs.Prelude.{IfSome, All}
 use Rattle.std.specs.List.{flat_map}
 use Rattle.std.proofs.lemmas.List.{append-nil}
@@ -76,10 +76,10 @@ module _ {X : Type 0} (begins : List ℕ → Bool) (read : List X → Reader X) 
     pub many_law : Law (λ rest. begins rest ≡ false) (flat_map text) (Fits ok []) (many begins read)
     many_law = record {
       found = λ bytes.
-        IfSome_then (items_on begins read (length bytes) [] bytes) (items_found (length bytes) [] bytes) (λ y m.
-        (subst (Fits ok []) (sym m.all) m.fits, m.is ∙ ap (λ (ys : List X). flat_map text ys ++ y.1) (sym m.all)));
+          IfSome_then (items_on begins read (length bytes) [] bytes) (items_found (length bytes) [] bytes) (λ y m.
+          (subst (Fits ok []) (sym m.all) m.fits, m.is ∙ ap (λ (ys : List X). flat_map text ys ++ y.1) (sym m.all)));
       again = λ xs rest k stop.
-        items_again (length (flat_map text xs ++ rest)) [] xs rest k (omega (arith, fewer_than_bytes [] xs k, length-append (flat_map text xs) rest)) stop;
+          items_again (length (flat_map text xs ++ rest)) [] xs rest k (omega (arith, fewer_than_bytes [] xs k, length-append (flat_map text xs) rest)) stop;
     }
 
 -- where the property doesn't speak of those before

@@ -1,10 +1,10 @@
 -- The laws of a line's parts.
-use Rattle.std.proofs.Common.{◌≡◌, ℕ, ◌+◌, ◌-◌, ◌^◌, ◌<◌, ◌≤◌, Bool, true, false, List, [], ◌∷◌, ◌++◌, length, take, drop, Option, Some, None, refl, sym, ap, ◌∙◌, append_assoc, arith}
-use Rattle.std.specs.Prelude.{IfSome, codes, decimal, ◌&&◌, ◌||◌, ◌==◌, nat_le}
+use Rattle.std.proofs.Common.{◌≡◌, ℕ, ◌+◌, ◌-◌, ◌^◌, Bool, true, false, List, [], ◌∷◌, ◌++◌, length, take, drop, Option, Some, None, refl, sym, ap, ◌∙◌, append_assoc, arith}
+use Rattle.std.specs.Prelude.{IfSome, codes, decimal}
 use Rattle.std.specs.List.{list_all, prefix_len}
 use Rattle.std.proofs.lemmas.List.{take-append-drop, take_at, drop_at}
 use Rattle.std.proofs.lemmas.Option.{IfSome_then}
-use Rattle.sig_terms.specs.Words.{is_lower, is_digit, is_name_byte, is_name, is_token}
+use Rattle.sig_terms.specs.Words.{is_lower, is_name_byte, is_name, is_token}
 use Rattle.sig_terms.specs.TermText.{term_text, reference_text}
 use Rattle.sig_terms.specs.Nodes.{node_count}
 use Rattle.sig_terms.specs.Readable.{IsReadable}
@@ -12,7 +12,6 @@ use Rattle.sig_terms.specs.Tokens.{◌>>=◌, number_at, reference_at, after_tex
 use Rattle.sig_terms.specs.Fronts.{term_at}
 use Rattle.sig_terms.specs.declared.term.Term.{Term}
 use Rattle.sig_terms.specs.declared.reference.Ref.{Ref}
-use Rattle.sig_terms.specs.declared.bytes.TheConstants.{MOST_WORD_BYTES}
 use Rattle.sig_terms.specs.declared.reading.TheConstants.{READ_DEPTH, READ_NODES}
 use Rattle.sig_terms.proofs.Choices.{by_test, if_bind, both_true}
 use Rattle.sig_terms.proofs.TokenTexts.{number_text, after_text_is, reference_at_text}
@@ -26,7 +25,7 @@ use Rattle.sig_model.specs.declared.event.Did.TheVariants.{Exec, From}
 use Rattle.sig_model.specs.declared.event.Outcome.{Outcome}
 use Rattle.sig_model.specs.declared.event.Outcome.TheVariants.{Sent, Set, Done, Answered, Took, After, Ended, Kept, Dropped, Linked, Unlinked, Acked, Watched, Unwatched, NoProc}
 use Rattle.sig_record.specs.RecordText.{did_text, outcome_text, kind_text}
-use Rattle.sig_record.specs.Readers.{Reader, read_as, spaced, ended, behind, or_else}
+use Rattle.sig_record.specs.Readers.{spaced, ended}
 use Rattle.sig_record.specs.RecordFronts.{narrow, wide, term_front, ref_front, name_front, pid_of, did_front, signal_outcome_front, plain_outcome_front, outcome_front, monitor_kind_front, kind_front}
 use Rattle.sig_record.specs.ReadableRecord.{is_process_name, IsNarrow, IsWide, IsReadableRef, IsReadableDid, IsReadableOutcome, IsReadableKind}
 use Rattle.sig_record.proofs.ReaderLaws.{IsReadAs, Law, Anything, spaced_law, ended_law, stopped_law, word_found, alone_found, made_again}
@@ -57,8 +56,8 @@ term_again t rest r stop =
 pub term_law : Law Stops term_text IsReadable term_front
 term_law = record {
   found = λ bytes.
-    if_bind (IsFound READ_DEPTH READ_NODES bytes) (IsReadAs term_text IsReadable bytes) (term_at READ_DEPTH READ_NODES bytes) (λ x. Some (x.0, x.2)) (term_found READ_DEPTH READ_NODES bytes) (λ x f.
-    (record { term = f.term; nodes = omega (arith, f.counted); depth = f.within }, f.text));
+      if_bind (IsFound READ_DEPTH READ_NODES bytes) (IsReadAs term_text IsReadable bytes) (term_at READ_DEPTH READ_NODES bytes) (λ x. Some (x.0, x.2)) (term_found READ_DEPTH READ_NODES bytes) (λ x f.
+      (record { term = f.term; nodes = omega (arith, f.counted); depth = f.within }, f.text));
   again = term_again;
 }
 
@@ -68,8 +67,8 @@ reference_bytes o s rest = simp append_assoc
 pub ref_law : Law Anything reference_text IsReadableRef ref_front
 ref_law = record {
   found = λ bytes.
-    if_bind (λ rest. bytes ≡ codes "#" ++ rest) (IsReadAs reference_text IsReadableRef bytes) (after_text (codes "#") bytes) reference_at (after_text_is (codes "#") bytes) (λ rest e.
-    IfSome_then (reference_at rest) (reference_at_text rest) (λ x r. ((r.0, r.1), e ∙ r.2)));
+      if_bind (λ rest. bytes ≡ codes "#" ++ rest) (IsReadAs reference_text IsReadableRef bytes) (after_text (codes "#") bytes) reference_at (after_text_is (codes "#") bytes) (λ rest e.
+      IfSome_then (reference_at rest) (reference_at_text rest) (λ x r. ((r.0, r.1), e ∙ r.2)));
   again = λ r rest k stop. ap ref_front (reference_bytes (decimal r.owner.0) (decimal r.serial) rest) ∙ reference_again r rest k.0 k.1;
 }
 
@@ -99,9 +98,9 @@ name_again name rest is stop =
 pub name_law : Law Stops (λ (name : List ℕ). name) (λ (name : List ℕ). is_process_name name ≡ true) name_front
 name_law = record {
   found = λ bytes.
-    let n : ℕ = prefix_len is_name_byte bytes in
-    by_test (λ o. IfSome o (IsReadAs (λ (name : List ℕ). name) (λ (name : List ℕ). is_process_name name ≡ true) bytes)) (is_process_name (take n bytes)) (Some (take n bytes, drop n bytes)) None
-    (λ h. (h, sym (take-append-drop n bytes))) (λ h. tt);
+      let n : ℕ = prefix_len is_name_byte bytes in
+      by_test (λ o. IfSome o (IsReadAs (λ (name : List ℕ). name) (λ (name : List ℕ). is_process_name name ≡ true) bytes)) (is_process_name (take n bytes)) (Some (take n bytes, drop n bytes)) None
+      (λ h. (h, sym (take-append-drop n bytes))) (λ h. tt);
   again = name_again;
 }
 

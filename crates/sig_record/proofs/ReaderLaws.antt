@@ -1,7 +1,6 @@
 -- Readers that read what is written so, and read it again.
-use Rattle.std.proofs.Common.{◌≡◌, ℕ, zero, suc, Bool, true, false, cond, List, [], ◌∷◌, ◌++◌, length, take, drop, Option, Some, None, refl, sym, ap, ◌∙◌, append_assoc, arith}
+use Rattle.std.proofs.Common.{◌≡◌, ℕ, Bool, true, cond, List, ◌++◌, length, Option, Some, None, refl, sym, ap, ◌∙◌, append_assoc}
 use Rattle.std.specs.Prelude.{IfSome, codes}
-use Rattle.std.specs.Str.{bytes_eq}
 use Rattle.std.proofs.lemmas.Slice.Eq.{bytes_eq-Decides}
 use Rattle.std.proofs.lemmas.List.{take_at, drop_at}
 use Rattle.std.proofs.lemmas.Option.{IfSome_then}
@@ -40,13 +39,13 @@ pub joined_law : {X Y : Type 0} {s z : List ℕ → Type 0} {t : X → List ℕ}
     → Law z (λ (x : X × Y). t x.0 ++ u x.1) (λ (x : X × Y). P x.0 × Q x.1) (joined f g)
 joined_law {X} {Y} {s} {z} {t} {u} {P} {Q} {f} {g} l m stops = record {
   found = λ bytes.
-    if_bind (IsReadAs t P bytes) (IsReadAs (λ (x : X × Y). t x.0 ++ u x.1) (λ (x : X × Y). P x.0 × Q x.1) bytes) (f bytes) (λ x. g x.1 >>= λ y. Some ((x.0, y.0), y.1)) (l.found bytes) (λ x r.
-    if_bind (IsReadAs u Q x.1) (IsReadAs (λ (x : X × Y). t x.0 ++ u x.1) (λ (x : X × Y). P x.0 × Q x.1) bytes) (g x.1) (λ y. Some ((x.0, y.0), y.1)) (m.found x.1) (λ y q.
-    ((r.0, q.0), r.1 ∙ ap (λ (e : List ℕ). t x.0 ++ e) q.1 ∙ sym (two_parts (t x.0) (u y.0) y.1))));
+      if_bind (IsReadAs t P bytes) (IsReadAs (λ (x : X × Y). t x.0 ++ u x.1) (λ (x : X × Y). P x.0 × Q x.1) bytes) (f bytes) (λ x. g x.1 >>= λ y. Some ((x.0, y.0), y.1)) (l.found bytes) (λ x r.
+      if_bind (IsReadAs u Q x.1) (IsReadAs (λ (x : X × Y). t x.0 ++ u x.1) (λ (x : X × Y). P x.0 × Q x.1) bytes) (g x.1) (λ y. Some ((x.0, y.0), y.1)) (m.found x.1) (λ y q.
+      ((r.0, q.0), r.1 ∙ ap (λ (e : List ℕ). t x.0 ++ e) q.1 ∙ sym (two_parts (t x.0) (u y.0) y.1))));
   again = λ x rest k stop.
-    let one : f (t x.0 ++ (u x.1 ++ rest)) ≡ Some (x.0, u x.1 ++ rest) = l.again x.0 (u x.1 ++ rest) k.0 (stops x.1 rest k.1 stop) in
-    let two : g (u x.1 ++ rest) ≡ Some (x.1, rest) = m.again x.1 rest k.1 stop in
-    ap (joined f g) (two_parts (t x.0) (u x.1) rest) ∙ rw (one, two) refl;
+      let one : f (t x.0 ++ (u x.1 ++ rest)) ≡ Some (x.0, u x.1 ++ rest) = l.again x.0 (u x.1 ++ rest) k.0 (stops x.1 rest k.1 stop) in
+      let two : g (u x.1 ++ rest) ≡ Some (x.1, rest) = m.again x.1 rest k.1 stop in
+      ap (joined f g) (two_parts (t x.0) (u x.1) rest) ∙ rw (one, two) refl;
 }
 
 pub spaced_law : {X Y : Type 0} {z : List ℕ → Type 0} {t : X → List ℕ} {u : Y → List ℕ} {P : X → Type 0} {Q : Y → Type 0} {f : Reader X} {g : Reader Y}
@@ -57,38 +56,38 @@ spaced_law {X} {Y} {z} {t} {u} {P} {Q} {f} {g} l m =
     let R : X × Y → Type 0 = λ x. P x.0 × Q x.1 in
     record {
       found = λ bytes.
-        if_bind (IsReadAs t P bytes) (IsReadAs T R bytes) (f bytes) (λ x. after_text (codes " ") x.1 >>= λ rest. g rest >>= λ y. Some ((x.0, y.0), y.1)) (l.found bytes) (λ x r.
-        if_bind (λ rest. x.1 ≡ codes " " ++ rest) (IsReadAs T R bytes) (after_text (codes " ") x.1) (λ rest. g rest >>= λ y. Some ((x.0, y.0), y.1)) (after_text_is (codes " ") x.1) (λ rest e.
-        if_bind (IsReadAs u Q rest) (IsReadAs T R bytes) (g rest) (λ y. Some ((x.0, y.0), y.1)) (m.found rest) (λ y q.
-        ((r.0, q.0), r.1 ∙ ap (λ (e : List ℕ). t x.0 ++ e) (e ∙ ap (λ (e : List ℕ). codes " " ++ e) q.1) ∙ sym (three_parts (t x.0) (codes " ") (u y.0) y.1)))));
+          if_bind (IsReadAs t P bytes) (IsReadAs T R bytes) (f bytes) (λ x. after_text (codes " ") x.1 >>= λ rest. g rest >>= λ y. Some ((x.0, y.0), y.1)) (l.found bytes) (λ x r.
+          if_bind (λ rest. x.1 ≡ codes " " ++ rest) (IsReadAs T R bytes) (after_text (codes " ") x.1) (λ rest. g rest >>= λ y. Some ((x.0, y.0), y.1)) (after_text_is (codes " ") x.1) (λ rest e.
+          if_bind (IsReadAs u Q rest) (IsReadAs T R bytes) (g rest) (λ y. Some ((x.0, y.0), y.1)) (m.found rest) (λ y q.
+          ((r.0, q.0), r.1 ∙ ap (λ (e : List ℕ). t x.0 ++ e) (e ∙ ap (λ (e : List ℕ). codes " " ++ e) q.1) ∙ sym (three_parts (t x.0) (codes " ") (u y.0) y.1)))));
       again = λ x rest k stop.
-        let one : f (t x.0 ++ (codes " " ++ (u x.1 ++ rest))) ≡ Some (x.0, codes " " ++ (u x.1 ++ rest)) = l.again x.0 (codes " " ++ (u x.1 ++ rest)) k.0 refl in
-        let two : g (u x.1 ++ rest) ≡ Some (x.1, rest) = m.again x.1 rest k.1 stop in
-        ap (spaced f g) (three_parts (t x.0) (codes " ") (u x.1) rest) ∙ rw (one, two) refl;
+          let one : f (t x.0 ++ (codes " " ++ (u x.1 ++ rest))) ≡ Some (x.0, codes " " ++ (u x.1 ++ rest)) = l.again x.0 (codes " " ++ (u x.1 ++ rest)) k.0 refl in
+          let two : g (u x.1 ++ rest) ≡ Some (x.1, rest) = m.again x.1 rest k.1 stop in
+          ap (spaced f g) (three_parts (t x.0) (codes " ") (u x.1) rest) ∙ rw (one, two) refl;
     }
 
 pub ended_law : {X : Type 0} {s : List ℕ → Type 0} {t : X → List ℕ} {P : X → Type 0} {f : Reader X} (text : List ℕ) → ((rest : List ℕ) → s (text ++ rest)) → Law s t P f
     → Law Anything (λ (x : X). t x ++ text) P (ended text f)
 ended_law {X} {s} {t} {P} {f} text stops l = record {
   found = λ bytes.
-    if_bind (IsReadAs t P bytes) (IsReadAs (λ (x : X). t x ++ text) P bytes) (f bytes) (λ x. after_text text x.1 >>= λ rest. Some (x.0, rest)) (l.found bytes) (λ x r.
-    if_bind (λ rest. x.1 ≡ text ++ rest) (IsReadAs (λ (x : X). t x ++ text) P bytes) (after_text text x.1) (λ rest. Some (x.0, rest)) (after_text_is text x.1) (λ rest e.
-    (r.0, r.1 ∙ ap (λ (e : List ℕ). t x.0 ++ e) e ∙ sym (two_parts (t x.0) text rest))));
+      if_bind (IsReadAs t P bytes) (IsReadAs (λ (x : X). t x ++ text) P bytes) (f bytes) (λ x. after_text text x.1 >>= λ rest. Some (x.0, rest)) (l.found bytes) (λ x r.
+      if_bind (λ rest. x.1 ≡ text ++ rest) (IsReadAs (λ (x : X). t x ++ text) P bytes) (after_text text x.1) (λ rest. Some (x.0, rest)) (after_text_is text x.1) (λ rest e.
+      (r.0, r.1 ∙ ap (λ (e : List ℕ). t x.0 ++ e) e ∙ sym (two_parts (t x.0) text rest))));
   again = λ x rest k stop.
-    let one : f (t x ++ (text ++ rest)) ≡ Some (x, text ++ rest) = l.again x (text ++ rest) k (stops rest) in
-    ap (ended text f) (two_parts (t x) text rest)
-    ∙ ap (λ (o : Option (X × List ℕ)). o >>= λ y. after_text text y.1 >>= λ rest. Some (y.0, rest)) one
-    ∙ ap (λ (o : Option (List ℕ)). o >>= λ rest. Some (x, rest)) (after_again text rest);
+      let one : f (t x ++ (text ++ rest)) ≡ Some (x, text ++ rest) = l.again x (text ++ rest) k (stops rest) in
+      ap (ended text f) (two_parts (t x) text rest)
+      ∙ ap (λ (o : Option (X × List ℕ)). o >>= λ y. after_text text y.1 >>= λ rest. Some (y.0, rest)) one
+      ∙ ap (λ (o : Option (List ℕ)). o >>= λ rest. Some (x, rest)) (after_again text rest);
 }
 
 pub behind_law : {X : Type 0} {s : List ℕ → Type 0} {t : X → List ℕ} {P : X → Type 0} {f : Reader X} (text : List ℕ) → Law s t P f → Law s (λ (x : X). text ++ t x) P (behind text f)
 behind_law {X} {s} {t} {P} {f} text l = record {
   found = λ bytes.
-    if_bind (λ rest. bytes ≡ text ++ rest) (IsReadAs (λ (x : X). text ++ t x) P bytes) (after_text text bytes) f (after_text_is text bytes) (λ rest e.
-    IfSome_then (f rest) (l.found rest) (λ x r.
-    (r.0, e ∙ ap (λ (e : List ℕ). text ++ e) r.1 ∙ sym (two_parts text (t x.0) x.1))));
+      if_bind (λ rest. bytes ≡ text ++ rest) (IsReadAs (λ (x : X). text ++ t x) P bytes) (after_text text bytes) f (after_text_is text bytes) (λ rest e.
+      IfSome_then (f rest) (l.found rest) (λ x r.
+      (r.0, e ∙ ap (λ (e : List ℕ). text ++ e) r.1 ∙ sym (two_parts text (t x.0) x.1))));
   again = λ x rest k stop.
-    ap (behind text f) (two_parts text (t x) rest) ∙ ap (λ (o : Option (List ℕ)). o >>= f) (after_again text (t x ++ rest)) ∙ l.again x rest k stop;
+      ap (behind text f) (two_parts text (t x) rest) ∙ ap (λ (o : Option (List ℕ)). o >>= f) (after_again text (t x ++ rest)) ∙ l.again x rest k stop;
 }
 
 -- ---- other values, and tests
@@ -99,13 +98,13 @@ pub read_as_law : {X Y : Type 0} {s : List ℕ → Type 0} {t : X → List ℕ} 
     → Law s text ok (read_as make f)
 read_as_law {X} {Y} {s} {t} {P} {f} l make parts text ok same texts there back = record {
   found = λ bytes.
-    if_bind (IsReadAs t P bytes) (IsReadAs text ok bytes) (f bytes) (λ x. Some (make x.0, x.1)) (l.found bytes) (λ x r.
-    (there x.0 r.0, r.1 ∙ ap (λ (e : List ℕ). e ++ x.1) (sym (texts x.0))));
+      if_bind (IsReadAs t P bytes) (IsReadAs text ok bytes) (f bytes) (λ x. Some (make x.0, x.1)) (l.found bytes) (λ x r.
+      (there x.0 r.0, r.1 ∙ ap (λ (e : List ℕ). e ++ x.1) (sym (texts x.0))));
   again = λ y rest k stop.
-    let written : text y ≡ t (parts y) = ap text (sym (same y k)) ∙ texts (parts y) in
-    ap (λ (e : List ℕ). read_as make f (e ++ rest)) written
-    ∙ ap (λ (o : Option (X × List ℕ)). o >>= λ x. Some (make x.0, x.1)) (l.again (parts y) rest (back y k) stop)
-    ∙ ap (λ (v : Y). Some (v, rest)) (same y k);
+      let written : text y ≡ t (parts y) = ap text (sym (same y k)) ∙ texts (parts y) in
+      ap (λ (e : List ℕ). read_as make f (e ++ rest)) written
+      ∙ ap (λ (o : Option (X × List ℕ)). o >>= λ x. Some (make x.0, x.1)) (l.again (parts y) rest (back y k) stop)
+      ∙ ap (λ (v : Y). Some (v, rest)) (same y k);
 }
 
 pub passing_law : {X : Type 0} {s : List ℕ → Type 0} {t : X → List ℕ} {P : X → Type 0} {f : Reader X} (test : X → Bool)
@@ -114,10 +113,10 @@ passing_law {X} {s} {t} {P} {f} test l =
     let R : X → Type 0 = λ x. P x × (test x ≡ true) in
     record {
       found = λ bytes.
-        if_bind (IsReadAs t P bytes) (IsReadAs t R bytes) (f bytes) (λ x. cond (test x.0) (Some x) None) (l.found bytes) (λ x r.
-        by_test (λ o. IfSome o (IsReadAs t R bytes)) (test x.0) (Some x) None (λ h. ((r.0, h), r.1)) (λ h. tt));
+          if_bind (IsReadAs t P bytes) (IsReadAs t R bytes) (f bytes) (λ x. cond (test x.0) (Some x) None) (l.found bytes) (λ x r.
+          by_test (λ o. IfSome o (IsReadAs t R bytes)) (test x.0) (Some x) None (λ h. ((r.0, h), r.1)) (λ h. tt));
       again = λ x rest k stop.
-        ap (λ (o : Option (X × List ℕ)). o >>= λ y. cond (test y.0) (Some y) None) (l.again x rest k.0 stop) ∙ rw k.1 refl;
+          ap (λ (o : Option (X × List ℕ)). o >>= λ y. cond (test y.0) (Some y) None) (l.again x rest k.0 stop) ∙ rw k.1 refl;
     }
 
 -- a property of the rest that is stronger

@@ -1,5 +1,5 @@
 -- The laws of a process's part, and of a record.
-use Rattle.std.proofs.Common.{◌≡◌, ℕ, zero, suc, ◌+◌, Bool, true, false, cond, List, [], ◌∷◌, ◌++◌, length, Option, Some, None, refl, sym, ap, subst, ◌∙◌, arith, length-append, add-zero, zero-add}
+use Rattle.std.proofs.Common.{◌≡◌, ℕ, zero, suc, ◌+◌, true, false, cond, List, [], ◌∷◌, ◌++◌, length, Option, Some, None, refl, sym, ap, subst, ◌∙◌, arith, length-append, add-zero, zero-add}
 use Rattle.std.specs.Prelude.{◌≢◌, IfSome, All, codes, slice_get, ◌==◌}
 use Rattle.std.specs.List.{flat_map}
 use Rattle.std.proofs.lemmas.Bool.Decides.{Decides-eqb}
@@ -14,15 +14,15 @@ use Rattle.sig_model.specs.declared.state.State.{State}
 use Rattle.sig_model.specs.declared.state.State.TheVariants as state
 use Rattle.sig_record.specs.declared.report.Left.{Left}
 use Rattle.sig_record.specs.declared.report.Report.{Report}
-use Rattle.sig_record.specs.Records.{IsReport, IsRecord}
-use Rattle.sig_record.specs.RecordText.{event_text, left_text, queued_text, state_text, report_text, record_text}
+use Rattle.sig_record.specs.Records.{IsReport}
+use Rattle.sig_record.specs.RecordText.{left_text, queued_text, state_text, report_text, record_text}
 use Rattle.sig_record.specs.Readers.{behind}
 use Rattle.sig_record.specs.RecordFronts.{begins_by_digit, begins_by, report_of_parts, report_front, reports_front, record_in}
 use Rattle.sig_record.specs.ReadableRecord.{IsReadableEvent, IsReadableLeft, IsReadableReport, IsReadableRecord}
 use Rattle.sig_record.proofs.ReaderLaws.{IsReadAs, Law, Anything, joined_law, behind_law, read_as_law, stopped_law}
 use Rattle.sig_record.proofs.TermFronts.{if_some_at}
 use Rattle.sig_record.proofs.ManyLaws.{Fits, many_law, fits_all, all_fits}
-use Rattle.sig_record.proofs.LineLaws.{events_law, lefts_law, QueuedBehind, all_queued_law, readable_signals, signals_to, signals_rise, signals_fit, state_law, head_law}
+use Rattle.sig_record.proofs.LineLaws.{events_law, lefts_law, all_queued_law, readable_signals, signals_to, signals_rise, signals_fit, state_law, head_law}
 
 -- ---- what follows the lines of one kind
 

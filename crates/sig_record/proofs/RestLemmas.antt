@@ -1,22 +1,20 @@
 -- The record of a lawful crew of which no process can do anything is that of a run that has come to rest.
-use Rattle.std.proofs.Common.{◌≡◌, ℕ, zero, suc, ◌+◌, ◌-◌, ◌<◌, ◌≤◌, List, [], ◌∷◌, ◌++◌, map, length, Bool, true, false, cond, not, ◌||◌, ◌&&◌, All, Option, Some, None, refl, sym, ap, ◌∙◌, subst, arith, inl, inr, ◌⊎◌}
-use Rattle.std.specs.Prelude.{◌==◌, nat_le, nat_lt, is_none, is_some, slice_get}
-use Rattle.std.specs.List.{list_any, list_all}
+use Rattle.std.proofs.Common.{◌≡◌, ℕ, zero, suc, ◌+◌, ◌-◌, ◌<◌, ◌≤◌, List, [], ◌∷◌, ◌++◌, map, length, Bool, true, false, not, ◌||◌, ◌&&◌, All, Option, Some, None, refl, sym, ap, ◌∙◌, subst, arith}
+use Rattle.std.specs.Prelude.{◌==◌, nat_le, nat_lt, is_none, slice_get}
+use Rattle.std.specs.List.{list_any}
 use Rattle.std.specs.Option.{option_map_or}
-use Rattle.std.proofs.lemmas.Bool.{le-leb, leb-true, or_right, cases_Bool}
+use Rattle.std.proofs.lemmas.Bool.{le-leb, leb-true, or_right}
 use Rattle.std.proofs.lemmas.Bool.Decides.{nat_tests}
 use Rattle.std.proofs.lemmas.List.{append-nil}
 use Rattle.std.proofs.lemmas.List.Elements.{All-weaker}
-use Rattle.std.proofs.lemmas.Option.{slice_get_within}
 use Rattle.sig_kinds.specs.declared.signal.Signal.{Signal}
 use Rattle.sig_kinds.specs.SignalNames.{IsSignalBelow}
 use Rattle.sig_script.specs.Scripts.{Program, Declared}
-use Rattle.sig_runs.specs.Rules.{Effect, KeepStamps, IsStamped}
+use Rattle.sig_runs.specs.Rules.{Effect, IsStamped}
 use Rattle.sig_runs.specs.LocalRun.{Local, Input, Act, CanDo, after, IsLocalRun}
 use Rattle.sig_runs.specs.LocalRun.Input.{Execute, Handle}
 use Rattle.sig_runs.specs.Replay.{acts_told}
 use Rattle.sig_model.specs.declared.event.Event.{Event}
-use Rattle.sig_model.specs.declared.state.State.TheVariants.{Cut}
 use Rattle.sig_model.specs.declared.state.TheConstants.{LAST_STAMP}
 use Rattle.sig_model.specs.ProcessState.{ProcessState, is_cut}
 use Rattle.sig_model.specs.Machine.{rules_with}
@@ -24,10 +22,9 @@ use Rattle.sig_model.specs.PrintedState.{is_late_signal, is_late, state_of, prin
 use Rattle.sig_model.specs.Running.{Running, next_of, is_early, can_handle}
 use Rattle.sig_model.specs.Keeping.{IsKeeping, own_rules, opening_local, local_of}
 use Rattle.sig_model.specs.CrewLaw.{IsLawfulCrew}
-use Rattle.sig_model.specs.Still.{IsStill, IsStillCrew}
+use Rattle.sig_model.specs.Still.{IsStillCrew}
 use Rattle.sig_model.proofs.StampLemmas.{stamps_kept}
 use Rattle.sig_terms.specs.declared.term.Term.{Term}
-use Rattle.sig_record.specs.declared.report.Report.{Report}
 use Rattle.sig_record.specs.RecordOf.{queued_below, report_of, record_of}
 use Rattle.sig_record.specs.SettledRecord.{ends_late, has_none_or_late, is_settled_report, is_settled}
 use Rattle.sig_record.specs.SettledRecord.{is_cut as prints_cut}

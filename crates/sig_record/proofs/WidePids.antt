@@ -1,17 +1,15 @@
 -- No process's part has a pid of more than 32 bits.
-use Rattle.std.proofs.Common.{◌≡◌, ℕ, ◌^◌, ◌≤◌, ◌<◌, List, Option, Some, None, refl, ap, sym, ◌∙◌, arith, subst}
+use Rattle.std.proofs.Common.{◌≡◌, ℕ, ◌^◌, ◌≤◌, List, Option, Some, None, refl, arith}
 use Rattle.std.specs.Prelude.{IfSome, ◌==◌, true}
 use Rattle.std.proofs.lemmas.Bool.Decides.{Decides-eqb}
-use Rattle.sig_terms.specs.Words.{is_token}
-use Rattle.sig_terms.specs.Tokens.{◌>>=◌}
 use Rattle.sig_record.specs.RecordText.{head_text}
 use Rattle.sig_record.specs.RecordFronts.{head_front, report_front}
-use Rattle.sig_record.specs.ReadableRecord.{IsNarrow}
+use Rattle.sig_record.specs.ReadableRecord.{IsNarrow, is_process_name}
 use Rattle.sig_record.proofs.ReaderLaws.{IsReadAs}
 use Rattle.sig_record.proofs.LineLaws.{head_law}
 
 too_wide : (pid : ℕ) (o : Option ((ℕ × List ℕ) × List ℕ)) (bytes : List ℕ) → 2 ^ 32 ≤ pid
-    → IfSome o (IsReadAs (λ (x : ℕ × List ℕ). head_text x.0 x.1) (λ (x : ℕ × List ℕ). (IsNarrow x.0 × (is_token x.1 ≡ true)) × ((x.0 == pid) ≡ true)) bytes) → o ≡ None
+    → IfSome o (IsReadAs (λ (x : ℕ × List ℕ). head_text x.0 x.1) (λ (x : ℕ × List ℕ). (IsNarrow x.0 × (is_process_name x.1 ≡ true)) × ((x.0 == pid) ≡ true)) bytes) → o ≡ None
 too_wide pid None bytes wide h = refl
 too_wide pid (Some x) bytes wide h = absurd (omega (arith, wide, h.0.0.0, (Decides-eqb x.0.0 pid).0 h.0.1))
 

@@ -1,6 +1,6 @@
 -- The records that a reader takes (the bounds are this project's own): names are name tokens, as those of processes in a script,
 -- numbers have 64 bits, pids, places and numbers of clauses 32, and terms can be read.
-use Rattle.std.specs.Prelude.{◌≡◌, ℕ, ◌<◌, ◌^◌, List, All, Bool, true, ◌&&◌}
+use Rattle.std.specs.Prelude.{◌≡◌, ℕ, ◌<◌, ◌^◌, List, All, true, Bool, ◌&&◌}
 use Rattle.sig_terms.specs.Words.{is_name, is_token}
 use Rattle.sig_terms.specs.Readable.{IsReadable}
 use Rattle.sig_terms.specs.declared.reference.Ref.{Ref}

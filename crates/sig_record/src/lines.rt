@@ -21,7 +21,7 @@ ghost use Rattle.sig_record.specs.RecordFronts.{
 };
 
 use crate::outcomes::{kind, outcome};
-use crate::pieces::{after, did, narrow, term, name, two_numbers, wide};
+use crate::pieces::{after, did, name, narrow, term, two_numbers, wide};
 use crate::refusal::Refusal;
 use crate::report::Left;
 use sig_kinds::Signal;
@@ -210,7 +210,11 @@ pub(crate) fn state_line(alloc: Global, bytes: &[u8]) -> Result<(State, &[u8]), 
 }
 
 /// The first line of this process's part: its pid and its name.
-pub(crate) fn head_line(alloc: Global, pid: u32, bytes: &[u8]) -> Result<((u32, Name), &[u8]), Refusal>
+pub(crate) fn head_line(
+    alloc: Global,
+    pid: u32,
+    bytes: &[u8],
+) -> Result<((u32, Name), &[u8]), Refusal>
     ensures { Yields (λ x. (x.0, x.1.now)) result (head_front pid bytes.now) }
 {
     match head(alloc, pid, bytes) {

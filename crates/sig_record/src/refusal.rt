@@ -5,14 +5,17 @@ ghost use Rattle.sig_record.specs.declared.refusal.Refusal.TheVariants as refuse
 ghost use Rattle.sig_record.specs.declared.refusal.RecordError.TheVariants as wrong;
 
 use std::alloc::AllocError;
+use thiserror::Error;
 
 /// Why bytes give no record.
-#[derive(Clone, Copy, Debug, PartialEq, Eq)]
+#[derive(Clone, Copy, Debug, PartialEq, Eq, Error)]
 pub enum RecordError {
     /// The bytes are no record's text: this line, from 1, is the first that can't stand behind those
     /// before it, or that isn't whole.
+    #[error("line {line}: no record")]
     BadRecord { line: u64 },
     /// Memory ran out.
+    #[error("out of memory")]
     Memory,
 }
 

@@ -1,5 +1,4 @@
 use Rattle.std.proofs.Common.{◌≡◌, ◌-◌, [], length}
-use Rattle.std.specs.Prelude.{codes}
 use Rattle.sig_record.specs.Readers.{items_on}
 use Rattle.sig_record.specs.RecordFronts.{begins_by_digit, event_front}
 use Rattle.sig_record.proofs.parts.events.Given as goal

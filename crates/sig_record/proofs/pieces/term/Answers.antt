@@ -1,4 +1,4 @@
-use Rattle.std.proofs.Common.{◌≡◌, ℕ, ◌-◌, List, length, drop, Some, Err, sym, ap, ◌∙◌, arith, length-drop}
+use Rattle.std.proofs.Common.{ℕ, ◌-◌, List, length, drop, Some, Err, sym, ap, ◌∙◌, arith, length-drop}
 use Rattle.std.proofs.lemmas.List.{take_all}
 use Rattle.sig_terms.specs.declared.refusal.ReadTerm.{ReadTerm}
 use Rattle.sig_record.proofs.TermFronts.{front_is, front_fails}
