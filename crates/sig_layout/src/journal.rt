@@ -67,7 +67,10 @@ impl Journal {
     pub fn push(&mut self, entry: Entry) -> Pushed<Entry>
         ensures { IsPushed self.old self.new entry result }
     {
-        if self.entries.len() >= 1 << 62 || self.entries.reserve(1).is_err() {
+        if self.entries.len() >= 1 << 62 {
+            return Pushed::Memory { item: entry };
+        }
+        if self.entries.reserve(1).is_err() {
             return Pushed::Memory { item: entry };
         }
         self.summary = self.summary.after(entry);
