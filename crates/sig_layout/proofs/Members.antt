@@ -1,9 +1,11 @@
 -- Sets of pids, bit by bit.
-use Rattle.std.proofs.Common.{◌≡◌, ◌≢◌, ℕ, zero, suc, ◌+◌, ◌-◌, ◌/◌, ◌%◌, ◌<◌, ◌≤◌, ◌==◌, ◌&&◌, ◌||◌, ◌⊎◌, ltb, max, min, bit_or, bit_and, bit_xor, Bool, true, false, not, if◌then◌else◌, List, [], ◌∷◌, length, get_or, sym, refl, ap, ◌∙◌, arith, inl, inr, ⊎_elim, subst}
+use Rattle.std.proofs.Common.{◌≡◌, ◌≢◌, ℕ, zero, suc, ◌+◌, ◌-◌, ◌/◌, ◌%◌, ◌<◌, ◌≤◌, ◌==◌, ◌&&◌, ◌||◌, ◌⊎◌, ltb, max, min, bit_or, bit_and, bit_xor, Bool, true, false, not, if◌then◌else◌, List, [], ◌∷◌, length, get_or, set, get_or-set_same, get_or-set_other, ◌*◌, ◌^◌, w64, eq-eqb, ne_eqb, ◌∙◌, sym, refl, ap, arith, inl, inr, ⊎_elim, subst}
 use Rattle.std.specs.Int.{bit_at}
-use Rattle.std.proofs.lemmas.Nat.Bits.{bit_at_or, bit_at_and, bit_at_xor, bit_at-lt, bit_at-zero}
-use Rattle.std.proofs.lemmas.Bool.{ltb-true}
-use Rattle.sig_layout.specs.Sets.{has, no_senders, minus, plus, first_from, least}
+use mathlib.Core.Logic.{dite}
+use native.Mathlib.Decide.{ℕ_discrete}
+use Rattle.std.proofs.lemmas.Nat.Bits.{bit_at_set_same, bit_at_set_other, bit_at_or, bit_at_and, bit_at_xor, bit_at-lt, bit_at-zero}
+use Rattle.std.proofs.lemmas.Bool.{ltb-true, lt-ltb}
+use Rattle.sig_layout.specs.Sets.{has, no_senders, minus, plus, first_from, least_from, least}
 use Rattle.sig_layout.proofs.Sending.{and_left, not_both, bool_cases}
 
 small : (x : ℕ) → x < 2 → (x ≡ 0) ⊎ (x ≡ 1)
@@ -47,6 +49,10 @@ and_yes false = refl
 or_no : (a : Bool) → a ≡ (a || false)
 or_no true = refl
 or_no false = refl
+
+or_yes : (a : Bool) → (a || true) ≡ true
+or_yes true = refl
+or_yes false = refl
 
 minus_at : (xs ys : List ℕ) (w k : ℕ) → at (minus xs ys) w k ≡ (at xs w k && not (at ys w k))
 minus_at [] ys w k = no_bit k ∙ sym (ap (λ (z : Bool). z && not (at ys w k)) (no_bit k))
@@ -112,12 +118,31 @@ first_has set (suc n) k d = ⊎_elim
 
 -- the least pid of a set is in it, and no greater than any that is
 pub least_le : (set : List ℕ) (s : ℕ) → has set s ≡ true → least set ≤ s
-unfolding least
+unfolding least_from
 least_le set s h = let b = has_below set s h in first_le set 256 0 s (omega arith) (omega arith) h
 
 pub least_of : (set : List ℕ) (s : ℕ) → has set s ≡ true → least set < 256
 least_of set s h = let b = has_below set s h in let r = least_le set s h in omega arith
 
 pub least_has : (set : List ℕ) → least set ≢ 256 → has set (least set) ≡ true
-unfolding least
+unfolding least_from
 least_has set d = first_has set 256 0 d
+
+pub least_step : (k : ℕ) (set : List ℕ) → k < 256 → least_from k set ≡ (if has set k then k else least_from (suc k) set)
+unfolding least_from
+least_step k set h = let e : 256 - k ≡ suc (256 - suc k) = omega arith in ap (λ (n : ℕ). first_from k n set) e
+
+pub least_end : (set : List ℕ) → least_from 256 set ≡ 256
+unfolding least_from
+least_end set = refl
+
+-- one pid more
+pub has_with : (words : List ℕ) (pid s : ℕ) → length words ≡ 4 → pid < 256 → has (set words (pid / 64) (bit_or (get_or words (pid / 64) 0) (1 * 2 ^ (pid % 64) % 2 ^ 64))) s ≡ (has words s || (s == pid))
+has_with words pid s len small = let w : ℕ = pid / 64 in let word : ℕ = get_or words w 0 in let new : ℕ = bit_or word (1 * 2 ^ (pid % 64) % 2 ^ 64) in dite (ℕ_discrete s pid)
+    (λ e. let here : has (set words w new) pid ≡ true = ap (λ (z : ℕ). ltb pid 256 && (bit_at z (pid % 64) == 1)) (get_or-set_same words w new 0 (omega arith)) ∙ (ap (λ (z : ℕ). ltb pid 256 && (z == 1)) (bit_at_set_same w64 word (pid % 64) (omega arith)) ∙ ap (λ (z : Bool). z && true) (lt-ltb pid 256 small)) in
+    ap (has (set words w new)) e ∙ (here ∙ sym (ap (λ (z : Bool). has words s || z) (eq-eqb s pid e) ∙ or_yes (has words s))))
+    (λ n. (dite (ℕ_discrete (s / 64) w)
+    (λ e. ap (λ (z : ℕ). ltb s 256 && (bit_at z (s % 64) == 1)) (ap (λ (z : ℕ). get_or (set words w new) z 0) e ∙ get_or-set_same words w new 0 (omega arith))
+    ∙ (ap (λ (z : ℕ). ltb s 256 && (z == 1)) (bit_at_set_other w64 word (pid % 64) (omega arith) (s % 64) (λ k. n (omega arith))) ∙ ap (λ (z : ℕ). ltb s 256 && (bit_at z (s % 64) == 1)) (ap (λ (z : ℕ). get_or words z 0) (sym e))))
+    (λ d. ap (λ (z : ℕ). ltb s 256 && (bit_at z (s % 64) == 1)) (get_or-set_other words w (s / 64) new 0 d)))
+    ∙ (or_no (has words s) ∙ sym (ap (λ (z : Bool). has words s || z) (ne_eqb s pid n))))

@@ -81,7 +81,7 @@ fetch_keeps Auto s m h = elim s.installed as (λ b. ((if b then (if s.sixteen th
     [ true ↦ (λ k e. elim (s.sixteen || ltb 15 (run_on s.run m)) as (λ b. (if b then due.Remove else due.Nothing) ≡ due.Install → ⊥) [ true ↦ (λ z. absurd cc) | false ↦ (λ z. absurd cc) ] e) | false ↦ (λ k. k) ] h
 
 -- a removal that is due is only due where the buffers are installed, and a put doesn't change that
-put_keeps : (p : Policy) (s : Summary) (r : Bool) → due_of p s ≡ due.Remove → due_of p (after s (Direct r)) ≡ due.Remove
+pub put_keeps : (p : Policy) (s : Summary) (r : Bool) → due_of p s ≡ due.Remove → due_of p (after s (Direct r)) ≡ due.Remove
 put_keeps Never s r h = h
 put_keeps Always s r h = h
 put_keeps (Churn n) s r h = elim s.installed as (λ b. (if b then (if ltb s.fetches n then due.Nothing else due.Remove) else (if ltb s.directs n then due.Nothing else due.Install)) ≡ due.Remove → (if b then (if ltb s.fetches n then due.Nothing else due.Remove) else (if ltb (s.directs + 1) n then due.Nothing else due.Install)) ≡ due.Remove)
