@@ -481,7 +481,7 @@ agrees_opened z = record {
 pub agrees : (z : Setup) (q : QState) → Reached z q → Agrees q
 agrees z _ opened = agrees_opened z
 agrees z _ (by_take_outer q i v can r) = agrees_take_outer q (agrees z q r) i v can.at can
-agrees z _ (by_refuse_outer q i v at r) = agrees_refuse_outer q (agrees z q r) i v at
+agrees z _ (by_refuse_outer q i v can r) = agrees_refuse_outer q (agrees z q r) i v can.at
 agrees z _ (by_put q i v o x can r) = agrees_put q (agrees z q r) i v can.at o x can
 agrees z _ (by_leave q i v o can r) = agrees_leave q (agrees z q r) i v can.at o can
 agrees z _ (by_take_bits q i v o can r) = agrees_take_bits q (agrees z q r) i v can.at o can
@@ -492,7 +492,7 @@ agrees z _ (by_remove q i v o can r) = agrees_remove q (agrees z q r) i v can.at
 agrees z _ (by_load_mode q i v can r) = agrees_load_mode q (agrees z q r) i v can.at
 agrees z _ (by_load_filled q i v at r) = agrees_load_filled q (agrees z q r) i v at
 agrees z _ (by_take_buffer q i v c can r) = agrees_take_buffer q (agrees z q r) i v can.at c can
-agrees z _ (by_refuse_buffer q i v c at r) = agrees_refuse_buffer q (agrees z q r) i v at c
+agrees z _ (by_refuse_buffer q i v c can r) = agrees_refuse_buffer q (agrees z q r) i v can.at c
 agrees z _ (by_set_back q i v c o can r) = agrees_set_back q (agrees z q r) i v can.at c o can
 agrees z _ (by_load_under q i v p can r) = agrees_load_under q (agrees z q r) i v can.at p can.one
 agrees z _ (by_set_bit q i v p can r) = agrees_set_bit q (agrees z q r) i v can.at p can.one

@@ -113,7 +113,7 @@ module _ (z : Setup) where
   pub carried : (q : QState) → Reached z q → Carried q
   carried _ opened = record { all = All-nil (IsCarried z); counted = λ s h. tt }
   carried _ (by_take_outer q i v can r) = carried q r
-  carried _ (by_refuse_outer q i v at r) = carried q r
+  carried _ (by_refuse_outer q i v can r) = carried q r
   carried _ (by_put q i v o x can r) = carried_put q.setup q.log v.put record { signal = x; via = via.Outer } (carried q r) can.next (((lists z q r).each i v can.at).own x.from.0 can.from)
   carried _ (by_leave q i v o can r) = carried q r
   carried _ (by_take_bits q i v o can r) = carried q r
@@ -124,7 +124,7 @@ module _ (z : Setup) where
   carried _ (by_load_mode q i v can r) = carried q r
   carried _ (by_load_filled q i v at r) = carried q r
   carried _ (by_take_buffer q i v c can r) = carried q r
-  carried _ (by_refuse_buffer q i v c at r) = carried q r
+  carried _ (by_refuse_buffer q i v c can r) = carried q r
   carried _ (by_set_back q i v c o can r) = carried q r
   carried _ (by_load_under q i v p can r) = carried q r
   carried _ (by_set_bit q i v p can r) = carried q r
@@ -142,7 +142,7 @@ module _ (z : Setup) where
   pub ways : (q : QState) → Reached z q → Ways q
   ways _ opened = no_direct z.policy
   ways _ (by_take_outer q i v can r) = ways q r
-  ways _ (by_refuse_outer q i v at r) = ways q r
+  ways _ (by_refuse_outer q i v can r) = ways q r
   ways _ (by_put q i v o x can r) = let w = ways q r in let h = ap (λ (y : Outer). direct_count y.journal) (held_is q r i v o can.at can.held) in
       let a = directs-append o.journal (put_entries (refused q i v) v.switched) in let b = one_direct (refused q i v) v.switched in let c = outer_more q.log x in omega arith
   ways _ (by_leave q i v o can r) = ways q r
@@ -154,7 +154,7 @@ module _ (z : Setup) where
   ways _ (by_load_mode q i v can r) = ways q r
   ways _ (by_load_filled q i v at r) = ways q r
   ways _ (by_take_buffer q i v c can r) = ways q r
-  ways _ (by_refuse_buffer q i v c at r) = ways q r
+  ways _ (by_refuse_buffer q i v c can r) = ways q r
   ways _ (by_set_back q i v c o can r) = ways q r
   ways _ (by_load_under q i v p can r) = ways q r
   ways _ (by_set_bit q i v p can r) = ways q r

@@ -77,7 +77,7 @@ module _ (z : Setup) (proper : IsPolicy z.policy) where
   same_setup : (q : QState) → Reached z q → q.setup ≡ z
   same_setup _ opened = refl
   same_setup _ (by_take_outer q i v can r) = same_setup q r
-  same_setup _ (by_refuse_outer q i v at r) = same_setup q r
+  same_setup _ (by_refuse_outer q i v can r) = same_setup q r
   same_setup _ (by_put q i v o x can r) = same_setup q r
   same_setup _ (by_leave q i v o can r) = same_setup q r
   same_setup _ (by_take_bits q i v o can r) = same_setup q r
@@ -88,7 +88,7 @@ module _ (z : Setup) (proper : IsPolicy z.policy) where
   same_setup _ (by_load_mode q i v can r) = same_setup q r
   same_setup _ (by_load_filled q i v at r) = same_setup q r
   same_setup _ (by_take_buffer q i v c can r) = same_setup q r
-  same_setup _ (by_refuse_buffer q i v c at r) = same_setup q r
+  same_setup _ (by_refuse_buffer q i v c can r) = same_setup q r
   same_setup _ (by_set_back q i v c o can r) = same_setup q r
   same_setup _ (by_load_under q i v p can r) = same_setup q r
   same_setup _ (by_set_bit q i v p can r) = same_setup q r
@@ -121,7 +121,7 @@ module _ (z : Setup) (proper : IsPolicy z.policy) where
   pub journals : (q : QState) → Reached z q → Journals q
   journals _ opened = first
   journals _ (by_take_outer q i v can r) = let l = journals q r in set_with q l i v (holding v q.outer) can.at (l.owes i v can.at)
-  journals _ (by_refuse_outer q i v at r) = let l = journals q r in set_with q l i v (turned_away v q.turn) at (l.owes i v at)
+  journals _ (by_refuse_outer q i v can r) = let l = journals q r in set_with q l i v (turned_away v q.turn) can.at (l.owes i v can.at)
   journals _ (by_put q i v o x can r) = let l = journals q r in let out = outer_of q r i v o can.at can.held in
       subst (λ (o : Outer). JournalAs q.setup.policy (o.journal ++ put_entries (refused q i v) v.switched) q.mode q.removing false (leave_put q i v o x).seats) out.value
       (subst (λ (s : Bool). JournalAs q.setup.policy (q.outer.journal ++ put_entries (refused q i v) s) q.mode q.removing false (set q.seats i (after_put v (added q.outer x (refused q i v) v.switched)))) out.switch
@@ -149,7 +149,7 @@ module _ (z : Setup) (proper : IsPolicy z.policy) where
   journals _ (by_load_mode q i v can r) = let l = journals q r in set_with q l i v (saw v q.mode) can.at (l.owes i v can.at)
   journals _ (by_load_filled q i v at r) = let l = journals q r in set_with q l i v (counted v q.filled) at (l.owes i v at)
   journals _ (by_take_buffer q i v c can r) = let l = journals q r in set_with q l i v (gains v c (q.cells c).list) can.at (l.owes i v can.at)
-  journals _ (by_refuse_buffer q i v c at r) = let l = journals q r in set_with q l i v (turned_away_at v (c + 3) (q.cells c).word) at (l.owes i v at)
+  journals _ (by_refuse_buffer q i v c can r) = let l = journals q r in set_with q l i v (turned_away_at v (c + 3) (q.cells c).word) can.at (l.owes i v can.at)
   journals _ (by_set_back q i v c o can r) = let l = journals q r in set_with q l i v (given_back v c) can.at (l.owes i v can.at)
   journals _ (by_load_under q i v p can r) = let l = journals q r in set_with q l i v (saw_under v p q.mode) can.at (l.owes i v can.at)
   journals _ (by_set_bit q i v p can r) = let l = journals q r in set_with q l i v (marked v p) can.at (l.owes i v can.at)

@@ -409,7 +409,7 @@ module _ (z : Setup) where
   pub lawful : (q : QState) → Reached z q → Law q
   lawful _ opened = law_opened
   lawful _ (by_take_outer q i v can r) = let a = agrees z q r in keeps_take_outer mod_small q (lawful q r) i v ((a.idle (Rattle.sig_layout.proofs.Agreeing.free_of q.seats q.turn q.holder _ a.turn can.free)).1)
-  lawful _ (by_refuse_outer q i v at r) = keeps_forget mod_small q (lawful q r) i _
+  lawful _ (by_refuse_outer q i v can r) = keeps_forget mod_small q (lawful q r) i _
   lawful _ (by_put q i v o x can r) = let a = (agrees z q r).each i v can.at in let out = a.outer o can.held in
       subst (λ (o : Outer). Law (leave_put q i v o x)) out.value (keeps_put mod_small q (lawful q r) i v x (out.fetch ∙ can.fetching) (out.remove ∙ can.removing) (a.saw ∙ can.off) (((lists z q r).each i v can.at).owns x.from.0 can.from))
   lawful _ (by_leave q i v o can r) = let out = ((agrees z q r).each i v can.at).outer o can.held in keeps_leave mod_small q (lawful q r) i v (out.remove ∙ can.removing) (λ f d low. out.masks f d low ∙ can.unmasked (sym out.fetch ∙ f) d low)
@@ -423,7 +423,7 @@ module _ (z : Setup) where
   lawful _ (by_load_mode q i v can r) = keeps_load mod_small q (lawful q r) i _ (no_remover q (agrees z q r) i v can.at can.idle)
   lawful _ (by_load_filled q i v at r) = keeps_views mod_small q (lawful q r) _
   lawful _ (by_take_buffer q i v c can r) = keeps_turn mod_small q (lawful q r) c _ (Some i) _
-  lawful _ (by_refuse_buffer q i v c at r) = keeps_forget mod_small q (lawful q r) i _
+  lawful _ (by_refuse_buffer q i v c can r) = keeps_forget mod_small q (lawful q r) i _
   lawful _ (by_set_back q i v c o can r) = keeps_set_back mod_small q (lawful q r) i v c can.low
   lawful _ (by_load_under q i v p can r) = let m : QState = record q { cells = put q.cells p.number (record (q.cells p.number) { sure = q.mode }) } in
       keeps_load mod_small m (keeps_sure mod_small q (lawful q r) p.number q.seats can.low) i _ (no_remover q (agrees z q r) i v can.at can.idle)

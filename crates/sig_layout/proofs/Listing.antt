@@ -257,7 +257,7 @@ module _ (z : Setup) where
   pub lists : (q : QState) → Reached z q → Lists q
   lists _ opened = lists_opened
   lists _ (by_take_outer q i v can r) = let l = lists q r in lists_set q l i v can.at (holding v q.outer) (l.each i v can.at)
-  lists _ (by_refuse_outer q i v at r) = let l = lists q r in lists_set q l i v at (turned_away v q.turn) (l.each i v at)
+  lists _ (by_refuse_outer q i v can r) = let l = lists q r in lists_set q l i v can.at (turned_away v q.turn) (l.each i v can.at)
   lists _ (by_put q i v o x can r) = lists_put q (lists q r) i v can.at (after_put v (added o x (refused q i v) v.switched)) (record { signal = x; via = via.Outer }) can.from refl refl (ap (λ (l : List Signal). v.put ++ put_by via.Outer l) (gained v o x can.held)) refl refl can.fetching
   lists _ (by_leave q i v o can r) = let l = lists q r in lists_set q l i v can.at (after_same v) (unfetched q l i v can.at)
   lists _ (by_take_bits q i v o can r) = lists_bits q (lists q r) i v can.at (agrees z q r) o can.begins.held
@@ -268,7 +268,7 @@ module _ (z : Setup) where
   lists _ (by_load_mode q i v can r) = let l = lists q r in lists_set q l i v can.at (saw v q.mode) (l.each i v can.at)
   lists _ (by_load_filled q i v at r) = let l = lists q r in lists_set q l i v at (counted v q.filled) (l.each i v at)
   lists _ (by_take_buffer q i v c can r) = let l = lists q r in lists_set q l i v can.at (gains v c (q.cells c).list) (l.each i v can.at)
-  lists _ (by_refuse_buffer q i v c at r) = let l = lists q r in lists_set q l i v at (turned_away_at v (c + 3) (q.cells c).word) (l.each i v at)
+  lists _ (by_refuse_buffer q i v c can r) = let l = lists q r in lists_set q l i v can.at (turned_away_at v (c + 3) (q.cells c).word) (l.each i v can.at)
   lists _ (by_set_back q i v c o can r) = let l = lists q r in lists_set q l i v can.at (given_back v c) (l.each i v can.at)
   lists _ (by_load_under q i v p can r) = let l = lists q r in lists_set q l i v can.at (saw_under v p q.mode) (l.each i v can.at)
   lists _ (by_set_bit q i v p can r) = let l = lists q r in lists_set q l i v can.at (marked v p) (l.each i v can.at)

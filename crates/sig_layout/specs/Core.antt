@@ -139,6 +139,10 @@ module _ (q : QState) (i : ℕ) (v : Knows) where
   abbrev pub take_outer : QState
   take_outer = record q { turn = suc (number v); holder = Some i; seats = seats_with (holding v q.outer) }
 
+  pub record CanRefuseOuter : Type 0 where
+    pub at : At
+    pub busy : q.turn ≢ 0
+
   abbrev pub refuse_outer : QState
   refuse_outer = record q { saw_off = put q.saw_off i false; seats = seats_with (turned_away v q.turn) }
 
@@ -262,6 +266,11 @@ module _ (q : QState) (i : ℕ) (v : Knows) where
 
     abbrev pub take_buffer : QState
     take_buffer = record q { cells = put q.cells c (record (q.cells c) { word = suc (number v); holder = Some i; set = false; sure = false }); seats = seats_with (gains v c (q.cells c).list) }
+
+    pub record CanRefuseBuffer : Type 0 where
+      pub at : At
+      pub low : c < 64
+      pub busy : (q.cells c).word ≢ 0
 
     abbrev pub refuse_buffer : QState
     refuse_buffer = record q { saw_off = put q.saw_off i false; seats = seats_with (turned_away_at v (c + 3) (q.cells c).word) }
@@ -390,7 +399,7 @@ module _ (q : QState) (i : ℕ) (v : Knows) where
 pub data Reached (z : Setup) : QState → Type 0 where
   opened : Reached z (opened_with z)
   by_take_outer : (q : QState) (i : ℕ) (v : Knows) → CanTakeOuter q i v → Reached z q → Reached z (take_outer q i v)
-  by_refuse_outer : (q : QState) (i : ℕ) (v : Knows) → At q i v → Reached z q → Reached z (refuse_outer q i v)
+  by_refuse_outer : (q : QState) (i : ℕ) (v : Knows) → CanRefuseOuter q i v → Reached z q → Reached z (refuse_outer q i v)
   by_put : (q : QState) (i : ℕ) (v : Knows) (o : Outer) (x : Signal) → CanPut q i v o x → Reached z q → Reached z (leave_put q i v o x)
   by_leave : (q : QState) (i : ℕ) (v : Knows) (o : Outer) → CanLeave q i v o → Reached z q → Reached z (leave_same q i v)
   by_take_bits : (q : QState) (i : ℕ) (v : Knows) (o : Outer) → CanBegin q i v o → Reached z q → Reached z (take_bits q i v)
@@ -401,7 +410,7 @@ pub data Reached (z : Setup) : QState → Type 0 where
   by_load_mode : (q : QState) (i : ℕ) (v : Knows) → CanLoad q i v → Reached z q → Reached z (load_mode q i v)
   by_load_filled : (q : QState) (i : ℕ) (v : Knows) → At q i v → Reached z q → Reached z (load_filled q i v)
   by_take_buffer : (q : QState) (i : ℕ) (v : Knows) (c : ℕ) → CanTakeBuffer q i v c → Reached z q → Reached z (take_buffer q i v c)
-  by_refuse_buffer : (q : QState) (i : ℕ) (v : Knows) (c : ℕ) → At q i v → Reached z q → Reached z (refuse_buffer q i v c)
+  by_refuse_buffer : (q : QState) (i : ℕ) (v : Knows) (c : ℕ) → CanRefuseBuffer q i v c → Reached z q → Reached z (refuse_buffer q i v c)
   by_set_back : (q : QState) (i : ℕ) (v : Knows) (c : ℕ) (o : Outer) → CanSetBack q i v c o → Reached z q → Reached z (set_back q i v c)
   by_load_under : (q : QState) (i : ℕ) (v : Knows) (p : Part) → CanLoadUnder q i v p → Reached z q → Reached z (load_under q i v p)
   by_set_bit : (q : QState) (i : ℕ) (v : Knows) (p : Part) → CanSetBit q i v p → Reached z q → Reached z (set_bit q i v p)
