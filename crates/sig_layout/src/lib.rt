@@ -17,7 +17,6 @@ mod pieces;
 mod policy;
 mod senders;
 mod setup;
-mod slot;
 mod summary;
 mod via;
 
@@ -36,5 +35,4 @@ pub use pieces::Pieces;
 pub use policy::{Policy, due};
 pub use senders::Senders;
 pub use setup::Setup;
-pub use slot::Slot;
 pub use via::Via;

@@ -1,4 +1,5 @@
 ghost use Rattle.std.specs.Prelude.{◌≡◌, ◌≤◌, ◌+◌, ◌++◌, [], ◌∷◌, length, OnOk, IfOk, IfErr, IfSome};
+ghost use Rattle.sig_layout.specs.Rooms.{all_pieces};
 ghost use Rattle.sig_layout.specs.Summaries.{due_at, is_install};
 ghost use Rattle.sig_layout.specs.Outers.{put_entries};
 ghost use Rattle.sig_layout.specs.declared.entry.Entry.TheVariants.{Direct};
@@ -67,8 +68,8 @@ impl Pieces {
         Ok(switched)
     }
 
-    /// How many signals there are, and so many more; `None` where that is no `usize`.
-    pub fn count(&self, more: usize) -> Option<usize>
+    // How many signals there are, and so many more.
+    pub(crate) fn count(&self, more: usize) -> Option<usize>
         ensures { IfSome result (λ n. n ≡ length self.now + more) }
     {
         let mut total = self.last.len().checked_add(more)?;
@@ -78,8 +79,8 @@ impl Pieces {
         Some(total)
     }
 
-    /// Moves all signals to the end of `into`, where room was made for them.
-    pub fn pour_into(&mut self, into: &mut Signals)
+    // Moves all signals to the end of `into`, where room was made for them.
+    pub(crate) fn pour_into(&mut self, into: &mut Signals)
         requires { length self.old ≤ into.old.spare }
         ensures list { into.new.items ≡ into.old.items ++ self.old }
         ensures rest { self.new ≡ [] }
@@ -102,5 +103,13 @@ impl Pieces {
             Ok(()) => Ok(Growing { first, last }),
             Err(_) => Err(Pieces { first, last }),
         }
+    }
+
+    /// Its batches, the oldest first, and the last one apart.
+    pub fn into_batches(self) -> (Vec<Batch>, Batch)
+        ensures { self ≡ all_pieces result.0.items ++ result.1 }
+    {
+        let Pieces { first, last } = self;
+        (first, last)
     }
 }
