@@ -27,9 +27,12 @@ abbrev pub HoldsAll : (ℕ → Cell) → ℕ → List Part → Type 0
 HoldsAll cells i [] = Unit {0}
 HoldsAll cells i (p ∷ ps) = HeldBy i p (cells p.number) × Apart p.number ps × HoldsAll cells i ps
 
--- The seat i has the outer turn with the value o, and knows what it does with it: first what the machine says, then what the seat knows.
+-- The seat i has the outer turn with the value o, and knows what it does with it: first what the machine says, then what the
+-- seat knows.
 -- It is a record of what it speaks of, and not of the state and the view, so that a step that changes nothing of this needs no proof
-pub record DoingAs (holder : Option ℕ) (outer : Outer) (fetching : Bool) (cells : ℕ → Cell) (back : ℕ) (removing : Bool) (progress : ℕ) (switched : Bool) (i : ℕ) (o : Outer) (v_fetching : Bool) (v_mask : List Bool) (v_back : ℕ) (v_removing : Bool) (v_progress : ℕ) (v_switched : Bool) : Type 0 where
+pub record DoingAs (holder : Option ℕ) (outer : Outer) (fetching : Bool) (cells : ℕ → Cell) (back : ℕ) (removing : Bool)
+    (progress : ℕ) (switched : Bool) (i : ℕ) (o : Outer) (v_fetching : Bool) (v_mask : List Bool) (v_back : ℕ) (v_removing : Bool)
+    (v_progress : ℕ) (v_switched : Bool) : Type 0 where
   pub mine : holder ≡ Some i
   pub value : outer ≡ o
   pub fetch : fetching ≡ v_fetching

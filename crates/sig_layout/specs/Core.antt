@@ -44,7 +44,8 @@ pub record QState : Type 0 where
   pub mode : Bool
   pub filled : ℕ
   pub cells : ℕ → Cell
-  -- what the holder of the outer turn does: a fetch that took the bits, with all that had been put by then and the bits that it set again; or a removal that passed so many buffers; or a put that stored the mode on
+  -- what the holder of the outer turn does: a fetch that took the bits, with all that had been put by then and the bits that it
+  -- set again; or a removal that passed so many buffers; or a put that stored the mode on
   pub fetching : Bool
   pub base : List Item
   pub back : ℕ
@@ -179,7 +180,13 @@ module _ (q : QState) (i : ℕ) (v : Knows) where
     pub unmasked : v.fetching ≡ true → Unmasked v
 
   abbrev pub leave_same : QState
-  leave_same = record q { turn = 0; holder = None; fetching = false; saw_off = put q.saw_off i false; seats = seats_with (after_same v) }
+  leave_same = record q {
+    turn = 0;
+    holder = None;
+    fetching = false;
+    saw_off = put q.saw_off i false;
+    seats = seats_with (after_same v);
+  }
 
   pub record CanBegin (o : Outer) : Type 0 where
     pub at : At
@@ -265,7 +272,15 @@ module _ (q : QState) (i : ℕ) (v : Knows) where
       pub somebody : IsSomebody v
 
     abbrev pub take_buffer : QState
-    take_buffer = record q { cells = put q.cells c (record (q.cells c) { word = suc (number v); holder = Some i; set = false; sure = false }); seats = seats_with (gains v c (q.cells c).list) }
+    take_buffer = record q {
+      cells = put q.cells c (record (q.cells c) {
+        word = suc (number v);
+        holder = Some i;
+        set = false;
+        sure = false;
+      });
+      seats = seats_with (gains v c (q.cells c).list);
+    }
 
     pub record CanRefuseBuffer : Type 0 where
       pub at : At
@@ -283,7 +298,12 @@ module _ (q : QState) (i : ℕ) (v : Knows) where
       pub masked : flag v.mask c ≡ true
 
     abbrev pub set_back : QState
-    set_back = record q { filled = with_bit q.filled c; back = with_bit q.back c; cells = put q.cells c (record (q.cells c) { mask = false }); seats = seats_with (given_back v c) }
+    set_back = record q {
+      filled = with_bit q.filled c;
+      back = with_bit q.back c;
+      cells = put q.cells c (record (q.cells c) { mask = false });
+      seats = seats_with (given_back v c);
+    }
 
   -- the buffer that the seat took first
   module _ (p : Part) where
@@ -297,7 +317,11 @@ module _ (q : QState) (i : ℕ) (v : Knows) where
       pub idle : v.held ≡ None
 
     abbrev pub load_under : QState
-    load_under = record q { saw_off = put q.saw_off i (not q.mode); cells = put q.cells p.number (record cell { sure = q.mode }); seats = seats_with (saw_under v p q.mode) }
+    load_under = record q {
+      saw_off = put q.saw_off i (not q.mode);
+      cells = put q.cells p.number (record cell { sure = q.mode });
+      seats = seats_with (saw_under v p q.mode);
+    }
 
     pub record CanSetBit : Type 0 where
       pub at : At
@@ -306,7 +330,11 @@ module _ (q : QState) (i : ℕ) (v : Knows) where
       pub sure : p.sure ≡ true
 
     abbrev pub set_bit : QState
-    set_bit = record q { filled = with_bit q.filled p.number; cells = put q.cells p.number (record cell { set = true }); seats = seats_with (marked v p) }
+    set_bit = record q {
+      filled = with_bit q.filled p.number;
+      cells = put q.cells p.number (record cell { set = true });
+      seats = seats_with (marked v p);
+    }
 
     pub record CanPutAside (x : Signal) : Type 0 where
       pub at : At
@@ -332,7 +360,10 @@ module _ (q : QState) (i : ℕ) (v : Knows) where
         pub first : v.parts ≡ p ∷ ps
 
       abbrev pub buffer_same : QState
-      buffer_same = record q { cells = put q.cells p.number (record cell { word = 0; holder = None; set = false; sure = false }); seats = seats_with (loses v) }
+      buffer_same = record q {
+        cells = put q.cells p.number (record cell { word = 0; holder = None; set = false; sure = false });
+        seats = seats_with (loses v);
+      }
 
       pub record CanTakePart (o : Outer) : Type 0 where
         pub at : At
@@ -410,14 +441,21 @@ pub data Reached (z : Setup) : QState → Type 0 where
   by_load_mode : (q : QState) (i : ℕ) (v : Knows) → CanLoad q i v → Reached z q → Reached z (load_mode q i v)
   by_load_filled : (q : QState) (i : ℕ) (v : Knows) → At q i v → Reached z q → Reached z (load_filled q i v)
   by_take_buffer : (q : QState) (i : ℕ) (v : Knows) (c : ℕ) → CanTakeBuffer q i v c → Reached z q → Reached z (take_buffer q i v c)
-  by_refuse_buffer : (q : QState) (i : ℕ) (v : Knows) (c : ℕ) → CanRefuseBuffer q i v c → Reached z q → Reached z (refuse_buffer q i v c)
-  by_set_back : (q : QState) (i : ℕ) (v : Knows) (c : ℕ) (o : Outer) → CanSetBack q i v c o → Reached z q → Reached z (set_back q i v c)
+  by_refuse_buffer : (q : QState) (i : ℕ) (v : Knows) (c : ℕ) → CanRefuseBuffer q i v c → Reached z q
+      → Reached z (refuse_buffer q i v c)
+  by_set_back : (q : QState) (i : ℕ) (v : Knows) (c : ℕ) (o : Outer) → CanSetBack q i v c o → Reached z q
+      → Reached z (set_back q i v c)
   by_load_under : (q : QState) (i : ℕ) (v : Knows) (p : Part) → CanLoadUnder q i v p → Reached z q → Reached z (load_under q i v p)
   by_set_bit : (q : QState) (i : ℕ) (v : Knows) (p : Part) → CanSetBit q i v p → Reached z q → Reached z (set_bit q i v p)
-  by_put_aside : (q : QState) (i : ℕ) (v : Knows) (p : Part) (x : Signal) → CanPutAside q i v p x → Reached z q → Reached z (buffer_put q i v p x)
-  by_leave_buffer : (q : QState) (i : ℕ) (v : Knows) (p : Part) (ps : List Part) → CanLeaveBuffer q i v p ps → Reached z q → Reached z (buffer_same q i v p ps)
-  by_take_part : (q : QState) (i : ℕ) (v : Knows) (p : Part) (ps : List Part) (o : Outer) → CanTakePart q i v p ps o → Reached z q → Reached z (buffer_fetched q i v p ps o)
-  by_pass : (q : QState) (i : ℕ) (v : Knows) (p : Part) (ps : List Part) (o : Outer) → CanPass q i v p ps o → Reached z q → Reached z (buffer_passed q i v p ps o)
-  by_split : (q : QState) (i : ℕ) (v : Knows) (given : List ℕ) (role : Bool) → CanSplit q i v given role → Reached z q → Reached z (split q i v given role)
+  by_put_aside : (q : QState) (i : ℕ) (v : Knows) (p : Part) (x : Signal) → CanPutAside q i v p x → Reached z q
+      → Reached z (buffer_put q i v p x)
+  by_leave_buffer : (q : QState) (i : ℕ) (v : Knows) (p : Part) (ps : List Part) → CanLeaveBuffer q i v p ps → Reached z q
+      → Reached z (buffer_same q i v p ps)
+  by_take_part : (q : QState) (i : ℕ) (v : Knows) (p : Part) (ps : List Part) (o : Outer) → CanTakePart q i v p ps o → Reached z q
+      → Reached z (buffer_fetched q i v p ps o)
+  by_pass : (q : QState) (i : ℕ) (v : Knows) (p : Part) (ps : List Part) (o : Outer) → CanPass q i v p ps o → Reached z q
+      → Reached z (buffer_passed q i v p ps o)
+  by_split : (q : QState) (i : ℕ) (v : Knows) (given : List ℕ) (role : Bool) → CanSplit q i v given role → Reached z q
+      → Reached z (split q i v given role)
   by_note : (q : QState) (i : ℕ) (v : Knows) → At q i v → Reached z q → Reached z (note q i v)
   by_join : (q : QState) (i : ℕ) (v : Knows) (j : ℕ) (w : Knows) → CanJoin q i v j w → Reached z q → Reached z (join q i v j w)

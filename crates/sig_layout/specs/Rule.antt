@@ -54,13 +54,16 @@ pub record Rule (q : QState) : Type 0 where
   pub shut : (c : ℕ) → q.mode ≡ false → ((q.cells c).list ≡ []) ⊎ Unpassed q c
   -- 4. Where a seat saw the mode off, its senders have nothing in their buffers, or a remover has yet to pass them. Where it holds
   -- the outer turn to append, they have nothing there.
-  pub saw_off : (i : ℕ) (v : Knows) (s : ℕ) → At q i v → v.saw_off ≡ true → has v.senders s ≡ true → IsClear q s ⊎ Unpassed q (buffer_of s)
-  pub appends : (i : ℕ) (v : Knows) (o : Outer) (s : ℕ) → At q i v → v.held ≡ Some o → v.saw_off ≡ true → has v.senders s ≡ true → IsClear q s
+  pub saw_off : (i : ℕ) (v : Knows) (s : ℕ) → At q i v → v.saw_off ≡ true → has v.senders s ≡ true
+      → IsClear q s ⊎ Unpassed q (buffer_of s)
+  pub appends : (i : ℕ) (v : Knows) (o : Outer) (s : ℕ) → At q i v → v.held ≡ Some o → v.saw_off ≡ true → has v.senders s ≡ true
+      → IsClear q s
   -- 5. Where the holder of a buffer saw the mode on under this turn, it is on, or a remover has yet to pass the buffer.
   pub saw_on : (c : ℕ) → (q.cells c).sure ≡ true → (q.mode ≡ true) ⊎ Unpassed q c
   -- 6. Where a buffer isn't empty, or its holder has set its bit, the bit is set, or the fetch that has the outer turn has it, or a
   -- remover has yet to pass the buffer.
-  pub marked : (c : ℕ) → (((q.cells c).list ≡ []) × ((q.cells c).set ≡ false)) ⊎ ((filled_at q.filled c ≡ true) ⊎ (((q.fetching ≡ true) × ((q.cells c).mask ≡ true)) ⊎ Unpassed q c))
+  pub marked : (c : ℕ) → (((q.cells c).list ≡ []) × ((q.cells c).set ≡ false)) ⊎
+      ((filled_at q.filled c ≡ true) ⊎ (((q.fetching ≡ true) × ((q.cells c).mask ≡ true)) ⊎ Unpassed q c))
   -- 7. The journal is lawful, and while the outer turn is free the mode is on exactly where the journal is in the installed state.
   -- It has a Direct entry for each put into the outer list and a Fetch entry for each fetch of the seat with the role, which knows
   -- a removal to be due exactly where one is.

@@ -34,8 +34,10 @@ summed j = summary (fresh false) j
 abbrev pub due_of : Policy → Summary → Due
 due_of Never s = due.Nothing
 due_of Always s = if s.installed then due.Nothing else due.Install
-due_of (Churn n) s = if s.installed then (if ltb s.fetches n then due.Nothing else due.Remove) else (if ltb s.directs n then due.Nothing else due.Install)
-due_of Auto s = if s.installed then (if s.sixteen then due.Remove else due.Nothing) else (if s.reached then due.Install else due.Nothing)
+due_of (Churn n) s = if s.installed then (if ltb s.fetches n then due.Nothing else due.Remove) else
+    (if ltb s.directs n then due.Nothing else due.Install)
+due_of Auto s = if s.installed then (if s.sixteen then due.Remove else due.Nothing) else
+    (if s.reached then due.Install else due.Nothing)
 
 -- what is due after a journal
 abbrev pub due_at : Policy → List Entry → Due

@@ -76,7 +76,13 @@ abbrev pub turned_away : Knows → ℕ → Knows
 turned_away v n = record v { refused = v.refused + 1; refusals = v.refusals ++ (0, n) ∷ []; saw_off = false }
 
 abbrev pub after_put : Knows → Outer → Knows
-after_put v o = record v { held = None; switched = false; saw_off = false; put = v.put ++ put_by via.Outer (drop (length (signals_of v.held)) o.signals); refused = 0 }
+after_put v o = record v {
+  held = None;
+  switched = false;
+  saw_off = false;
+  put = v.put ++ put_by via.Outer (drop (length (signals_of v.held)) o.signals);
+  refused = 0;
+}
 
 abbrev pub after_same : Knows → Knows
 after_same v = record v { held = None; fetching = false; saw_off = false; mask = []; back = 0; moved = 0 }
@@ -85,7 +91,16 @@ abbrev pub with_bits : Knows → ℕ → Knows
 with_bits v n = record v { fetching = true; mask = flags_of n; back = 0; moved = 0 }
 
 abbrev pub after_fetch : Knows → Bool → Knows
-after_fetch v due = record v { held = None; fetching = false; mask = []; back = 0; moved = 0; taken = v.taken ++ signals_of v.held; fetches = v.fetches + 1; due = due }
+after_fetch v due = record v {
+  held = None;
+  fetching = false;
+  mask = [];
+  back = 0;
+  moved = 0;
+  taken = v.taken ++ signals_of v.held;
+  fetches = v.fetches + 1;
+  due = due;
+}
 
 abbrev pub switched_on : Knows → Knows
 switched_on v = record v { switched = true }
@@ -123,10 +138,19 @@ abbrev pub loses : Knows → Knows
 loses v = record v { parts = tail v.parts }
 
 abbrev pub put_aside : Knows → List Signal → Knows
-put_aside v l = record v { parts = tail v.parts; put = v.put ++ put_by (via.Buffer (buffer_in v.parts)) (drop (length (first_list v.parts)) l) }
+put_aside v l = record v {
+  parts = tail v.parts;
+  put = v.put ++ put_by (via.Buffer (buffer_in v.parts))
+      (drop (length (first_list v.parts)) l);
+}
 
 abbrev pub took_part : Knows → Outer → Part → Knows
-took_part v o p = record v { parts = tail v.parts; mask = slice_set v.mask p.number false; held = Some (behind o p.list); moved = v.moved + length p.list }
+took_part v o p = record v {
+  parts = tail v.parts;
+  mask = slice_set v.mask p.number false;
+  held = Some (behind o p.list);
+  moved = v.moved + length p.list;
+}
 
 abbrev pub passed : Knows → Outer → Part → Knows
 passed v o p = record v { parts = tail v.parts; progress = suc v.progress; held = Some (behind o p.list) }
