@@ -1,5 +1,5 @@
 -- Each step keeps what the queue carries, how it is numbered, and the count of direct puts.
-use Rattle.std.proofs.Common.{◌≡◌, ◌≢◌, ℕ, zero, suc, ◌+◌, ◌<◌, ◌==◌, subst, Bool, true, false, if◌then◌else◌, List, [], ◌∷◌, ◌++◌, length, map, sym, refl, ap, ◌∙◌, arith, append-nil, append_assoc, Some, inl, inr, ⊎_elim}
+use Rattle.std.proofs.Common.{◌≡◌, ℕ, suc, ◌+◌, subst, Bool, true, false, List, [], ◌∷◌, ◌++◌, length, sym, refl, ap, ◌∙◌, arith, append-nil, append_assoc, Some}
 use Rattle.std.specs.List.{All}
 use Rattle.std.proofs.lemmas.List.Elements.{All-append, All-nil, All-cons, All-head, All-tail}
 use mathlib.Core.Logic.{dite}
@@ -17,15 +17,12 @@ use Rattle.sig_layout.specs.declared.via.Via.TheVariants as via
 use Rattle.sig_layout.specs.declared.item.Item.{Item}
 use Rattle.sig_layout.specs.declared.setup.Setup.{Setup}
 use Rattle.sig_layout.specs.declared.outer.Outer.{Outer}
-use Rattle.sig_layout.specs.declared.part.Part.{Part}
 use Rattle.sig_layout.specs.declared.knows.Knows.{Knows}
-use Rattle.sig_layout.specs.Sets.{has}
-use Rattle.sig_layout.specs.Sent.{sender, putter, of, signals, Prefix}
+use Rattle.sig_layout.specs.Sent.{sender, putter, of, signals}
 use Rattle.sig_layout.specs.Policies.{first_journal, direct_count}
 use Rattle.sig_layout.specs.Outers.{put_entries}
 use Rattle.sig_layout.specs.Openings.{first_of, IsCarried, IsCounted, IsNext}
 use Rattle.sig_layout.specs.Core.{QState, Reached, opened, by_take_outer, by_refuse_outer, by_put, by_leave, by_take_bits, by_fetch, by_mode_on, by_mode_off, by_remove, by_load_mode, by_load_filled, by_take_buffer, by_refuse_buffer, by_set_back, by_load_under, by_set_bit, by_put_aside, by_leave_buffer, by_take_part, by_pass, by_split, by_note, by_join, buffer_of, refused}
-use Rattle.sig_layout.specs.Agree.{Doing}
 use Rattle.sig_layout.specs.Carried.{CarriedAs, Carried, one_outer, outer_count, Ways}
 use Rattle.sig_layout.proofs.Sending.{of-append, of_own, of_other, of_signals, signals-append}
 use Rattle.sig_layout.proofs.Agreeing.{agrees}

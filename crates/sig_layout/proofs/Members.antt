@@ -1,5 +1,5 @@
 -- Sets of pids, bit by bit.
-use Rattle.std.proofs.Common.{◌≡◌, ◌≢◌, ℕ, zero, suc, ◌+◌, ◌-◌, ◌/◌, ◌%◌, ◌<◌, ◌≤◌, ◌==◌, ◌&&◌, ◌||◌, ◌⊎◌, ltb, max, min, bit_or, bit_and, bit_xor, Bool, true, false, not, if◌then◌else◌, List, [], ◌∷◌, length, get_or, set, get_or-set_same, get_or-set_other, ◌*◌, ◌^◌, w64, eq-eqb, ne_eqb, ◌∙◌, sym, refl, ap, arith, inl, inr, ⊎_elim, subst}
+use Rattle.std.proofs.Common.{◌≡◌, ◌≢◌, ℕ, zero, suc, ◌+◌, ◌-◌, ◌/◌, ◌%◌, ◌<◌, ◌≤◌, ◌==◌, ◌&&◌, ◌||◌, ◌⊎◌, ltb, max, min, bit_or, bit_and, bit_xor, Bool, true, false, not, if◌then◌else◌, List, [], ◌∷◌, length, get_or, set, get_or-set_same, get_or-set_other, ◌*◌, ◌^◌, w64, eq-eqb, ne_eqb, ◌∙◌, sym, refl, ap, arith, inl, inr, ⊎_elim}
 use Rattle.std.specs.Int.{bit_at}
 use mathlib.Core.Logic.{dite}
 use native.Mathlib.Decide.{ℕ_discrete}

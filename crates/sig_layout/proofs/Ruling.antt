@@ -1,10 +1,7 @@
 -- The queue rule, from its layers.
-use Rattle.std.proofs.Common.{◌≡◌, ◌≢◌, ◌⊎◌, ◌↔◌, ℕ, ◌<◌, subst, Bool, true, false, List, [], ◌∷◌, ◌++◌, length, sym, refl, ap, ◌∙◌, arith, inl, inr, ⊎_elim, Option, Some, None}
+use Rattle.std.proofs.Common.{◌≡◌, ◌⊎◌, ◌↔◌, ℕ, subst, Bool, true, List, [], ◌∷◌, sym, ap, ◌∙◌, inl, inr, ⊎_elim, Some, None}
 use Rattle.std.specs.List.{All}
 use Rattle.std.proofs.lemmas.List.Elements.{All-nil, All-cons}
-use mathlib.Core.Option.{some}
-use lib.ListN.{get_elem?}
-use Rattle.sig_kinds.specs.declared.signal.Signal.{Signal}
 use Rattle.sig_layout.specs.declared.decision.Due.{Due}
 use Rattle.sig_layout.specs.declared.decision.Due.TheVariants as due
 use Rattle.sig_layout.specs.declared.entry.Entry.{Entry}
@@ -13,15 +10,13 @@ use Rattle.sig_layout.specs.declared.setup.Setup.{Setup}
 use Rattle.sig_layout.specs.declared.outer.Outer.{Outer}
 use Rattle.sig_layout.specs.declared.knows.Knows.{Knows}
 use Rattle.sig_layout.specs.Sets.{has}
-use Rattle.sig_layout.specs.Sent.{sender, putter, of, signals, Prefix, Within, AllWithin}
+use Rattle.sig_layout.specs.Sent.{sender, putter, of, signals, Prefix, AllWithin}
 use Rattle.sig_layout.specs.Summaries.{due_at, is_remove}
 use Rattle.sig_layout.specs.Policies.{IsPolicy, IsPeriod, RemoveDue}
-use Rattle.sig_layout.specs.Views.{filled_at}
 use Rattle.sig_layout.specs.Core.{QState, Reached, buffer_of, At}
 use Rattle.sig_layout.specs.Agree.{Agrees}
 use Rattle.sig_layout.specs.Lists.{Lists}
-use Rattle.sig_layout.specs.Law.{Law, Ahead}
-use Rattle.sig_layout.specs.Journals.{Journals}
+use Rattle.sig_layout.specs.Law.{Law}
 use Rattle.sig_layout.specs.Rule.{HasCome, Stood, come, IsClear, Unpassed, Rule}
 use Rattle.sig_layout.proofs.Sending.{not_both, prefix_through, prefix_signals}
 use Rattle.sig_layout.proofs.Summing.{is_remove_so}

@@ -10,7 +10,7 @@ use Rattle.sig_layout.specs.declared.policy.Policy.{Policy}
 use Rattle.sig_layout.specs.declared.policy.Policy.TheVariants.{Never, Always, Churn, Auto}
 use Rattle.sig_layout.specs.Outers.{put_entries}
 use Rattle.sig_layout.specs.Summaries.{fresh, scored, run_on, after, summary, summed, due_of, due_at, is_install, is_remove, May, Allowed, IsAllowed}
-use Rattle.sig_layout.specs.Policies.{begins_on, first_journal, IsPolicy, direct_count, fetch_count}
+use Rattle.sig_layout.specs.Policies.{begins_on, first_journal, IsPolicy, fetch_count}
 
 pub summary_more : (s : Summary) (j : List Entry) (e : Entry) → summary s (j ++ e ∷ []) ≡ after (summary s j) e
 summary_more s [] e = refl

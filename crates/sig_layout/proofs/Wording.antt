@@ -1,6 +1,6 @@
 -- The running summary says of a journal what the table of the policies asks, and a journal whose entries were allowed one by one
 -- is lawful.
-use Rattle.std.proofs.Common.{◌≡◌, ◌≢◌, ◌⊎◌, ℕ, zero, suc, ◌+◌, ◌-◌, ◌<◌, ◌≤◌, ◌||◌, ltb, subst, Bool, true, false, if◌then◌else◌, List, [], ◌∷◌, ◌++◌, length, sym, refl, ap, ◌∙◌, arith, append_assoc, append-nil, inl, inr, ⊎_elim}
+use Rattle.std.proofs.Common.{◌≡◌, ◌⊎◌, ℕ, ◌+◌, ◌-◌, ◌<◌, ◌≤◌, ltb, subst, Bool, true, false, if◌then◌else◌, List, [], ◌∷◌, ◌++◌, sym, refl, ap, ◌∙◌, arith, append_assoc, append-nil, inl, inr, ⊎_elim}
 use Rattle.std.specs.List.{All}
 use Rattle.std.proofs.lemmas.Bool.{ltb-true, ltb-false}
 use Rattle.std.proofs.lemmas.List.Elements.{All-append, All-nil, All-cons, All-head, All-tail}
@@ -11,9 +11,9 @@ use Rattle.sig_layout.specs.declared.decision.Due.{Due}
 use Rattle.sig_layout.specs.declared.decision.Due.TheVariants as due
 use Rattle.sig_layout.specs.declared.policy.Policy.{Policy}
 use Rattle.sig_layout.specs.declared.policy.Policy.TheVariants.{Never, Always, Churn, Auto}
-use Rattle.sig_layout.specs.Summaries.{fresh, scored, run_on, after, summary, summed, due_of, due_at, May, Allowed, IsAllowed}
-use Rattle.sig_layout.specs.Policies.{IsPolicy, IsStill, IsDirect, IsLittle, direct_count, fetch_count, IsPeriod, whole, installed, removed, score_from, HasReached, HasIdled, AsksInstall, AsksRemove, InstallDue, RemoveDue, IsDue, RemovesNext, IsLawful}
-use Rattle.sig_layout.proofs.Sending.{not_both, bool_cases, or_cases, or_neither}
+use Rattle.sig_layout.specs.Summaries.{fresh, scored, run_on, after, summary, summed, due_of, due_at, Allowed, IsAllowed}
+use Rattle.sig_layout.specs.Policies.{IsStill, IsDirect, IsLittle, direct_count, fetch_count, IsPeriod, whole, installed, removed, score_from, HasReached, HasIdled, InstallDue, RemoveDue, IsDue, RemovesNext, IsLawful}
+use Rattle.sig_layout.proofs.Sending.{or_cases, or_neither}
 use Rattle.sig_layout.proofs.Summing.{put_keeps}
 
 abbrev Entries : Type 0

@@ -19,6 +19,7 @@ use Rattle.sig_layout.specs.Openings.{IsNext}
 use Rattle.sig_layout.specs.Outers.{added, emptied, removed, behind}
 use Rattle.sig_layout.specs.Views.{number, IsSomebody, filled_at, with_bit, flag, holding, turned_away, after_put, after_same, with_bits, after_fetch, switched_on, switched_off, after_remove, saw, counted, gains, turned_away_at, saw_under, marked, given_back, loses, put_aside, took_part, passed, left_of, right_of, note_of, joined, spent, first_seat}
 
+-- one of the 64 buffers
 pub record Cell : Type 0 where
   pub list : List Signal
   -- the word of the turn: 0, or 1 more than the holder's number
@@ -37,10 +38,12 @@ pub record QState : Type 0 where
   -- all that was put, and all that was fetched, in order
   pub log : List Item
   pub taken : List Signal
+  -- the outer list and the journal
   pub outer : Outer
   -- the word of the outer turn, and the seat that holds it
   pub turn : ℕ
   pub holder : Option ℕ
+  -- the words of the mode and of the bits
   pub mode : Bool
   pub filled : ℕ
   pub cells : ℕ → Cell
@@ -57,6 +60,7 @@ pub record QState : Type 0 where
   -- the seat that has each sender, and the one that has the role
   pub owner : ℕ → ℕ
   pub reader : ℕ
+  -- what each seat knows
   pub seats : List Knows
 
 -- f with x at b
@@ -120,6 +124,7 @@ pub record Begins (v : Knows) (o : Outer) : Type 0 where
 abbrev pub Unmasked : Knows → Type 0
 Unmasked v = (c : ℕ) → c < 64 → flag v.mask c ≡ false
 
+-- The kinds of step of the seat i with the view v: what each asks, and the state after it.
 module _ (q : QState) (i : ℕ) (v : Knows) where
   abbrev pub At : Type 0
   At = get_elem? q.seats i ≡ some v
@@ -130,7 +135,7 @@ module _ (q : QState) (i : ℕ) (v : Knows) where
   abbrev pub refused : Bool
   refused = some_refused v.refused
 
-  -- the outer turn
+  -- the outer turn is taken, or refused
   pub record CanTakeOuter : Type 0 where
     pub at : At
     pub free : q.turn ≡ 0
@@ -147,7 +152,7 @@ module _ (q : QState) (i : ℕ) (v : Knows) where
   abbrev pub refuse_outer : QState
   refuse_outer = record q { saw_off = put q.saw_off i false; seats = seats_with (turned_away v q.turn) }
 
-  -- whether a put behind o makes an install due
+  -- It is left in one of four ways, here with one more signal. That installs where the put makes an install due.
   abbrev pub Installs : Outer → Type 0
   Installs o = v.switched ≡ is_install (due_at q.setup.policy (o.journal ++ Direct refused ∷ []))
 
@@ -172,6 +177,7 @@ module _ (q : QState) (i : ℕ) (v : Knows) where
     seats = seats_with (after_put v (added o x refused v.switched));
   }
 
+  -- it is left unchanged
   pub record CanLeave (o : Outer) : Type 0 where
     pub at : At
     pub held : v.held ≡ Some o
@@ -188,6 +194,7 @@ module _ (q : QState) (i : ℕ) (v : Knows) where
     seats = seats_with (after_same v);
   }
 
+  -- a fetch takes the bits, or a put that installs stores the mode on
   pub record CanBegin (o : Outer) : Type 0 where
     pub at : At
     pub begins : Begins v o
@@ -202,6 +209,10 @@ module _ (q : QState) (i : ℕ) (v : Knows) where
     seats = seats_with (with_bits v q.filled);
   }
 
+  abbrev pub mode_on : QState
+  mode_on = record q { mode = true; switched = true; seats = seats_with (switched_on v) }
+
+  -- the outer turn is left with all taken
   pub record CanFetch (o : Outer) : Type 0 where
     pub at : At
     pub held : v.held ≡ Some o
@@ -226,9 +237,7 @@ module _ (q : QState) (i : ℕ) (v : Knows) where
     seats = seats_with (after_fetch v (makes_due o));
   }
 
-  abbrev pub mode_on : QState
-  mode_on = record q { mode = true; switched = true; seats = seats_with (switched_on v) }
-
+  -- a removal stores the mode off
   pub record CanSwitchOff (o : Outer) : Type 0 where
     pub at : At
     pub begins : Begins v o
@@ -239,6 +248,7 @@ module _ (q : QState) (i : ℕ) (v : Knows) where
   abbrev pub mode_off : QState
   mode_off = record q { mode = false; removing = true; progress = 0; seats = seats_with (switched_off v) }
 
+  -- the outer turn is left by a removal that has passed all buffers
   pub record CanRemove (o : Outer) : Type 0 where
     pub at : At
     pub held : v.held ≡ Some o
@@ -252,7 +262,7 @@ module _ (q : QState) (i : ℕ) (v : Knows) where
   abbrev pub leave_remove : Outer → QState
   leave_remove o = record q { outer = removed o; turn = 0; holder = None; removing = false; seats = seats_with (after_remove v) }
 
-  -- loads
+  -- loads of the mode and of the bits
   pub record CanLoad : Type 0 where
     pub at : At
     pub idle : v.held ≡ None
@@ -263,7 +273,7 @@ module _ (q : QState) (i : ℕ) (v : Knows) where
   abbrev pub load_filled : QState
   load_filled = record q { seats = seats_with (counted v q.filled) }
 
-  -- the buffer c
+  -- the turn of the buffer c is taken, or refused
   module _ (c : ℕ) where
     pub record CanTakeBuffer : Type 0 where
       pub at : At
@@ -290,6 +300,7 @@ module _ (q : QState) (i : ℕ) (v : Knows) where
     abbrev pub refuse_buffer : QState
     refuse_buffer = record q { saw_off = put q.saw_off i false; seats = seats_with (turned_away_at v (c + 3) (q.cells c).word) }
 
+    -- a fetch sets the bit of c again, which it had taken
     pub record CanSetBack (o : Outer) : Type 0 where
       pub at : At
       pub low : c < 64
@@ -305,7 +316,7 @@ module _ (q : QState) (i : ℕ) (v : Knows) where
       seats = seats_with (given_back v c);
     }
 
-  -- the buffer that the seat took first
+  -- the buffer that the seat took first: the mode is loaded under its turn, and its bit is set
   module _ (p : Part) where
     abbrev pub cell : Cell
     cell = q.cells p.number
@@ -336,6 +347,7 @@ module _ (q : QState) (i : ℕ) (v : Knows) where
       seats = seats_with (marked v p);
     }
 
+    -- its turn is left in one of three ways, here with one more signal
     pub record CanPutAside (x : Signal) : Type 0 where
       pub at : At
       pub one : v.parts ≡ p ∷ []
@@ -355,6 +367,7 @@ module _ (q : QState) (i : ℕ) (v : Knows) where
     }
 
     module _ (ps : List Part) where
+      -- unchanged
       pub record CanLeaveBuffer : Type 0 where
         pub at : At
         pub first : v.parts ≡ p ∷ ps
@@ -365,6 +378,7 @@ module _ (q : QState) (i : ℕ) (v : Knows) where
         seats = seats_with (loses v);
       }
 
+      -- emptied by a fetch
       pub record CanTakePart (o : Outer) : Type 0 where
         pub at : At
         pub first : v.parts ≡ p ∷ ps
@@ -379,6 +393,7 @@ module _ (q : QState) (i : ℕ) (v : Knows) where
         seats = seats_with (took_part v o p);
       }
 
+      -- emptied by a removal
       pub record CanPass (o : Outer) : Type 0 where
         pub at : At
         pub first : v.parts ≡ p ∷ ps
@@ -395,7 +410,7 @@ module _ (q : QState) (i : ℕ) (v : Knows) where
         seats = seats_with (passed v o p);
       }
 
-  -- seats
+  -- a seat is cut in two
   pub record CanSplit (given : List ℕ) (role : Bool) : Type 0 where
     pub at : At
     pub idle : Idle v
@@ -409,9 +424,11 @@ module _ (q : QState) (i : ℕ) (v : Knows) where
     seats = seats_with (left_of v given role) ++ right_of v given role ∷ [];
   }
 
+  -- a note is a seat with no sender and no role, which was told what this one put and was told
   abbrev pub note : QState
   note = record q { seats = q.seats ++ note_of v ∷ [] }
 
+  -- two seats become one, and the other is spent
   pub record CanJoin (j : ℕ) (w : Knows) : Type 0 where
     pub at : At
     pub apart : j ≢ i

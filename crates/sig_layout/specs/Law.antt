@@ -1,6 +1,6 @@
 -- The buffers, the bits and the mode are in order.
 use Rattle.std.specs.Prelude.{◌≡◌, ◌≢◌, ◌⊎◌, ℕ, ◌≤◌, Bool, true, false, [], ◌++◌, Some}
-use Rattle.sig_layout.specs.Sent.{sender, putter, of, signals, Prefix}
+use Rattle.sig_layout.specs.Sent.{sender, of, signals, Prefix}
 use Rattle.sig_layout.specs.Views.{filled_at}
 use Rattle.sig_layout.specs.Core.{Cell, QState, buffer_of}
 

@@ -1,5 +1,5 @@
--- When buffers are to be installed and removed, and which journals are lawful. (This project's own; the runtime's notes on
--- parallel signal sending tell of such a policy, with a score for refused tries.)
+-- When buffers are to be installed and removed, and which journals are lawful. (This project's own. The runtime's notes on parallel
+-- signal sending tell of a policy of that kind.)
 use Rattle.std.specs.Prelude.{◌≡◌, ◌⊎◌, ℕ, suc, ◌+◌, ◌-◌, ◌<◌, ◌≤◌, Bool, true, false, List, [], ◌∷◌, ◌++◌, All}
 use Rattle.sig_layout.specs.declared.entry.Entry.{Entry}
 use Rattle.sig_layout.specs.declared.entry.Entry.TheVariants.{Direct, Fetch, Install, Remove}

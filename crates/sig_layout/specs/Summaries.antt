@@ -1,4 +1,4 @@
--- The running summary of a journal, entry by entry. Policies.antt says what it is for, on whole journals.
+-- The running summary of a journal, entry by entry. What it is for is said on whole journals beside the policies.
 use Rattle.std.specs.Prelude.{◌≡◌, ◌≢◌, ℕ, ◌+◌, ◌-◌, ◌||◌, ltb, Bool, true, false, if◌then◌else◌, List, [], ◌∷◌}
 use Rattle.sig_layout.specs.declared.entry.Entry.{Entry}
 use Rattle.sig_layout.specs.declared.entry.Entry.TheVariants.{Direct, Fetch, Install, Remove}
