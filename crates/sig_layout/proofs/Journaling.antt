@@ -109,8 +109,9 @@ join_owes p j false s d e m n one o k = let no : d ≡ false = o.others refl in 
   unmade = λ h. let none = k.unmade h in omega arith;
 }
 
-module _ (z : Setup) (proper : IsPolicy z.policy) where
-  same_setup : (q : QState) → Reached z q → q.setup ≡ z
+-- what a queue was opened with stays
+module _ (z : Setup) where
+  pub same_setup : (q : QState) → Reached z q → q.setup ≡ z
   same_setup _ opened = refl
   same_setup _ (by_take_outer q i v can r) = same_setup q r
   same_setup _ (by_refuse_outer q i v can r) = same_setup q r
@@ -136,8 +137,9 @@ module _ (z : Setup) (proper : IsPolicy z.policy) where
   same_setup _ (by_note q i v at r) = same_setup q r
   same_setup _ (by_join q i v j w can r) = same_setup q r
 
+module _ (z : Setup) (proper : IsPolicy z.policy) where
   proper_of : (q : QState) → Reached z q → IsPolicy q.setup.policy
-  proper_of q r = subst (λ (y : Setup). IsPolicy y.policy) (sym (same_setup q r)) proper
+  proper_of q r = subst (λ (y : Setup). IsPolicy y.policy) (sym (same_setup z q r)) proper
 
   first : Journals (opened_with z)
   first = record {

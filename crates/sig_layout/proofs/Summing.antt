@@ -144,7 +144,7 @@ remove_keeps (Churn n) s w h e = let t : ltb 0 n ≡ true = lt-ltb 0 n w in
     let k : due.Nothing ≡ due.Install = sym (ap (λ (b : Bool). if b then due.Nothing else due.Install) t) ∙ e in absurd cc
 remove_keeps Auto s w h e = absurd cc
 
-neither : (d : Due) → d ≢ due.Install → d ≢ due.Remove → d ≡ due.Nothing
+pub neither : (d : Due) → d ≢ due.Install → d ≢ due.Remove → d ≡ due.Nothing
 neither due.Nothing a b = refl
 neither due.Install a b = absurd (a refl)
 neither due.Remove a b = absurd (b refl)

@@ -1,6 +1,6 @@
 -- The running summary says of a journal what the table of the policies asks, and a journal whose entries were allowed one by one
 -- is lawful.
-use Rattle.std.proofs.Common.{◌≡◌, ◌⊎◌, ℕ, ◌+◌, ◌-◌, ◌<◌, ◌≤◌, ltb, subst, Bool, true, false, if◌then◌else◌, List, [], ◌∷◌, ◌++◌, sym, refl, ap, ◌∙◌, arith, append_assoc, append-nil, inl, inr, ⊎_elim}
+use Rattle.std.proofs.Common.{◌≡◌, ◌≢◌, ◌⊎◌, ℕ, ◌+◌, ◌-◌, ◌<◌, ◌≤◌, ltb, subst, Bool, true, false, if◌then◌else◌, List, [], ◌∷◌, ◌++◌, sym, refl, ap, ◌∙◌, arith, append_assoc, append-nil, inl, inr, ⊎_elim}
 use Rattle.std.specs.List.{All}
 use Rattle.std.proofs.lemmas.Bool.{ltb-true, ltb-false}
 use Rattle.std.proofs.lemmas.List.Elements.{All-append, All-nil, All-cons, All-head, All-tail}
@@ -11,10 +11,10 @@ use Rattle.sig_layout.specs.declared.decision.Due.{Due}
 use Rattle.sig_layout.specs.declared.decision.Due.TheVariants as due
 use Rattle.sig_layout.specs.declared.policy.Policy.{Policy}
 use Rattle.sig_layout.specs.declared.policy.Policy.TheVariants.{Never, Always, Churn, Auto}
-use Rattle.sig_layout.specs.Summaries.{fresh, scored, run_on, after, summary, summed, due_of, due_at, Allowed, IsAllowed}
+use Rattle.sig_layout.specs.Summaries.{fresh, scored, run_on, after, summary, summed, due_of, due_at, Allowed, IsAllowed, May}
 use Rattle.sig_layout.specs.Policies.{IsStill, IsDirect, IsLittle, direct_count, fetch_count, IsPeriod, whole, installed, removed, score_from, HasReached, HasIdled, InstallDue, RemoveDue, IsDue, RemovesNext, IsLawful}
 use Rattle.sig_layout.proofs.Sending.{or_cases, or_neither}
-use Rattle.sig_layout.proofs.Summing.{put_keeps}
+use Rattle.sig_layout.proofs.Summing.{put_keeps, neither, summed_more}
 
 abbrev Entries : Type 0
 Entries = List Entry
@@ -488,8 +488,42 @@ pub lawful_of : (policy : Policy) (j : List Entry) → IsAllowed policy j → Is
 lawful_of policy j h = let behind : (front rest : Entries) → j ≡ front ++ rest
     → Allowed policy (summed front) rest = (λ front rest is. allowed_rest policy (fresh false) front rest
     (subst (IsAllowed policy) is h)) in record {
-      installs = λ front rest is d. installs_next policy (summed front) rest (is_due policy front due.Install d) (behind front rest is);
+      installs = λ front rest is d. installs_next policy (summed front) rest (is_due policy front due.Install d)
+          (behind front rest is);
       install_due = λ front rest is. due_so policy front due.Install (behind front (Install ∷ rest) is).0;
       removes = λ front rest is d. removes_next policy (summed front) rest (is_due policy front due.Remove d) (behind front rest is);
       remove_due = λ front rest is. due_so policy front due.Remove (behind front (Remove ∷ rest) is).0;
     }
+
+-- a journal that is lawful was allowed, entry by entry
+fetch_first : (m : ℕ) (es directs rest : Entries) → Fetch m ∷ es ≡ directs ++ rest → All IsDirect directs
+    → (rest ≡ []) ⊎ ((more : Entries) × (rest ≡ Remove ∷ more)) → ⊥
+fetch_first m es [] rest is all (inl e) = let k : Fetch m ∷ es ≡ [] = is ∙ e in absurd cc
+fetch_first m es [] rest is all (inr t) = let k : Fetch m ≡ Remove = ap (head_or Install) (is ∙ t.1) in absurd cc
+fetch_first m es (x ∷ xs) rest is all next = let same : Fetch m ≡ x = ap (head_or Install) is in
+    absurd (subst IsDirect (sym same) (All-head IsDirect x xs all))
+
+module _ (policy : Policy) (j : Entries) (law : IsLawful policy j) where
+  not_install : (front rest : Entries) (e : Entry) → j ≡ front ++ e ∷ rest → (e ≡ Install → ⊥) → due_at policy front ≢ due.Install
+  not_install front rest e is never d = let m = law.installs front (e ∷ rest) is (due_so policy front due.Install d) in
+      never (ap (head_or Install) m.1)
+
+  may_be : (front rest : Entries) (e : Entry) → j ≡ front ++ e ∷ rest → May policy (summed front) e
+  may_be front rest (Direct r) is = not_install front rest (Direct r) is (λ e. absurd cc)
+  may_be front rest (Fetch m) is = neither (due_at policy front) (not_install front rest (Fetch m) is (λ e. absurd cc))
+      (λ d. let n = law.removes front (Fetch m ∷ rest) is (due_so policy front due.Remove d) in
+      fetch_first m rest n.directs n.rest n.is n.direct n.next)
+  may_be front rest Install is = is_due policy front due.Install (law.install_due front rest is)
+  may_be front rest Remove is = is_due policy front due.Remove (law.remove_due front rest is)
+
+  allowed_from : (front rest : Entries) → j ≡ front ++ rest → Allowed policy (summed front) rest
+  allowed_from front [] is = λ d. let m = law.installs front [] is (due_so policy front due.Install d) in
+      let k : [] ≡ Install ∷ m.0 = m.1 in absurd cc
+  allowed_from front (e ∷ es) is = (
+    may_be front es e is,
+    subst (λ (s : Summary). Allowed policy s es) (summed_more front e)
+        (allowed_from (front ++ e ∷ []) es (is ∙ sym (append_assoc front (e ∷ []) es))),
+  )
+
+pub allowed_of : (policy : Policy) (j : List Entry) → IsLawful policy j → IsAllowed policy j
+allowed_of policy j law = allowed_from policy j law [] j refl

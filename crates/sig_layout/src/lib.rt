@@ -27,7 +27,7 @@ pub use growing::Growing;
 pub use item::Item;
 pub use journal::Journal;
 pub use knows::Knows;
-pub use laws::{due_is_one, rule};
+pub use laws::{due_is_one, lawful_is_allowed, rule};
 pub use opening::{Numbers, Opening};
 pub use outer::Outer;
 pub use part::Part;
