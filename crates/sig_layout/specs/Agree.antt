@@ -28,8 +28,8 @@ HoldsAll cells i [] = Unit {0}
 HoldsAll cells i (p ∷ ps) = HeldBy i p (cells p.number) × Apart p.number ps × HoldsAll cells i ps
 
 -- The seat i has the outer turn with the value o, and knows what it does with it: first what the machine says, then what the
--- seat knows.
--- It is a record of what it speaks of, and not of the state and the view, so that a step that changes nothing of this needs no proof
+-- seat knows. It is a record of what it speaks of, and not of the state and the view, so that a step that changes nothing of this
+-- needs no proof.
 pub record DoingAs (holder : Option ℕ) (outer : Outer) (fetching : Bool) (cells : ℕ → Cell) (back : ℕ) (removing : Bool)
     (progress : ℕ) (switched : Bool) (i : ℕ) (o : Outer) (v_fetching : Bool) (v_mask : List Bool) (v_back : ℕ) (v_removing : Bool)
     (v_progress : ℕ) (v_switched : Bool) : Type 0 where
@@ -43,7 +43,8 @@ pub record DoingAs (holder : Option ℕ) (outer : Outer) (fetching : Bool) (cell
   pub switch : switched ≡ v_switched
 
 abbrev pub Doing : QState → ℕ → Knows → Outer → Type 0
-Doing q i v o = DoingAs q.holder q.outer q.fetching q.cells q.back q.removing q.progress q.switched i o v.fetching v.mask v.back v.removing v.progress v.switched
+Doing q i v o = DoingAs q.holder q.outer q.fetching q.cells q.back q.removing q.progress q.switched i o v.fetching v.mask v.back
+    v.removing v.progress v.switched
 
 abbrev pub Nothing : Bool → Bool → Bool → Type 0
 Nothing fetching removing switched = (fetching ≡ false) × (removing ≡ false) × (switched ≡ false)
