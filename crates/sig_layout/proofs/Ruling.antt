@@ -94,6 +94,8 @@ module _ (z : Setup) (proper : IsPolicy z.policy) (q : QState) (r : Reached z q)
         due = due_of_seat;
         put = within_log q l;
         told = λ i v at. (l.each i v at).told;
+        own = λ i v s at h. (l.each i v at).own s h;
+        took = λ i v at role. (l.each i v at).took role;
         fresh_put = λ i v s at f. come_of q a l w s v.put (machine_fetches q a l w i v at f) (((l.each i v at).based f).0 s);
         fresh_told = λ i v s at f. all_come q a l w s v.told (machine_fetches q a l w i v at f) ((l.each i v at).based f).1;
       }

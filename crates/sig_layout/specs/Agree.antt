@@ -8,6 +8,7 @@ use Rattle.sig_layout.specs.declared.knows.Knows.{Knows}
 use Rattle.sig_layout.specs.Views.{number, IsSomebody, flag}
 use Rattle.sig_layout.specs.Core.{Cell, QState}
 
+-- the buffer c is none of these, or one of them
 abbrev pub Apart : ℕ → List Part → Type 0
 Apart c [] = Unit {0}
 Apart c (p ∷ ps) = (p.number ≢ c) × Apart c ps
@@ -16,6 +17,7 @@ abbrev pub Among : ℕ → List Part → Type 0
 Among c [] = ⊥
 Among c (p ∷ ps) = (p.number ≡ c) ⊎ Among c ps
 
+-- the seat i has the turn of this buffer, and knows what lies there and what it did under the turn
 pub record HeldBy (i : ℕ) (p : Part) (x : Cell) : Type 0 where
   pub holder : x.holder ≡ Some i
   pub list : x.list ≡ p.list
@@ -46,9 +48,11 @@ abbrev pub Doing : QState → ℕ → Knows → Outer → Type 0
 Doing q i v o = DoingAs q.holder q.outer q.fetching q.cells q.back q.removing q.progress q.switched i o v.fetching v.mask v.back
     v.removing v.progress v.switched
 
+-- nothing is under way
 abbrev pub Nothing : Bool → Bool → Bool → Type 0
 Nothing fetching removing switched = (fetching ≡ false) × (removing ≡ false) × (switched ≡ false)
 
+-- what the seat i knows is so
 pub record SeatAgrees (q : QState) (i : ℕ) (v : Knows) : Type 0 where
   pub outer : (o : Outer) → v.held ≡ Some o → Doing q i v o
   pub rest : v.held ≡ None → Nothing v.fetching v.removing v.switched
@@ -72,6 +76,7 @@ pub record HeldTurn (seats : List Knows) (word : ℕ) (holder : Option ℕ) (Has
 abbrev pub Turn : List Knows → ℕ → Option ℕ → (Knows → Type 0) → Type 0
 Turn seats word holder Has = FreeTurn word holder ⊎ HeldTurn seats word holder Has
 
+-- what a holder knows: that it has the outer turn, or the turn of the buffer c
 abbrev pub HasOuter : Knows → Type 0
 HasOuter v = (o : Outer) × (v.held ≡ Some o)
 
@@ -83,4 +88,5 @@ pub record Agrees (q : QState) : Type 0 where
   pub turn : Turn q.seats q.turn q.holder HasOuter
   pub cells : (c : ℕ) → Turn q.seats (q.cells c).word (q.cells c).holder (HasBuffer c)
   pub idle : q.holder ≡ None → Nothing q.fetching q.removing q.switched
+  -- a seat that isn't there yet saw nothing
   pub unseen : (i : ℕ) → length q.seats ≤ i → q.saw_off i ≡ false

@@ -6,7 +6,7 @@ use Rattle.sig_layout.specs.declared.outer.Outer.{Outer}
 use Rattle.sig_layout.specs.declared.knows.Knows.{Knows}
 use Rattle.sig_layout.specs.declared.item.Item.{Item}
 use Rattle.sig_layout.specs.Sets.{has}
-use Rattle.sig_layout.specs.Sent.{sender, of, signals, Prefix, Within, AllWithin}
+use Rattle.sig_layout.specs.Sent.{sender, putter, of, signals, Prefix, Within, AllWithin}
 use Rattle.sig_layout.specs.Policies.{IsPeriod, RemoveDue, IsLawful, direct_count, fetch_count}
 use Rattle.sig_layout.specs.Openings.{IsCarried, IsCounted}
 use Rattle.sig_layout.specs.Views.{filled_at}
@@ -73,9 +73,12 @@ pub record Rule (q : QState) : Type 0 where
   pub directs : direct_count q.outer.journal ≡ outer_count q.log
   pub fetches : (i : ℕ) (v : Knows) → At q i v → v.role ≡ true → v.fetches ≡ fetch_count q.outer.journal
   pub due : (i : ℕ) (v : Knows) → At q i v → v.role ≡ true → (v.due ≡ true) ↔ RemoveDue q.setup.policy q.outer.journal
-  -- Freshness. What a seat put, and what it was told, are fronts of what each sender put. Where it has taken the bits, all of both
-  -- has come, but of senders whose buffers stood in the mask that it took.
+  -- Freshness. What a seat put, and what it was told, are fronts of what each sender put; for its own senders, what it put is all
+  -- of that. What the seat with the role took is what was taken. Where a seat has taken the bits, all that it put and was told has
+  -- come, but of senders whose buffers stood in the mask that it took.
   pub put : (i : ℕ) (v : Knows) → At q i v → Within v.put q.log
   pub told : (i : ℕ) (v : Knows) → At q i v → AllWithin v.told q.log
+  pub own : (i : ℕ) (v : Knows) (s : ℕ) → At q i v → has v.senders s ≡ true → of putter s v.put ≡ of putter s q.log
+  pub took : (i : ℕ) (v : Knows) → At q i v → v.role ≡ true → v.taken ≡ q.taken
   pub fresh_put : (i : ℕ) (v : Knows) (s : ℕ) → At q i v → v.fetching ≡ true → HasCome q s v.put
   pub fresh_told : (i : ℕ) (v : Knows) (s : ℕ) → At q i v → v.fetching ≡ true → All (HasCome q s) v.told
