@@ -12,3 +12,4 @@ pub mod BoundTermLemmas
 pub mod BoundLemmas
 pub mod WordLemmas
 pub mod ReadableTerms
+pub mod ReadablePhrases
