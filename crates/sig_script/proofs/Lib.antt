@@ -13,3 +13,4 @@ pub mod BoundLemmas
 pub mod WordLemmas
 pub mod ReadableTerms
 pub mod ReadablePhrases
+pub mod ReadableForms
