@@ -14,3 +14,5 @@ pub mod WordLemmas
 pub mod ReadableTerms
 pub mod ReadablePhrases
 pub mod ReadableForms
+pub mod DistinctLemmas
+pub mod ReadableLemmas

@@ -1,4 +1,4 @@
-use Rattle.sig_script.proofs.ReadableForms.{said-read}
+use Rattle.sig_script.proofs.ReadableLemmas.{readable}
 use Rattle.sig_script.proofs.laws.a_printed_script_is_read_back.Goals as goal
 
 pub returns : goal.returns
