@@ -1,5 +1,5 @@
 -- Names of which no two are equal, and labels whose places never fall.
-use Rattle.std.proofs.Common.{◌≡◌, ◌≢◌, ℕ, ◌≤◌, List, [], ◌∷◌, ◌++◌, map, All, Bool, true, false, ◌||◌, refl, sym, subst}
+use Rattle.std.proofs.Common.{◌≡◌, ◌≢◌, ℕ, ◌≤◌, List, [], ◌∷◌, ◌++◌, map, All, Bool, true, false, ◌||◌, refl}
 use Rattle.std.specs.List.{list_any}
 use Rattle.std.specs.Str.{bytes_eq}
 use Rattle.std.proofs.lemmas.Slice.Eq.{bytes_eq-Decides}
@@ -18,6 +18,15 @@ rising-first label labels (AreRising.more h k) = h
 
 pub rising-rest : (label : Label) (labels : List Label) → AreRising (label ∷ labels) → AreRising labels
 rising-rest label labels (AreRising.more h k) = k
+
+-- of each item before others, and of each behind
+pub all_before : {A : Type 0} (P : A → Type 0) (xs ys : List A) → All P (xs ++ ys) → All P xs
+all_before P [] ys h = All-nil P
+all_before P (x ∷ xs) ys h = All-cons P x xs (All-head P x (xs ++ ys) h) (all_before P xs ys (All-tail P x (xs ++ ys) h))
+
+pub all_after : {A : Type 0} (P : A → Type 0) (xs ys : List A) → All P (xs ++ ys) → All P ys
+all_after P [] ys h = h
+all_after P (x ∷ xs) ys h = all_after P xs ys (All-tail P x (xs ++ ys) h)
 
 -- one more at the end
 pub distinct-push : (names : List (List ℕ)) (name : List ℕ) → AreDistinct names → All (λ other. other ≢ name) names → AreDistinct (names ++ name ∷ [])
@@ -65,3 +74,8 @@ distinct-before (first ∷ before) name after d =
     among : (before : List (List ℕ)) → All (λ other. first ≢ other) (before ++ name ∷ after) → first ≢ name
     among [] h = All-head (λ other. first ≢ other) name after h
     among (other ∷ others) h = among others (All-tail (λ other. first ≢ other) other (others ++ name ∷ after) h)
+
+pub distinct-front : (names others : List (List ℕ)) → AreDistinct (names ++ others) → AreDistinct names
+distinct-front [] others d = AreDistinct.none
+distinct-front (name ∷ names) others d =
+    AreDistinct.more (all_before (λ other. name ≢ other) names others (distinct-first name (names ++ others) d)) (distinct-front names others (distinct-rest name (names ++ others) d))

@@ -16,3 +16,7 @@ pub mod ReadablePhrases
 pub mod ReadableForms
 pub mod DistinctLemmas
 pub mod ReadableLemmas
+pub mod LabelOrder
+pub mod WalkSteps
+pub mod ProcessBack
+pub mod WalkBack

@@ -1,5 +1,5 @@
 -- What a line says is readable.
-use Rattle.std.proofs.Common.{◌≡◌, ℕ, List, [], ◌∷◌, length, All, IfSome, Bool, false, Option, Some, None, Result, Ok, Err, codes}
+use Rattle.std.proofs.Common.{ℕ, List, [], ◌∷◌, length, All, IfSome, Bool, false, Option, Some, None, Result, codes}
 use Rattle.std.proofs.lemmas.List.Elements.{All-nil, All-cons}
 use Rattle.sig_patterns.specs.declared.clause.Clause.{Clause}
 use Rattle.sig_patterns.specs.declared.var.Var.{Var}
@@ -20,7 +20,6 @@ use Rattle.sig_script.specs.Scripts.{Program}
 use Rattle.sig_script.specs.Faults.{◌>>=◌, on_ok}
 use Rattle.sig_script.specs.Tokens.{text}
 use Rattle.sig_script.specs.Names.{label_of, name_at, variable_at}
-use Rattle.sig_script.specs.Expressions.{expr_of}
 use Rattle.sig_script.specs.PatternTexts.{pattern_of}
 use Rattle.sig_script.specs.Forms.{Operand, an_expr, a_variable, a_label, a_switch, a_mode, a_flag, Said, AllSaid, operand_at, all_said, made_of, mode_of, flag_of, switch_of, word_at, tokens_of, keyword_of, may_stand, ends, arrow_of, count_from, turns_of, whole_name, marker_of, on_of, instr_of, form_of, form_behind, said_by, said}
 use Rattle.sig_script.specs.ReadableScript.{IsNameToken, IsVariableToken, IsReadableExpr, IsReadablePattern, IsReadableInstr}

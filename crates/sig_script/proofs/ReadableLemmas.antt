@@ -1,5 +1,5 @@
 -- A script that was read is readable.
-use Rattle.std.proofs.Common.{◌≡◌, ℕ, ◌+◌, ◌<◌, ◌≤◌, ◌^◌, List, [], ◌∷◌, ◌++◌, length, All, IfSome, Bool, true, false, if◌then◌else◌, nat_le, Option, Some, None, Result, Ok, Err, refl, sym, ◌∙◌, ap, subst, arith, length-append, map, le_refl}
+use Rattle.std.proofs.Common.{◌≡◌, ℕ, ◌+◌, ◌≤◌, ◌^◌, List, [], ◌∷◌, ◌++◌, length, All, IfSome, Bool, true, false, if◌then◌else◌, nat_le, Option, Some, None, Result, Ok, Err, refl, sym, ◌∙◌, ap, subst, arith, length-append, map, le_refl}
 use Rattle.std.specs.List.{list_any}
 use Rattle.std.specs.Str.{bytes_eq}
 use Rattle.std.proofs.lemmas.Bool.Decides.{nat_tests}
@@ -18,17 +18,17 @@ use Rattle.sig_script.specs.declared.draft.Section.TheVariants.{Before, Outside,
 use Rattle.sig_script.specs.declared.draft.Draft.{Draft}
 use Rattle.sig_script.specs.declared.form.Form.{Form}
 use Rattle.sig_script.specs.declared.form.Form.TheVariants as form
-use Rattle.sig_script.specs.Scripts.{Declared, Program, IsWithin}
-use Rattle.sig_script.specs.Faults.{Fault, ◌>>=◌, on_ok}
+use Rattle.sig_script.specs.Scripts.{Declared, Program}
+use Rattle.sig_script.specs.Faults.{Fault, ◌>>=◌}
 use Rattle.sig_script.specs.Lines.{lines_of}
 use Rattle.sig_script.specs.Forms.{tokens_of, said}
-use Rattle.sig_script.specs.Drafts.{blank, open_proc, all_procs, program_of, begun, labelled, with_instr, is_marked, with_clause, taken_at}
+use Rattle.sig_script.specs.Drafts.{blank, open_proc, all_procs, begun, labelled, with_instr, is_marked, with_clause, taken_at}
 use Rattle.sig_script.specs.Grammar.{taken_if, line_taken, walk, walk_twice, is_header, script_of_lines, script_of}
-use Rattle.sig_script.specs.ReadableScript.{IsNameToken, IsVariableToken, IsReadablePattern, IsReadableInstr, AreDistinct, AreRising, IsReadableProc, IsReadableScript}
+use Rattle.sig_script.specs.ReadableScript.{IsNameToken, IsVariableToken, IsReadablePattern, IsReadableInstr, AreDistinct, AreRising, IsReadableScript}
 use Rattle.sig_script.specs.declared.script.TheConstants.{MOST_PROCESSES, MOST_TURNS}
 use Rattle.sig_script.specs.declared.reader.TheConstants.{MOST_BYTES}
 use Rattle.sig_script.proofs.FitLemmas.{all-last}
-use Rattle.sig_script.proofs.BoundTermLemmas.{Holds, anything, holds-of, holds-if, holds-on_ok, holds-then}
+use Rattle.sig_script.proofs.BoundTermLemmas.{Holds, holds-of, holds-if, holds-on_ok, holds-then}
 use Rattle.sig_script.proofs.BoundLemmas.{all-front, body-holds, few_lines, same_counts, same-number, procs_within, script_sound}
 use Rattle.sig_script.proofs.DistinctLemmas.{distinct-push, rising-push, free_name}
 use Rattle.sig_script.proofs.ReadableForms.{IsReadableForm, said-read}

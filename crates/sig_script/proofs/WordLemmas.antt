@@ -1,13 +1,12 @@
 -- The words of a line: what is known of each token's bytes once the line is cut.
-use Rattle.std.proofs.Common.{◌≡◌, ℕ, zero, suc, ◌+◌, ◌-◌, ◌≤◌, ◌^◌, ℤ, List, [], ◌∷◌, length, take, take_while, drop, cond, Bool, true, false, ◌&&◌, nat_le, ◌==◌, if◌then◌else◌, Option, Some, None, Ok, Err, refl, sym, ◌∙◌, ap, subst, arith, drop-drop}
-use Rattle.std.specs.Prelude.{pos, negsuc, nat_lt, is_some}
+use Rattle.std.proofs.Common.{◌≡◌, ℕ, zero, suc, ◌+◌, ◌-◌, ◌≤◌, ◌^◌, ℤ, List, [], ◌∷◌, length, take, take_while, drop, Bool, true, false, nat_le, ◌==◌, if◌then◌else◌, Option, Some, None, refl, sym, ◌∙◌, ap, subst, arith, drop-drop}
+use Rattle.std.specs.Prelude.{pos, negsuc, is_some}
 use Rattle.std.specs.List.{list_all}
 use Rattle.std.proofs.lemmas.Bool.Decides.{nat_tests}
 use Rattle.sig_terms.proofs.Choices.{by_test}
 use Rattle.sig_terms.specs.Words.{is_lower, is_upper, is_digit, is_name_byte, is_variable_byte, is_atom_byte, is_name, is_variable, is_atom}
 use Rattle.sig_terms.specs.Readable.{is_wide}
 use Rattle.sig_terms.specs.declared.bytes.TheConstants.{MOST_WORD_BYTES}
-use Rattle.sig_script.specs.declared.fault.FaultKind.{FaultKind}
 use Rattle.sig_script.specs.declared.token.TokenKind.{TokenKind}
 use Rattle.sig_script.specs.declared.token.TokenKind.TheVariants.{Name, Variable, Integer, Quoted, Process, Sign}
 use Rattle.sig_script.specs.declared.token.Sign as signs
@@ -16,7 +15,7 @@ use Rattle.sig_script.specs.declared.token.Token.{Token}
 use Rattle.sig_script.specs.declared.token.Cut.{Cut}
 use Rattle.sig_script.specs.Numbers.{number, is_in_range, negative, int_of}
 use Rattle.sig_script.specs.Tokens.{is_blank, front_run, process_at, minus_at, underscore_at, quote_at, sign_of, sign_at, front_token, with_token, cut_of, text, unquoted, is_token_in_range}
-use Rattle.sig_script.specs.Forms.{checked, tokens_of}
+use Rattle.sig_script.specs.Forms.{tokens_of}
 use Rattle.sig_script.specs.ReadableScript.{IsNameToken, IsVariableToken}
 use Rattle.sig_script.proofs.SpellingLemmas.{and-first, and-second, run-passes, lower-in_atom, names-in_atom, front-word, front-length, quoted-spelled}
 use Rattle.sig_script.proofs.BoundTermLemmas.{Holds, holds-if}
