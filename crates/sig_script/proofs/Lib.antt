@@ -10,3 +10,5 @@ pub mod NestLemmas
 pub mod ReaderLemmas
 pub mod BoundTermLemmas
 pub mod BoundLemmas
+pub mod Seen
+pub mod LineReads

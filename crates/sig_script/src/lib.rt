@@ -19,6 +19,7 @@ mod phrases;
 mod process;
 mod reader;
 mod script;
+mod texts;
 mod token;
 
 pub use fault::FaultKind;
@@ -27,3 +28,4 @@ pub use label::{Label, Labels};
 pub use process::{Proc, Procs};
 pub use reader::{MOST_BYTES, ScriptError, read_script};
 pub use script::{DEFAULT_TURNS, MOST_PROCESSES, MOST_TURNS, Script};
+pub use texts::lines_are_read_again;
