@@ -12,3 +12,5 @@ pub mod BoundTermLemmas
 pub mod BoundLemmas
 pub mod Seen
 pub mod LineReads
+pub mod WordTexts
+pub mod CutTexts

@@ -1,3 +1,5 @@
+use Rattle.sig_script.proofs.CutTexts.{word_cut}
+use Rattle.sig_script.proofs.WordTexts.{name_word}
 use Rattle.sig_script.proofs.LineReads.{lines_again}
 use Rattle.sig_script.proofs.texts.lines_are_read_again.Goals as goal
 
