@@ -14,3 +14,4 @@ pub mod Seen
 pub mod LineReads
 pub mod WordTexts
 pub mod CutTexts
+pub mod PhraseReads

@@ -85,13 +85,13 @@ short kind around n m few e =
     let yes : nat_le n MOST_WORD_BYTES ≡ true = grind (arith, nat_tests) in
     rw (yes, e) refl
 
-taken : {X : Type 0} (v : Bool) (x y : X) → v ≡ true → cond v x y ≡ x
-taken true x y h = refl
-taken false x y h = absurd cc
+pub when_true : {X : Type 0} (v : Bool) (x y : X) → v ≡ true → cond v x y ≡ x
+when_true true x y h = refl
+when_true false x y h = absurd cc
 
-passed : {X : Type 0} (v : Bool) (x y : X) → v ≡ false → cond v x y ≡ y
-passed true x y h = absurd cc
-passed false x y h = refl
+pub when_false : {X : Type 0} (v : Bool) (x y : X) → v ≡ false → cond v x y ≡ y
+when_false true x y h = absurd cc
+when_false false x y h = refl
 
 -- ---- names and variables
 
@@ -103,7 +103,7 @@ name_word (b ∷ bs) named =
       front = λ rest stops.
         let n : 1 + front_run is_name_byte (bs ++ rest) ≡ suc (length bs) = omega (arith, run_length is_name_byte bs rest each.1 stops) in
         let few : suc (length bs) ≤ MOST_WORD_BYTES = named.0 in
-        taken (is_lower b) _ _ each.0 ∙ ap (λ (k : ℕ). short_word Name 0 k) n ∙ short Name 0 (suc (length bs)) (suc (length bs)) few (omega arith);
+        when_true (is_lower b) _ _ each.0 ∙ ap (λ (k : ℕ). short_word Name 0 k) n ∙ short Name 0 (suc (length bs)) (suc (length bs)) few (omega arith);
       first = b;
       others = bs;
       is = refl;
@@ -124,7 +124,7 @@ variable_word (b ∷ bs) named =
       front = λ rest stops.
         let n : 1 + front_run is_variable_byte (bs ++ rest) ≡ suc (length bs) = omega (arith, run_length is_variable_byte bs rest each.1 (stops_sooner is_name_byte is_variable_byte name_ends_variable rest stops)) in
         let few : suc (length bs) ≤ MOST_WORD_BYTES = named.0 in
-        passed (is_lower b) _ _ (upper_is_not_lower b each.0) ∙ taken (is_upper b) _ _ each.0 ∙ ap (λ (k : ℕ). short_word Variable 0 k) n ∙ short Variable 0 (suc (length bs)) (suc (length bs)) few (omega arith);
+        when_false (is_lower b) _ _ (upper_is_not_lower b each.0) ∙ when_true (is_upper b) _ _ each.0 ∙ ap (λ (k : ℕ). short_word Variable 0 k) n ∙ short Variable 0 (suc (length bs)) (suc (length bs)) few (omega arith);
       first = b;
       others = bs;
       is = refl;
@@ -143,7 +143,7 @@ process_word (b ∷ bs) named =
       front = λ rest stops.
         let n : 1 + front_run is_name_byte (bs ++ rest) ≡ suc (length bs) = omega (arith, run_length is_name_byte bs rest each.1 stops) in
         let few : suc (length bs) ≤ MOST_WORD_BYTES = named.0 in
-        taken (is_lower b) _ _ each.0 ∙ ap (λ (k : ℕ). short_word Process 1 k) n ∙ short Process 1 (suc (length bs)) (suc (suc (length bs))) few (omega arith);
+        when_true (is_lower b) _ _ each.0 ∙ ap (λ (k : ℕ). short_word Process 1 k) n ∙ short Process 1 (suc (length bs)) (suc (suc (length bs))) few (omega arith);
       first = 64;
       others = b ∷ bs;
       is = refl;
@@ -222,12 +222,12 @@ digit_front b bs rest first others stops =
     let n : 1 + front_run is_digit (bs ++ rest) ≡ suc (length bs) = omega (arith, run_length is_digit bs rest others stops) in
     let low : is_lower b ≡ false = grind (arith, nat_tests, first) in
     let up : is_upper b ≡ false = grind (arith, nat_tests, first) in
-    passed (is_lower b) _ _ low ∙ passed (is_upper b) _ _ up ∙ taken (is_digit b) _ _ first ∙ ap (λ (k : ℕ). Some (Integer, k)) n
+    when_false (is_lower b) _ _ low ∙ when_false (is_upper b) _ _ up ∙ when_true (is_digit b) _ _ first ∙ ap (λ (k : ℕ). Some (Integer, k)) n
 
 minus_front : (b : ℕ) (bs rest : List ℕ) → is_digit b ≡ true → list_all is_digit bs ≡ true → StopsAt is_digit rest → front_token (45 ∷ (b ∷ (bs ++ rest))) ≡ Some (Integer, suc (suc (length bs)))
 minus_front b bs rest first others stops =
     let n : 2 + front_run is_digit (bs ++ rest) ≡ suc (suc (length bs)) = omega (arith, run_length is_digit bs rest others stops) in
-    taken (is_digit b) _ _ first ∙ ap (λ (k : ℕ). Some (Integer, k)) n
+    when_true (is_digit b) _ _ first ∙ ap (λ (k : ℕ). Some (Integer, k)) n
 
 digit_is_no_minus : (b : ℕ) → is_digit b ≡ true → (b == 45) ≡ false
 digit_is_no_minus b h = grind (arith, nat_tests)
@@ -243,7 +243,7 @@ digits_word n b bs fits digits value =
       is = refl;
       seen = grind (arith, nat_tests, each.0);
       plain = grind (arith, nat_tests, each.0);
-      range = passed (b == 45) _ _ (digit_is_no_minus b each.0) ∙ ap (λ (k : ℕ). nat_le k (2 ^ 63 - 1)) value ∙ within;
+      range = when_false (b == 45) _ _ (digit_is_no_minus b each.0) ∙ ap (λ (k : ℕ). nat_le k (2 ^ 63 - 1)) value ∙ within;
       clean = all_pass is_digit is_inline digit_inline (b ∷ bs) digits;
     }
 
@@ -273,7 +273,7 @@ int_word (negsuc n) wide =
     subst (λ (ds : List ℕ). IsWord Stops Integer (45 ∷ ds)) (sym w.is) (minus_word (suc n) w.first w.others (omega arith) (ap (list_all is_digit) (sym w.is) ∙ w.digits) (ap number (sym w.is) ∙ w.value))
 
 unsigned : (n b : ℕ) (bs : List ℕ) → is_digit b ≡ true → number (b ∷ bs) ≡ n → int_of (b ∷ bs) ≡ pos n
-unsigned n b bs digit value = passed (b == 45) _ _ (digit_is_no_minus b digit) ∙ ap pos value
+unsigned n b bs digit value = when_false (b == 45) _ _ (digit_is_no_minus b digit) ∙ ap pos value
 
 pub int_again : (z : ℤ) → is_wide z ≡ true → int_of (signed_decimal z) ≡ z
 int_again (pos n) wide =
@@ -286,10 +286,10 @@ int_again (negsuc n) wide =
     let w = writes (suc n) (omega arith) in
     let last : suc n - 1 ≡ n = omega arith in
     let some : (suc n == 0) ≡ false = grind (arith, nat_tests) in
-    ap negative w.value ∙ passed (suc n == 0) _ _ some ∙ ap negsuc last
+    ap negative w.value ∙ when_false (suc n == 0) _ _ some ∙ ap negsuc last
 
 count_of_digits : (n b : ℕ) (bs : List ℕ) → is_digit b ≡ true → number (b ∷ bs) ≡ n → count_of (b ∷ bs) ≡ Some n
-count_of_digits n b bs digit value = passed (b == 45) _ _ (digit_is_no_minus b digit) ∙ ap Some value
+count_of_digits n b bs digit value = when_false (b == 45) _ _ (digit_is_no_minus b digit) ∙ ap Some value
 
 pub count_again : (n : ℕ) → n < 2 ^ 63 → count_of (decimal n) ≡ Some n
 count_again n fits =
