@@ -15,3 +15,4 @@ pub mod LineReads
 pub mod WordTexts
 pub mod CutTexts
 pub mod PhraseReads
+pub mod PhraseTexts

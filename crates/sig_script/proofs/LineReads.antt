@@ -25,12 +25,7 @@ use Rattle.sig_script.specs.Forms.{may_stand, said, tokens_of}
 use Rattle.sig_script.specs.Lines.{lines_of}
 use Rattle.sig_script.specs.Grammar.{is_header}
 use Rattle.sig_script.proofs.Seen.{kept, zeroed, pattern_seen, instr_seen}
-
--- The processes and the labels of a process have these names, and a reader that knows so much gives the pids of the processes as
--- f says, and the places of the labels as g says.
-pub record Reads (known : Known) (here : ℕ) (names labels : List (List ℕ)) (f g : ℕ → ℕ) : Type 0 where
-  pub pids : (pid : ℕ) → pid < length names → IsNameToken (name_of_place names pid) × (pid_of known (name_of_place names pid) ≡ Ok (f pid))
-  pub places : (n : ℕ) → n < length labels → IsNameToken (name_of_place labels n) × (label_of known here (name_of_place labels n) ≡ Ok (g n))
+pub use Rattle.sig_script.proofs.Seen.{Reads}
 
 abbrev pub label_names : List Label → List (List ℕ)
 label_names labels = map (λ (l : Label). l.name) labels

@@ -29,7 +29,7 @@ pub record IsRead {A : Type 0} (s : Spelling A) (known : Known) (a : List ℕ) (
     phrase_at s known line deep all (tokens_at at (a ++ rest)) ≡ Ok (x, left, tokens_at end rest)
 
 -- a word at the front
-word_step : {A : Type 0} (s : Spelling A) (known : Known) {Ends : List ℕ → Type 0} {kind : TokenKind} (word : List ℕ) → IsWord Ends kind word →
+pub word_step : {A : Type 0} (s : Spelling A) (known : Known) {Ends : List ℕ → Type 0} {kind : TokenKind} (word : List ℕ) → IsWord Ends kind word →
     (line rest : List ℕ) (at end : ℕ) → drop at line ≡ word ++ rest → end ≡ at + length word → Ends rest → (deep left all : ℕ) → all ≡ suc left →
     phrase_at s known line (suc deep) all (tokens_at at (word ++ rest)) ≡ phrase_by s known line (phrase_at s known line deep) kind word left (tokens_at end rest)
 unfolding phrase_at phrase_front
@@ -47,7 +47,7 @@ one_word s known word x w ends by line rest at end here e stops zero left all de
 one_word s known word x w ends by line rest at end here e stops (suc d) left all deep count =
     word_step s known word w line rest at end here e (ends rest stops) d left all (omega arith) ∙ by line (phrase_at s known line d) left (tokens_at end rest)
 
-ends_sooner : {E F : List ℕ → Type 0} {a : List ℕ} → IsCut E a → ((rest : List ℕ) → F rest → E rest) → IsCut F a
+pub ends_sooner : {E F : List ℕ → Type 0} {a : List ℕ} → IsCut E a → ((rest : List ℕ) → F rest → E rest) → IsCut F a
 ends_sooner c f = record {
   whole = λ line rest at end here e stops. c.whole line rest at end here e (f rest stops);
   fewer = λ rest at end e stops. c.fewer rest at end e (f rest stops);
@@ -129,7 +129,7 @@ element_step {A} s known close a b x result n m d e r t line rest at end here pl
     ap (λ (o : Read A). o >>= λ y. behind (elements read finish room) finish y.1 (done ++ y.0 ∷ []) y.2) (r.again line (b ++ rest) at mid here refl (t.stops rest) deep (m + left) all le1 count)
     ∙ t.again line rest mid end (behind_text line a (b ++ rest) at mid here refl) place deep left (m + left) room (done ++ x ∷ []) le2 refl (omega (arith, shorter, few))
 
-byte_on : {kind : TokenKind} (b : ℕ) (a : List ℕ) {F : List ℕ → Type 0} → IsWord Anything kind (b ∷ []) → IsCut F a → IsCut F (b ∷ a)
+pub byte_on : {kind : TokenKind} (b : ℕ) (a : List ℕ) {F : List ℕ → Type 0} → IsWord Anything kind (b ∷ []) → IsCut F a → IsCut F (b ∷ a)
 byte_on b a w c = cut_on (b ∷ []) a (word_is_cut (b ∷ []) w) c (λ rest stops. tt)
 
 pub tail_item : {A : Type 0} (s : Spelling A) (known : Known) (close : signs.Sign) (a b : List ℕ) (x : A) (result : List A → A) (n m d e : ℕ) → IsRead s known a x n d → IsTail s known close b result m e →

@@ -1,6 +1,5 @@
 -- What a reader makes of a script's parts, where it gives a pid and the place of a label as other numbers.
-use Rattle.std.proofs.Common.{◌≡◌, ℕ, List, map, refl, sym, ap, ◌∙◌, Bool}
-use Rattle.std.specs.Prelude.{Option, option_map}
+use Rattle.std.specs.Prelude.{◌≡◌, ◌<◌, ℕ, List, length, map, Option, option_map, Ok}
 use Rattle.sig_patterns.specs.declared.clause.Clause.{Clause}
 use Rattle.sig_patterns.specs.declared.expression.Expr.{Expr}
 use Rattle.sig_patterns.specs.declared.expression.Expr.TheVariants as expr
@@ -12,9 +11,13 @@ use Rattle.sig_patterns.specs.declared.pattern.Pattern.TheVariants as pattern
 use Rattle.sig_patterns.specs.declared.pattern.Pattern.TheOpen.{Pattern-F}
 use Rattle.sig_patterns.specs.declared.pattern.Pattern.TheOpen as layer
 use Rattle.sig_patterns.specs.declared.pattern.Pattern.TheFolds.{fold-Pattern}
+use Rattle.sig_script.specs.declared.known.Known.{Known}
 use Rattle.sig_script.specs.declared.instruction.After.{After}
 use Rattle.sig_script.specs.declared.instruction.Instr.{Instr}
 use Rattle.sig_script.specs.declared.instruction.Instr.TheVariants as instr
+use Rattle.sig_script.specs.ScriptText.{name_of_place}
+use Rattle.sig_script.specs.ReadableScript.{IsNameToken}
+use Rattle.sig_script.specs.Names.{pid_of, label_of}
 
 -- the second walk gives each number as it is, and the first gives 0
 abbrev pub kept : ℕ → ℕ
@@ -76,3 +79,9 @@ instr_seen f g (instr.Clear x) = instr.Clear x
 instr_seen f g (instr.Goto label) = instr.Goto (g label)
 instr_seen f g instr.Stop = instr.Stop
 instr_seen f g (instr.Receive using clauses after) = instr.Receive using (map (clause_seen f g) clauses) (option_map (after_seen g) after)
+
+-- The processes and the labels of a process have these names, and a reader that knows so much gives the pids of the processes as
+-- f says, and the places of the labels as g says.
+pub record Reads (known : Known) (here : ℕ) (names labels : List (List ℕ)) (f g : ℕ → ℕ) : Type 0 where
+  pub pids : (pid : ℕ) → pid < length names → IsNameToken (name_of_place names pid) × (pid_of known (name_of_place names pid) ≡ Ok (f pid))
+  pub places : (n : ℕ) → n < length labels → IsNameToken (name_of_place labels n) × (label_of known here (name_of_place labels n) ≡ Ok (g n))
