@@ -16,3 +16,4 @@ pub mod WordTexts
 pub mod CutTexts
 pub mod PhraseReads
 pub mod PhraseTexts
+pub mod FormReads

@@ -1,3 +1,4 @@
+use Rattle.sig_script.proofs.FormReads.{no_rest}
 use Rattle.sig_script.proofs.PhraseTexts.{phrase_found}
 use Rattle.sig_script.proofs.PhraseReads.{IsRead}
 use Rattle.sig_script.proofs.CutTexts.{word_cut}
