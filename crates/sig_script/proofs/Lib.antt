@@ -20,3 +20,10 @@ pub mod LabelOrder
 pub mod WalkSteps
 pub mod ProcessBack
 pub mod WalkBack
+pub mod Seen
+pub mod LineReads
+pub mod WordTexts
+pub mod CutTexts
+pub mod PhraseReads
+pub mod PhraseTexts
+pub mod FormReads
