@@ -99,15 +99,18 @@ labelled-good : (count : ℕ) (p : Declared) (name : List ℕ) → IsNameToken n
 labelled-good count p name named h =
     let l : Label = record { name = name; place = length p.instrs + 1 } in
     holds-if (λ (q : Declared). IsGood count q × (q.name ≡ p.name)) (list_any (λ (l : Label). bytes_eq l.name name) p.labels) _ _ (λ _. tt)
-    (λ free. (record {
-      name = h.name;
-      labels = All-push (λ (l : Label). IsNameToken l.name) p.labels l h.labels named;
-      distinct = subst AreDistinct (sym (map-append (λ (l : Label). l.name) p.labels (l ∷ [])))
-          (distinct-push (map (λ (l : Label). l.name) p.labels) name h.distinct (free_name (λ (l : Label). l.name) p.labels name free));
-      rising = rising-push p.labels l h.rising h.before;
-      before = All-push (λ (l : Label). l.place ≤ length p.instrs + 1) p.labels l h.before (le_refl (length p.instrs + 1));
-      instrs = h.instrs;
-    }, refl))
+    (λ free. (
+      record {
+        name = h.name;
+        labels = All-push (λ (l : Label). IsNameToken l.name) p.labels l h.labels named;
+        distinct = subst AreDistinct (sym (map-append (λ (l : Label). l.name) p.labels (l ∷ [])))
+            (distinct-push (map (λ (l : Label). l.name) p.labels) name h.distinct (free_name (λ (l : Label). l.name) p.labels name free));
+        rising = rising-push p.labels l h.rising h.before;
+        before = All-push (λ (l : Label). l.place ≤ length p.instrs + 1) p.labels l h.before (le_refl (length p.instrs + 1));
+        instrs = h.instrs;
+      },
+      refl,
+    ))
 
 module _ (count : ℕ) (turns : Option ℕ) (procs : List Declared) where
   changed : (p q : Declared) → AreDistinct (names (procs ++ p ∷ [])) → All (IsGood count) (procs ++ p ∷ []) → q.name ≡ p.name → IsGood count q →

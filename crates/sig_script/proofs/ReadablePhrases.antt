@@ -60,22 +60,22 @@ record Sizes (A : Type 0) : Type 0 where
   depth : A → ℕ
 
 -- such a phrase, of so many nodes and of such a depth at the most
-record IsWithin {A : Type 0} (P : A → Type 0) (z : Sizes A) (most deepest : ℕ) (x : A) : Type 0 where
+record IsSized {A : Type 0} (P : A → Type 0) (z : Sizes A) (most deepest : ℕ) (x : A) : Type 0 where
   plain : P x
   few : z.nodes x ≤ most
   low : z.depth x ≤ deepest
 
 -- what holds of the phrases of one kind where it holds of their parts
 record Grows {A : Type 0} (count : ℕ) (P : A → Type 0) (z : Sizes A) (s : Spelling A) : Type 0 where
-  int : (n : ℤ) → is_wide n ≡ true → IsWithin P z 1 1 (s.int n)
-  atom : (a : List ℕ) → is_atom a ≡ true → IsWithin P z 1 1 (s.atom a)
-  var : (v : Var) → IsVariableToken v.0 → IsWithin P z 1 1 (s.var v)
-  pid : (n : ℕ) → n < count → IsWithin P z 1 1 (s.pid (record { 0 = n }))
-  signed : (line : List ℕ) (kind : TokenKind) (ts : List Token) → AreWords line ts → Holds (λ (x : A × List Token). IsWithin P z 1 1 x.0 × AreWords line x.1) (s.signed line kind ts)
+  int : (n : ℤ) → is_wide n ≡ true → IsSized P z 1 1 (s.int n)
+  atom : (a : List ℕ) → is_atom a ≡ true → IsSized P z 1 1 (s.atom a)
+  var : (v : Var) → IsVariableToken v.0 → IsSized P z 1 1 (s.var v)
+  pid : (n : ℕ) → n < count → IsSized P z 1 1 (s.pid (record { 0 = n }))
+  signed : (line : List ℕ) (kind : TokenKind) (ts : List Token) → AreWords line ts → Holds (λ (x : A × List Token). IsSized P z 1 1 x.0 × AreWords line x.1) (s.signed line kind ts)
   enclosing : (most deepest : ℕ) (close : signs.Sign) (items : List A) → All P items → sum (map z.nodes items) ≤ most → All (λ x. z.depth x ≤ deepest) items →
-      IsWithin P z (1 + most) (1 + deepest) (s.enclosing close items)
+      IsSized P z (1 + most) (1 + deepest) (s.enclosing close items)
   nested : (most deepest : ℕ) (items : List A) (tail : A) → All P items → P tail → sum (map z.nodes items) + z.nodes tail ≤ most → All (λ x. z.depth x ≤ deepest) items → z.depth tail ≤ deepest →
-      IsWithin P z (1 + most) (1 + deepest) (s.nested items tail)
+      IsSized P z (1 + most) (1 + deepest) (s.nested items tail)
 
 sum-append : {A : Type 0} (f : A → ℕ) (xs : List A) (x : A) → sum (map f (xs ++ x ∷ [])) ≡ sum (map f xs) + f x
 sum-append f xs x =
@@ -90,18 +90,18 @@ IsRead P z line most deepest x = P x.0 × (z.nodes x.0 + x.1 ≤ most) × (z.dep
 
 module _ {A : Type 0} (P : A → Type 0) (z : Sizes A) (s : Spelling A) (script : Program) (line : List ℕ) (grows : Grows (length script.procs) P z s) where
   single-read : (kind : TokenKind) (word : List ℕ) (ts : List Token) → IsWord kind word → AreWords line ts →
-      Holds (λ (x : A × List Token). IsWithin P z 1 1 x.0 × AreWords line x.1) (single s (Among script) line kind word ts)
+      Holds (λ (x : A × List Token). IsSized P z 1 1 x.0 × AreWords line x.1) (single s (Among script) line kind word ts)
   single-read Name word ts h k = (grows.atom word h.1, k)
   single-read Quoted word ts h k = (grows.atom (unquoted word) h, k)
   single-read Integer word ts h k = (grows.int (int_of word) h, k)
   single-read Variable word ts h k = (grows.var (record { 0 = word }) h, k)
   single-read Process word ts h k =
-      holds-on_ok (λ n. n < length script.procs) (λ (x : A × List Token). IsWithin P z 1 1 x.0 × AreWords line x.1) (λ n. (s.pid (record { 0 = n }), ts)) (pid_of (Among script) (drop 1 word)) (pid-below script (drop 1 word))
+      holds-on_ok (λ n. n < length script.procs) (λ (x : A × List Token). IsSized P z 1 1 x.0 × AreWords line x.1) (λ n. (s.pid (record { 0 = n }), ts)) (pid_of (Among script) (drop 1 word)) (pid-below script (drop 1 word))
       (λ n e. (grows.pid n e, k))
   single-read (Sign g) word ts h k = grows.signed line (Sign g) ts k
 
   -- what the phrase is closed by
-  closed-read : (most deepest : ℕ) (ends : TokenKind → Bool) (item : A) (left start : ℕ) (ts : List Token) → IsWithin P z most deepest item → most + left ≤ start → AreWords line ts →
+  closed-read : (most deepest : ℕ) (ends : TokenKind → Bool) (item : A) (left start : ℕ) (ts : List Token) → IsSized P z most deepest item → most + left ≤ start → AreWords line ts →
       Holds (IsRead P z line start deepest) (closed ends item left ts)
   closed-read most deepest ends item left start [] h e k = tt
   closed-read most deepest ends item left start (t ∷ ts) h e k =
@@ -154,7 +154,7 @@ module _ {A : Type 0} (P : A → Type 0) (z : Sizes A) (s : Spelling A) (script 
     unfolding bracketed
     bracketed-read close nodes [] h = tt
     bracketed-read close nodes (t ∷ ts) h =
-        let none : IsWithin P z (1 + 0) (1 + deepest) (s.enclosing close []) = grows.enclosing 0 deepest close [] (All-nil P) (omega arith) (All-nil (λ x. z.depth x ≤ deepest)) in
+        let none : IsSized P z (1 + 0) (1 + deepest) (s.enclosing close []) = grows.enclosing 0 deepest close [] (All-nil P) (omega arith) (All-nil (λ x. z.depth x ≤ deepest)) in
         holds-if (IsRead P z line (1 + nodes) (1 + deepest)) (closes close t.kind) _ _
         (λ _. (none.plain, omega (arith, none.few), none.low, h.1))
         (λ _. elements-read nodes close (length (t ∷ ts)) nodes [] (t ∷ ts)
@@ -166,7 +166,7 @@ module _ {A : Type 0} (P : A → Type 0) (z : Sizes A) (s : Spelling A) (script 
         let Done : A × ℕ × List Token → Type 0 = IsRead P z line (1 + nodes) (1 + deepest) in
         holds-if Done (is_open_brace kind) _ _ (λ _. bracketed-read CloseBrace nodes ts h)
         (λ _. holds-if Done (is_open_bracket kind) _ _ (λ _. bracketed-read CloseBracket nodes ts h)
-        (λ _. holds-on_ok (λ (x : A × List Token). IsWithin P z 1 1 x.0 × AreWords line x.1) Done (λ x. (x.0, nodes, x.1)) (single s (Among script) line kind word ts) (single-read kind word ts w h)
+        (λ _. holds-on_ok (λ (x : A × List Token). IsSized P z 1 1 x.0 × AreWords line x.1) Done (λ x. (x.0, nodes, x.1)) (single s (Among script) line kind word ts) (single-read kind word ts w h)
         (λ x k. (k.0.plain, omega (arith, k.0.few), omega (arith, k.0.low), k.1))))
 
     one-more : (n : ℕ) → 1 + n ≡ suc n
@@ -186,9 +186,9 @@ module _ {A : Type 0} (P : A → Type 0) (z : Sizes A) (s : Spelling A) (script 
   phrase_at-read zero nodes ts h = tt
   phrase_at-read (suc deepest) nodes ts h = phrase_front-read deepest (phrase_at s (Among script) line deepest) (λ n us k. phrase_at-read deepest n us k) nodes ts h
 
-  phrase_of-read : (ts : List Token) → AreWords line ts → Holds (λ (x : A × List Token). IsWithin P z MOST_NODES MOST_DEPTH x.0 × AreWords line x.1) (phrase_of s (Among script) line ts)
+  phrase_of-read : (ts : List Token) → AreWords line ts → Holds (λ (x : A × List Token). IsSized P z MOST_NODES MOST_DEPTH x.0 × AreWords line x.1) (phrase_of s (Among script) line ts)
   phrase_of-read ts h =
-      holds-on_ok (IsRead P z line MOST_NODES MOST_DEPTH) (λ (x : A × List Token). IsWithin P z MOST_NODES MOST_DEPTH x.0 × AreWords line x.1)
+      holds-on_ok (IsRead P z line MOST_NODES MOST_DEPTH) (λ (x : A × List Token). IsSized P z MOST_NODES MOST_DEPTH x.0 × AreWords line x.1)
       (λ x. (x.0, x.2)) (phrase_at s (Among script) line MOST_DEPTH MOST_NODES ts) (phrase_at-read MOST_DEPTH MOST_NODES ts h)
       (λ x k. (record { plain = k.0; few = omega (arith, k.1); low = k.2 }, k.3))
 
@@ -200,11 +200,11 @@ expr_sizes = record { nodes = expr_nodes; depth = expr_depth }
 abbrev IsPlainExpr : ℕ → Expr → Type 0
 IsPlainExpr count e = is_plain_expr count e ≡ true
 
-expr-within : (count most deepest : ℕ) (e : Expr) → IsExprWithin count most deepest e → IsWithin (IsPlainExpr count) expr_sizes most deepest e
+expr-within : (count most deepest : ℕ) (e : Expr) → IsExprWithin count most deepest e → IsSized (IsPlainExpr count) expr_sizes most deepest e
 expr-within count most deepest e h = record { plain = h.plain; few = h.few; low = h.low }
 
 expr_enclosing-within : (count most deepest : ℕ) (close : signs.Sign) (items : List Expr) → All (IsPlainExpr count) items → sum (map expr_nodes items) ≤ most → All (λ e. expr_depth e ≤ deepest) items →
-    IsWithin (IsPlainExpr count) expr_sizes (1 + most) (1 + deepest) (expr_enclosing close items)
+    IsSized (IsPlainExpr count) expr_sizes (1 + most) (1 + deepest) (expr_enclosing close items)
 expr_enclosing-within count most deepest CloseBrace items h k l = expr-within count (1 + most) (1 + deepest) _ (tuple_expr count most deepest items h k l)
 expr_enclosing-within count most deepest _ items h k l = expr-within count (1 + most) (1 + deepest) _ (list_expr count most deepest items h k l)
 
@@ -225,7 +225,7 @@ pub expr-read : (script : Program) (line : List ℕ) (ts : List Token) → AreWo
     Holds (λ (x : Expr × List Token). IsReadableExpr (length script.procs) x.0 × AreWords line x.1) (expr_of (Among script) line ts)
 expr-read script line ts h =
     let count : ℕ = length script.procs in
-    holds-weaker (λ (x : Expr × List Token). IsWithin (IsPlainExpr count) expr_sizes MOST_NODES MOST_DEPTH x.0 × AreWords line x.1) (λ (x : Expr × List Token). IsReadableExpr count x.0 × AreWords line x.1)
+    holds-weaker (λ (x : Expr × List Token). IsSized (IsPlainExpr count) expr_sizes MOST_NODES MOST_DEPTH x.0 × AreWords line x.1) (λ (x : Expr × List Token). IsReadableExpr count x.0 × AreWords line x.1)
     (expr_of (Among script) line ts) (phrase_of-read (IsPlainExpr count) expr_sizes expr_spelling script line (exprs-grow count) ts h)
     (λ x k. (record { plain = k.0.plain; nodes = k.0.few; depth = k.0.low }, k.1))
 
@@ -237,18 +237,18 @@ pattern_sizes = record { nodes = pattern_nodes; depth = pattern_depth }
 abbrev IsPlainPattern : ℕ → Pattern → Type 0
 IsPlainPattern count p = is_plain_pattern count p ≡ true
 
-pattern-within : (count most deepest : ℕ) (p : Pattern) → IsPatternWithin count most deepest p → IsWithin (IsPlainPattern count) pattern_sizes most deepest p
+pattern-within : (count most deepest : ℕ) (p : Pattern) → IsPatternWithin count most deepest p → IsSized (IsPlainPattern count) pattern_sizes most deepest p
 pattern-within count most deepest p h = record { plain = h.plain; few = h.few; low = h.low }
 
 pattern_enclosing-within : (count most deepest : ℕ) (close : signs.Sign) (items : List Pattern) → All (IsPlainPattern count) items → sum (map pattern_nodes items) ≤ most → All (λ p. pattern_depth p ≤ deepest) items →
-    IsWithin (IsPlainPattern count) pattern_sizes (1 + most) (1 + deepest) (pattern_enclosing close items)
+    IsSized (IsPlainPattern count) pattern_sizes (1 + most) (1 + deepest) (pattern_enclosing close items)
 pattern_enclosing-within count most deepest CloseBrace items h k l = pattern-within count (1 + most) (1 + deepest) _ (tuple_pattern count most deepest items h k l)
 pattern_enclosing-within count most deepest _ items h k l = pattern-within count (1 + most) (1 + deepest) _ (list_pattern count most deepest items h k l)
 
 pattern_signed-within : (count : ℕ) (line : List ℕ) (kind : TokenKind) (ts : List Token) → AreWords line ts →
-    Holds (λ (x : Pattern × List Token). IsWithin (IsPlainPattern count) pattern_sizes 1 1 x.0 × AreWords line x.1) (pattern_signed line kind ts)
+    Holds (λ (x : Pattern × List Token). IsSized (IsPlainPattern count) pattern_sizes 1 1 x.0 × AreWords line x.1) (pattern_signed line kind ts)
 pattern_signed-within count line kind ts h =
-    let Done : Pattern × List Token → Type 0 = λ x. IsWithin (IsPlainPattern count) pattern_sizes 1 1 x.0 × AreWords line x.1 in
+    let Done : Pattern × List Token → Type 0 = λ x. IsSized (IsPlainPattern count) pattern_sizes 1 1 x.0 × AreWords line x.1 in
     holds-if Done (is_caret kind) _ _
     (λ _. holds-on_ok (λ (x : List ℕ × List Token). IsVariableToken x.0 × AreWords line x.1) Done (λ x. (pattern.Pin (record { 0 = x.0 }), x.1)) (variable_at line ts) (variable-read line ts h)
     (λ x k. (pattern-within count 1 1 _ (pin_pattern count (record { 0 = x.0 }) k.0), k.1)))
@@ -271,6 +271,6 @@ pub pattern-read : (script : Program) (line : List ℕ) (ts : List Token) → Ar
     Holds (λ (x : Pattern × List Token). IsReadablePattern (length script.procs) x.0 × AreWords line x.1) (pattern_of (Among script) line ts)
 pattern-read script line ts h =
     let count : ℕ = length script.procs in
-    holds-weaker (λ (x : Pattern × List Token). IsWithin (IsPlainPattern count) pattern_sizes MOST_NODES MOST_DEPTH x.0 × AreWords line x.1) (λ (x : Pattern × List Token). IsReadablePattern count x.0 × AreWords line x.1)
+    holds-weaker (λ (x : Pattern × List Token). IsSized (IsPlainPattern count) pattern_sizes MOST_NODES MOST_DEPTH x.0 × AreWords line x.1) (λ (x : Pattern × List Token). IsReadablePattern count x.0 × AreWords line x.1)
     (pattern_of (Among script) line ts) (phrase_of-read (IsPlainPattern count) pattern_sizes pattern_spelling script line (patterns-grow count) ts h)
     (λ x k. (record { plain = k.0.plain; nodes = k.0.few; depth = k.0.low }, k.1))

@@ -1,6 +1,6 @@
 -- Which expressions and patterns are readable, by their cases.
 use Rattle.std.proofs.Common.{◌≡◌, ℕ, ℤ, ◌+◌, ◌<◌, ◌≤◌, List, [], ◌∷◌, map, All, Bool, true, refl, sym, ◌∙◌, ap, subst, arith}
-use Rattle.std.specs.Prelude.{sum, nat_lt, length}
+use Rattle.std.specs.Prelude.{sum, max, nat_lt, length}
 use Rattle.std.specs.List.{list_all}
 use Rattle.std.proofs.lemmas.Bool.Decides.{nat_tests}
 use Rattle.std.proofs.lemmas.List.Sums.{sum_by-cons}
@@ -139,6 +139,13 @@ pattern_of_layer count nodes depth p x is plain few low = record {
   low = subst (λ (c : Counted). c.whole ≤ depth) (sym (pattern_folded Counted pattern_depth_step p x is)) low;
 }
 
+-- [P | Q] by its parts
+cons-counted : (head tail : Pattern) → counted (pat.Cons head tail) ≡ record { whole = 1 + (pattern_nodes head + (counted tail).tail); tail = pattern_nodes head + (counted tail).tail }
+cons-counted head tail = pattern_folded Counted pattern_count_step (pat.Cons head tail) (pattern.Cons head tail) (pat.rolls-Cons head tail)
+
+cons-deepened : (head tail : Pattern) → deepened (pat.Cons head tail) ≡ record { whole = 1 + max (pattern_depth head) (deepened tail).tail; tail = max (pattern_depth head) (deepened tail).tail }
+cons-deepened head tail = pattern_folded Counted pattern_depth_step (pat.Cons head tail) (pattern.Cons head tail) (pat.rolls-Cons head tail)
+
 wholes : (f : Pattern → Counted) (ps : List Pattern) → map (λ (n : Counted). n.whole) (map f ps) ≡ map (λ p. (f p).whole) ps
 wholes f [] = refl
 wholes f (p ∷ ps) = ap (λ (ns : List ℕ). (f p).whole ∷ ns) (wholes f ps)
@@ -189,8 +196,8 @@ module _ (count : ℕ) where
   cons_tail : (nodes depth : ℕ) (head tail : Pattern) → IsPlainPattern head → pattern_depth head ≤ depth → IsTail nodes depth tail → IsTail (pattern_nodes head + nodes) depth (pat.Cons head tail)
   cons_tail nodes depth head tail plain low t = record {
     plain = pattern_folded Bool (pattern_step_is_plain count) (pat.Cons head tail) (pattern.Cons head tail) (pat.rolls-Cons head tail) ∙ rw (plain, t.plain) refl;
-    few = omega (arith, ap (λ (c : Counted). c.tail) (pattern_folded Counted pattern_count_step (pat.Cons head tail) (pattern.Cons head tail) (pat.rolls-Cons head tail)), t.few);
-    low = omega (arith, ap (λ (c : Counted). c.tail) (pattern_folded Counted pattern_depth_step (pat.Cons head tail) (pattern.Cons head tail) (pat.rolls-Cons head tail)), t.low);
+    few = omega (arith, ap (λ (c : Counted). c.tail) (cons-counted head tail), t.few);
+    low = omega (arith, ap (λ (c : Counted). c.tail) (cons-deepened head tail), t.low);
   }
 
   nested_tail : (nodes depth : ℕ) (ps : List Pattern) (tail : Pattern) → All IsPlainPattern ps → IsPlainPattern tail → sum (map pattern_nodes ps) + pattern_nodes tail ≤ nodes →
@@ -214,6 +221,6 @@ module _ (count : ℕ) where
       let t : IsTail nodes depth (nested (p ∷ ps) tail) = nested_tail nodes depth (p ∷ ps) tail plain also few low deep in
       record {
         plain = t.plain;
-        few = omega (arith, t.few, ap (λ (c : Counted). c.tail) (pattern_folded Counted pattern_count_step (pat.Cons p (nested ps tail)) (pattern.Cons p (nested ps tail)) (pat.rolls-Cons p (nested ps tail))), ap (λ (c : Counted). c.whole) (pattern_folded Counted pattern_count_step (pat.Cons p (nested ps tail)) (pattern.Cons p (nested ps tail)) (pat.rolls-Cons p (nested ps tail))));
-        low = omega (arith, t.low, ap (λ (c : Counted). c.tail) (pattern_folded Counted pattern_depth_step (pat.Cons p (nested ps tail)) (pattern.Cons p (nested ps tail)) (pat.rolls-Cons p (nested ps tail))), ap (λ (c : Counted). c.whole) (pattern_folded Counted pattern_depth_step (pat.Cons p (nested ps tail)) (pattern.Cons p (nested ps tail)) (pat.rolls-Cons p (nested ps tail))));
+        few = omega (arith, t.few, ap (λ (c : Counted). c.tail) (cons-counted p (nested ps tail)), ap (λ (c : Counted). c.whole) (cons-counted p (nested ps tail)));
+        low = omega (arith, t.low, ap (λ (c : Counted). c.tail) (cons-deepened p (nested ps tail)), ap (λ (c : Counted). c.whole) (cons-deepened p (nested ps tail)));
       }
