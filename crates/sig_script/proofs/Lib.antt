@@ -17,3 +17,5 @@ pub mod CutTexts
 pub mod PhraseReads
 pub mod PhraseTexts
 pub mod FormReads
+pub mod SeenLemmas
+pub mod FormTexts

@@ -1,3 +1,5 @@
+use Rattle.sig_script.proofs.FormTexts.{instr_form}
+use Rattle.sig_script.proofs.SeenLemmas.{pins_seen}
 use Rattle.sig_script.proofs.FormReads.{no_rest}
 use Rattle.sig_script.proofs.PhraseTexts.{phrase_found}
 use Rattle.sig_script.proofs.PhraseReads.{IsRead}
