@@ -19,3 +19,4 @@ pub mod PhraseTexts
 pub mod FormReads
 pub mod SeenLemmas
 pub mod FormTexts
+pub mod CleanLines
