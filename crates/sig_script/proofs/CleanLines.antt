@@ -1,5 +1,5 @@
 -- No line of the canonical text has a line feed, so that the text is cut into its lines again.
-use Rattle.std.proofs.Common.{◌≡◌, ℕ, suc, ◌+◌, ◌<◌, ◌≤◌, Bool, true, false, cond, not, ◌==◌, List, [], ◌∷◌, ◌++◌, length, map, filter, refl, sym, ap, subst, ◌∙◌, arith, append_assoc}
+use Rattle.std.proofs.Common.{◌≡◌, ℕ, ◌+◌, ◌<◌, Bool, true, false, cond, not, ◌==◌, List, [], ◌∷◌, ◌++◌, length, map, filter, refl, sym, ap, subst, ◌∙◌, append_assoc}
 use Rattle.std.specs.Prelude.{All, IfSome, Option, Some, None, codes, filter_map, option_to_list}
 use Rattle.std.specs.List.{list_all, flat_map}
 use Rattle.std.proofs.lemmas.List.{length-map}
@@ -10,20 +10,18 @@ use Rattle.sig_script.specs.declared.label.Label.{Label}
 use Rattle.sig_script.specs.declared.instruction.After.{After}
 use Rattle.sig_script.specs.declared.instruction.Instr.{Instr}
 use Rattle.sig_script.specs.declared.instruction.Instr.TheVariants as instr
-use Rattle.sig_script.specs.declared.known.Known.{Known}
 use Rattle.sig_script.specs.declared.known.Known.TheVariants.{Any}
 use Rattle.sig_script.specs.declared.keyword.Keyword.TheVariants as keyword
 use Rattle.sig_script.specs.declared.form.Form.TheVariants as form
 use Rattle.sig_script.specs.Scripts.{Declared, Program, IsLawful}
-use Rattle.sig_script.specs.Parts.{clauses_of, targets_of}
 use Rattle.sig_script.specs.Lines.{lines_of, onto_first}
-use Rattle.sig_script.specs.ScriptText.{spaced, target_text, marker_text, clause_line, after_lines, instr_lines, label_line, labels_there, placed_lines, process_lines, names_of, procs_lines, turns_line, script_lines, line_text, script_text}
+use Rattle.sig_script.specs.ScriptText.{clause_line, after_lines, instr_lines, label_line, labels_there, placed_lines, process_lines, names_of, procs_lines, turns_line, script_lines, line_text, script_text}
 use Rattle.sig_script.specs.ReadableScript.{IsNameToken, IsReadablePattern, IsReadableInstr, IsReadableProc, IsReadableScript}
-use Rattle.sig_script.proofs.Seen.{zeroed, pattern_seen, instr_seen, Reads}
+use Rattle.sig_script.proofs.Seen.{zeroed, instr_seen, Reads}
 use Rattle.sig_script.proofs.SeenLemmas.{any_reads}
 use Rattle.sig_script.proofs.WordTexts.{is_inline, when_false}
-use Rattle.sig_script.proofs.FormReads.{IsFormLine, line_clean}
-use Rattle.sig_script.proofs.FormTexts.{turns_form, process_form, label_form, receive_form, clause_form, after_form, end_form, IsInstrLine, is_receive, instr_form}
+use Rattle.sig_script.proofs.FormReads.{line_clean}
+use Rattle.sig_script.proofs.FormTexts.{turns_form, process_form, label_form, receive_form, clause_form, after_form, IsInstrLine, is_receive, instr_form}
 
 -- each of the lines is without a line feed
 abbrev pub AreClean : List (List ℕ) → Type 0
@@ -77,7 +75,7 @@ pub clause_targets : (c : Clause) (cs : List Clause) (rest : List ℕ) (n : ℕ)
     IfSome c.target (λ t. t < n) × All (λ t. t < n) (filter_map (λ (d : Clause). d.target) cs ++ rest)
 clause_targets c cs rest n h =
     let same : filter_map (λ (d : Clause). d.target) (c ∷ cs) ++ rest ≡ option_to_list c.target ++ (filter_map (λ (d : Clause). d.target) cs ++ rest) =
-      ap (λ (ts : List ℕ). ts ++ rest) (targets_split c.target c cs refl) ∙ append_assoc (option_to_list c.target) (filter_map (λ (d : Clause). d.target) cs) rest in
+    ap (λ (ts : List ℕ). ts ++ rest) (targets_split c.target c cs refl) ∙ append_assoc (option_to_list c.target) (filter_map (λ (d : Clause). d.target) cs) rest in
     let split = subst (All (λ t. t < n)) same h in
     (first_within c.target _ n split, others_within c.target _ n split)
 
@@ -111,12 +109,13 @@ receive_clean : (names labels : List (List ℕ)) → IsPlain names labels → (i
 unfolding instr_lines
 receive_clean names labels reads (instr.Receive using clauses after) it readable lawful =
     let targets = lawful.1 in
-    let after_ones : List ℕ = filter_map (λ (a : After). a.target) (option_to_list after) in
-    (line_clean Any 0 _ keyword.Receive _ (receive_form Any 0 using readable.using),
-    clean_on (map (clause_line names labels) clauses ++ after_lines labels after) (codes "end" ∷ [])
-    (clean_on (map (clause_line names labels) clauses) (after_lines labels after) (clauses_clean names labels reads clauses after_ones readable.clauses targets)
-    (after_clean names labels reads after (after_targets clauses after_ones (length labels) targets)))
-    (refl, tt))
+    let after_ones : List ℕ = filter_map (λ (a : After). a.target) (option_to_list after) in (
+      line_clean Any 0 _ keyword.Receive _ (receive_form Any 0 using readable.using),
+      clean_on (map (clause_line names labels) clauses ++ after_lines labels after) (codes "end" ∷ [])
+          (clean_on (map (clause_line names labels) clauses) (after_lines labels after) (clauses_clean names labels reads clauses after_ones readable.clauses targets)
+          (after_clean names labels reads after (after_targets clauses after_ones (length labels) targets)))
+          (refl, tt),
+    )
 receive_clean names labels reads (instr.Send to message) it readable lawful = absurd cc
 receive_clean names labels reads _ it readable lawful = absurd cc
 
@@ -154,9 +153,10 @@ unfolding process_lines
 process_clean names p named readable =
     let tags : List (List ℕ) = map (λ (l : Label). l.name) p.labels in
     let reads = any_reads 0 names tags named (All-map IsNameToken (λ (l : Label). l.name) p.labels readable.labels) in
-    let same : length p.labels ≡ length tags = sym (length-map p.labels (λ (l : Label). l.name)) in
-    (line_clean Any 0 _ keyword.Process _ (process_form Any 0 p.name readable.name),
-    placed_clean names p.labels reads readable.labels 1 p.instrs readable.instrs (subst (λ n. All (IsLawful n) p.instrs) same readable.within.lawful))
+    let same : length p.labels ≡ length tags = sym (length-map p.labels (λ (l : Label). l.name)) in (
+      line_clean Any 0 _ keyword.Process _ (process_form Any 0 p.name readable.name),
+      placed_clean names p.labels reads readable.labels 1 p.instrs readable.instrs (subst (λ n. All (IsLawful n) p.instrs) same readable.within.lawful),
+    )
 
 procs_clean : (names : List (List ℕ)) (procs : List Declared) → All IsNameToken names → All (IsReadableProc (length names)) procs → AreClean (flat_map (process_lines names) procs)
 procs_clean names [] named readable = tt

@@ -1,33 +1,29 @@
 -- The lines of the canonical text, by the words with which they begin.
-use Rattle.std.proofs.Common.{◌≡◌, ℕ, ◌+◌, ◌^◌, ◌<◌, ◌≤◌, Bool, true, false, List, [], ◌∷◌, ◌++◌, length, map, refl, sym, ap, ◌∙◌, arith}
-use Rattle.std.specs.Prelude.{All, IfSome, Option, Some, None, option_map, Result, Ok, Err, codes, decimal}
+use Rattle.std.proofs.Common.{◌≡◌, ℕ, ◌<◌, ◌≤◌, Bool, true, false, List, [], ◌∷◌, ◌++◌, length, map, refl, ap, ◌∙◌, arith}
+use Rattle.std.specs.Prelude.{All, IfSome, Option, Some, option_map, codes, decimal}
 use Rattle.std.specs.List.{concat}
 use Rattle.std.proofs.lemmas.List.Elements.{All-head, All-tail}
-use Rattle.sig_kinds.specs.declared.alias_mode.AliasMode.{AliasMode}
 use Rattle.sig_patterns.specs.declared.clause.Clause.{Clause}
 use Rattle.sig_patterns.specs.declared.var.Var.{Var}
 use Rattle.sig_patterns.specs.declared.expression.Expr.{Expr}
 use Rattle.sig_script.specs.declared.label.Label.{Label}
-use Rattle.sig_script.specs.declared.fault.FaultKind.{FaultKind}
 use Rattle.sig_script.specs.declared.instruction.After.{After}
 use Rattle.sig_script.specs.declared.instruction.Instr.{Instr}
 use Rattle.sig_script.specs.declared.instruction.Instr.TheVariants as instr
 use Rattle.sig_script.specs.declared.known.Known.{Known}
 use Rattle.sig_script.specs.declared.keyword.Verb.{Verb}
 use Rattle.sig_script.specs.declared.keyword.Verb.TheVariants as verb
-use Rattle.sig_script.specs.declared.keyword.Keyword.{Keyword}
 use Rattle.sig_script.specs.declared.keyword.Keyword.TheVariants as keyword
-use Rattle.sig_script.specs.declared.form.Form.{Form}
 use Rattle.sig_script.specs.declared.form.Form.TheVariants as form
 use Rattle.sig_script.specs.declared.script.TheConstants.{MOST_TURNS}
 use Rattle.sig_script.specs.declared.token.Token.{Token}
 use Rattle.sig_script.specs.Scripts.{IsLawful}
 use Rattle.sig_script.specs.Faults.{on_ok}
-use Rattle.sig_script.specs.Forms.{keyword_of, Operand, an_expr, a_variable, a_label, a_switch, a_mode, a_flag, AllSaid, all_said, arrow_of, whole_name, marker_of, on_of, turns_of, made_of, instr_of, form_of}
-use Rattle.sig_script.specs.ScriptText.{name_of_place, spaced, after_blank, expr_text, pattern_text, flag_text, mode_text, switch_text, target_text, marker_text, clause_line, instr_lines, label_line, turns_line}
+use Rattle.sig_script.specs.Forms.{keyword_of, Operand, an_expr, a_variable, a_label, a_switch, a_mode, a_flag, AllSaid, all_said, made_of, instr_of, form_of}
+use Rattle.sig_script.specs.ScriptText.{name_of_place, spaced, after_blank, expr_text, pattern_text, target_text, marker_text, clause_line, instr_lines, label_line, turns_line}
 use Rattle.sig_script.specs.ReadableScript.{IsNameToken, IsVariableToken, IsReadableExpr, IsReadablePattern, IsReadableInstr}
 use Rattle.sig_script.proofs.Seen.{Reads, expr_seen, pattern_seen, instr_seen}
-use Rattle.sig_script.proofs.FormReads.{IsRest, no_rest, rest_made, IsOperand, AreOperands, no_operands, operand_on, expr_operand, variable_operand, label_operand, mode_rest, flag_rest, switch_rest, name_rest, turns_rest, arrow_rest, marker_rest, clause_rest, IsFormLine}
+use Rattle.sig_script.proofs.FormReads.{no_rest, rest_made, AreOperands, no_operands, operand_on, expr_operand, variable_operand, label_operand, mode_rest, flag_rest, switch_rest, name_rest, turns_rest, arrow_rest, marker_rest, clause_rest, IsFormLine}
 
 -- ---- lines that are no instructions
 

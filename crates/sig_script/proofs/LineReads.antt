@@ -1,16 +1,12 @@
 -- Each line of the canonical text is read back as the form that it was printed from.
-use Rattle.std.proofs.Common.{◌≡◌, ℕ, ◌<◌, ◌≤◌, Bool, true, false, List, [], ◌∷◌, ◌++◌, length, map, refl, sym, ap, ◌∙◌}
-use Rattle.std.specs.Prelude.{All, IfSome, Option, Some, None, option_map, Result, Ok, Err, codes}
+use Rattle.std.proofs.Common.{◌≡◌, ℕ, ◌<◌, ◌≤◌, true, false, List, [], ◌∷◌, length, map, refl, ap}
+use Rattle.std.specs.Prelude.{IfSome, Option, Some, option_map, Ok, codes}
 use Rattle.sig_patterns.specs.declared.clause.Clause.{Clause}
 use Rattle.sig_patterns.specs.declared.var.Var.{Var}
-use Rattle.sig_patterns.specs.declared.pattern.Pattern.{Pattern}
-use Rattle.sig_patterns.specs.Pinning.{pins}
 use Rattle.sig_script.specs.declared.label.Label.{Label}
 use Rattle.sig_script.specs.declared.instruction.After.{After}
 use Rattle.sig_script.specs.declared.instruction.Instr.{Instr}
-use Rattle.sig_script.specs.declared.instruction.Instr.TheVariants as instr
 use Rattle.sig_script.specs.declared.known.Known.{Known}
-use Rattle.sig_script.specs.declared.known.Known.TheVariants.{Any, Among}
 use Rattle.sig_script.specs.declared.keyword.Keyword.TheVariants as keyword
 use Rattle.sig_script.specs.declared.draft.Section.{Section}
 use Rattle.sig_script.specs.declared.draft.Section.TheVariants.{Outside}
@@ -18,16 +14,14 @@ use Rattle.sig_script.specs.declared.draft.Draft.{Draft}
 use Rattle.sig_script.specs.declared.form.Form.{Form}
 use Rattle.sig_script.specs.declared.form.Form.TheVariants as form
 use Rattle.sig_script.specs.declared.script.TheConstants.{MOST_TURNS}
-use Rattle.sig_script.specs.Scripts.{Declared, Program, IsLawful}
-use Rattle.sig_script.specs.ScriptText.{name_of_place, spaced, target_text, marker_text, clause_line, instr_lines, label_line, names_of, turns_line, script_lines, script_text}
-use Rattle.sig_script.specs.ReadableScript.{IsNameToken, IsVariableToken, IsReadablePattern, IsReadableInstr, IsReadableScript, AreDistinct}
-use Rattle.sig_script.specs.Names.{pid_of, label_of, labels_at}
+use Rattle.sig_script.specs.Scripts.{Declared, IsLawful}
+use Rattle.sig_script.specs.ScriptText.{spaced, target_text, marker_text, clause_line, instr_lines, label_line, turns_line}
+use Rattle.sig_script.specs.ReadableScript.{IsNameToken, IsVariableToken, IsReadablePattern, IsReadableInstr}
 use Rattle.sig_script.specs.Forms.{may_stand, said, tokens_of}
-use Rattle.sig_script.specs.Lines.{lines_of}
 use Rattle.sig_script.specs.Tokens.{cut_of}
 use Rattle.sig_script.specs.Numbers.{number_after}
 use Rattle.sig_script.specs.Grammar.{is_header}
-use Rattle.sig_script.proofs.Seen.{kept, zeroed, pattern_seen, instr_seen}
+use Rattle.sig_script.proofs.Seen.{pattern_seen, instr_seen}
 use Rattle.sig_script.proofs.FormReads.{line_said}
 use Rattle.sig_script.proofs.FormTexts.{turns_form, process_form, label_form, receive_form, clause_form, after_form, end_form, instr_form}
 pub use Rattle.sig_script.proofs.Seen.{Reads}

@@ -1,6 +1,6 @@
 -- The names that a reader knows, and what it gives for them.
-use Rattle.std.proofs.Common.{◌≡◌, ◌≢◌, ℕ, zero, suc, ◌+◌, ◌<◌, Bool, true, false, cond, ◌||◌, List, [], ◌∷◌, length, map, position, refl, sym, ap, subst, ◌∙◌, arith}
-use Rattle.std.specs.Prelude.{All, Option, Some, None, option_map, ok_or, Ok}
+use Rattle.std.proofs.Common.{◌≡◌, ◌≢◌, ℕ, zero, suc, ◌<◌, Bool, true, false, cond, List, [], ◌∷◌, length, map, position, refl, sym, ap, subst, ◌∙◌, arith}
+use Rattle.std.specs.Prelude.{All, Option, Some, None, option_map, ok_or}
 use Rattle.std.specs.List.{list_any}
 use Rattle.std.specs.Str.{bytes_eq}
 use Rattle.std.proofs.lemmas.List.Elements.{All-head, All-tail}
@@ -26,7 +26,7 @@ use Rattle.sig_script.specs.declared.instruction.Instr.{Instr}
 use Rattle.sig_script.specs.declared.instruction.Instr.TheVariants as instr
 use Rattle.sig_script.specs.declared.known.Known.TheVariants.{Any, Among}
 use Rattle.sig_script.specs.Scripts.{Declared, Program}
-use Rattle.sig_script.specs.Names.{pid_of, label_of, labels_at}
+use Rattle.sig_script.specs.Names.{labels_at}
 use Rattle.sig_script.specs.ScriptText.{name_of_place, names_of}
 use Rattle.sig_script.specs.ReadableScript.{IsNameToken, AreDistinct}
 use Rattle.sig_script.proofs.LabelLemmas.{next, position-cons}
@@ -76,14 +76,15 @@ pub among_reads : (t : Program) (here : ℕ) (labels : List Label) → All IsNam
     All IsNameToken (map (λ (l : Label). l.name) labels) → AreDistinct (map (λ (l : Label). l.name) labels) → Reads (Among t) here (names_of t.procs) (map (λ (l : Label). l.name) labels) kept kept
 among_reads t here labels named distinct there tagged apart = record {
   pids = λ pid lt.
-    let below : pid < length t.procs = omega (arith, length-map t.procs (λ (p : Declared). p.name)) in
-    (named_at (names_of t.procs) pid named lt, ap (λ (o : Option ℕ). ok_or o UnknownProcess) (place_found (λ (p : Declared). p.name) t.procs pid distinct below));
+      let below : pid < length t.procs = omega (arith, length-map t.procs (λ (p : Declared). p.name)) in
+      (named_at (names_of t.procs) pid named lt, ap (λ (o : Option ℕ). ok_or o UnknownProcess) (place_found (λ (p : Declared). p.name) t.procs pid distinct below));
   places = λ n lt.
-    let below : n < length labels = omega (arith, length-map labels (λ (l : Label). l.name)) in
-    let names : List (List ℕ) = map (λ (l : Label). l.name) labels in
-    (named_at names n tagged lt,
-    ap (λ (ls : List Label). ok_or (position (λ (l : Label). bytes_eq l.name (name_of_place names n)) ls) UnknownLabel) there
-    ∙ ap (λ (o : Option ℕ). ok_or o UnknownLabel) (place_found (λ (l : Label). l.name) labels n apart below));
+      let below : n < length labels = omega (arith, length-map labels (λ (l : Label). l.name)) in
+      let names : List (List ℕ) = map (λ (l : Label). l.name) labels in (
+        named_at names n tagged lt,
+        ap (λ (ls : List Label). ok_or (position (λ (l : Label). bytes_eq l.name (name_of_place names n)) ls) UnknownLabel) there
+            ∙ ap (λ (o : Option ℕ). ok_or o UnknownLabel) (place_found (λ (l : Label). l.name) labels n apart below),
+      );
 }
 
 -- ---- nothing changes in the second walk
