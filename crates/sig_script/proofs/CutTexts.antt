@@ -1,20 +1,16 @@
 -- How the texts of a line are cut, one behind another.
-use Rattle.std.proofs.Common.{◌≡◌, ℕ, zero, suc, ◌+◌, ◌-◌, ◌<◌, ◌≤◌, Bool, true, false, ◌&&◌, ◌==◌, List, [], ◌∷◌, ◌++◌, length, take, drop, Option, Some, None, refl, sym, ap, subst, ◌∙◌, arith, append_assoc, length-append, drop-drop}
+use Rattle.std.proofs.Common.{◌≡◌, ℕ, suc, ◌+◌, ◌-◌, ◌<◌, true, false, List, [], ◌∷◌, ◌++◌, length, take, drop, Option, Some, None, refl, sym, ap, subst, ◌∙◌, arith, append_assoc, length-append, drop-drop}
 use Rattle.std.specs.List.{list_all}
 use Rattle.std.proofs.lemmas.List.Folds.{list_all-append}
 use Rattle.std.proofs.Math.Seq.{take-append_seam, drop-append_seam}
-use Rattle.sig_terms.proofs.Choices.{both_true}
-use Rattle.sig_terms.proofs.TokenReads.{StopsAt, Stops}
 use Rattle.sig_script.specs.declared.token.Sign as signs
-use Rattle.sig_script.specs.declared.token.Sign.TheVariants as sign
 use Rattle.sig_script.specs.declared.token.TokenKind.{TokenKind}
-use Rattle.sig_script.specs.declared.token.TokenKind.TheVariants.{Name, Variable, Integer, Quoted, Process, Sign}
 use Rattle.sig_script.specs.declared.token.Token.{Token}
 use Rattle.sig_script.specs.declared.token.Cut.{Cut}
-use Rattle.sig_script.specs.Tokens.{is_blank, front_token, with_token, cut_of, text, is_token_in_range}
+use Rattle.sig_script.specs.Tokens.{front_token, with_token, cut_of, text, is_token_in_range}
 use Rattle.sig_script.specs.Signs.{closes}
 use Rattle.sig_script.proofs.CutLemmas.{cut-nil, cut-skip, cut-blank, cut-token, same_cut}
-use Rattle.sig_script.proofs.WordTexts.{is_inline, Anything, IsWord}
+use Rattle.sig_script.proofs.WordTexts.{is_inline, IsWord}
 
 -- the tokens of the bytes that stand at this place of a line
 abbrev pub tokens_at : ℕ → List ℕ → List Token
@@ -51,9 +47,9 @@ word_cut {Ends} {kind} word rest at end w ends e =
     let less : length word - 1 ≡ length w.others = omega arith in
     let place : at + 1 + length w.others ≡ end = omega arith in
     let skipped : cut_of (at + 1) (length word - 1) (w.others ++ rest) ≡ cut_of end 0 rest =
-      ap (λ (k : ℕ). cut_of (at + 1) k (w.others ++ rest)) less
-      ∙ cut-skip (at + 1) (length w.others) (w.others ++ rest) (omega (arith, length-append w.others rest))
-      ∙ same_cut (at + 1 + length w.others) end (drop (length w.others) (w.others ++ rest)) rest place (drop-append_seam w.others rest) in
+    ap (λ (k : ℕ). cut_of (at + 1) k (w.others ++ rest)) less
+    ∙ cut-skip (at + 1) (length w.others) (w.others ++ rest) (omega (arith, length-append w.others rest))
+    ∙ same_cut (at + 1 + length w.others) end (drop (length w.others) (w.others ++ rest)) rest place (drop-append_seam w.others rest) in
     ap (cut_of at 0) whole
     ∙ cut-token at w.first (w.others ++ rest) w.seen w.plain
     ∙ ap (λ (o : Option (TokenKind × ℕ)). with_token o at (λ skip. cut_of (at + 1) skip (w.others ++ rest))) front
@@ -72,8 +68,8 @@ pub record IsCut (Ends : List ℕ → Type 0) (a : List ℕ) : Type 0 where
 pub word_is_cut : {Ends : List ℕ → Type 0} {kind : TokenKind} (word : List ℕ) → IsWord Ends kind word → IsCut Ends word
 word_is_cut {Ends} {kind} word w = record {
   whole = λ line rest at end here e ends behind.
-    let range : is_token_in_range (text line (token_at kind at word)) kind ≡ true = ap (λ (bytes : List ℕ). is_token_in_range bytes kind) (token_text line word rest kind at here) ∙ w.range in
-    subst (IsWhole line) (sym (word_cut word rest at end w ends e)) (rw range behind.0, behind.1);
+      let range : is_token_in_range (text line (token_at kind at word)) kind ≡ true = ap (λ (bytes : List ℕ). is_token_in_range bytes kind) (token_text line word rest kind at here) ∙ w.range in
+      subst (IsWhole line) (sym (word_cut word rest at end w ends e)) (rw range behind.0, behind.1);
   fewer = λ rest at end e ends. omega (arith, ap length (word_tokens word rest at end w ends e));
   clean = w.clean;
 }
@@ -82,15 +78,15 @@ word_is_cut {Ends} {kind} word w = record {
 pub cut_on : {E F : List ℕ → Type 0} (a b : List ℕ) → IsCut E a → IsCut F b → ((rest : List ℕ) → F rest → E (b ++ rest)) → IsCut F (a ++ b)
 cut_on a b p q ends = record {
   whole = λ line rest at end here e f behind.
-    let split : (a ++ b) ++ rest ≡ a ++ (b ++ rest) = append_assoc a b rest in
-    let there : drop at line ≡ a ++ (b ++ rest) = here ∙ split in
-    let place : end ≡ at + length a + length b = omega (arith, length-append a b) in
-    subst (λ (xs : List ℕ). IsWhole line (cut_of at 0 xs)) (sym split) (p.whole line (b ++ rest) at (at + length a) there refl (ends rest f)
+      let split : (a ++ b) ++ rest ≡ a ++ (b ++ rest) = append_assoc a b rest in
+      let there : drop at line ≡ a ++ (b ++ rest) = here ∙ split in
+      let place : end ≡ at + length a + length b = omega (arith, length-append a b) in
+      subst (λ (xs : List ℕ). IsWhole line (cut_of at 0 xs)) (sym split) (p.whole line (b ++ rest) at (at + length a) there refl (ends rest f)
       (q.whole line rest (at + length a) end (behind_text line a (b ++ rest) at (at + length a) there refl) place f behind));
   fewer = λ rest at end e f.
-    let place : end ≡ at + length a + length b = omega (arith, length-append a b) in
-    let split : length (tokens_at at ((a ++ b) ++ rest)) ≡ length (tokens_at at (a ++ (b ++ rest))) = ap (λ (xs : List ℕ). length (tokens_at at xs)) (append_assoc a b rest) in
-    omega (arith, split, p.fewer (b ++ rest) at (at + length a) refl (ends rest f), q.fewer rest (at + length a) end place f);
+      let place : end ≡ at + length a + length b = omega (arith, length-append a b) in
+      let split : length (tokens_at at ((a ++ b) ++ rest)) ≡ length (tokens_at at (a ++ (b ++ rest))) = ap (λ (xs : List ℕ). length (tokens_at at xs)) (append_assoc a b rest) in
+      omega (arith, split, p.fewer (b ++ rest) at (at + length a) refl (ends rest f), q.fewer rest (at + length a) end place f);
   clean = list_all-append is_inline a b ∙ rw p.clean q.clean;
 }
 

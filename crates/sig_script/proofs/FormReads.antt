@@ -1,5 +1,5 @@
 -- What stands behind the word of a line is read back from its text, from left to right.
-use Rattle.std.proofs.Common.{◌≡◌, ◌≢◌, ℕ, zero, suc, ◌+◌, ◌^◌, ◌<◌, ◌≤◌, Bool, true, false, List, [], ◌∷◌, ◌++◌, length, map, drop, refl, sym, ap, subst, ◌∙◌, arith}
+use Rattle.std.proofs.Common.{◌≡◌, ◌≢◌, ℕ, ◌+◌, ◌^◌, ◌<◌, Bool, true, false, List, [], ◌∷◌, ◌++◌, length, map, drop, refl, sym, ap, subst, ◌∙◌, arith}
 use Rattle.std.specs.Prelude.{IfSome, Option, Some, None, is_some, ok_or, option_map, if◌then◌else◌, Result, Ok, Err, codes, decimal}
 use Rattle.std.specs.List.{concat, list_all}
 use Rattle.std.specs.Str.{bytes_eq}
@@ -33,7 +33,7 @@ use Rattle.sig_script.specs.ReadableScript.{IsNameToken, IsVariableToken, IsRead
 use Rattle.sig_script.proofs.Seen.{Reads, expr_seen, pattern_seen}
 use Rattle.sig_script.proofs.WordTexts.{is_inline, when_true, name_word, variable_word, count_word, count_again, arrow}
 use Rattle.sig_script.proofs.CutTexts.{tokens_at, token_at, token_text, word_tokens, IsWhole, IsCut, word_is_cut, behind_text, blank_tokens, nothing_is_whole, no_tokens}
-use Rattle.sig_script.proofs.PhraseReads.{IsRead, ends_sooner}
+use Rattle.sig_script.proofs.PhraseReads.{ends_sooner}
 use Rattle.sig_script.proofs.PhraseTexts.{name_found, variable_found, expr_read, pattern_read, phrase_found}
 
 -- The rest of a line is this text, which is cut whole, and the reader makes x of it.
@@ -57,16 +57,16 @@ pub rest_on : {X Y : Type 0} (read : List ℕ → List Token → Result X FaultK
     ((line : List ℕ) (at end : ℕ) → drop at line ≡ a ++ bytes → end ≡ at + length a → next line (tokens_at end bytes) ≡ Ok y → read line (tokens_at at (a ++ bytes)) ≡ Ok x) → IsRest read (32 ∷ (a ++ bytes)) x
 rest_on read next a bytes x y c r step = record {
   whole = λ line at here.
-    let there : drop (at + 1) line ≡ a ++ bytes = behind_text line (32 ∷ []) (a ++ bytes) at (at + 1) here refl in
-    let end : ℕ = at + 1 + length a in
-    subst (IsWhole line) (sym (blank_tokens (a ++ bytes) at (at + 1) refl)) (c.whole line bytes (at + 1) end there refl r.stops (r.whole line end (behind_text line a bytes (at + 1) end there refl)));
+      let there : drop (at + 1) line ≡ a ++ bytes = behind_text line (32 ∷ []) (a ++ bytes) at (at + 1) here refl in
+      let end : ℕ = at + 1 + length a in
+      subst (IsWhole line) (sym (blank_tokens (a ++ bytes) at (at + 1) refl)) (c.whole line bytes (at + 1) end there refl r.stops (r.whole line end (behind_text line a bytes (at + 1) end there refl)));
   clean = list_all-append is_inline a bytes ∙ rw c.clean r.clean;
   stops = refl;
   again = λ line at here.
-    let there : drop (at + 1) line ≡ a ++ bytes = behind_text line (32 ∷ []) (a ++ bytes) at (at + 1) here refl in
-    let end : ℕ = at + 1 + length a in
-    ap (λ (k : Cut). read line k.tokens) (blank_tokens (a ++ bytes) at (at + 1) refl)
-    ∙ step line (at + 1) end there refl (r.again line end (behind_text line a bytes (at + 1) end there refl));
+      let there : drop (at + 1) line ≡ a ++ bytes = behind_text line (32 ∷ []) (a ++ bytes) at (at + 1) here refl in
+      let end : ℕ = at + 1 + length a in
+      ap (λ (k : Cut). read line k.tokens) (blank_tokens (a ++ bytes) at (at + 1) refl)
+      ∙ step line (at + 1) end there refl (r.again line end (behind_text line a bytes (at + 1) end there refl));
 }
 
 -- the same rest, by other names
@@ -119,16 +119,16 @@ pub label_operand : (known : Known) (here : ℕ) (word : List ℕ) (n : ℕ) →
 label_operand known here word n named found = record {
   cut = word_is_cut word (name_word word named);
   again = λ line rest at end there place stops.
-    ap (λ (r : Result (List ℕ × List Token) FaultKind). r >>= λ x. on_ok (λ m. (m, x.1)) (label_of known here x.0)) (name_found line word rest at end named there place stops)
-    ∙ ap (λ (r : Result ℕ FaultKind). on_ok (λ m. (m, tokens_at end rest)) r) found;
+      ap (λ (r : Result (List ℕ × List Token) FaultKind). r >>= λ x. on_ok (λ m. (m, x.1)) (label_of known here x.0)) (name_found line word rest at end named there place stops)
+      ∙ ap (λ (r : Result ℕ FaultKind). on_ok (λ m. (m, tokens_at end rest)) r) found;
 }
 
 pub switch_operand : (known : Known) (here : ℕ) (word : List ℕ) (on : Bool) → IsNameToken word → switch_of word ≡ Ok on → IsOperand known here a_switch word on
 switch_operand known here word on named found = record {
   cut = word_is_cut word (name_word word named);
   again = λ line rest at end there place stops.
-    ap (λ (r : Result (List ℕ × List Token) FaultKind). r >>= λ x. on_ok (λ m. (m, x.1)) (switch_of x.0)) (name_found line word rest at end named there place stops)
-    ∙ ap (λ (r : Result Bool FaultKind). on_ok (λ m. (m, tokens_at end rest)) r) found;
+      ap (λ (r : Result (List ℕ × List Token) FaultKind). r >>= λ x. on_ok (λ m. (m, x.1)) (switch_of x.0)) (name_found line word rest at end named there place stops)
+      ∙ ap (λ (r : Result Bool FaultKind). on_ok (λ m. (m, tokens_at end rest)) r) found;
 }
 
 -- a word that may be left out
@@ -225,7 +225,7 @@ using_found line rest at end there place stops =
     let front = word_tokens (codes "using") rest at end (name_word (codes "using") named) stops place in
     ap (marker_of line) front
     ∙ ap (λ (r : Result (List ℕ × List Token) FaultKind). r >>= λ x. flag_of (codes "using") x.0 >>= λ is_using. variable_at line x.1 >>= λ y. ends (Some (record { 0 = y.0 })) y.1)
-      (ap (name_at line) (sym front) ∙ name_found line (codes "using") rest at end named there place stops)
+    (ap (name_at line) (sym front) ∙ name_found line (codes "using") rest at end named there place stops)
 
 pub marker_rest : (using : Option Var) → IfSome using (λ x. IsVariableToken x.0) → IsRest marker_of (concat (map after_blank (marker_text using))) using
 marker_rest None named = no_rest marker_of None (λ line. refl)

@@ -27,3 +27,6 @@ pub mod CutTexts
 pub mod PhraseReads
 pub mod PhraseTexts
 pub mod FormReads
+pub mod SeenLemmas
+pub mod FormTexts
+pub mod CleanLines

@@ -1,21 +1,19 @@
 -- Phrases are read back from their texts: those of one word, and those in brackets.
-use Rattle.std.proofs.Common.{◌≡◌, ℕ, zero, suc, ◌+◌, ◌<◌, ◌≤◌, Bool, true, false, List, [], ◌∷◌, ◌++◌, length, map, sum, drop, refl, sym, ap, subst, ◌∙◌, arith, append_assoc, length-append, append-nil}
-use Rattle.std.specs.Prelude.{Result, Ok, Err, max}
-use Rattle.std.specs.List.{concat, list_all}
+use Rattle.std.proofs.Common.{◌≡◌, ℕ, zero, suc, ◌+◌, ◌≤◌, true, false, List, [], ◌∷◌, ◌++◌, length, map, sum, drop, refl, sym, ap, subst, ◌∙◌, arith, append_assoc, length-append, append-nil}
+use Rattle.std.specs.Prelude.{Ok, max}
+use Rattle.std.specs.List.{concat}
 use Rattle.std.proofs.lemmas.List.Sums.{sum_by-cons}
 use Rattle.sig_terms.specs.Nodes.{greatest}
 use Rattle.sig_terms.specs.TermText.{joined, after_comma}
 use Rattle.sig_terms.specs.Words.{is_name_byte}
-use Rattle.sig_terms.proofs.TokenReads.{StopsAt, Stops}
-use Rattle.sig_script.specs.declared.fault.FaultKind.{FaultKind}
+use Rattle.sig_terms.proofs.TokenReads.{Stops}
 use Rattle.sig_script.specs.declared.known.Known.{Known}
 use Rattle.sig_script.specs.declared.token.Sign as signs
 use Rattle.sig_script.specs.declared.token.Sign.TheVariants as sign
 use Rattle.sig_script.specs.declared.token.TokenKind.{TokenKind}
-use Rattle.sig_script.specs.declared.token.TokenKind.TheVariants.{Name, Variable, Integer, Quoted, Process, Sign}
+use Rattle.sig_script.specs.declared.token.TokenKind.TheVariants.{Sign}
 use Rattle.sig_script.specs.declared.token.Token.{Token}
-use Rattle.sig_script.specs.Faults.{◌>>=◌, on_ok}
-use Rattle.sig_script.specs.Tokens.{text}
+use Rattle.sig_script.specs.Faults.{◌>>=◌}
 use Rattle.sig_script.specs.Signs.{is_comma, closes}
 use Rattle.sig_script.specs.Phrases.{Spelling, Read, behind, elements, closed, is_before_tail, ending, bracketed, phrase_by, phrase_front, phrase_at}
 use Rattle.sig_script.proofs.WordTexts.{Anything, IsWord, when_true, comma, bar, close_bracket}
@@ -26,7 +24,7 @@ pub record IsRead {A : Type 0} (s : Spelling A) (known : Known) (a : List ℕ) (
   pub cut : IsCut Stops a
   pub opens : (rest : List ℕ) (at : ℕ) → Stops rest → Opens (tokens_at at (a ++ rest))
   pub again : (line rest : List ℕ) (at end : ℕ) → drop at line ≡ a ++ rest → end ≡ at + length a → Stops rest → (deep left all : ℕ) → depth ≤ deep → all ≡ nodes + left →
-    phrase_at s known line deep all (tokens_at at (a ++ rest)) ≡ Ok (x, left, tokens_at end rest)
+      phrase_at s known line deep all (tokens_at at (a ++ rest)) ≡ Ok (x, left, tokens_at end rest)
 
 -- a word at the front
 pub word_step : {A : Type 0} (s : Spelling A) (known : Known) {Ends : List ℕ → Type 0} {kind : TokenKind} (word : List ℕ) → IsWord Ends kind word →
@@ -76,9 +74,9 @@ pub record IsTail {A : Type 0} (s : Spelling A) (known : Known) (close : signs.S
   pub cut : IsCut Anything a
   pub stops : (rest : List ℕ) → Stops (a ++ rest)
   pub again : (line rest : List ℕ) (at end : ℕ) → drop at line ≡ a ++ rest → end ≡ at + length a → (deep left all room : ℕ) (done : List A) → depth ≤ deep → all ≡ nodes + left →
-    length (tokens_at at (a ++ rest)) ≤ room →
-    behind (elements (phrase_at s known line deep) (ending s close (phrase_at s known line deep)) room) (ending s close (phrase_at s known line deep)) all done (tokens_at at (a ++ rest))
-    ≡ Ok (result done, left, tokens_at end rest)
+      length (tokens_at at (a ++ rest)) ≤ room →
+      behind (elements (phrase_at s known line deep) (ending s close (phrase_at s known line deep)) room) (ending s close (phrase_at s known line deep)) all done (tokens_at at (a ++ rest))
+      ≡ Ok (result done, left, tokens_at end rest)
 
 pub tail_as : {A : Type 0} {s : Spelling A} {known : Known} {close : signs.Sign} {a b : List ℕ} {f g : List A → A} {n m d e : ℕ} → IsTail s known close a f n d → a ≡ b → ((done : List A) → f done ≡ g done) →
     n ≡ m → d ≡ e → IsTail s known close b g m e
@@ -108,9 +106,9 @@ tail_end {A} s known close {kind} {closer} c = record {
   cut = word_is_cut (closer ∷ []) c.word;
   stops = λ rest. c.stops;
   again = λ line rest at end here e deep left all room done le count few.
-    let read : ℕ → List Token → Read A = phrase_at s known line deep in
-    ap (behind (elements read (ending s close read) room) (ending s close read) all done) (word_tokens (closer ∷ []) rest at end c.word tt e)
-    ∙ rw (c.no_comma, c.no_tail, c.closes) (ap (λ (n : ℕ). Ok (s.enclosing close done, n, tokens_at end rest)) (count ∙ omega arith));
+      let read : ℕ → List Token → Read A = phrase_at s known line deep in
+      ap (behind (elements read (ending s close read) room) (ending s close read) all done) (word_tokens (closer ∷ []) rest at end c.word tt e)
+      ∙ rw (c.no_comma, c.no_tail, c.closes) (ap (λ (n : ℕ). Ok (s.enclosing close done, n, tokens_at end rest)) (count ∙ omega arith));
 }
 
 -- an element, and the rest behind it
@@ -138,13 +136,13 @@ tail_item {A} s known close a b x result n m d e r t = record {
   cut = byte_on 44 (a ++ b) comma (cut_on a b r.cut t.cut (λ rest _. t.stops rest));
   stops = λ rest. refl;
   again = λ line rest at end here place deep left all room done le count few.
-    let read : ℕ → List Token → Read A = phrase_at s known line deep in
-    let finish : List A → ℕ → List Token → Read A = ending s close read in
-    let split : 44 ∷ ((a ++ b) ++ rest) ≡ (44 ∷ []) ++ (a ++ (b ++ rest)) = ap (λ (bytes : List ℕ). 44 ∷ bytes) (append_assoc a b rest) in
-    let there : drop (at + 1) line ≡ a ++ (b ++ rest) = behind_text line (44 ∷ []) (a ++ (b ++ rest)) at (at + 1) (here ∙ split) refl in
-    let front : tokens_at at (44 ∷ ((a ++ b) ++ rest)) ≡ token_at (Sign sign.Comma) at (44 ∷ []) ∷ tokens_at (at + 1) (a ++ (b ++ rest)) = ap (tokens_at at) split ∙ word_tokens (44 ∷ []) (a ++ (b ++ rest)) at (at + 1) comma tt refl in
-    ap (behind (elements read finish room) finish all done) front
-    ∙ element_step s known close a b x result n m d e r t line rest (at + 1) end there (omega (arith, place, length-append a b)) deep left all room done (omega (arith, le)) (omega (arith, le)) (omega (arith, count)) (omega (arith, few, ap length front));
+      let read : ℕ → List Token → Read A = phrase_at s known line deep in
+      let finish : List A → ℕ → List Token → Read A = ending s close read in
+      let split : 44 ∷ ((a ++ b) ++ rest) ≡ (44 ∷ []) ++ (a ++ (b ++ rest)) = ap (λ (bytes : List ℕ). 44 ∷ bytes) (append_assoc a b rest) in
+      let there : drop (at + 1) line ≡ a ++ (b ++ rest) = behind_text line (44 ∷ []) (a ++ (b ++ rest)) at (at + 1) (here ∙ split) refl in
+      let front : tokens_at at (44 ∷ ((a ++ b) ++ rest)) ≡ token_at (Sign sign.Comma) at (44 ∷ []) ∷ tokens_at (at + 1) (a ++ (b ++ rest)) = ap (tokens_at at) split ∙ word_tokens (44 ∷ []) (a ++ (b ++ rest)) at (at + 1) comma tt refl in
+      ap (behind (elements read finish room) finish all done) front
+      ∙ element_step s known close a b x result n m d e r t line rest (at + 1) end there (omega (arith, place, length-append a b)) deep left all room done (omega (arith, le)) (omega (arith, le)) (omega (arith, count)) (omega (arith, few, ap length front));
 }
 
 -- no element is there
@@ -195,9 +193,9 @@ some_read s known close opener o a b x result n m d e r t = record {
   cut = byte_on opener (a ++ b) o.word (cut_on a b r.cut (ends_sooner t.cut (λ rest stops. tt)) (λ rest _. t.stops rest));
   opens = λ rest at stops. word_opens (opener ∷ []) ((a ++ b) ++ rest) at o.word tt o.none;
   again = λ line rest at end here place stops deep left all le count.
-    let split : opener ∷ ((a ++ b) ++ rest) ≡ opener ∷ (a ++ (b ++ rest)) = ap (λ (bytes : List ℕ). opener ∷ bytes) (append_assoc a b rest) in
-    ap (λ (bytes : List ℕ). phrase_at s known line deep all (tokens_at at bytes)) split
-    ∙ some_again s known close opener o a b x result n m d e r t line rest at end (here ∙ split) (omega (arith, place, length-append a b)) deep left all le count;
+      let split : opener ∷ ((a ++ b) ++ rest) ≡ opener ∷ (a ++ (b ++ rest)) = ap (λ (bytes : List ℕ). opener ∷ bytes) (append_assoc a b rest) in
+      ap (λ (bytes : List ℕ). phrase_at s known line deep all (tokens_at at bytes)) split
+      ∙ some_again s known close opener o a b x result n m d e r t line rest at end (here ∙ split) (omega (arith, place, length-append a b)) deep left all le count;
 }
 
 -- elements, by their texts
@@ -233,17 +231,17 @@ bar_tail {A} s known a x n d tails r = record {
   cut = byte_on 124 (a ++ 93 ∷ []) bar (cut_on a (93 ∷ []) r.cut (word_is_cut (93 ∷ []) close_bracket) (λ rest _. refl));
   stops = λ rest. refl;
   again = λ line rest at end here place deep left all room done le count few.
-    let read : ℕ → List Token → Read A = phrase_at s known line deep in
-    let finish : List A → ℕ → List Token → Read A = ending s sign.CloseBracket read in
-    let split : 124 ∷ ((a ++ 93 ∷ []) ++ rest) ≡ (124 ∷ []) ++ (a ++ (93 ∷ rest)) = ap (λ (bytes : List ℕ). 124 ∷ bytes) (append_assoc a (93 ∷ []) rest) in
-    let there : drop (at + 1) line ≡ a ++ (93 ∷ rest) = behind_text line (124 ∷ []) (a ++ (93 ∷ rest)) at (at + 1) (here ∙ split) refl in
-    let front : tokens_at at (124 ∷ ((a ++ 93 ∷ []) ++ rest)) ≡ token_at (Sign sign.Bar) at (124 ∷ []) ∷ tokens_at (at + 1) (a ++ (93 ∷ rest)) = ap (tokens_at at) split ∙ word_tokens (124 ∷ []) (a ++ (93 ∷ rest)) at (at + 1) bar tt refl in
-    let mid : ℕ = at + 1 + length a in
-    let found : read all (tokens_at (at + 1) (a ++ (93 ∷ rest))) ≡ Ok (x, left, token_at (Sign sign.CloseBracket) mid (93 ∷ []) ∷ tokens_at end rest) =
+      let read : ℕ → List Token → Read A = phrase_at s known line deep in
+      let finish : List A → ℕ → List Token → Read A = ending s sign.CloseBracket read in
+      let split : 124 ∷ ((a ++ 93 ∷ []) ++ rest) ≡ (124 ∷ []) ++ (a ++ (93 ∷ rest)) = ap (λ (bytes : List ℕ). 124 ∷ bytes) (append_assoc a (93 ∷ []) rest) in
+      let there : drop (at + 1) line ≡ a ++ (93 ∷ rest) = behind_text line (124 ∷ []) (a ++ (93 ∷ rest)) at (at + 1) (here ∙ split) refl in
+      let front : tokens_at at (124 ∷ ((a ++ 93 ∷ []) ++ rest)) ≡ token_at (Sign sign.Bar) at (124 ∷ []) ∷ tokens_at (at + 1) (a ++ (93 ∷ rest)) = ap (tokens_at at) split ∙ word_tokens (124 ∷ []) (a ++ (93 ∷ rest)) at (at + 1) bar tt refl in
+      let mid : ℕ = at + 1 + length a in
+      let found : read all (tokens_at (at + 1) (a ++ (93 ∷ rest))) ≡ Ok (x, left, token_at (Sign sign.CloseBracket) mid (93 ∷ []) ∷ tokens_at end rest) =
       r.again line (93 ∷ rest) (at + 1) mid there refl refl deep left all le count
       ∙ ap (λ (ts : List Token). Ok (x, left, ts)) (word_tokens (93 ∷ []) rest mid end close_bracket tt (omega (arith, place, length-append a (93 ∷ [])))) in
-    let before : is_before_tail s sign.CloseBracket (Sign sign.Bar) ≡ true = rw tails refl in
-    ap (behind (elements read finish room) finish all done) front
-    ∙ when_true (is_before_tail s sign.CloseBracket (Sign sign.Bar)) _ _ before
-    ∙ ap (λ (o : Read A). o >>= λ y. closed (closes sign.CloseBracket) (s.nested done y.0) y.1 y.2) found;
+      let before : is_before_tail s sign.CloseBracket (Sign sign.Bar) ≡ true = rw tails refl in
+      ap (behind (elements read finish room) finish all done) front
+      ∙ when_true (is_before_tail s sign.CloseBracket (Sign sign.Bar)) _ _ before
+      ∙ ap (λ (o : Read A). o >>= λ y. closed (closes sign.CloseBracket) (s.nested done y.0) y.1 y.2) found;
 }

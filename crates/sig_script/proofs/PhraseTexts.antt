@@ -1,23 +1,20 @@
 -- The expressions and patterns of a script are read back from their texts.
-use Rattle.std.proofs.Common.{◌≡◌, ℕ, zero, suc, ◌+◌, ◌-◌, ◌<◌, ◌≤◌, Bool, true, false, cond, ◌&&◌, nat_le, nat_lt, List, [], ◌∷◌, ◌++◌, length, map, sum, drop, refl, sym, ap, subst, ◌∙◌, arith, append_assoc, length-append}
-use Rattle.std.specs.Prelude.{ℤ, Result, Ok, Err, codes, max}
+use Rattle.std.proofs.Common.{◌≡◌, ℕ, zero, suc, ◌+◌, ◌-◌, ◌<◌, ◌≤◌, Bool, true, false, cond, ◌&&◌, nat_le, nat_lt, List, [], ◌∷◌, ◌++◌, length, map, drop, refl, sym, ap, subst, ◌∙◌, arith}
+use Rattle.std.specs.Prelude.{ℤ, Result, Ok, codes, max}
 use Rattle.std.specs.Fmt.{signed_decimal}
 use Rattle.std.specs.List.{list_all}
 use Rattle.std.proofs.lemmas.Bool.Decides.{nat_tests}
-use Rattle.sig_terms.specs.Nodes.{greatest}
 use Rattle.sig_terms.specs.Words.{is_name, is_atom, is_atom_byte}
 use Rattle.sig_terms.specs.Readable.{is_wide}
-use Rattle.sig_terms.specs.TermText.{atom_text, joined}
+use Rattle.sig_terms.specs.TermText.{atom_text}
 use Rattle.sig_terms.specs.declared.bytes.TheConstants.{MOST_WORD_BYTES}
-use Rattle.sig_terms.specs.declared.pid.Pid.{Pid}
 use Rattle.sig_terms.proofs.Choices.{both_true}
 use Rattle.sig_terms.proofs.TokenReads.{Stops}
 use Rattle.sig_patterns.specs.declared.var.Var.{Var}
 use Rattle.sig_patterns.specs.declared.expression.Expr.{Expr, roll-Expr, map-Expr}
-use Rattle.sig_patterns.specs.declared.expression.Expr.TheVariants as expr
 use Rattle.sig_patterns.specs.declared.expression.Expr.TheOpen.{Expr-F}
 use Rattle.sig_patterns.specs.declared.expression.Expr.TheOpen as expression
-use Rattle.sig_patterns.specs.declared.expression.Expr.TheFolds.{fold-Expr, fold-roll-Expr, ind-Expr}
+use Rattle.sig_patterns.specs.declared.expression.Expr.TheFolds.{fold-roll-Expr, ind-Expr}
 use Rattle.sig_patterns.specs.declared.pattern.Pattern.{Pattern, roll-Pattern, map-Pattern}
 use Rattle.sig_patterns.specs.declared.pattern.Pattern.TheVariants as pattern
 use Rattle.sig_patterns.specs.declared.pattern.Pattern.TheOpen.{Pattern-F}
@@ -30,18 +27,18 @@ use Rattle.sig_script.specs.declared.token.Sign.TheVariants as sign
 use Rattle.sig_script.specs.declared.token.TokenKind.{TokenKind}
 use Rattle.sig_script.specs.declared.token.TokenKind.TheVariants.{Name, Variable, Integer, Quoted, Process, Sign}
 use Rattle.sig_script.specs.declared.token.Token.{Token}
-use Rattle.sig_script.specs.Faults.{◌>>=◌, on_ok}
+use Rattle.sig_script.specs.Faults.{on_ok}
 use Rattle.sig_script.specs.Names.{pid_of, name_at, variable_at}
 use Rattle.sig_script.specs.Signs.{closes}
-use Rattle.sig_script.specs.Phrases.{Spelling, Read, phrase_at, phrase_by, phrase_of}
+use Rattle.sig_script.specs.Phrases.{Spelling, Read, phrase_at, phrase_of}
 use Rattle.sig_script.specs.Expressions.{expr_spelling}
-use Rattle.sig_script.specs.PatternTexts.{pattern_spelling, pattern_signed, nested}
-use Rattle.sig_script.specs.ScriptText.{name_of_place, process_text, expr_step, expr_text, Written, alone, pattern_step, pattern_written}
-use Rattle.sig_script.specs.ReadableScript.{IsNameToken, IsVariableToken, is_variable_token, expr_count_step, expr_depth_step, expr_nodes, expr_depth, expr_step_is_plain, is_plain_expr, Counted, counts_alone, pattern_count_step, pattern_depth_step, pattern_step_is_plain, is_plain_pattern, IsReadableExpr, IsReadablePattern}
+use Rattle.sig_script.specs.PatternTexts.{pattern_spelling, nested}
+use Rattle.sig_script.specs.ScriptText.{name_of_place, expr_step, expr_text, Written, alone, pattern_step, pattern_written}
+use Rattle.sig_script.specs.ReadableScript.{IsNameToken, IsVariableToken, is_variable_token, expr_count_step, expr_depth_step, expr_nodes, expr_depth, expr_step_is_plain, is_plain_expr, Counted, counts_alone, pattern_count_step, pattern_depth_step, pattern_step_is_plain, is_plain_pattern}
 use Rattle.sig_script.proofs.Seen.{Reads, expr_seen, expr_seen_step, pattern_seen, pattern_seen_step}
-use Rattle.sig_script.proofs.WordTexts.{Anything, IsWord, name_word, variable_word, process_word, quoted_word, unquoted_again, int_word, int_again, open_brace, close_brace, open_bracket, close_bracket, caret, underscore}
-use Rattle.sig_script.proofs.CutTexts.{tokens_at, token_at, token_text, word_tokens, IsCut, word_is_cut, behind_text, word_opens}
-use Rattle.sig_script.proofs.PhraseReads.{IsRead, IsTail, tail_as, word_step, byte_on, ends_sooner, word_read, read_as, Closing, Opening, AreRead, none, more, tail_item, some_read, elements_read, bar_tail}
+use Rattle.sig_script.proofs.WordTexts.{name_word, variable_word, process_word, quoted_word, unquoted_again, int_word, int_again, open_brace, close_brace, open_bracket, close_bracket, caret, underscore}
+use Rattle.sig_script.proofs.CutTexts.{tokens_at, token_text, word_tokens, word_is_cut, behind_text, word_opens}
+use Rattle.sig_script.proofs.PhraseReads.{IsRead, IsTail, tail_as, word_step, byte_on, word_read, read_as, Closing, Opening, AreRead, none, more, tail_item, some_read, elements_read, bar_tail}
 use Rattle.sig_patterns.specs.declared.building.TheConstants.{MOST_NODES, MOST_DEPTH}
 
 -- ---- what closes no bracket
@@ -235,7 +232,7 @@ pin_again known x named line rest at end here e stops zero left all le count = a
 pin_again known x named line rest at end here e stops (suc deep) left all le count =
     word_step pattern_spelling known (94 ∷ []) caret line (x.0 ++ rest) at (at + 1) here refl tt deep left all (omega (arith, count))
     ∙ ap (λ (r : Result (List ℕ × List Token) FaultKind). on_ok (λ (y : Pattern × List Token). (y.0, left, y.1)) (on_ok (λ (y : List ℕ × List Token). (pattern.Pin (record { 0 = y.0 }), y.1)) r))
-      (variable_found line x.0 rest (at + 1) end named (behind_text line (94 ∷ []) (x.0 ++ rest) at (at + 1) here refl) e stops)
+    (variable_found line x.0 rest (at + 1) end named (behind_text line (94 ∷ []) (x.0 ++ rest) at (at + 1) here refl) e stops)
 
 pin_read : (known : Known) (x : Var) → is_variable_token x.0 ≡ true → IsRead pattern_spelling known (94 ∷ x.0) (pattern.Pin x) 1 1
 pin_read known x token =
@@ -267,7 +264,7 @@ pattern_comes known here names labels f g reads (layer.Int z) = pattern_layer kn
 pattern_comes known here names labels f g reads (layer.Atom bytes) = pattern_layer known names f (layer.Atom bytes) (λ atom. alone_read known (atom_text bytes) (pattern.Atom bytes) 1 1 (atom_read pattern_spelling known bytes atom))
 pattern_comes known here names labels f g reads (layer.Pid p) =
     pattern_layer known names f (layer.Pid p) (λ low. let r = reads.pids p.0 (below p.0 (length names) low) in
-      alone_read known (64 ∷ name_of_place names p.0) (pattern.Pid (record { 0 = f p.0 })) 1 1 (pid_read pattern_spelling known (name_of_place names p.0) (f p.0) r.0 r.1))
+    alone_read known (64 ∷ name_of_place names p.0) (pattern.Pid (record { 0 = f p.0 })) 1 1 (pid_read pattern_spelling known (name_of_place names p.0) (f p.0) r.0 r.1))
 pattern_comes known here names labels f g reads (layer.Tuple ps) =
     pattern_layer known names f (layer.Tuple (map (λ p. p.0) ps)) (λ each. alone_read known _ _ _ _ (elements_read pattern_spelling known sign.CloseBrace 123 125 (brace_opens pattern_spelling) (brace_closes pattern_spelling) (patterns_read known names f ps each)))
 pattern_comes known here names labels f g reads (layer.List ps) =

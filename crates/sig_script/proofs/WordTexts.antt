@@ -1,5 +1,5 @@
 -- The words of the canonical text are cut as tokens, each whole.
-use Rattle.std.proofs.Common.{◌≡◌, ℕ, zero, suc, ◌+◌, ◌-◌, ◌*◌, ◌/◌, ◌%◌, ◌^◌, ◌<◌, ◌≤◌, Bool, true, false, cond, not, ◌&&◌, nat_le, nat_lt, ◌==◌, List, [], ◌∷◌, ◌++◌, length, take, take_while, drop, Some, None, refl, sym, ap, subst, ◌∙◌, arith, append_assoc, length-append}
+use Rattle.std.proofs.Common.{◌≡◌, ℕ, suc, ◌+◌, ◌-◌, ◌*◌, ◌/◌, ◌%◌, ◌^◌, ◌<◌, ◌≤◌, Bool, true, false, cond, not, nat_le, nat_lt, ◌==◌, List, [], ◌∷◌, ◌++◌, length, take_while, drop, Some, refl, sym, ap, subst, ◌∙◌, arith, append_assoc, length-append}
 use Rattle.std.specs.Prelude.{ℤ, pos, negsuc, decimal, codes}
 use Rattle.std.specs.Fmt.{signed_decimal}
 use Rattle.std.specs.List.{list_all}
@@ -8,17 +8,16 @@ use Rattle.std.proofs.lemmas.Fmt.{decimal_by_steps}
 use Rattle.std.proofs.lemmas.List.Folds.{list_all-append}
 use Rattle.std.proofs.lemmas.List.Sums.{take_while-cons}
 use Rattle.std.proofs.Math.Seq.{drop-append_seam}
-use Rattle.sig_terms.specs.Words.{is_lower, is_upper, is_digit, is_name_byte, is_variable_byte, is_atom_byte, is_name, is_variable, is_atom}
+use Rattle.sig_terms.specs.Words.{is_lower, is_upper, is_digit, is_name_byte, is_variable_byte, is_atom_byte, is_atom}
 use Rattle.sig_terms.specs.Readable.{is_wide}
 use Rattle.sig_terms.specs.declared.bytes.TheConstants.{MOST_WORD_BYTES}
 use Rattle.sig_terms.proofs.Choices.{both_true}
 use Rattle.sig_terms.proofs.TokenReads.{StopsAt, Stops}
-use Rattle.sig_script.specs.declared.token.Sign as signs
 use Rattle.sig_script.specs.declared.token.Sign.TheVariants as sign
 use Rattle.sig_script.specs.declared.token.TokenKind.{TokenKind}
 use Rattle.sig_script.specs.declared.token.TokenKind.TheVariants.{Name, Variable, Integer, Quoted, Process, Sign}
 use Rattle.sig_script.specs.Tokens.{is_blank, front_run, front_token, short_word, is_token_in_range, unquoted}
-use Rattle.sig_script.specs.Numbers.{number_after, number, is_in_range, negative, int_of, count_of}
+use Rattle.sig_script.specs.Numbers.{number_after, number, negative, int_of, count_of}
 use Rattle.sig_script.specs.ReadableScript.{IsNameToken, IsVariableToken}
 
 -- a byte that ends no line
@@ -101,9 +100,9 @@ name_word (b ∷ bs) named =
     let each = both_true (is_lower b) (list_all is_name_byte bs) named.1 in
     record {
       front = λ rest stops.
-        let n : 1 + front_run is_name_byte (bs ++ rest) ≡ suc (length bs) = omega (arith, run_length is_name_byte bs rest each.1 stops) in
-        let few : suc (length bs) ≤ MOST_WORD_BYTES = named.0 in
-        when_true (is_lower b) _ _ each.0 ∙ ap (λ (k : ℕ). short_word Name 0 k) n ∙ short Name 0 (suc (length bs)) (suc (length bs)) few (omega arith);
+          let n : 1 + front_run is_name_byte (bs ++ rest) ≡ suc (length bs) = omega (arith, run_length is_name_byte bs rest each.1 stops) in
+          let few : suc (length bs) ≤ MOST_WORD_BYTES = named.0 in
+          when_true (is_lower b) _ _ each.0 ∙ ap (λ (k : ℕ). short_word Name 0 k) n ∙ short Name 0 (suc (length bs)) (suc (length bs)) few (omega arith);
       first = b;
       others = bs;
       is = refl;
@@ -122,9 +121,9 @@ variable_word (b ∷ bs) named =
     let each = both_true (is_upper b) (list_all is_variable_byte bs) named.1 in
     record {
       front = λ rest stops.
-        let n : 1 + front_run is_variable_byte (bs ++ rest) ≡ suc (length bs) = omega (arith, run_length is_variable_byte bs rest each.1 (stops_sooner is_name_byte is_variable_byte name_ends_variable rest stops)) in
-        let few : suc (length bs) ≤ MOST_WORD_BYTES = named.0 in
-        when_false (is_lower b) _ _ (upper_is_not_lower b each.0) ∙ when_true (is_upper b) _ _ each.0 ∙ ap (λ (k : ℕ). short_word Variable 0 k) n ∙ short Variable 0 (suc (length bs)) (suc (length bs)) few (omega arith);
+          let n : 1 + front_run is_variable_byte (bs ++ rest) ≡ suc (length bs) = omega (arith, run_length is_variable_byte bs rest each.1 (stops_sooner is_name_byte is_variable_byte name_ends_variable rest stops)) in
+          let few : suc (length bs) ≤ MOST_WORD_BYTES = named.0 in
+          when_false (is_lower b) _ _ (upper_is_not_lower b each.0) ∙ when_true (is_upper b) _ _ each.0 ∙ ap (λ (k : ℕ). short_word Variable 0 k) n ∙ short Variable 0 (suc (length bs)) (suc (length bs)) few (omega arith);
       first = b;
       others = bs;
       is = refl;
@@ -141,9 +140,9 @@ process_word (b ∷ bs) named =
     let each = both_true (is_lower b) (list_all is_name_byte bs) named.1 in
     record {
       front = λ rest stops.
-        let n : 1 + front_run is_name_byte (bs ++ rest) ≡ suc (length bs) = omega (arith, run_length is_name_byte bs rest each.1 stops) in
-        let few : suc (length bs) ≤ MOST_WORD_BYTES = named.0 in
-        when_true (is_lower b) _ _ each.0 ∙ ap (λ (k : ℕ). short_word Process 1 k) n ∙ short Process 1 (suc (length bs)) (suc (suc (length bs))) few (omega arith);
+          let n : 1 + front_run is_name_byte (bs ++ rest) ≡ suc (length bs) = omega (arith, run_length is_name_byte bs rest each.1 stops) in
+          let few : suc (length bs) ≤ MOST_WORD_BYTES = named.0 in
+          when_true (is_lower b) _ _ each.0 ∙ ap (λ (k : ℕ). short_word Process 1 k) n ∙ short Process 1 (suc (length bs)) (suc (suc (length bs))) few (omega arith);
       first = 64;
       others = b ∷ bs;
       is = refl;
@@ -163,11 +162,11 @@ quoted_word bytes atom =
     let each = both_true (nat_le (length bytes) MOST_WORD_BYTES) (list_all is_atom_byte bytes) atom in
     record {
       front = λ rest _.
-        let n : front_run is_atom_byte (bytes ++ 39 ∷ rest) ≡ length bytes = ap length (quote_found bytes rest each.1) in
-        let few : length bytes ≤ MOST_WORD_BYTES = grind (arith, nat_tests, each.0) in
-        let behind : drop (length bytes) (bytes ++ 39 ∷ rest) ≡ 39 ∷ rest = drop-append_seam bytes (39 ∷ rest) in
-        ap (λ (bs : List ℕ). front_token (39 ∷ bs)) (append_assoc bytes (39 ∷ []) rest)
-        ∙ rw (n, behind) (short Quoted 2 (length bytes) (length (39 ∷ (bytes ++ 39 ∷ []))) few (omega (arith, length-append bytes (39 ∷ []))));
+          let n : front_run is_atom_byte (bytes ++ 39 ∷ rest) ≡ length bytes = ap length (quote_found bytes rest each.1) in
+          let few : length bytes ≤ MOST_WORD_BYTES = grind (arith, nat_tests, each.0) in
+          let behind : drop (length bytes) (bytes ++ 39 ∷ rest) ≡ 39 ∷ rest = drop-append_seam bytes (39 ∷ rest) in
+          ap (λ (bs : List ℕ). front_token (39 ∷ bs)) (append_assoc bytes (39 ∷ []) rest)
+          ∙ rw (n, behind) (short Quoted 2 (length bytes) (length (39 ∷ (bytes ++ 39 ∷ []))) few (omega (arith, length-append bytes (39 ∷ []))));
       first = 39;
       others = bytes ++ 39 ∷ [];
       is = refl;
