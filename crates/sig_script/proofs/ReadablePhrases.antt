@@ -24,7 +24,7 @@ use Rattle.sig_script.specs.Names.{pid_of, name_of, variable_of, name_at, variab
 use Rattle.sig_script.specs.Signs.{is_open_brace, is_open_bracket, is_comma, is_caret, is_underscore, closes}
 use Rattle.sig_script.specs.Phrases.{Read, Spelling, behind, elements, closed, is_before_tail, ending, bracketed, single, phrase_by, phrase_front, phrase_at, phrase_of}
 use Rattle.sig_script.specs.Expressions.{expr_enclosing, expr_spelling, expr_of}
-use Rattle.sig_script.specs.PatternTexts.{pattern_signed, pattern_enclosing, nested, pattern_spelling, pattern_of}
+use Rattle.sig_script.specs.PatternTexts.{pattern_signed, pattern_enclosing, pattern_spelling, pattern_of}
 use Rattle.sig_script.specs.ReadableScript.{IsNameToken, IsVariableToken, expr_nodes, expr_depth, is_plain_expr, IsReadableExpr, pattern_nodes, pattern_depth, is_plain_pattern, IsReadablePattern}
 use Rattle.sig_script.proofs.BoundTermLemmas.{Holds, holds-if, holds-on_ok, holds-then, pid-below}
 use Rattle.sig_script.proofs.WordLemmas.{AreWords, IsWord}
