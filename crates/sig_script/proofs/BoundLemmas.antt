@@ -42,7 +42,7 @@ use Rattle.sig_script.proofs.BoundTermLemmas.{Holds, anything, holds-of, holds-i
 use Rattle.sig_script.specs.declared.script.TheConstants.{DEFAULT_TURNS, MOST_PROCESSES, MOST_TURNS}
 
 -- each item but the last
-all-front : {A : Type 0} (P : A → Type 0) (xs : List A) (x : A) → All P (xs ++ x ∷ []) → All P xs
+pub all-front : {A : Type 0} (P : A → Type 0) (xs : List A) (x : A) → All P (xs ++ x ∷ []) → All P xs
 all-front P [] x h = All-nil P
 all-front P (y ∷ ys) x h = All-cons P y ys (All-head P y (ys ++ x ∷ []) h) (all-front P ys x (All-tail P y (ys ++ x ∷ []) h))
 
@@ -129,12 +129,12 @@ fit_taken known n d e line h taken =
     holds-of (IsFit (n + 1)) (line_taken known d line) e (fit_line known n d line h) taken
 
 -- bodies: what holds before each line, and of the script behind the last
-holds-located : {A B : Type 0} (P : A → Type 0) (Q : B → Type 0) (n : ℕ) (f : A → Result B Fault) (r : Result A FaultKind) →
+pub holds-located : {A B : Type 0} (P : A → Type 0) (Q : B → Type 0) (n : ℕ) (f : A → Result B Fault) (r : Result A FaultKind) →
     Holds P r → ((x : A) → P x → Holds Q (f x)) → Holds Q (located n r >>= f)
 holds-located P Q n f (Ok x) h k = k x h
 holds-located P Q n f (Err e) h k = tt
 
-holds-finished : (Q : Program → Type 0) (n : ℕ) (d : Draft) (section : Section) → Q (program_of d) → Holds Q (finished n d section)
+pub holds-finished : (Q : Program → Type 0) (n : ℕ) (d : Draft) (section : Section) → Q (program_of d) → Holds Q (finished n d section)
 holds-finished Q n d Before h = h
 holds-finished Q n d (Outside p) h = h
 holds-finished Q n d (Inside p using clauses after) h = tt
@@ -142,7 +142,7 @@ holds-finished Q n d (Inside p using clauses after) h = tt
 module _ (known : Known) (P : ℕ → Draft → Type 0) (Q : Program → Type 0) (m : ℕ)
     (step : (n : ℕ) (d : Draft) (line : List ℕ) → n < m → P n d → Holds (P (n + 1)) (line_taken known d line))
     (last : (n : ℕ) (d : Draft) → n ≤ m → P n d → Q (program_of d)) where
-  body-holds : (n : ℕ) (d : Draft) (lines : List (List ℕ)) → n + length lines ≤ m → P n d → Holds Q (body known n d lines)
+  pub body-holds : (n : ℕ) (d : Draft) (lines : List (List ℕ)) → n + length lines ≤ m → P n d → Holds Q (body known n d lines)
   unfolding body
   body-holds n d [] le h = holds-finished Q n d d.section (last n d (omega (arith, le)) h)
   body-holds n d (line ∷ lines) le h =
@@ -591,7 +591,7 @@ counted-at (suc k) (p ∷ ps) d lt = let less : k < length ps = omega (arith, lt
 same-labels : (k : ℕ) (ps qs : List Declared) (d : Declared) → counts ps ≡ counts qs → k < length qs → length (labels_at k ps) ≡ length (get_or qs k d).labels
 same-labels k ps qs d e lt = labels-counted k ps ∙ ap (λ (cs : List ℕ). get_or cs k 0) e ∙ counted-at k qs d lt
 
-same-number : (ps qs : List Declared) → counts ps ≡ counts qs → length ps ≡ length qs
+pub same-number : (ps qs : List Declared) → counts ps ≡ counts qs → length ps ≡ length qs
 same-number ps qs e = sym (length-map ps (λ (p : Declared). length p.labels)) ∙ ap length e ∙ length-map qs (λ (p : Declared). length p.labels)
 
 proc-within : (first : Program) (here m : ℕ) (p : Declared) → m < 2 ^ 31 → IsSmall m p → length (labels_at here first.procs) ≡ length p.labels → IsMeant first here p → IsWithin p

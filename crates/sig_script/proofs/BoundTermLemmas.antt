@@ -96,7 +96,7 @@ found e m None h = tt
 found e m (Some i) h = h i refl
 
 -- the pids of a script's processes
-pid-below : (s : Program) (name : List ℕ) → Holds (λ n. n < length s.procs) (pid_of (Among s) name)
+pub pid-below : (s : Program) (name : List ℕ) → Holds (λ n. n < length s.procs) (pid_of (Among s) name)
 pid-below s name =
     found UnknownProcess (length s.procs) (position (λ (p : Declared). bytes_eq p.name name) s.procs)
     (λ i e. (position-Some (λ (p : Declared). bytes_eq p.name name) s.procs i (record { name = []; labels = []; instrs = [] }) e).0)

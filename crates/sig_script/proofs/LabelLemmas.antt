@@ -17,7 +17,7 @@ use Rattle.sig_script.specs.declared.label.Label.{Label}
 use Rattle.sig_script.specs.LabelPlaces.{IsIndexed}
 
 -- the place of the first item that passes a test, by the first item and the rest
-abbrev next : ℕ → ℕ
+abbrev pub next : ℕ → ℕ
 next n = 1 + n
 
 shifted : (v : Bool) (n : ℕ) → cond v (Some (1 + n)) None ≡ option_map next (cond v (Some n) None)
@@ -30,7 +30,7 @@ less-next n m = grind (arith, nat_tests)
 less-first : (n : ℕ) → nat_lt 0 (suc n) ≡ true
 less-first n = grind (arith, nat_tests)
 
-position-cons : {A : Type 0} (p : A → Bool) (x : A) (xs : List A) → position p (x ∷ xs) ≡ cond (p x) (Some 0) (option_map next (position p xs))
+pub position-cons : {A : Type 0} (p : A → Bool) (x : A) (xs : List A) → position p (x ∷ xs) ≡ cond (p x) (Some 0) (option_map next (position p xs))
 position-cons p x xs =
     let n : ℕ = position_or_len p xs in
     elim (p x) as (λ v. cond (nat_lt (cond (not v) (1 + n) 0) (suc (length xs))) (Some (cond (not v) (1 + n) 0)) None ≡ cond v (Some 0) (option_map next (position p xs))) [

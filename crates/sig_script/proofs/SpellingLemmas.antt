@@ -18,36 +18,36 @@ passes-front : (p : ℕ → Bool) (b : ℕ) (bs : List ℕ) (v : Bool) → p b �
 passes-front p b bs true e h = rw (e, h) refl
 passes-front p b bs false e h = refl
 
-run-passes : (p : ℕ → Bool) (bs : List ℕ) → list_all p (take_while p bs) ≡ true
+pub run-passes : (p : ℕ → Bool) (bs : List ℕ) → list_all p (take_while p bs) ≡ true
 run-passes p [] = refl
 run-passes p (b ∷ bs) = rw (take_while-cons p b bs) (passes-front p b bs (p b) refl (run-passes p bs))
 
-and-first : (a b : Bool) → (a && b) ≡ true → a ≡ true
+pub and-first : (a b : Bool) → (a && b) ≡ true → a ≡ true
 and-first true b h = refl
 and-first false b h = h
 
-and-second : (a b : Bool) → (a && b) ≡ true → b ≡ true
+pub and-second : (a b : Bool) → (a && b) ≡ true → b ≡ true
 and-second true b h = h
 and-second false b h = cc
 
 name-in_atom : (b : ℕ) → is_name_byte b ≡ true → is_atom_byte b ≡ true
 name-in_atom b h = grind (arith, nat_tests)
 
-lower-in_atom : (b : ℕ) → is_lower b ≡ true → is_atom_byte b ≡ true
+pub lower-in_atom : (b : ℕ) → is_lower b ≡ true → is_atom_byte b ≡ true
 lower-in_atom b h = grind (arith, nat_tests)
 
-names-in_atom : (bs : List ℕ) → list_all is_name_byte bs ≡ true → list_all is_atom_byte bs ≡ true
+pub names-in_atom : (bs : List ℕ) → list_all is_name_byte bs ≡ true → list_all is_atom_byte bs ≡ true
 names-in_atom [] h = refl
 names-in_atom (b ∷ bs) h =
     rw (name-in_atom b (and-first (is_name_byte b) (list_all is_name_byte bs) h), names-in_atom bs (and-second (is_name_byte b) (list_all is_name_byte bs) h)) refl
 
 -- a byte, and the bytes behind it that pass a test
-front-word : (p : ℕ → Bool) (b : ℕ) (bs : List ℕ) → take (1 + front_run p bs) (b ∷ bs) ≡ b ∷ take_while p bs
+pub front-word : (p : ℕ → Bool) (b : ℕ) (bs : List ℕ) → take (1 + front_run p bs) (b ∷ bs) ≡ b ∷ take_while p bs
 front-word p b bs =
     let one : 1 + front_run p bs ≡ suc (front_run p bs) = omega arith in
     ap (λ (n : ℕ). take n (b ∷ bs)) one ∙ ap (λ (n : ℕ). b ∷ take n bs) (length-prefix_len p bs)
 
-front-length : (p : ℕ → Bool) (b : ℕ) (bs : List ℕ) → nat_le (1 + front_run p bs) MOST_WORD_BYTES ≡ true → nat_le (length (b ∷ take_while p bs)) MOST_WORD_BYTES ≡ true
+pub front-length : (p : ℕ → Bool) (b : ℕ) (bs : List ℕ) → nat_le (1 + front_run p bs) MOST_WORD_BYTES ≡ true → nat_le (length (b ∷ take_while p bs)) MOST_WORD_BYTES ≡ true
 front-length p b bs h =
     let one : suc (front_run p bs) ≡ 1 + front_run p bs = omega arith in
     ap (λ (n : ℕ). nat_le n MOST_WORD_BYTES) one ∙ h
@@ -115,7 +115,7 @@ shorter-run p (suc m) (b ∷ bs) =
     let h = shorter-run p m bs in
     rw (take_while-cons p b (take m bs), take_while-cons p b bs) (shorter-front p b (take_while p (take m bs)) (take_while p bs) (p b) h)
 
-quoted-spelled : (b : ℕ) (bs : List ℕ) → nat_le (front_run is_atom_byte bs) MOST_WORD_BYTES ≡ true → IsSpelled Quoted (take (2 + front_run is_atom_byte bs) (b ∷ bs))
+pub quoted-spelled : (b : ℕ) (bs : List ℕ) → nat_le (front_run is_atom_byte bs) MOST_WORD_BYTES ≡ true → IsSpelled Quoted (take (2 + front_run is_atom_byte bs) (b ∷ bs))
 quoted-spelled b bs short =
     let n : ℕ = front_run is_atom_byte bs in
     let two : 2 + n ≡ suc (suc n) = omega arith in

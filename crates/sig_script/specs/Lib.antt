@@ -15,3 +15,5 @@ pub mod Drafts
 pub mod Fitting
 pub mod Grammar
 pub mod Reading
+pub mod ScriptText
+pub mod ReadableScript

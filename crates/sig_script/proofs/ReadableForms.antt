@@ -1,0 +1,192 @@
+-- What a line says is readable.
+use Rattle.std.proofs.Common.{ℕ, List, [], ◌∷◌, length, All, IfSome, Bool, false, Option, Some, None, Result, codes}
+use Rattle.std.proofs.lemmas.List.Elements.{All-nil, All-cons}
+use Rattle.sig_patterns.specs.declared.clause.Clause.{Clause}
+use Rattle.sig_patterns.specs.declared.var.Var.{Var}
+use Rattle.sig_patterns.specs.declared.expression.Expr.{Expr}
+use Rattle.sig_patterns.specs.declared.pattern.Pattern.{Pattern}
+use Rattle.sig_script.specs.declared.instruction.Instr.{Instr}
+use Rattle.sig_script.specs.declared.fault.FaultKind.{FaultKind}
+use Rattle.sig_script.specs.declared.token.Token.{Token}
+use Rattle.sig_script.specs.declared.known.Known.TheVariants.{Among}
+use Rattle.sig_script.specs.declared.keyword.Verb.{Verb}
+use Rattle.sig_script.specs.declared.keyword.Verb.TheVariants as verb
+use Rattle.sig_script.specs.declared.keyword.Keyword.{Keyword}
+use Rattle.sig_script.specs.declared.keyword.Keyword.TheVariants as keyword
+use Rattle.sig_script.specs.declared.draft.Draft.{Draft}
+use Rattle.sig_script.specs.declared.form.Form.{Form}
+use Rattle.sig_script.specs.declared.form.Form.TheVariants as form
+use Rattle.sig_script.specs.Scripts.{Program}
+use Rattle.sig_script.specs.Faults.{◌>>=◌, on_ok}
+use Rattle.sig_script.specs.Tokens.{text}
+use Rattle.sig_script.specs.Names.{label_of, name_at, variable_at}
+use Rattle.sig_script.specs.PatternTexts.{pattern_of}
+use Rattle.sig_script.specs.Forms.{Operand, an_expr, a_variable, a_label, a_switch, a_mode, a_flag, Said, AllSaid, operand_at, all_said, made_of, mode_of, flag_of, switch_of, word_at, tokens_of, keyword_of, may_stand, ends, arrow_of, count_from, turns_of, whole_name, marker_of, on_of, instr_of, form_of, form_behind, said_by, said}
+use Rattle.sig_script.specs.ReadableScript.{IsNameToken, IsVariableToken, IsReadableExpr, IsReadablePattern, IsReadableInstr}
+use Rattle.sig_script.proofs.BoundTermLemmas.{Holds, anything, holds-if, holds-on_ok, holds-then, holds-ends}
+use Rattle.sig_script.proofs.WordLemmas.{AreWords, tokens-words}
+use Rattle.sig_script.proofs.ReadablePhrases.{holds-weaker, name-read, variable-read, expr-read, pattern-read}
+
+-- what is known of a form
+abbrev pub IsReadableForm : ℕ → Form → Type 0
+IsReadableForm count (form.Process name) = IsNameToken name
+IsReadableForm count (form.Label name) = IsNameToken name
+IsReadableForm count (form.Do i) = IsReadableInstr count i
+IsReadableForm count (form.Receive using) = IfSome using (λ x. IsVariableToken x.0)
+IsReadableForm count (form.On pattern target) = IsReadablePattern count pattern
+IsReadableForm count _ = Unit {0}
+
+-- a word that means something
+meaning-read : {B : Type 0} (line : List ℕ) (meaning : List ℕ → Result B FaultKind) (ts : List Token) → AreWords line ts →
+    Holds (λ (x : B × List Token). AreWords line x.1) (name_at line ts >>= λ x. on_ok (λ a. (a, x.1)) (meaning x.0))
+meaning-read {B} line meaning ts h =
+    holds-then (λ (x : List ℕ × List Token). IsNameToken x.0 × AreWords line x.1) (λ (x : B × List Token). AreWords line x.1) (λ x. on_ok (λ a. (a, x.1)) (meaning x.0)) (name_at line ts) (name-read line ts h)
+    (λ x k. holds-on_ok (λ _. Unit {0}) (λ (y : B × List Token). AreWords line y.1) (λ a. (a, x.1)) (meaning x.0) (anything (meaning x.0)) (λ a _. k.1))
+
+word-read : {B : Type 0} (line : List ℕ) (nothing : B) (meaning : List ℕ → Result B FaultKind) (ts : List Token) → AreWords line ts → Holds (λ (x : B × List Token). AreWords line x.1) (word_at nothing meaning line ts)
+word-read line nothing meaning [] h = tt
+word-read line nothing meaning (t ∷ ts) h = meaning-read line meaning (t ∷ ts) h
+
+module _ (s : Program) (here : ℕ) (line : List ℕ) where
+  abbrev count : ℕ
+  count = length s.procs
+
+  -- what is known of what an operand says
+  abbrev IsReadableSaid : (o : Operand) → Said o → Type 0
+  IsReadableSaid an_expr e = IsReadableExpr count e
+  IsReadableSaid a_variable x = IsVariableToken x
+  IsReadableSaid _ x = Unit {0}
+
+  abbrev AreReadable : (os : List Operand) → AllSaid os → Type 0
+  AreReadable [] x = Unit {0}
+  AreReadable (o ∷ os) x = IsReadableSaid o x.0 × AreReadable os x.1
+
+  abbrev IsFront : (o : Operand) → Said o × List Token → Type 0
+  IsFront o x = IsReadableSaid o x.0 × AreWords line x.1
+
+  operand-read : (o : Operand) (ts : List Token) → AreWords line ts → Holds (IsFront o) (operand_at (Among s) here line o ts)
+  operand-read an_expr ts h = expr-read s line ts h
+  operand-read a_variable ts h = variable-read line ts h
+  operand-read a_label ts h = holds-weaker (λ (x : ℕ × List Token). AreWords line x.1) (IsFront a_label) _ (meaning-read line (label_of (Among s) here) ts h) (λ x k. (tt, k))
+  operand-read a_switch ts h = holds-weaker (λ (x : Bool × List Token). AreWords line x.1) (IsFront a_switch) _ (meaning-read line switch_of ts h) (λ x k. (tt, k))
+  operand-read a_mode ts h = holds-weaker (λ (x : Said a_mode × List Token). AreWords line x.1) (IsFront a_mode) _ (word-read line None mode_of ts h) (λ x k. (tt, k))
+  operand-read (a_flag flag) ts h = holds-weaker (λ (x : Bool × List Token). AreWords line x.1) (IsFront (a_flag flag)) _ (word-read line false (flag_of flag) ts h) (λ x k. (tt, k))
+
+  operands-read : (os : List Operand) (ts : List Token) → AreWords line ts → Holds (AreReadable os) (all_said (Among s) here line os ts)
+  operands-read [] ts h = holds-ends (AreReadable []) tt ts tt
+  operands-read (o ∷ os) ts h =
+      holds-then (IsFront o) (AreReadable (o ∷ os)) (λ x. on_ok (λ xs. (x.0, xs)) (all_said (Among s) here line os x.1)) (operand_at (Among s) here line o ts) (operand-read o ts h)
+      (λ x k. holds-on_ok (AreReadable os) (AreReadable (o ∷ os)) (λ xs. (x.0, xs)) (all_said (Among s) here line os x.1) (operands-read os x.1 k.1) (λ xs l. (k.0, l)))
+
+  abbrev IsReadable : Instr → Type 0
+  IsReadable i = IsReadableInstr count i
+
+  made-read : (os : List Operand) (make : AllSaid os → Instr) (ts : List Token) → AreWords line ts → ((x : AllSaid os) → AreReadable os x → IsReadable (make x)) →
+      Holds IsReadable (made_of (Among s) here line os make ts)
+  unfolding made_of
+  made-read os make ts h k = holds-on_ok (AreReadable os) IsReadable make (all_said (Among s) here line os ts) (operands-read os ts h) k
+
+  -- the parts of an instruction
+  abbrev IsExpr : Expr → Type 0
+  IsExpr e = IsReadableExpr count e
+
+  abbrev IsVar : Var → Type 0
+  IsVar x = IsVariableToken x.0
+
+  no-exprs : All IsExpr []
+  no-exprs = All-nil IsExpr
+
+  one-expr : (e : Expr) → IsExpr e → All IsExpr (e ∷ [])
+  one-expr e h = All-cons IsExpr e [] h no-exprs
+
+  two-exprs : (a b : Expr) → IsExpr a → IsExpr b → All IsExpr (a ∷ b ∷ [])
+  two-exprs a b h k = All-cons IsExpr a (b ∷ []) h (one-expr b k)
+
+  no-clauses : All (λ (c : Clause). IsReadablePattern count c.pattern) []
+  no-clauses = All-nil (λ (c : Clause). IsReadablePattern count c.pattern)
+
+  no-vars : All IsVar []
+  no-vars = All-nil IsVar
+
+  one-var : (x : List ℕ) → IsVariableToken x → All IsVar (record { 0 = x } ∷ [])
+  one-var x h = All-cons IsVar (record { 0 = x }) [] h no-vars
+
+  instr-read : (v : Verb) (ts : List Token) → AreWords line ts → Holds IsReadable (instr_of (Among s) here v line ts)
+  unfolding instr_of
+  instr-read verb.Send ts w = made-read _ _ ts w (λ x h. record { exprs = two-exprs x.0 x.1.0 h.0 h.1.0; clauses = no-clauses; vars = no-vars; using = tt })
+  instr-read verb.Set ts w = made-read _ _ ts w (λ x h. record { exprs = one-expr x.1.0 h.1.0; clauses = no-clauses; vars = one-var x.0 h.0; using = tt })
+  instr-read verb.MakeRef ts w = made-read _ _ ts w (λ x h. record { exprs = no-exprs; clauses = no-clauses; vars = one-var x.0 h.0; using = tt })
+  instr-read verb.Link ts w = made-read _ _ ts w (λ x h. record { exprs = one-expr x.0 h.0; clauses = no-clauses; vars = no-vars; using = tt })
+  instr-read verb.Unlink ts w = made-read _ _ ts w (λ x h. record { exprs = one-expr x.0 h.0; clauses = no-clauses; vars = no-vars; using = tt })
+  instr-read verb.Monitor ts w = made-read _ _ ts w (λ x h. record { exprs = one-expr x.1.0 h.1.0; clauses = no-clauses; vars = one-var x.0 h.0; using = tt })
+  instr-read verb.Demonitor ts w = made-read _ _ ts w (λ x h. record { exprs = one-expr x.0 h.0; clauses = no-clauses; vars = no-vars; using = tt })
+  instr-read verb.Alias ts w = made-read _ _ ts w (λ x h. record { exprs = no-exprs; clauses = no-clauses; vars = one-var x.0 h.0; using = tt })
+  instr-read verb.Unalias ts w = made-read _ _ ts w (λ x h. record { exprs = one-expr x.0 h.0; clauses = no-clauses; vars = no-vars; using = tt })
+  instr-read verb.Exit ts w = made-read _ _ ts w (λ x h. record { exprs = one-expr x.0 h.0; clauses = no-clauses; vars = no-vars; using = tt })
+  instr-read verb.ExitTo ts w = made-read _ _ ts w (λ x h. record { exprs = two-exprs x.0 x.1.0 h.0 h.1.0; clauses = no-clauses; vars = no-vars; using = tt })
+  instr-read verb.Trap ts w = made-read _ _ ts w (λ x h. record { exprs = no-exprs; clauses = no-clauses; vars = no-vars; using = tt })
+  instr-read verb.Reserve ts w = made-read _ _ ts w (λ x h. record { exprs = no-exprs; clauses = no-clauses; vars = no-vars; using = tt })
+  instr-read verb.Bind ts w = made-read _ _ ts w (λ x h. record { exprs = no-exprs; clauses = no-clauses; vars = one-var x.0 h.0; using = tt })
+  instr-read verb.Clear ts w = made-read _ _ ts w (λ x h. record { exprs = no-exprs; clauses = no-clauses; vars = one-var x.0 h.0; using = tt })
+  instr-read verb.Goto ts w = made-read _ _ ts w (λ x h. record { exprs = no-exprs; clauses = no-clauses; vars = no-vars; using = tt })
+  instr-read verb.Stop ts w = made-read _ _ ts w (λ x h. record { exprs = no-exprs; clauses = no-clauses; vars = no-vars; using = tt })
+
+  abbrev IsForm : Form → Type 0
+  IsForm f = IsReadableForm count f
+
+  whole_name-read : (ts : List Token) → AreWords line ts → Holds IsNameToken (whole_name line ts)
+  whole_name-read ts h =
+      holds-then (λ (x : List ℕ × List Token). IsNameToken x.0 × AreWords line x.1) IsNameToken (λ x. ends x.0 x.1) (name_at line ts) (name-read line ts h) (λ x k. holds-ends IsNameToken x.0 x.1 k.0)
+
+  abbrev IsMarker : Option Var → Type 0
+  IsMarker using = IfSome using (λ x. IsVariableToken x.0)
+
+  marker-read : (ts : List Token) → AreWords line ts → Holds IsMarker (marker_of line ts)
+  marker-read [] h = tt
+  marker-read (t ∷ ts) h =
+      holds-then (λ (x : List ℕ × List Token). IsNameToken x.0 × AreWords line x.1) IsMarker
+      (λ x. flag_of (codes "using") x.0 >>= λ is_using. variable_at line x.1 >>= λ y. ends (Some (record { 0 = y.0 })) y.1) (name_at line (t ∷ ts)) (name-read line (t ∷ ts) h)
+      (λ x k. holds-then (λ _. Unit {0}) IsMarker (λ is_using. variable_at line x.1 >>= λ y. ends (Some (record { 0 = y.0 })) y.1) (flag_of (codes "using") x.0) (anything (flag_of (codes "using") x.0))
+      (λ u _. holds-then (λ (y : List ℕ × List Token). IsVariableToken y.0 × AreWords line y.1) IsMarker (λ y. ends (Some (record { 0 = y.0 })) y.1) (variable_at line x.1) (variable-read line x.1 k.1)
+      (λ y l. holds-ends IsMarker (Some (record { 0 = y.0 })) y.1 l.0)))
+
+  on-read : (ts : List Token) → AreWords line ts → Holds IsForm (on_of (Among s) here line ts)
+  on-read ts h =
+      holds-then (λ (x : Pattern × List Token). IsReadablePattern count x.0 × AreWords line x.1) IsForm (λ x. on_ok (form.On x.0) (arrow_of (Among s) here line x.1)) (pattern_of (Among s) line ts) (pattern-read s line ts h)
+      (λ x k. holds-on_ok (λ _. Unit {0}) IsForm (form.On x.0) (arrow_of (Among s) here line x.1) (anything (arrow_of (Among s) here line x.1)) (λ o _. k.0))
+
+  turns-read : (ts : List Token) → Holds IsForm (turns_of line ts)
+  turns-read [] = tt
+  turns-read (t ∷ ts) =
+      holds-then (λ _. Unit {0}) IsForm (λ n. ends (form.Turns n) ts) (count_from t.kind (text line t)) (anything (count_from t.kind (text line t))) (λ n _. holds-ends IsForm (form.Turns n) ts tt)
+
+  form-read : (word : Keyword) (ts : List Token) → AreWords line ts → Holds IsForm (form_of (Among s) here word line ts)
+  unfolding form_of
+  form-read keyword.Turns ts h = turns-read ts
+  form-read keyword.Process ts h = holds-on_ok IsNameToken IsForm form.Process (whole_name line ts) (whole_name-read ts h) (λ n k. k)
+  form-read keyword.Label ts h = holds-on_ok IsNameToken IsForm form.Label (whole_name line ts) (whole_name-read ts h) (λ n k. k)
+  form-read keyword.Receive ts h = holds-on_ok IsMarker IsForm form.Receive (marker_of line ts) (marker-read ts h) (λ u k. k)
+  form-read keyword.On ts h = on-read ts h
+  form-read keyword.After ts h =
+      holds-on_ok (λ _. Unit {0}) IsForm (λ target. form.After (record { target = target })) (arrow_of (Among s) here line ts) (anything (arrow_of (Among s) here line ts)) (λ o _. tt)
+  form-read keyword.End ts h = holds-ends IsForm form.End ts tt
+  form-read (keyword.Do v) ts h = holds-on_ok IsReadable IsForm form.Do (instr_of (Among s) here v line ts) (instr-read v ts h) (λ i k. k)
+
+module _ (s : Program) (d : Draft) (line : List ℕ) where
+  abbrev IsNext : Form → Type 0
+  IsNext f = IsReadableForm (length s.procs) f
+
+  form_behind-read : (word : Option Keyword) (ts : List Token) → AreWords line ts → Holds IsNext (form_behind (Among s) d word line ts)
+  form_behind-read None ts h = tt
+  form_behind-read (Some word) ts h = holds-if IsNext (may_stand d.turns d.section word) _ _ (λ _. form-read s (length d.procs) line word ts h) (λ _. tt)
+
+  said_by-read : (ts : List Token) → AreWords line ts → Holds (λ o. IfSome o IsNext) (said_by (Among s) d line ts)
+  unfolding said_by
+  said_by-read [] h = tt
+  said_by-read (w ∷ ts) h =
+      holds-on_ok IsNext (λ o. IfSome o IsNext) Some (form_behind (Among s) d (keyword_of (text line w)) line ts) (form_behind-read (keyword_of (text line w)) ts h.1) (λ f k. k)
+
+  -- what a line says behind what was read so far
+  pub said-read : Holds (λ o. IfSome o IsNext) (said (Among s) d line)
+  unfolding said
+  said-read = holds-then (AreWords line) (λ o. IfSome o IsNext) (said_by (Among s) d line) (tokens_of line) (tokens-words line) (λ ts h. said_by-read ts h)

@@ -1,0 +1,196 @@
+-- The names that a reader knows, and what it gives for them.
+use Rattle.std.proofs.Common.{◌≡◌, ◌≢◌, ℕ, zero, suc, ◌<◌, Bool, true, false, cond, List, [], ◌∷◌, length, map, position, refl, sym, ap, subst, ◌∙◌, arith}
+use Rattle.std.specs.Prelude.{All, Option, Some, None, option_map, ok_or}
+use Rattle.std.specs.List.{list_any}
+use Rattle.std.specs.Str.{bytes_eq}
+use Rattle.std.proofs.lemmas.List.Elements.{All-head, All-tail}
+use Rattle.std.proofs.lemmas.List.{length-map}
+use Rattle.std.proofs.lemmas.Slice.Eq.{bytes_eq-Decides}
+use Rattle.sig_patterns.specs.declared.clause.Clause.{Clause}
+use Rattle.sig_patterns.specs.declared.var.Var.{Var}
+use Rattle.sig_patterns.specs.declared.expression.Expr.{Expr, roll-Expr, map-Expr}
+use Rattle.sig_patterns.specs.declared.expression.Expr.TheVariants as expr
+use Rattle.sig_patterns.specs.declared.expression.Expr.TheOpen.{Expr-F}
+use Rattle.sig_patterns.specs.declared.expression.Expr.TheOpen as expression
+use Rattle.sig_patterns.specs.declared.expression.Expr.TheFolds.{fold-roll-Expr, ind-Expr}
+use Rattle.sig_patterns.specs.declared.pattern.Pattern.{Pattern, roll-Pattern, map-Pattern}
+use Rattle.sig_patterns.specs.declared.pattern.Pattern.TheVariants as pattern
+use Rattle.sig_patterns.specs.declared.pattern.Pattern.TheOpen.{Pattern-F}
+use Rattle.sig_patterns.specs.declared.pattern.Pattern.TheOpen as layer
+use Rattle.sig_patterns.specs.declared.pattern.Pattern.TheFolds.{fold-roll-Pattern, ind-Pattern}
+use Rattle.sig_patterns.specs.Pinning.{pins, pins_step}
+use Rattle.sig_script.specs.declared.label.Label.{Label}
+use Rattle.sig_script.specs.declared.fault.FaultKind.TheVariants.{UnknownProcess, UnknownLabel}
+use Rattle.sig_script.specs.declared.instruction.After.{After}
+use Rattle.sig_script.specs.declared.instruction.Instr.{Instr}
+use Rattle.sig_script.specs.declared.instruction.Instr.TheVariants as instr
+use Rattle.sig_script.specs.declared.known.Known.TheVariants.{Any, Among}
+use Rattle.sig_script.specs.Scripts.{Declared, Program}
+use Rattle.sig_script.specs.Names.{labels_at}
+use Rattle.sig_script.specs.ScriptText.{name_of_place, names_of}
+use Rattle.sig_script.specs.ReadableScript.{IsNameToken, AreDistinct}
+use Rattle.sig_script.proofs.LabelLemmas.{next, position-cons}
+use Rattle.sig_script.proofs.Seen.{kept, zeroed, expr_seen, expr_seen_step, pattern_seen, pattern_seen_step, clause_seen, after_seen, instr_seen, Reads}
+
+-- ---- what a reader gives for a name
+
+-- each place of names that are name tokens has one
+named_at : (names : List (List ℕ)) (n : ℕ) → All IsNameToken names → n < length names → IsNameToken (name_of_place names n)
+named_at [] n named lt = absurd (omega arith)
+named_at (x ∷ xs) zero named lt = All-head IsNameToken x xs named
+named_at (x ∷ xs) (suc n) named lt = named_at xs n (All-tail IsNameToken x xs named) (omega arith)
+
+-- the first walk
+pub any_reads : (here : ℕ) (names labels : List (List ℕ)) → All IsNameToken names → All IsNameToken labels → Reads Any here names labels zeroed zeroed
+any_reads here names labels named tagged = record {
+  pids = λ pid lt. (named_at names pid named lt, refl);
+  places = λ n lt. (named_at labels n tagged lt, refl);
+}
+
+other_at : (name : List ℕ) (names : List (List ℕ)) (n : ℕ) → All (λ other. name ≢ other) names → n < length names → name ≢ name_of_place names n
+other_at name [] n others lt = absurd (omega arith)
+other_at name (x ∷ xs) zero others lt = All-head (λ other. name ≢ other) x xs others
+other_at name (x ∷ xs) (suc n) others lt = other_at name xs n (All-tail (λ other. name ≢ other) x xs others) (omega arith)
+
+differs : (a b : List ℕ) (v : Bool) → bytes_eq a b ≡ v → a ≢ b → v ≡ false
+differs a b true h other = absurd (other ((bytes_eq-Decides a b).0 h))
+differs a b false h other = refl
+
+-- the n-th of distinct names stands at place n
+pub place_found : {A : Type 0} (name_of : A → List ℕ) (xs : List A) (n : ℕ) → AreDistinct (map name_of xs) → n < length xs → position (λ x. bytes_eq (name_of x) (name_of_place (map name_of xs) n)) xs ≡ Some n
+place_found name_of [] n distinct lt = absurd (omega arith)
+place_found name_of (x ∷ xs) zero distinct lt =
+    position-cons (λ y. bytes_eq (name_of y) (name_of x)) x xs
+    ∙ ap (λ (v : Bool). cond v (Some 0) (option_map next (position (λ y. bytes_eq (name_of y) (name_of x)) xs))) ((bytes_eq-Decides (name_of x) (name_of x)).1 refl)
+place_found name_of (x ∷ xs) (suc n) (AreDistinct.more others distinct) lt =
+    let name : List ℕ = name_of_place (map name_of xs) n in
+    let far : n < length xs = omega arith in
+    let other = other_at (name_of x) (map name_of xs) n others (omega (arith, length-map xs name_of)) in
+    position-cons (λ y. bytes_eq (name_of y) name) x xs
+    ∙ ap (λ (v : Bool). cond v (Some 0) (option_map next (position (λ y. bytes_eq (name_of y) name) xs))) (differs (name_of x) name (bytes_eq (name_of x) name) refl other)
+    ∙ ap (option_map next) (place_found name_of xs n distinct far)
+    ∙ ap (λ (k : ℕ). Some k) (omega arith)
+
+-- the second walk, among the processes of the script t
+pub among_reads : (t : Program) (here : ℕ) (labels : List Label) → All IsNameToken (names_of t.procs) → AreDistinct (names_of t.procs) → labels_at here t.procs ≡ labels →
+    All IsNameToken (map (λ (l : Label). l.name) labels) → AreDistinct (map (λ (l : Label). l.name) labels) → Reads (Among t) here (names_of t.procs) (map (λ (l : Label). l.name) labels) kept kept
+among_reads t here labels named distinct there tagged apart = record {
+  pids = λ pid lt.
+      let below : pid < length t.procs = omega (arith, length-map t.procs (λ (p : Declared). p.name)) in
+      (named_at (names_of t.procs) pid named lt, ap (λ (o : Option ℕ). ok_or o UnknownProcess) (place_found (λ (p : Declared). p.name) t.procs pid distinct below));
+  places = λ n lt.
+      let below : n < length labels = omega (arith, length-map labels (λ (l : Label). l.name)) in
+      let names : List (List ℕ) = map (λ (l : Label). l.name) labels in (
+        named_at names n tagged lt,
+        ap (λ (ls : List Label). ok_or (position (λ (l : Label). bytes_eq l.name (name_of_place names n)) ls) UnknownLabel) there
+            ∙ ap (λ (o : Option ℕ). ok_or o UnknownLabel) (place_found (λ (l : Label). l.name) labels n apart below),
+      );
+}
+
+-- ---- nothing changes in the second walk
+
+exprs_kept : (es : List ((e : Expr) × (expr_seen kept e ≡ e))) → map (expr_seen kept) (map (λ e. e.0) es) ≡ map (λ e. e.0) es
+exprs_kept [] = refl
+exprs_kept (e ∷ es) = rw e.1 (ap (λ (xs : List Expr). e.0 ∷ xs) (exprs_kept es))
+
+expr_comes : (y : Expr-F ((e : Expr) × (expr_seen kept e ≡ e))) → let x = roll-Expr (map-Expr ((e : Expr) × (expr_seen kept e ≡ e)) Expr (λ e. e.0) y) in expr_seen kept x ≡ x
+expr_comes (expression.Int z) = fold-roll-Expr Expr (expr_seen_step kept) (expression.Int z) ∙ sym (expr.rolls-Int z)
+expr_comes (expression.Atom bytes) = fold-roll-Expr Expr (expr_seen_step kept) (expression.Atom bytes) ∙ sym (expr.rolls-Atom bytes)
+expr_comes (expression.Pid p) = fold-roll-Expr Expr (expr_seen_step kept) (expression.Pid p) ∙ sym (expr.rolls-Pid p)
+expr_comes (expression.Var x) = fold-roll-Expr Expr (expr_seen_step kept) (expression.Var x) ∙ sym (expr.rolls-Var x)
+expr_comes (expression.Tuple es) = fold-roll-Expr Expr (expr_seen_step kept) (expression.Tuple (map (λ e. e.0) es)) ∙ ap expr.Tuple (exprs_kept es) ∙ sym (expr.rolls-Tuple (map (λ e. e.0) es))
+expr_comes (expression.List es) = fold-roll-Expr Expr (expr_seen_step kept) (expression.List (map (λ e. e.0) es)) ∙ ap expr.List (exprs_kept es) ∙ sym (expr.rolls-List (map (λ e. e.0) es))
+
+pub expr_kept : (e : Expr) → expr_seen kept e ≡ e
+expr_kept = ind-Expr (λ e. expr_seen kept e ≡ e) (λ x y is. subst (λ z. expr_seen kept (roll-Expr z) ≡ roll-Expr z) is (expr_comes y))
+
+patterns_kept : (ps : List ((p : Pattern) × (pattern_seen kept p ≡ p))) → map (pattern_seen kept) (map (λ p. p.0) ps) ≡ map (λ p. p.0) ps
+patterns_kept [] = refl
+patterns_kept (p ∷ ps) = rw p.1 (ap (λ (xs : List Pattern). p.0 ∷ xs) (patterns_kept ps))
+
+pattern_comes : (y : Pattern-F ((p : Pattern) × (pattern_seen kept p ≡ p))) → let x = roll-Pattern (map-Pattern ((p : Pattern) × (pattern_seen kept p ≡ p)) Pattern (λ p. p.0) y) in pattern_seen kept x ≡ x
+pattern_comes layer.Any = fold-roll-Pattern Pattern (pattern_seen_step kept) layer.Any ∙ sym pattern.rolls-Any
+pattern_comes (layer.Bind x) = fold-roll-Pattern Pattern (pattern_seen_step kept) (layer.Bind x) ∙ sym (pattern.rolls-Bind x)
+pattern_comes (layer.Pin x) = fold-roll-Pattern Pattern (pattern_seen_step kept) (layer.Pin x) ∙ sym (pattern.rolls-Pin x)
+pattern_comes (layer.Int z) = fold-roll-Pattern Pattern (pattern_seen_step kept) (layer.Int z) ∙ sym (pattern.rolls-Int z)
+pattern_comes (layer.Atom bytes) = fold-roll-Pattern Pattern (pattern_seen_step kept) (layer.Atom bytes) ∙ sym (pattern.rolls-Atom bytes)
+pattern_comes (layer.Pid p) = fold-roll-Pattern Pattern (pattern_seen_step kept) (layer.Pid p) ∙ sym (pattern.rolls-Pid p)
+pattern_comes (layer.Tuple ps) = fold-roll-Pattern Pattern (pattern_seen_step kept) (layer.Tuple (map (λ p. p.0) ps)) ∙ ap pattern.Tuple (patterns_kept ps) ∙ sym (pattern.rolls-Tuple (map (λ p. p.0) ps))
+pattern_comes (layer.List ps) = fold-roll-Pattern Pattern (pattern_seen_step kept) (layer.List (map (λ p. p.0) ps)) ∙ ap pattern.List (patterns_kept ps) ∙ sym (pattern.rolls-List (map (λ p. p.0) ps))
+pattern_comes (layer.Cons head tail) =
+    fold-roll-Pattern Pattern (pattern_seen_step kept) (layer.Cons head.0 tail.0) ∙ rw (head.1, tail.1) refl ∙ sym (pattern.rolls-Cons head.0 tail.0)
+
+pub pattern_kept : (p : Pattern) → pattern_seen kept p ≡ p
+pattern_kept = ind-Pattern (λ p. pattern_seen kept p ≡ p) (λ x y is. subst (λ z. pattern_seen kept (roll-Pattern z) ≡ roll-Pattern z) is (pattern_comes y))
+
+target_kept : (target : Option ℕ) → option_map kept target ≡ target
+target_kept None = refl
+target_kept (Some n) = refl
+
+clauses_kept : (clauses : List Clause) → map (clause_seen kept kept) clauses ≡ clauses
+clauses_kept [] = refl
+clauses_kept (c ∷ cs) =
+    let first : clause_seen kept kept c ≡ c = rw (pattern_kept c.pattern, target_kept c.target) refl in
+    rw first (ap (λ (xs : List Clause). c ∷ xs) (clauses_kept cs))
+
+after_kept : (after : Option After) → option_map (after_seen kept) after ≡ after
+after_kept None = refl
+after_kept (Some a) = let same : after_seen kept a ≡ a = rw (target_kept a.target) refl in ap (λ (x : After). Some x) same
+
+pub instr_kept : (i : Instr) → instr_seen kept kept i ≡ i
+instr_kept (instr.Send to message) = rw (expr_kept to, expr_kept message) refl
+instr_kept (instr.Set x value) = ap (instr.Set x) (expr_kept value)
+instr_kept (instr.MakeRef x) = refl
+instr_kept (instr.Link peer) = ap instr.Link (expr_kept peer)
+instr_kept (instr.Unlink peer) = ap instr.Unlink (expr_kept peer)
+instr_kept (instr.Monitor x target mode) = ap (λ (e : Expr). instr.Monitor x e mode) (expr_kept target)
+instr_kept (instr.Demonitor reference flush) = ap (λ (e : Expr). instr.Demonitor e flush) (expr_kept reference)
+instr_kept (instr.Alias x reply) = refl
+instr_kept (instr.Unalias reference) = ap instr.Unalias (expr_kept reference)
+instr_kept (instr.Exit reason) = ap instr.Exit (expr_kept reason)
+instr_kept (instr.ExitTo target reason) = rw (expr_kept target, expr_kept reason) refl
+instr_kept (instr.Trap on) = refl
+instr_kept instr.Reserve = refl
+instr_kept (instr.Bind x) = refl
+instr_kept (instr.Clear x) = refl
+instr_kept (instr.Goto label) = refl
+instr_kept instr.Stop = refl
+instr_kept (instr.Receive using clauses after) = rw (clauses_kept clauses, after_kept after) refl
+
+-- ---- the pinned variables are the same in both walks
+
+pins_layer : (x : Var) (z : Pattern-F Pattern) (p : Pattern) → roll-Pattern z ≡ p → pins p x ≡ pins_step x (map-Pattern Pattern Bool (λ q. pins q x) z)
+pins_layer x z p e = ap (λ (q : Pattern). pins q x) (sym e) ∙ fold-roll-Pattern Bool (pins_step x) z
+
+abbrev SamePins : (ℕ → ℕ) → Var → Pattern → Type 0
+SamePins f x p = pins (pattern_seen f p) x ≡ pins p x
+
+all_pins : (f : ℕ → ℕ) (x : Var) (ps : List ((p : Pattern) × SamePins f x p)) → map (λ (q : Pattern). pins q x) (map (pattern_seen f) (map (λ p. p.0) ps)) ≡ map (λ (q : Pattern). pins q x) (map (λ p. p.0) ps)
+all_pins f x [] = refl
+all_pins f x (p ∷ ps) = rw p.1 (ap (λ (bs : List Bool). pins p.0 x ∷ bs) (all_pins f x ps))
+
+-- by a layer z of the one, and the same layer of the other
+pins_by : (f : ℕ → ℕ) (x : Var) (z : Pattern-F Pattern) (y : Pattern-F Pattern) → roll-Pattern y ≡ pattern_seen_step f (map-Pattern Pattern Pattern (pattern_seen f) z) →
+    pins_step x (map-Pattern Pattern Bool (λ q. pins q x) y) ≡ pins_step x (map-Pattern Pattern Bool (λ q. pins q x) z) → SamePins f x (roll-Pattern z)
+pins_by f x z y e same =
+    ap (λ (q : Pattern). pins q x) (fold-roll-Pattern Pattern (pattern_seen_step f) z) ∙ pins_layer x y (pattern_seen_step f (map-Pattern Pattern Pattern (pattern_seen f) z)) e
+    ∙ same ∙ sym (pins_layer x z (roll-Pattern z) refl)
+
+pins_come : (f : ℕ → ℕ) (x : Var) (y : Pattern-F ((p : Pattern) × SamePins f x p)) → SamePins f x (roll-Pattern (map-Pattern ((p : Pattern) × SamePins f x p) Pattern (λ p. p.0) y))
+pins_come f x layer.Any = pins_by f x layer.Any layer.Any pattern.rolls-Any refl
+pins_come f x (layer.Bind v) = pins_by f x (layer.Bind v) (layer.Bind v) (pattern.rolls-Bind v) refl
+pins_come f x (layer.Pin v) = pins_by f x (layer.Pin v) (layer.Pin v) (pattern.rolls-Pin v) refl
+pins_come f x (layer.Int z) = pins_by f x (layer.Int z) (layer.Int z) (pattern.rolls-Int z) refl
+pins_come f x (layer.Atom bytes) = pins_by f x (layer.Atom bytes) (layer.Atom bytes) (pattern.rolls-Atom bytes) refl
+pins_come f x (layer.Pid p) = pins_by f x (layer.Pid p) (layer.Pid (record { 0 = f p.0 })) (pattern.rolls-Pid (record { 0 = f p.0 })) refl
+pins_come f x (layer.Tuple ps) =
+    let qs : List Pattern = map (λ p. p.0) ps in
+    pins_by f x (layer.Tuple qs) (layer.Tuple (map (pattern_seen f) qs)) (pattern.rolls-Tuple (map (pattern_seen f) qs)) (ap (list_any (λ b. b)) (all_pins f x ps))
+pins_come f x (layer.List ps) =
+    let qs : List Pattern = map (λ p. p.0) ps in
+    pins_by f x (layer.List qs) (layer.List (map (pattern_seen f) qs)) (pattern.rolls-List (map (pattern_seen f) qs)) (ap (list_any (λ b. b)) (all_pins f x ps))
+pins_come f x (layer.Cons head tail) =
+    pins_by f x (layer.Cons head.0 tail.0) (layer.Cons (pattern_seen f head.0) (pattern_seen f tail.0)) (pattern.rolls-Cons (pattern_seen f head.0) (pattern_seen f tail.0)) (rw (head.1, tail.1) refl)
+
+pub pins_seen : (f : ℕ → ℕ) (p : Pattern) (x : Var) → pins (pattern_seen f p) x ≡ pins p x
+pins_seen f p x = ind-Pattern (SamePins f x) (λ w y is. subst (λ z. SamePins f x (roll-Pattern z)) is (pins_come f x y)) p

@@ -1,0 +1,173 @@
+-- The canonical text of a script: one line for each fact, one blank between the parts of a line, and none in an expression or a
+-- pattern. The language of scripts is this project's own.
+use Rattle.std.specs.Prelude.{ℕ, ◌+◌, List, [], ◌∷◌, ◌++◌, map, filter, ◌==◌, Bool, true, false, slice_get, Option, Some, None, codes, decimal}
+use Rattle.std.specs.Fmt.{signed_decimal}
+use Rattle.std.specs.List.{concat, flat_map}
+use Rattle.std.specs.Option.{option_map_or}
+use Rattle.sig_kinds.specs.declared.alias_mode.AliasMode.{AliasMode}
+use Rattle.sig_kinds.specs.declared.alias_mode.AliasMode.TheVariants as alias_mode
+use Rattle.sig_patterns.specs.declared.clause.Clause.{Clause}
+use Rattle.sig_patterns.specs.declared.var.Var.{Var}
+use Rattle.sig_patterns.specs.declared.expression.Expr.{Expr}
+use Rattle.sig_patterns.specs.declared.expression.Expr.TheOpen.{Expr-F}
+use Rattle.sig_patterns.specs.declared.expression.Expr.TheOpen as expression
+use Rattle.sig_patterns.specs.declared.expression.Expr.TheFolds.{fold-Expr}
+use Rattle.sig_patterns.specs.declared.pattern.Pattern.{Pattern}
+use Rattle.sig_patterns.specs.declared.pattern.Pattern.TheOpen.{Pattern-F}
+use Rattle.sig_patterns.specs.declared.pattern.Pattern.TheOpen as pattern
+use Rattle.sig_patterns.specs.declared.pattern.Pattern.TheFolds.{fold-Pattern}
+use Rattle.sig_terms.specs.TermText.{atom_text, joined}
+use Rattle.sig_script.specs.declared.label.Label.{Label}
+use Rattle.sig_script.specs.declared.instruction.After.{After}
+use Rattle.sig_script.specs.declared.instruction.Instr.{Instr}
+use Rattle.sig_script.specs.declared.instruction.Instr.TheVariants as instr
+use Rattle.sig_script.specs.Scripts.{Declared, Program}
+
+-- the name at this place, from 0; every place that a script names has one
+abbrev pub name_of_place : List (List ℕ) → ℕ → List ℕ
+name_of_place names n = option_map_or (λ name. name) (slice_get names n) []
+
+-- `@` and the name of the process
+abbrev pub process_text : List (List ℕ) → ℕ → List ℕ
+process_text names pid = codes "@" ++ name_of_place names pid
+
+-- the text of an expression from the texts of its elements
+abbrev pub expr_step : List (List ℕ) → Expr-F (List ℕ) → List ℕ
+expr_step names (expression.Int n) = signed_decimal n
+expr_step names (expression.Atom bytes) = atom_text bytes
+expr_step names (expression.Pid p) = process_text names p.0
+expr_step names (expression.Var x) = x.0
+expr_step names (expression.Tuple texts) = codes "{" ++ joined texts ++ codes "}"
+expr_step names (expression.List texts) = codes "[" ++ joined texts ++ codes "]"
+
+-- the text of an expression, where the processes have these names
+abbrev pub expr_text : List (List ℕ) → Expr → List ℕ
+expr_text names = fold-Expr (List ℕ) (expr_step names)
+
+-- A pattern by itself, and as the tail of a list, up to the bracket that closes it: [P1 | [P2 | Q]] is written [P1,P2|Q].
+pub record Written : Type 0 where
+  pub whole : List ℕ
+  pub tail : List ℕ
+
+-- a pattern that is no list with a tail
+abbrev pub alone : List ℕ → Written
+alone text = record { whole = text; tail = codes "|" ++ text ++ codes "]" }
+
+abbrev pub pattern_step : List (List ℕ) → Pattern-F Written → Written
+pattern_step names pattern.Any = alone (codes "_")
+pattern_step names (pattern.Bind x) = alone x.0
+pattern_step names (pattern.Pin x) = alone (codes "^" ++ x.0)
+pattern_step names (pattern.Int n) = alone (signed_decimal n)
+pattern_step names (pattern.Atom bytes) = alone (atom_text bytes)
+pattern_step names (pattern.Pid p) = alone (process_text names p.0)
+pattern_step names (pattern.Tuple ws) = alone (codes "{" ++ joined (map (λ w. w.whole) ws) ++ codes "}")
+pattern_step names (pattern.List ws) = alone (codes "[" ++ joined (map (λ w. w.whole) ws) ++ codes "]")
+pattern_step names (pattern.Cons head tail) =
+    record { whole = codes "[" ++ head.whole ++ tail.tail; tail = codes "," ++ head.whole ++ tail.tail }
+
+abbrev pub pattern_written : List (List ℕ) → Pattern → Written
+pattern_written names = fold-Pattern Written (pattern_step names)
+
+-- the text of a pattern, where the processes have these names
+abbrev pub pattern_text : List (List ℕ) → Pattern → List ℕ
+pattern_text names p = (pattern_written names p).whole
+
+abbrev pub after_blank : List ℕ → List ℕ
+after_blank text = codes " " ++ text
+
+-- a word, and what stands behind it with a blank before each
+abbrev pub spaced : List ℕ → List (List ℕ) → List ℕ
+spaced word texts = word ++ concat (map after_blank texts)
+
+-- nothing, or a word
+abbrev pub flag_text : List ℕ → Bool → List (List ℕ)
+flag_text word true = word ∷ []
+flag_text word false = []
+
+abbrev pub mode_text : Option AliasMode → List (List ℕ)
+mode_text None = []
+mode_text (Some alias_mode.Explicit) = codes "explicit_unalias" ∷ []
+mode_text (Some alias_mode.Demonitor) = codes "demonitor" ∷ []
+mode_text (Some alias_mode.ReplyDemonitor) = codes "reply_demonitor" ∷ []
+mode_text (Some alias_mode.Reply) = codes "reply" ∷ []
+
+abbrev pub switch_text : Bool → List ℕ
+switch_text true = codes "on"
+switch_text false = codes "off"
+
+-- nothing, or `->` and the label's name
+abbrev pub target_text : List (List ℕ) → Option ℕ → List (List ℕ)
+target_text labels None = []
+target_text labels (Some n) = codes "->" ∷ name_of_place labels n ∷ []
+
+abbrev pub marker_text : Option Var → List (List ℕ)
+marker_text None = []
+marker_text (Some x) = codes "using" ∷ x.0 ∷ []
+
+unfoldable pub clause_line : List (List ℕ) → List (List ℕ) → Clause → List ℕ
+clause_line names labels c = spaced (codes "on") (pattern_text names c.pattern ∷ target_text labels c.target)
+
+abbrev pub after_lines : List (List ℕ) → Option After → List (List ℕ)
+after_lines labels None = []
+after_lines labels (Some a) = spaced (codes "after") (target_text labels a.target) ∷ []
+
+-- The lines of an instruction, where the processes and the labels of its process have these names: a receive has several, and
+-- any other instruction has one.
+unfoldable pub instr_lines : List (List ℕ) → List (List ℕ) → Instr → List (List ℕ)
+instr_lines names labels (instr.Send to message) = spaced (codes "send") (expr_text names to ∷ expr_text names message ∷ []) ∷ []
+instr_lines names labels (instr.Set x value) = spaced (codes "set") (x.0 ∷ expr_text names value ∷ []) ∷ []
+instr_lines names labels (instr.MakeRef x) = spaced (codes "make_ref") (x.0 ∷ []) ∷ []
+instr_lines names labels (instr.Link peer) = spaced (codes "link") (expr_text names peer ∷ []) ∷ []
+instr_lines names labels (instr.Unlink peer) = spaced (codes "unlink") (expr_text names peer ∷ []) ∷ []
+instr_lines names labels (instr.Monitor x target mode) = spaced (codes "monitor") (x.0 ∷ expr_text names target ∷ mode_text mode) ∷ []
+instr_lines names labels (instr.Demonitor reference flush) =
+    spaced (codes "demonitor") (expr_text names reference ∷ flag_text (codes "flush") flush) ∷ []
+instr_lines names labels (instr.Alias x reply) = spaced (codes "alias") (x.0 ∷ flag_text (codes "reply") reply) ∷ []
+instr_lines names labels (instr.Unalias reference) = spaced (codes "unalias") (expr_text names reference ∷ []) ∷ []
+instr_lines names labels (instr.Exit reason) = spaced (codes "exit") (expr_text names reason ∷ []) ∷ []
+instr_lines names labels (instr.ExitTo target reason) = spaced (codes "exit_to") (expr_text names target ∷ expr_text names reason ∷ []) ∷ []
+instr_lines names labels (instr.Trap on) = spaced (codes "trap") (switch_text on ∷ []) ∷ []
+instr_lines names labels instr.Reserve = codes "reserve" ∷ []
+instr_lines names labels (instr.Bind x) = spaced (codes "bind") (x.0 ∷ []) ∷ []
+instr_lines names labels (instr.Clear x) = spaced (codes "clear") (x.0 ∷ []) ∷ []
+instr_lines names labels (instr.Goto label) = spaced (codes "goto") (name_of_place labels label ∷ []) ∷ []
+instr_lines names labels instr.Stop = codes "stop" ∷ []
+instr_lines names labels (instr.Receive using clauses after) =
+    spaced (codes "receive") (marker_text using) ∷ map (clause_line names labels) clauses ++ after_lines labels after ++ codes "end" ∷ []
+
+abbrev pub label_line : Label → List ℕ
+label_line l = spaced (codes "label") (l.name ∷ [])
+
+-- the lines of the labels that stand at this place, in their order
+abbrev pub labels_there : List Label → ℕ → List (List ℕ)
+labels_there labels place = map label_line (filter (λ (l : Label). l.place == place) labels)
+
+-- the instructions from this place on, each behind the labels at its place, and the labels behind the last
+unfoldable pub placed_lines : List (List ℕ) → List Label → ℕ → List Instr → List (List ℕ)
+placed_lines names labels place [] = labels_there labels place
+placed_lines names labels place (i ∷ is) =
+    labels_there labels place ++ instr_lines names (map (λ l. l.name) labels) i ++ placed_lines names labels (place + 1) is
+
+unfoldable pub process_lines : List (List ℕ) → Declared → List (List ℕ)
+process_lines names p = spaced (codes "process") (p.name ∷ []) ∷ placed_lines names p.labels 1 p.instrs
+
+abbrev pub names_of : List Declared → List (List ℕ)
+names_of procs = map (λ (p : Declared). p.name) procs
+
+-- the lines behind the first two
+abbrev pub procs_lines : List Declared → List (List ℕ)
+procs_lines procs = flat_map (process_lines (names_of procs)) procs
+
+abbrev pub turns_line : ℕ → List ℕ
+turns_line n = spaced (codes "turns") (decimal n ∷ [])
+
+-- the lines of a script
+unfoldable pub script_lines : Program → List (List ℕ)
+script_lines s = codes "sigscript 1" ∷ turns_line s.turns ∷ procs_lines s.procs
+
+abbrev pub line_text : List ℕ → List ℕ
+line_text line = line ++ codes "\n"
+
+-- the canonical text: each line ends with a line feed
+unfoldable pub script_text : Program → List ℕ
+script_text s = flat_map line_text (script_lines s)
