@@ -20,7 +20,6 @@ mod phrases;
 mod process;
 mod reader;
 mod script;
-mod texts;
 mod token;
 
 pub use fault::FaultKind;
@@ -30,4 +29,3 @@ pub use laws::a_printed_script_is_read_back;
 pub use process::{Proc, Procs};
 pub use reader::{MOST_BYTES, ScriptError, read_script};
 pub use script::{DEFAULT_TURNS, MOST_PROCESSES, MOST_TURNS, Script};
-pub use texts::lines_are_read_again;
