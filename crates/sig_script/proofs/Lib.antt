@@ -10,3 +10,4 @@ pub mod NestLemmas
 pub mod ReaderLemmas
 pub mod BoundTermLemmas
 pub mod BoundLemmas
+pub mod PrintLemmas

@@ -17,3 +17,4 @@ pub mod Grammar
 pub mod Reading
 pub mod ScriptText
 pub mod ReadableScript
+pub mod Putting

@@ -3,6 +3,7 @@
 
 mod draft;
 mod drafted;
+mod expression_text;
 mod expressions;
 mod fault;
 mod form;
@@ -14,9 +15,11 @@ mod label_table;
 mod line;
 mod names;
 mod number;
+mod pattern_text;
 mod patterns;
 mod phrases;
 mod process;
+mod putting;
 mod reader;
 mod script;
 mod token;
