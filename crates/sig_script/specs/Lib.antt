@@ -18,3 +18,4 @@ pub mod Reading
 pub mod ScriptText
 pub mod ReadableScript
 pub mod Putting
+pub mod Printing

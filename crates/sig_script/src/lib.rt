@@ -8,6 +8,7 @@ mod expressions;
 mod fault;
 mod form;
 mod instruction;
+mod instruction_text;
 mod keyword;
 mod known;
 mod label;
