@@ -11,3 +11,4 @@ pub mod ReaderLemmas
 pub mod BoundTermLemmas
 pub mod BoundLemmas
 pub mod PrintLemmas
+pub mod LabelTextLemmas

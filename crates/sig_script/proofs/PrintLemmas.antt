@@ -51,3 +51,7 @@ instr_split names labels (instr.Receive using clauses after) = refl
 pub three_put : (a b c d x y z whole : List ℕ) → b ≡ a ++ x → c ≡ b ++ y → d ≡ c ++ z → whole ≡ (x ++ y) ++ z → d ≡ a ++ whole
 three_put a b c d x y z whole p q r e =
     r ∙ ap (λ (xs : List ℕ). xs ++ z) (q ∙ ap (λ (xs : List ℕ). xs ++ y) p ∙ append_assoc a x y) ∙ append_assoc a (x ++ y) z ∙ ap (λ (xs : List ℕ). a ++ xs) (sym e)
+
+-- a piece more leaves the front
+pub kept_more : (a b piece c : List ℕ) → take (length a) b ≡ a → c ≡ b ++ piece → take (length a) c ≡ a
+kept_more a b piece c p e = front-on a b c p (ap (take (length b)) e ∙ take_at b piece (length b) refl)

@@ -1,6 +1,6 @@
 //! The parts of a line.
 
-ghost use Rattle.std.specs.Prelude.{◌++◌, codes};
+ghost use Rattle.std.specs.Prelude.{◌++◌, codes, decimal};
 ghost use Rattle.std.specs.Fmt.{signed_decimal};
 ghost use Rattle.sig_script.specs.Putting.{IsPut};
 ghost use Rattle.sig_script.specs.ScriptText.{after_blank};
@@ -20,6 +20,13 @@ pub fn put_int(into: &mut Vec<u8>, n: i64) -> Result<(), AllocError>
     ensures { IsPut into.old.items into.new.items (signed_decimal n) result }
 {
     Term::Int(n).print(into)
+}
+
+/// Appends the number in decimal.
+pub fn put_count(into: &mut Vec<u8>, n: u32) -> Result<(), AllocError>
+    ensures { IsPut into.old.items into.new.items (decimal n) result }
+{
+    put_int(into, i64::from(n))
 }
 
 /// Appends a blank and the word.
