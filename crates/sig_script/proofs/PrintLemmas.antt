@@ -1,10 +1,11 @@
 -- What stands in front of a text stays there.
-use Rattle.std.proofs.Common.{◌≡◌, ℕ, ◌≤◌, List, ◌++◌, take, length, append_assoc, length-append, length-take, refl, sym, ap, ◌∙◌, arith}
+use Rattle.std.proofs.Common.{◌≡◌, ℕ, ◌≤◌, List, ◌++◌, take, length, append_assoc, length-append, length-take, refl, sym, ap, ◌∙◌, arith, codes}
 use Rattle.std.proofs.lemmas.List.{take-take, take_at}
 use Rattle.std.specs.List.{flat_map}
 use Rattle.sig_script.specs.declared.instruction.Instr.{Instr}
 use Rattle.sig_script.specs.declared.instruction.Instr.TheVariants as instr
-use Rattle.sig_script.specs.ScriptText.{instr_lines, line_text}
+use Rattle.sig_script.specs.Scripts.{Declared}
+use Rattle.sig_script.specs.ScriptText.{instr_lines, turns_line, procs_lines, script_lines, script_text, line_text}
 use Rattle.sig_script.specs.Printing.{first_of, rest_of}
 
 -- the front of what stands in front
@@ -55,3 +56,9 @@ three_put a b c d x y z whole p q r e =
 -- a piece more leaves the front
 pub kept_more : (a b piece c : List ℕ) → take (length a) b ≡ a → c ≡ b ++ piece → take (length a) c ≡ a
 kept_more a b piece c p e = front-on a b c p (ap (take (length b)) e ∙ take_at b piece (length b) refl)
+
+-- a script's text is its first line, that of its turns, and those of its processes
+pub script_split : (turns : ℕ) (procs : List Declared) →
+    script_text (record { turns = turns; procs = procs }) ≡ (codes "sigscript 1\n" ++ line_text (turns_line turns)) ++ flat_map line_text (procs_lines procs)
+unfolding script_lines script_text
+script_split turns procs = refl

@@ -114,7 +114,7 @@ fn put_turns(into: &mut Vec<u8>, turns: u32) -> Result<(), AllocError>
     put(into, b"\n")
 }
 
-#[tactic(auto, unfolding(crate::specs::ScriptText::script_lines, crate::specs::ScriptText::script_text), using(crate::proofs::PrintLemmas::kept_front))]
+#[tactic(auto, using(crate::proofs::PrintLemmas::kept_front))]
 fn put_script(into: &mut Vec<u8>, turns: u32, procs: &[Proc]) -> Result<(), AllocError>
     ensures { IsPut into.old.items into.new.items (script_text (record { turns = turns; procs = procs.now })) result }
 {
