@@ -12,3 +12,4 @@ pub mod BoundTermLemmas
 pub mod BoundLemmas
 pub mod PrintLemmas
 pub mod LabelTextLemmas
+pub mod GeneratedLemmas

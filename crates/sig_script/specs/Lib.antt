@@ -19,3 +19,4 @@ pub mod ScriptText
 pub mod ReadableScript
 pub mod Putting
 pub mod Printing
+pub mod Generated

@@ -7,6 +7,7 @@ mod expression_text;
 mod expressions;
 mod fault;
 mod form;
+mod generating;
 mod instruction;
 mod instruction_text;
 mod keyword;
@@ -27,6 +28,7 @@ mod script;
 mod token;
 
 pub use fault::FaultKind;
+pub use generating::{MOST_CALLS, generate};
 pub use instruction::{After, Instr, Instrs};
 pub use label::{Label, Labels};
 pub use printing::print_script;
