@@ -20,3 +20,4 @@ pub mod ReadableScript
 pub mod Putting
 pub mod Printing
 pub mod Generated
+pub mod Sections
