@@ -23,6 +23,8 @@ mod match_tests;
 #[cfg(test)]
 mod refusal_tests;
 #[cfg(test)]
+mod script_tests;
+#[cfg(test)]
 mod tests;
 #[cfg(test)]
 mod text_tests;

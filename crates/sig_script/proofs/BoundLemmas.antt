@@ -26,7 +26,7 @@ use Rattle.sig_script.specs.declared.draft.Section.TheVariants.{Before, Outside,
 use Rattle.sig_script.specs.declared.draft.Draft.{Draft}
 use Rattle.sig_script.specs.declared.form.Form.{Form}
 use Rattle.sig_script.specs.declared.form.Form.TheVariants as form
-use Rattle.sig_script.specs.Scripts.{Declared, Program, AreMarked, IsLawful, IsPlace, IsWithin, IsExprBelow, IsPatternBelow, IsInstrBelow, IsSound}
+use Rattle.sig_script.specs.Scripts.{Declared, Program, AreMarked, IsLawful, IsPlace, AreRising, IsWithin, IsExprBelow, IsPatternBelow, IsInstrBelow, IsSound}
 use Rattle.sig_script.specs.Parts.{targets_of}
 use Rattle.sig_script.specs.Faults.{Fault, ◌>>=◌, on_ok}
 use Rattle.sig_script.specs.Lines.{lines_of, onto_first}
@@ -378,6 +378,7 @@ each-at P i j (suc k) (p ∷ ps) d e lt h =
 -- the process at a place, where the names are those of a script
 record IsMeant (s : Program) (here : ℕ) (p : Declared) : Type 0 where
   places : All (IsPlace (length p.instrs)) p.labels
+  rising : AreRising p.labels
   lawful : All (IsLawful (length (labels_at here s.procs))) p.instrs
   below : All (IsInstrBelow (length s.procs)) p.instrs
 
@@ -395,9 +396,17 @@ record IsMeantDraft (s : Program) (n : ℕ) (d : Draft) : Type 0 where
   procs : Each (IsMeant s) 0 (all_procs d)
   receive : IsOpen s n (length d.procs) d.section
 
+-- a label at the end whose place is none below the others'
+rising-push : (ls : List Label) (l : Label) → AreRising ls → All (λ (other : Label). other.place ≤ l.place) ls → AreRising (ls ++ l ∷ [])
+rising-push [] l h below = AreRising.more (All-nil (λ (other : Label). l.place ≤ other.place)) AreRising.none
+rising-push (first ∷ ls) l (AreRising.more least rest) below =
+    AreRising.more (All-push (λ (other : Label). first.place ≤ other.place) ls l least (All-head (λ (other : Label). other.place ≤ l.place) first ls below))
+    (rising-push ls l rest (All-tail (λ (other : Label). other.place ≤ l.place) first ls below))
+
 empty-meant : (s : Program) (here : ℕ) (name : List ℕ) → IsMeant s here (record { name = name; labels = []; instrs = [] })
 empty-meant s here name = record {
   places = All-nil (IsPlace 0);
+  rising = AreRising.none;
   lawful = All-nil (IsLawful (length (labels_at here s.procs)));
   below = All-nil (IsInstrBelow (length s.procs));
 }
@@ -410,6 +419,7 @@ instr-more s here p i l b h =
     let le : length p.instrs ≤ length (p.instrs ++ i ∷ []) = omega (arith, length-append p.instrs (i ∷ [])) in
     record {
       places = All-weaker (IsPlace (length p.instrs)) (IsPlace (length (p.instrs ++ i ∷ []))) (λ l k. place-later (length p.instrs) (length (p.instrs ++ i ∷ [])) l le k) p.labels h.places;
+      rising = h.rising;
       lawful = All-push (IsLawful (length (labels_at here s.procs))) p.instrs i h.lawful l;
       below = All-push (IsInstrBelow (length s.procs)) p.instrs i h.below b;
     }
@@ -420,6 +430,7 @@ label-more s here p name h =
     holds-if (IsMeant s here) (list_any (λ (l : Label). bytes_eq l.name name) p.labels) _ _ (λ _. tt)
     (λ _. record {
       places = All-push (IsPlace (length p.instrs)) p.labels (record { name = name; place = length p.instrs + 1 }) h.places (first, le_refl (length p.instrs + 1));
+      rising = rising-push p.labels (record { name = name; place = length p.instrs + 1 }) h.rising (All-weaker (IsPlace (length p.instrs)) (λ (l : Label). l.place ≤ length p.instrs + 1) (λ l k. k.1) p.labels h.places);
       lawful = h.lawful;
       below = h.below;
     })
@@ -599,6 +610,7 @@ proc-within first here m p lt small e h = record {
   few_instrs = omega (arith, lt, small.instrs);
   few_labels = omega (arith, lt, small.labels);
   places = h.places;
+  rising = h.rising;
   lawful = subst (λ (n : ℕ). All (IsLawful n) p.instrs) e h.lawful;
 }
 

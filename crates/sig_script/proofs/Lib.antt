@@ -30,3 +30,6 @@ pub mod FormReads
 pub mod SeenLemmas
 pub mod FormTexts
 pub mod CleanLines
+pub mod PrintLemmas
+pub mod LabelTextLemmas
+pub mod GeneratedLemmas

@@ -17,3 +17,7 @@ pub mod Grammar
 pub mod Reading
 pub mod ScriptText
 pub mod ReadableScript
+pub mod Putting
+pub mod Printing
+pub mod Generated
+pub mod Sections

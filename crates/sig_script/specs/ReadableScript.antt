@@ -20,7 +20,7 @@ use Rattle.sig_script.specs.declared.label.Label.{Label}
 use Rattle.sig_script.specs.declared.instruction.Instr.{Instr}
 use Rattle.sig_script.specs.declared.instruction.Instr.TheVariants as instr
 use Rattle.sig_script.specs.Parts.{exprs_of, clauses_of, using_of}
-use Rattle.sig_script.specs.Scripts.{Declared, Program, IsWithin, IsSound}
+use Rattle.sig_script.specs.Scripts.{Declared, Program, AreRising, IsWithin, IsSound}
 
 -- a name token
 abbrev pub IsNameToken : List ℕ → Type 0
@@ -137,11 +137,6 @@ pub record IsReadableInstr (count : ℕ) (i : Instr) : Type 0 where
 pub data AreDistinct : List (List ℕ) → Type 0 where
   none : AreDistinct []
   more : {name : List ℕ} {names : List (List ℕ)} → All (λ other. name ≢ other) names → AreDistinct names → AreDistinct (name ∷ names)
-
--- the places never fall
-pub data AreRising : List Label → Type 0 where
-  none : AreRising []
-  more : {label : Label} {labels : List Label} → All (λ (other : Label). label.place ≤ other.place) labels → AreRising labels → AreRising (label ∷ labels)
 
 -- a process that lines may hold
 pub record IsReadableProc (count : ℕ) (p : Declared) : Type 0 where

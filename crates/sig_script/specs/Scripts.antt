@@ -1,5 +1,5 @@
 -- Scripts and their processes, as contracts see them.
-use Rattle.std.specs.Prelude.{◌≡◌, ◌≢◌, ℕ, ◌+◌, ◌<◌, ◌≤◌, ◌^◌, List, length, All, IfSome, true, Option, Some}
+use Rattle.std.specs.Prelude.{◌≡◌, ◌≢◌, ℕ, ◌+◌, ◌<◌, ◌≤◌, ◌^◌, List, [], ◌∷◌, length, All, IfSome, true, Option, Some}
 use Rattle.sig_kinds.specs.declared.alias_mode.AliasMode.TheVariants as alias_mode
 use Rattle.sig_patterns.specs.declared.clause.Clause.{Clause}
 use Rattle.sig_patterns.specs.declared.expression.Expr.{Expr}
@@ -37,11 +37,17 @@ IsLawful labels i =
 abbrev pub IsPlace : ℕ → Label → Type 0
 IsPlace instrs label = (1 ≤ label.place) × (label.place ≤ instrs + 1)
 
+-- the labels' places never fall
+pub data AreRising : List Label → Type 0 where
+  none : AreRising []
+  more : {label : Label} {labels : List Label} → All (λ (other : Label). label.place ≤ other.place) labels → AreRising labels → AreRising (label ∷ labels)
+
 -- the bounds that each process keeps
 pub record IsWithin (p : Declared) : Type 0 where
   pub few_instrs : length p.instrs + 1 < 2 ^ 32
   pub few_labels : length p.labels < 2 ^ 32
   pub places : All (IsPlace (length p.instrs)) p.labels
+  pub rising : AreRising p.labels
   pub lawful : All (IsLawful (length p.labels)) p.instrs
 
 -- each pid in an expression is below so many

@@ -1,9 +1,10 @@
-ghost use Rattle.std.specs.Prelude.{◌≡◌, ◌+◌, ◌<◌, ◌≤◌, ◌^◌, ◌++◌, [], ◌∷◌, length, Ok};
+ghost use Rattle.std.specs.Prelude.{◌≡◌, ◌+◌, ◌<◌, ◌≤◌, ◌^◌, ◌++◌, [], ◌∷◌, length, Ok, All};
 ghost use Rattle.std.specs.List.{list_any};
 ghost use Rattle.std.specs.Str.{bytes_eq};
 ghost use Rattle.sig_script.specs.Faults.{Gives};
 ghost use Rattle.sig_script.specs.Scripts.{Declared, Program};
 ghost use Rattle.sig_script.specs.Drafts.{open_proc, all_procs, begun, labelled, with_instr, is_marked, with_clause, taken_at, taken};
+ghost use Rattle.sig_script.specs.Sections.{section_taken};
 ghost use Rattle.sig_script.specs.Grammar.{finished, line_taken};
 ghost use Rattle.sig_script.specs.Reading.{IsReading};
 ghost use Rattle.sig_script.specs.Fitting.{IsFewKnown, IsSmall, IsFit};
@@ -130,10 +131,18 @@ fn add_instr(proc: DraftProc, instr: Instr) -> Result<DraftProc, Stop>
     Ok(proc)
 }
 
-/// The turns, before the first process.
-fn set_turns(procs: DraftProcs, turns: Option<u32>, n: u64) -> Result<Draft, Stop>
-    ensures { Gives (λ d. d) result (taken_at (record { turns = turns; procs = procs; section = Section.Before }) Section.Before (Form.Turns n)) }
+/// A turns line.
+fn take_turns(
+    turns: Option<u32>,
+    procs: DraftProcs,
+    section: Section,
+    n: u64,
+) -> Result<Draft, Stop>
+    ensures { Gives (λ d. d) result (taken_at (record { turns = turns; procs = procs; section = section }) section (Form.Turns n)) }
 {
+    let Section::Before = section else {
+        return Err(Stop::Fault(FaultKind::Syntax));
+    };
     if n <= u64::from(MOST_TURNS) {
         Ok(Draft {
             turns: Some(n as u32),
@@ -145,51 +154,52 @@ fn set_turns(procs: DraftProcs, turns: Option<u32>, n: u64) -> Result<Draft, Sto
     }
 }
 
-/// A form before the first process.
-fn take_before(
+/// A process line, outside a receive.
+fn take_process(
     alloc: Global,
     turns: Option<u32>,
     procs: DraftProcs,
-    form: Form,
+    section: Section,
+    name: Name,
 ) -> Result<Draft, Stop>
-    ensures { Gives (λ d. d) result (taken (record { turns = turns; procs = procs; section = Section.Before }) form) }
+    ensures { Gives (λ d. d) result (taken_at (record { turns = turns; procs = procs; section = section }) section (Form.Process name)) }
 {
-    match form {
-        Form::Turns(n) => set_turns(procs, turns, n),
-        Form::Process(name) => begin(alloc, turns, procs, Section::Before, name),
-        _other => Err(Stop::Fault(FaultKind::Syntax)),
+    if let Section::Inside(_, _, _, _) = &section {
+        return Err(Stop::Fault(FaultKind::Syntax));
+    }
+    begin(alloc, turns, procs, section, name)
+}
+
+/// A label line in a process, outside a receive: where the next line stands.
+#[tactic(auto, using(crate::proofs::FitLemmas::one_few))]
+fn place_label(section: Section, name: Name) -> Result<Section, Stop>
+    requires { All (IsSmall (2 ^ 31)) (open_proc section) }
+    ensures { Gives (λ s. s) result (section_taken section (Form.Label name)) }
+{
+    match section {
+        Section::Outside(proc) => Ok(Section::Outside(add_label(proc, name)?)),
+        _ => Err(Stop::Fault(FaultKind::Syntax)),
     }
 }
 
-/// A form in this process, outside a receive: where the next line stands.
-fn take_outside(
-    alloc: Global,
-    turns: Option<u32>,
-    procs: DraftProcs,
-    proc: DraftProc,
-    form: Form,
-) -> Result<Draft, Stop>
-    requires instrs { length proc.instrs + 1 < 2 ^ 32 }
-    requires labels { length proc.labels < 2 ^ 32 }
-    ensures { Gives (λ d. d) result (taken (record { turns = turns; procs = procs; section = Section.Outside proc }) form) }
+/// An instruction that is no receive.
+fn place_instr(section: Section, instr: Instr) -> Result<Section, Stop>
+    ensures { Gives (λ s. s) result (section_taken section (Form.Do instr)) }
 {
-    let section = match form {
-        Form::Process(name) => {
-            return begin(alloc, turns, procs, Section::Outside(proc), name);
-        }
-        Form::Label(name) => Section::Outside(add_label(proc, name)?),
-        Form::Do(instr) => Section::Outside(add_instr(proc, instr)?),
-        Form::Receive { using } => Section::Inside(proc, using, Sequence::new(alloc), None),
-        Form::Turns(_) => return Err(Stop::Fault(FaultKind::Syntax)),
-        Form::On(_, _) => return Err(Stop::Fault(FaultKind::Syntax)),
-        Form::After(_) => return Err(Stop::Fault(FaultKind::Syntax)),
-        Form::End => return Err(Stop::Fault(FaultKind::Syntax)),
-    };
-    Ok(Draft {
-        turns,
-        procs,
-        section,
-    })
+    match section {
+        Section::Outside(proc) => Ok(Section::Outside(add_instr(proc, instr)?)),
+        _ => Err(Stop::Fault(FaultKind::Syntax)),
+    }
+}
+
+/// The first line of a receive.
+fn place_receive(alloc: Global, section: Section, marker: Option<Var>) -> Result<Section, Stop>
+    ensures { Gives (λ s. s) result (section_taken section (Form.Receive marker)) }
+{
+    match section {
+        Section::Outside(proc) => Ok(Section::Inside(proc, marker, Sequence::new(alloc), None)),
+        _ => Err(Stop::Fault(FaultKind::Syntax)),
+    }
 }
 
 /// Whether the pattern pins the variable of the receive's marker, where it has one.
@@ -219,43 +229,70 @@ fn add_clause(
     Ok(clauses)
 }
 
-/// A form in a receive of this process.
-fn take_inside(
-    turns: Option<u32>,
-    procs: DraftProcs,
-    proc: DraftProc,
-    marker: Option<Var>,
-    clauses: Clauses,
-    after: Option<After>,
-    form: Form,
-) -> Result<Draft, Stop>
-    ensures { Gives (λ d. d) result (taken (record { turns = turns; procs = procs; section = Section.Inside proc marker clauses after }) form) }
+/// A clause line in a receive.
+fn place_clause(
+    section: Section,
+    pattern: Pattern,
+    target: Option<u32>,
+) -> Result<Section, Stop>
+    ensures { Gives (λ s. s) result (section_taken section (Form.On pattern target)) }
 {
-    let section = match form {
-        Form::On(pattern, target) => {
+    match section {
+        Section::Inside(proc, marker, clauses, after) => {
             let clauses = add_clause(&marker, clauses, pattern, target)?;
-            Section::Inside(proc, marker, clauses, after)
+            Ok(Section::Inside(proc, marker, clauses, after))
         }
-        Form::After(after) => Section::Inside(proc, marker, clauses, Some(after)),
-        Form::End => {
+        _ => Err(Stop::Fault(FaultKind::Syntax)),
+    }
+}
+
+/// The line of where a receive goes on that finds no message.
+fn place_after(section: Section, next: After) -> Result<Section, Stop>
+    ensures { Gives (λ s. s) result (section_taken section (Form.After next)) }
+{
+    match section {
+        Section::Inside(proc, marker, clauses, _) => {
+            Ok(Section::Inside(proc, marker, clauses, Some(next)))
+        }
+        _ => Err(Stop::Fault(FaultKind::Syntax)),
+    }
+}
+
+/// The last line of a receive, which is one instruction.
+fn place_end(section: Section) -> Result<Section, Stop>
+    ensures { Gives (λ s. s) result (section_taken section Form.End) }
+{
+    match section {
+        Section::Inside(proc, using, clauses, after) => {
             let receive = Instr::Receive {
-                using: marker,
+                using,
                 clauses,
                 after,
             };
-            Section::Outside(add_instr(proc, receive)?)
+            Ok(Section::Outside(add_instr(proc, receive)?))
         }
-        _other => return Err(Stop::Fault(FaultKind::Syntax)),
-    };
-    Ok(Draft {
-        turns,
-        procs,
-        section,
-    })
+        _ => Err(Stop::Fault(FaultKind::Syntax)),
+    }
+}
+
+/// A form that begins no process and tells no turns: where the next line stands.
+fn place(alloc: Global, section: Section, form: Form) -> Result<Section, Stop>
+    requires { All (IsSmall (2 ^ 31)) (open_proc section) }
+    ensures { Gives (λ s. s) result (section_taken section form) }
+{
+    match form {
+        Form::Label(name) => place_label(section, name),
+        Form::Do(instr) => place_instr(section, instr),
+        Form::Receive { using } => place_receive(alloc, section, using),
+        Form::On(pattern, target) => place_clause(section, pattern, target),
+        Form::After(next) => place_after(section, next),
+        Form::End => place_end(section),
+        _ => Err(Stop::Fault(FaultKind::Syntax)),
+    }
 }
 
 /// A form behind what was read so far.
-#[tactic(auto, using(crate::proofs::FitLemmas::open_small, crate::proofs::FitLemmas::open_few))]
+#[tactic(auto, using(crate::proofs::FitLemmas::open_fits))]
 fn take_form(alloc: Global, draft: Draft, n: u64, form: Form) -> Result<Draft, Stop>
     requires few { n < 2 ^ 31 }
     requires fit { IsFit n draft }
@@ -266,11 +303,16 @@ fn take_form(alloc: Global, draft: Draft, n: u64, form: Form) -> Result<Draft, S
         procs,
         section,
     } = draft;
-    match section {
-        Section::Before => take_before(alloc, turns, procs, form),
-        Section::Outside(proc) => take_outside(alloc, turns, procs, proc, form),
-        Section::Inside(proc, marker, clauses, after) => {
-            take_inside(turns, procs, proc, marker, clauses, after, form)
+    match form {
+        Form::Turns(n) => take_turns(turns, procs, section, n),
+        Form::Process(name) => take_process(alloc, turns, procs, section, name),
+        other => {
+            let section = place(alloc, section, other)?;
+            Ok(Draft {
+                turns,
+                procs,
+                section,
+            })
         }
     }
 }

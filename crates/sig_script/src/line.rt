@@ -18,6 +18,9 @@ use crate::token::{Cut, Token, TokenKind, Tokens, is_blank_byte, token_at};
 use sig_lists::Sequence;
 use std::alloc::{AllocError, Global};
 
+// Most lines have fewer tokens, so that they are added without growing the list.
+const USUAL_TOKENS: usize = 16;
+
 fn line_len(bytes: &[u8]) -> usize
     ensures len { result ≡ length (take_while (λ b. not (b == 10)) bytes.now) }
     ensures bound { result ≤ length bytes.now }
@@ -39,7 +42,7 @@ fn cut_line(alloc: Global, line: &[u8]) -> Result<Cut, AllocError>
     ensures cut { IfOk result (λ cut. cut ≡ cut_of 0 0 line.now) }
     ensures known { IfOk result (λ cut. AreTokens line.now cut.tokens) }
 {
-    let mut tokens = Sequence::new(alloc);
+    let mut tokens = Sequence::from_vec(Vec::with_capacity(alloc, USUAL_TOKENS)?);
     let mut at = 0;
     while at < line.len() {
         let b = line[at];

@@ -1,0 +1,266 @@
+//! The canonical texts of scripts, of those that are read and of the generated one.
+
+use sig_script::{ScriptError, generate, print_script, read_script};
+use std::alloc::{AllocError, Global};
+use std::test::Fail;
+
+/// Texts of scripts, and the canonical text of each.
+const PRINTED: [(&[u8], &[u8]); 6] = [
+    (
+        br"sigscript 1
+process a
+send @b hi
+process b
+receive
+on X
+end
+",
+        br"sigscript 1
+turns 1000
+process a
+send @b hi
+process b
+receive
+on X
+end
+",
+    ),
+    (b"sigscript 1", b"sigscript 1\nturns 1000\n"),
+    (
+        b" sigscript 001 % a comment\r\n\n turns 0020000\t\nprocess b\nlabel l % twice\nlabel m\nprocess a",
+        b"sigscript 1\nturns 20000\nprocess b\nlabel l\nlabel m\nprocess a\n",
+    ),
+    // Each expression.
+    (
+        br"sigscript 1
+process a@1
+send 'a@1' {-007, 9223372036854775807, -9223372036854775808, -0}
+set X_1 [ a , 'a b' , '' , 'A' , @a@1 , X_1 , { } , [ ] , {[{[]}]} ]
+",
+        br"sigscript 1
+turns 1000
+process a@1
+send a@1 {-7,9223372036854775807,-9223372036854775808,0}
+set X_1 [a,'a b','','A',@a@1,X_1,{},[],{[{[]}]}]
+",
+    ),
+    // Each pattern, and where a clause goes on.
+    (
+        br"sigscript 1
+process a
+receive
+on _
+on X -> here
+on ^X
+on -1 -> there
+on 'x y'
+on @a
+on {}
+on {_, X, ^X, 1, a, @a, {}, []}
+on []
+on [_, [X]]
+on [ H | T ]
+on [a, b | c]
+on [a | [b | [c | T]]]
+on [[a | b] | {c}]
+on [a | [b, c]]
+end
+label here
+label there
+",
+        br"sigscript 1
+turns 1000
+process a
+receive
+on _
+on X -> here
+on ^X
+on -1 -> there
+on 'x y'
+on @a
+on {}
+on {_,X,^X,1,a,@a,{},[]}
+on []
+on [_,[X]]
+on [H|T]
+on [a,b|c]
+on [a,b,c|T]
+on [[a|b]|{c}]
+on [a|[b,c]]
+end
+label here
+label there
+",
+    ),
+    // Each instruction, each label before its place, and those behind the last.
+    (
+        br"sigscript 1
+turns 7
+process a
+label start
+label again
+send @b {hello, @a}
+set X 1
+make_ref R
+link @b
+unlink @b
+monitor M @b
+monitor M @b explicit_unalias
+monitor M @b demonitor
+monitor M @b reply_demonitor
+demonitor M
+demonitor M flush
+label middle
+alias A
+alias A reply
+unalias A
+exit_to @b kill
+trap on
+trap off
+reserve
+bind R
+clear R
+receive
+end
+receive using R
+on {^R, V} -> again
+on [^R]
+after -> middle
+end
+receive
+after
+end
+goto start
+exit done
+stop
+label first
+label last
+process b
+",
+        br"sigscript 1
+turns 7
+process a
+label start
+label again
+send @b {hello,@a}
+set X 1
+make_ref R
+link @b
+unlink @b
+monitor M @b
+monitor M @b explicit_unalias
+monitor M @b demonitor
+monitor M @b reply_demonitor
+demonitor M
+demonitor M flush
+label middle
+alias A
+alias A reply
+unalias A
+exit_to @b kill
+trap on
+trap off
+reserve
+bind R
+clear R
+receive
+end
+receive using R
+on {^R,V} -> again
+on [^R]
+after -> middle
+end
+receive
+after
+end
+goto start
+exit done
+stop
+label first
+label last
+process b
+",
+    ),
+];
+
+/// Whether the script of this text is printed so, behind what was there.
+fn is_printed(alloc: Global, text: &[u8], canonical: &[u8]) -> Result<bool, ScriptError> {
+    let script = read_script(alloc, text)?;
+    let mut printed = Vec::from_slice(alloc, b"before\n")?;
+    print_script(&script, &mut printed)?;
+    Ok(printed.as_slice().starts_with(b"before\n") && &printed[7..] == canonical)
+}
+
+/// The first of these texts that isn't printed so, itself or its canonical text.
+fn first_unlike<'a>(
+    alloc: Global,
+    rows: &[(&'a [u8], &'a [u8])],
+) -> Result<Option<&'a [u8]>, ScriptError> {
+    for (text, canonical) in rows {
+        if !is_printed(alloc, text, canonical)? || !is_printed(alloc, canonical, canonical)? {
+            return Ok(Some(*text));
+        }
+    }
+    Ok(None)
+}
+
+#[test]
+fn scripts_have_their_canonical_texts(rt: HostRuntime) -> Result<(), Fail> {
+    let alloc = rt.alloc();
+    let Ok(unlike) = first_unlike(alloc, &PRINTED) else {
+        panic!(rt; "a script that isn't read or printed");
+    };
+    assert!(rt; unlike.is_none(), "{unlike:?}");
+    Ok(())
+}
+
+/// The canonical text of the generated script whose clients make one call each.
+fn one_call_each(alloc: Global) -> Result<Vec<u8>, AllocError> {
+    let mut text = Vec::from_slice(
+        alloc,
+        br"sigscript 1
+turns 20000
+process hub
+label loop
+receive
+on {call,R,V} -> answer
+end
+label answer
+send R {R,V}
+goto loop
+",
+    )?;
+    for digit in b"01234567" {
+        text.extend_from_slice(b"process c")?;
+        text.push(*digit)?;
+        text.extend_from_slice(
+            br"
+reserve
+monitor M @hub reply_demonitor
+bind M
+send @hub {call,M,1}
+receive using M
+on {^M,V}
+on {'DOWN',^M,process,_,V}
+end
+",
+        )?;
+    }
+    Ok(text)
+}
+
+#[test]
+fn the_generated_script_has_its_text(rt: HostRuntime) -> Result<(), Fail> {
+    let alloc = rt.alloc();
+    let expected = one_call_each(alloc)?;
+    assert!(rt; expected.iter().filter(|b| **b == b'\n').count() == 82);
+    let script = generate(alloc, 1)?;
+    let mut printed = Vec::new(alloc);
+    print_script(&script, &mut printed)?;
+    assert!(rt; printed.as_slice() == expected.as_slice());
+    let largest = generate(alloc, 800)?;
+    let mut printed = Vec::new(alloc);
+    print_script(&largest, &mut printed)?;
+    assert!(rt; printed.len() < 1_000_000);
+    Ok(())
+}
