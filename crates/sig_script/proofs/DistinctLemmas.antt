@@ -5,7 +5,8 @@ use Rattle.std.specs.Str.{bytes_eq}
 use Rattle.std.proofs.lemmas.Slice.Eq.{bytes_eq-Decides}
 use Rattle.std.proofs.lemmas.List.Elements.{All-nil, All-cons, All-head, All-tail, All-push}
 use Rattle.sig_script.specs.declared.label.Label.{Label}
-use Rattle.sig_script.specs.ReadableScript.{AreDistinct, AreRising}
+use Rattle.sig_script.specs.Scripts.{AreRising}
+use Rattle.sig_script.specs.ReadableScript.{AreDistinct}
 
 pub distinct-first : (name : List ℕ) (names : List (List ℕ)) → AreDistinct (name ∷ names) → All (λ other. name ≢ other) names
 distinct-first name names (AreDistinct.more h k) = h
@@ -34,12 +35,6 @@ distinct-push [] name d h = AreDistinct.more (All-nil (λ other. name ≢ other)
 distinct-push (first ∷ names) name d h =
     AreDistinct.more (All-push (λ other. first ≢ other) names name (distinct-first first names d) (All-head (λ other. other ≢ name) first names h))
     (distinct-push names name (distinct-rest first names d) (All-tail (λ other. other ≢ name) first names h))
-
-pub rising-push : (labels : List Label) (label : Label) → AreRising labels → All (λ (other : Label). other.place ≤ label.place) labels → AreRising (labels ++ label ∷ [])
-rising-push [] label r h = AreRising.more (All-nil (λ (other : Label). label.place ≤ other.place)) AreRising.none
-rising-push (first ∷ labels) label r h =
-    AreRising.more (All-push (λ (other : Label). first.place ≤ other.place) labels label (rising-first first labels r) (All-head (λ (other : Label). other.place ≤ label.place) first labels h))
-    (rising-push labels label (rising-rest first labels r) (All-tail (λ (other : Label). other.place ≤ label.place) first labels h))
 
 -- the name isn't among those of the items, by the test
 neither : (a b : Bool) → (a || b) ≡ false → (a ≡ false) × (b ≡ false)

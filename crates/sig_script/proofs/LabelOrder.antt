@@ -5,7 +5,7 @@ use Rattle.std.proofs.lemmas.Bool.Decides.{Decides-eqb, nat_tests}
 use Rattle.std.proofs.lemmas.List.{append-nil}
 use Rattle.std.proofs.lemmas.List.Elements.{All-nil, All-cons, All-head, All-tail, filter-append}
 use Rattle.sig_script.specs.declared.label.Label.{Label}
-use Rattle.sig_script.specs.ReadableScript.{AreRising}
+use Rattle.sig_script.specs.Scripts.{AreRising}
 use Rattle.sig_script.proofs.DistinctLemmas.{rising-first, rising-rest}
 
 abbrev pub StandAt : ℕ → List Label → Type 0

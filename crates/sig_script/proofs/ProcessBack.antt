@@ -14,10 +14,10 @@ use Rattle.sig_script.specs.declared.known.Known.{Known}
 use Rattle.sig_script.specs.declared.draft.Section.TheVariants.{Outside, Inside}
 use Rattle.sig_script.specs.declared.draft.Draft.{Draft}
 use Rattle.sig_script.specs.declared.form.Form.TheVariants as form
-use Rattle.sig_script.specs.Scripts.{Declared, AreMarked, IsLawful, IsPlace}
+use Rattle.sig_script.specs.Scripts.{Declared, AreMarked, IsLawful, IsPlace, AreRising}
 use Rattle.sig_script.specs.Drafts.{with_instr, is_marked, taken}
 use Rattle.sig_script.specs.ScriptText.{spaced, marker_text, target_text, clause_line, after_lines, instr_lines, label_line, labels_there, placed_lines}
-use Rattle.sig_script.specs.ReadableScript.{IsNameToken, IsReadablePattern, IsReadableInstr, AreDistinct, AreRising}
+use Rattle.sig_script.specs.ReadableScript.{IsNameToken, IsReadablePattern, IsReadableInstr, AreDistinct}
 use Rattle.sig_script.proofs.DistinctLemmas.{all_before, all_after, name_free, distinct-before, distinct-front}
 use Rattle.sig_script.proofs.LabelOrder.{StandAt, StandFrom, StandBefore, IsCut, cut_at, found_there, none_later}
 use Rattle.sig_script.proofs.WalkSteps.{Leads, no_lines, one_line, lines_joined, same_lines, same_end, one_more}

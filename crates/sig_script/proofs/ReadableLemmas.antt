@@ -24,13 +24,13 @@ use Rattle.sig_script.specs.Lines.{lines_of}
 use Rattle.sig_script.specs.Forms.{tokens_of, said}
 use Rattle.sig_script.specs.Drafts.{blank, open_proc, all_procs, begun, labelled, with_instr, is_marked, with_clause, taken_at}
 use Rattle.sig_script.specs.Grammar.{taken_if, line_taken, walk, walk_twice, is_header, script_of_lines, script_of}
-use Rattle.sig_script.specs.ReadableScript.{IsNameToken, IsVariableToken, IsReadablePattern, IsReadableInstr, AreDistinct, AreRising, IsReadableScript}
+use Rattle.sig_script.specs.ReadableScript.{IsNameToken, IsVariableToken, IsReadablePattern, IsReadableInstr, AreDistinct, IsReadableScript}
 use Rattle.sig_script.specs.declared.script.TheConstants.{MOST_PROCESSES, MOST_TURNS}
 use Rattle.sig_script.specs.declared.reader.TheConstants.{MOST_BYTES}
 use Rattle.sig_script.proofs.FitLemmas.{all-last}
 use Rattle.sig_script.proofs.BoundTermLemmas.{Holds, holds-of, holds-if, holds-on_ok, holds-then}
 use Rattle.sig_script.proofs.BoundLemmas.{all-front, body-holds, few_lines, same_counts, same-number, procs_within, script_sound}
-use Rattle.sig_script.proofs.DistinctLemmas.{distinct-push, rising-push, free_name}
+use Rattle.sig_script.proofs.DistinctLemmas.{distinct-push, free_name}
 use Rattle.sig_script.proofs.ReadableForms.{IsReadableForm, said-read}
 
 -- the process that is read, and the others
@@ -38,8 +38,6 @@ record IsGood (count : ℕ) (p : Declared) : Type 0 where
   name : IsNameToken p.name
   labels : All (λ (l : Label). IsNameToken l.name) p.labels
   distinct : AreDistinct (map (λ (l : Label). l.name) p.labels)
-  rising : AreRising p.labels
-  before : All (λ (l : Label). l.place ≤ length p.instrs + 1) p.labels
   instrs : All (IsReadableInstr count) p.instrs
 
 -- the receive that is read
@@ -64,8 +62,6 @@ empty-good count name h = record {
   name = h;
   labels = All-nil (λ (l : Label). IsNameToken l.name);
   distinct = AreDistinct.none;
-  rising = AreRising.none;
-  before = All-nil (λ (l : Label). l.place ≤ 0 + 1);
   instrs = All-nil (IsReadableInstr count);
 }
 
@@ -81,16 +77,11 @@ begun-good count d name named h =
       receive = tt;
     }))
 
-later : (n m : ℕ) (labels : List Label) → n ≤ m → All (λ (l : Label). l.place ≤ n + 1) labels → All (λ (l : Label). l.place ≤ m + 1) labels
-later n m labels le h = All-weaker (λ (l : Label). l.place ≤ n + 1) (λ (l : Label). l.place ≤ m + 1) (λ l k. omega (arith, k)) labels h
-
 instr-good : (count : ℕ) (p : Declared) (i : Instr) → IsReadableInstr count i → IsGood count p → IsGood count (with_instr p i)
 instr-good count p i k h = record {
   name = h.name;
   labels = h.labels;
   distinct = h.distinct;
-  rising = h.rising;
-  before = later (length p.instrs) (length (p.instrs ++ i ∷ [])) p.labels (omega (arith, length-append p.instrs (i ∷ []))) h.before;
   instrs = All-push (IsReadableInstr count) p.instrs i h.instrs k;
 }
 
@@ -105,8 +96,6 @@ labelled-good count p name named h =
         labels = All-push (λ (l : Label). IsNameToken l.name) p.labels l h.labels named;
         distinct = subst AreDistinct (sym (map-append (λ (l : Label). l.name) p.labels (l ∷ [])))
             (distinct-push (map (λ (l : Label). l.name) p.labels) name h.distinct (free_name (λ (l : Label). l.name) p.labels name free));
-        rising = rising-push p.labels l h.rising h.before;
-        before = All-push (λ (l : Label). l.place ≤ length p.instrs + 1) p.labels l h.before (le_refl (length p.instrs + 1));
         instrs = h.instrs;
       },
       refl,
@@ -186,7 +175,7 @@ walked lines first s le e k =
       names = good.0;
       procs = λ i d lt.
           let h = each i d lt in
-          record { name = h.name; labels = h.labels; distinct = h.distinct; rising = h.rising; within = within i d lt; instrs = h.instrs };
+          record { name = h.name; labels = h.labels; distinct = h.distinct; within = within i d lt; instrs = h.instrs };
     }
 
 walked_twice : (lines : List (List ℕ)) (s : Program) (r : Result Program Fault) → length lines ≤ 2 ^ 30 → walk Any lines ≡ r → (r >>= λ first. walk (Among first) lines) ≡ Ok s → IsReadableScript s

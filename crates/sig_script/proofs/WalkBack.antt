@@ -128,7 +128,7 @@ module _ (known : Known) (f g : ℕ → ℕ) (s : Program) (readable : IsReadabl
       let tags : length p.labels ≡ length (label_names p.labels) = sym (length-map p.labels (λ (l : Label). l.name)) in
       let fine : All (IsReadableInstr (length names)) p.instrs = subst (λ (n : ℕ). All (IsReadableInstr n) p.instrs) count good.instrs in
       let lawful : All (IsLawful (length (label_names p.labels))) p.instrs = subst (λ (n : ℕ). All (IsLawful n) p.instrs) tags good.within.lawful in
-      let rest = process-leads known names f g d.turns (all_procs d) p.labels here good.labels good.distinct p.name p.instrs good.rising good.within.places (λ i e lt. (fine i e lt, lawful i e lt)) in
+      let rest = process-leads known names f g d.turns (all_procs d) p.labels here good.labels good.distinct p.name p.instrs good.within.rising good.within.places (λ i e lt. (fine i e lt, lawful i e lt)) in
       one_more known d (begun_as d p.name) (next d p) (spaced (codes "process") (p.name ∷ [])) _ first rest
 
   -- all processes

@@ -20,7 +20,7 @@ use Rattle.sig_script.specs.declared.label.Label.{Label}
 use Rattle.sig_script.specs.declared.instruction.Instr.{Instr}
 use Rattle.sig_script.specs.declared.instruction.Instr.TheVariants as instr
 use Rattle.sig_script.specs.Parts.{exprs_of, clauses_of, using_of}
-use Rattle.sig_script.specs.Scripts.{Declared, Program, AreRising, IsWithin, IsSound}
+use Rattle.sig_script.specs.Scripts.{Declared, Program, IsWithin, IsSound}
 
 -- a name token
 abbrev pub IsNameToken : List ℕ → Type 0
@@ -143,7 +143,6 @@ pub record IsReadableProc (count : ℕ) (p : Declared) : Type 0 where
   pub name : IsNameToken p.name
   pub labels : All (λ (l : Label). IsNameToken l.name) p.labels
   pub distinct : AreDistinct (map (λ (l : Label). l.name) p.labels)
-  pub rising : AreRising p.labels
   pub within : IsWithin p
   pub instrs : All (IsReadableInstr count) p.instrs
 
