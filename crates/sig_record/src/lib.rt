@@ -15,6 +15,7 @@ mod refusal;
 mod report;
 mod runs;
 mod settling;
+mod summary;
 
 pub use merging::{Merged, MergedAt};
 pub use ordering::merged_record_is_the_order;
@@ -24,3 +25,4 @@ pub use record::Record;
 pub use refusal::RecordError;
 pub use report::{Left, Lefts, Queued, Report};
 pub use runs::a_lawful_crew_tells_a_run;
+pub use summary::{Summary, summarize};
