@@ -7,6 +7,7 @@ ghost use Rattle.sig_record.specs.Summarizing.{is_kept, is_ended, is_waiting, ke
 
 use crate::record::Record;
 use crate::report::Report;
+use crate::settling::is_cut;
 use sig_model::{Event, Outcome, State};
 
 /// How many there are in a record. A sum over the processes that 64 bits can't hold is told as the
@@ -33,11 +34,28 @@ fn is_kept(event: &Event) -> bool
     matches!(event.outcome, Outcome::Kept { .. })
 }
 
-fn kept_in(report: &Report) -> u64
-    ensures { result ≡ kept_in report.now }
+fn is_ended(state: &State) -> bool
+    ensures { result ≡ is_ended state.now }
 {
-    let kept = report.events.as_slice().iter().filter(|event| is_kept(event));
-    kept.count() as u64
+    matches!(state, State::Ended { .. })
+}
+
+fn is_waiting(state: &State) -> bool
+    ensures { result ≡ is_waiting state.now }
+{
+    matches!(state, State::Waiting)
+}
+
+fn kept_in(events: &[Event]) -> usize
+    ensures { result ≡ count_by is_kept events.now }
+{
+    let mut kept = 0;
+    for event in events {
+        if is_kept(event) {
+            kept += 1;
+        }
+    }
+    kept
 }
 
 fn events_of(reports: &[Report]) -> u64
@@ -55,30 +73,45 @@ fn kept_of(reports: &[Report]) -> u64
 {
     let mut kept = 0u64;
     for report in reports {
-        kept = kept.saturating_add(kept_in(report));
+        kept = kept.saturating_add(kept_in(report.events.as_slice()) as u64);
     }
     kept
 }
 
-fn ended_of(reports: &[Report]) -> u64
+fn ended_of(reports: &[Report]) -> usize
     ensures { result ≡ count_by (λ r. is_ended r.state) reports.now }
 {
-    let ended = reports.iter().filter(|report| matches!(report.state, State::Ended { .. }));
-    ended.count() as u64
+    let mut ended = 0;
+    for report in reports {
+        if is_ended(&report.state) {
+            ended += 1;
+        }
+    }
+    ended
 }
 
-fn waiting_of(reports: &[Report]) -> u64
+fn waiting_of(reports: &[Report]) -> usize
     ensures { result ≡ count_by (λ r. is_waiting r.state) reports.now }
 {
-    let waiting = reports.iter().filter(|report| matches!(report.state, State::Waiting));
-    waiting.count() as u64
+    let mut waiting = 0;
+    for report in reports {
+        if is_waiting(&report.state) {
+            waiting += 1;
+        }
+    }
+    waiting
 }
 
-fn cut_of(reports: &[Report]) -> u64
+fn cut_of(reports: &[Report]) -> usize
     ensures { result ≡ count_by (λ r. is_cut r.state) reports.now }
 {
-    let cut = reports.iter().filter(|report| matches!(report.state, State::Cut));
-    cut.count() as u64
+    let mut cut = 0;
+    for report in reports {
+        if is_cut(&report.state) {
+            cut += 1;
+        }
+    }
+    cut
 }
 
 /// Counts the processes, how they stand, and their events. It takes no memory.
@@ -90,8 +123,8 @@ pub fn summarize(given: &Record) -> Summary
         processes: reports.len() as u64,
         events: events_of(reports),
         kept: kept_of(reports),
-        ended: ended_of(reports),
-        waiting: waiting_of(reports),
-        cut: cut_of(reports),
+        ended: ended_of(reports) as u64,
+        waiting: waiting_of(reports) as u64,
+        cut: cut_of(reports) as u64,
     }
 }
