@@ -27,3 +27,4 @@ pub mod OutcomeSizes
 pub mod EventSizes
 pub mod SizedCrews
 pub mod SizedReads
+pub mod Stored

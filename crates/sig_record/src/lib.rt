@@ -24,5 +24,5 @@ pub use reading::{read_record, texts_tell_records_apart};
 pub use record::Record;
 pub use refusal::RecordError;
 pub use report::{Left, Lefts, Queued, Report};
-pub use runs::a_lawful_crew_tells_a_run;
+pub use runs::{a_lawful_crew_tells_a_readable_record, a_lawful_crew_tells_a_run};
 pub use summary::{Summary, summarize};

@@ -16,7 +16,7 @@ ghost use Rattle.sig_record.specs.RecordText.{
   report_text,
   record_text,
 };
-ghost use Rattle.sig_record.specs.ReadableRecord.{IsNarrow, IsReadableRef, IsReadableDid, IsReadableRecord};
+ghost use Rattle.sig_record.specs.ReadableRecord.{IsNarrow, IsWide, IsReadableRef, IsReadableDid, IsReadableRecord};
 ghost use Rattle.sig_record.specs.StoredRecord.{
   IsStoredOutcome,
   IsStoredEvent,
@@ -34,7 +34,7 @@ use crate::report::{Left, Report};
 use itoa::Buffer;
 use sig_kinds::{Kind, Signal};
 use sig_model::{Did, Event, Outcome, State};
-use sig_terms::{Name, Ref};
+use sig_terms::{Name, Pid, Ref};
 use std::alloc::AllocError;
 
 fn put(into: &mut Vec<u8>, text: &[u8]) -> Result<(), AllocError>
@@ -51,10 +51,18 @@ fn put_number(into: &mut Vec<u8>, n: u64) -> Result<(), AllocError>
 }
 
 fn put_numbered(into: &mut Vec<u8>, word: &[u8], number: u64) -> Result<(), AllocError>
-    ensures { IsPut into.old.items into.new.items (word.now ++ decimal number) result }
+    ensures text { IsPut into.old.items into.new.items (word.now ++ decimal number) result }
+    ensures wide { IsWide number }
 {
     put(into, word)?;
     put_number(into, number)
+}
+
+fn put_pid(into: &mut Vec<u8>, word: &[u8], pid: Pid) -> Result<(), AllocError>
+    ensures text { IsPut into.old.items into.new.items (word.now ++ decimal pid.0) result }
+    ensures narrow { IsNarrow pid.0 }
+{
+    put_numbered(into, word, u64::from(pid.0))
 }
 
 fn put_did(into: &mut Vec<u8>, did: &Did) -> Result<(), AllocError>
@@ -67,7 +75,7 @@ fn put_did(into: &mut Vec<u8>, did: &Did) -> Result<(), AllocError>
             put(into, b" ")
         }
         Did::From { from, number } => {
-            put_numbered(into, b" from ", u64::from(from.0))?;
+            put_pid(into, b" from ", *from)?;
             put_numbered(into, b" ", *number)?;
             put(into, b" ")
         }
@@ -217,7 +225,7 @@ fn put_queued(into: &mut Vec<u8>, signal: &Signal) -> Result<(), AllocError>
     ensures text { IsPut into.old.items into.new.items (queued_text signal.now) result }
     ensures stored { OnOk result (IsStoredSignal signal.now) }
 {
-    put_numbered(into, b"queued ", u64::from(signal.from.0))?;
+    put_pid(into, b"queued ", signal.from)?;
     put_numbered(into, b" ", signal.number)?;
     put_numbered(into, b" ", signal.stamp)?;
     put(into, b" ")?;
@@ -253,11 +261,11 @@ fn put_state(into: &mut Vec<u8>, state: &State) -> Result<(), AllocError>
     }
 }
 
-fn put_head(into: &mut Vec<u8>, pid: u32, name: &Name) -> Result<(), AllocError>
-    ensures text { IsPut into.old.items into.new.items (head_text pid name.now) result }
-    ensures stored { OnOk result (IsNarrow pid × (is_token name.now ≡ true)) }
+fn put_head(into: &mut Vec<u8>, pid: Pid, name: &Name) -> Result<(), AllocError>
+    ensures text { IsPut into.old.items into.new.items (head_text pid.0 name.now) result }
+    ensures stored { OnOk result (IsNarrow pid.0 × (is_token name.now ≡ true)) }
 {
-    put_numbered(into, b"process ", u64::from(pid))?;
+    put_pid(into, b"process ", pid)?;
     put(into, b" ")?;
     put(into, name.bytes())?;
     put(into, b"\n")
@@ -268,7 +276,7 @@ fn put_report(into: &mut Vec<u8>, report: &Report) -> Result<(), AllocError>
     ensures text { IsPut into.old.items into.new.items (report_text report.now) result }
     ensures stored { OnOk result (IsStoredReport report.now) }
 {
-    put_head(into, report.pid.0, &report.name)?;
+    put_head(into, report.pid, &report.name)?;
     put_events(into, report.events.as_slice())?;
     put_lefts(into, report.left.as_slice())?;
     put_all_queued(into, report.queued.as_slice())?;

@@ -9,10 +9,15 @@ ghost use Rattle.sig_model.specs.OneWorker.{IsClear};
 ghost use Rattle.sig_model.specs.CrewLaw.{IsLawfulCrew, whole_member};
 ghost use Rattle.sig_model.specs.Still.{IsStillCrew};
 ghost use Rattle.sig_record.specs.declared.merging.MergedAt.{MergedAt};
+ghost use Rattle.sig_record.specs.declared.report.Report.{Report};
 ghost use Rattle.sig_record.specs.RecordOf.{record_of};
 ghost use Rattle.sig_record.specs.Merging.{IsMerged};
 ghost use Rattle.sig_record.specs.SettledRecord.{is_settled};
 ghost use Rattle.sig_record.specs.RunRecord.{events_listed, whole_rules, IsRecordOfRun};
+ghost use Rattle.sig_record.specs.Records.{IsRecord};
+ghost use Rattle.sig_record.specs.ReadableRecord.{IsReadableRecord};
+ghost use Rattle.sig_record.specs.SizedRecord.{AreNames, IsSizedRecord};
+ghost use Rattle.sig_record.specs.StoredRecord.{IsStoredRecord};
 
 /// The record of a lawful crew with empty outboxes is the record of a run of the script's plain
 /// machine, in which a receive looks at all messages. Each list that `merge` may give of it is such
@@ -32,4 +37,14 @@ pub fn a_lawful_crew_tells_a_run()
         IsSettled (whole_rules script) (crew_machine (rules_of script) (map whole_member crew)) }
     ensures still { (script : Program) (crew : List Running) → IsLawfulCrew script crew → IsStillCrew crew →
         is_settled (record_of crew) ≡ true }
+{}
+
+/// The record of a lawful crew with empty outboxes, of a script whose processes' names are name
+/// tokens, has such names, and its terms are no larger than what is read. So where it lies in memory,
+/// it is one of the records that are read back from their texts. (The bounds are this project's own.)
+pub fn a_lawful_crew_tells_a_readable_record()
+    ensures sized { (script : Program) (crew : List Running) → IsLawfulCrew script crew → IsClear crew → AreNames script →
+        IsSizedRecord (record_of crew) }
+    ensures readable { (reports : List Report) → IsRecord reports → IsStoredRecord reports → IsSizedRecord reports →
+        IsReadableRecord reports }
 {}
