@@ -24,7 +24,7 @@ pub use printing::print_record;
 pub use reading::{read_record, texts_tell_records_apart};
 pub use record::Record;
 pub use refusal::RecordError;
-pub use rereading::reread;
 pub use report::{Left, Lefts, Queued, Report};
+pub use rereading::reread;
 pub use runs::{a_lawful_crew_tells_a_readable_record, a_lawful_crew_tells_a_run};
 pub use summary::{Summary, summarize};

@@ -18,8 +18,8 @@ use crate::refusal::Refusal;
 use crate::report::{Lefts, Queued, Report};
 use sig_lists::Sequence;
 use sig_model::Events;
-use sig_terms::bytes::is_digit_byte;
 use sig_terms::Pid;
+use sig_terms::bytes::is_digit_byte;
 use std::alloc::Global;
 
 fn begins_by_digit(bytes: &[u8]) -> bool
