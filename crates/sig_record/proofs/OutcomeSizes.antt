@@ -1,10 +1,9 @@
 -- The terms that an event tells of are no larger than what is read.
-use Rattle.std.proofs.Common.{◌≡◌, ℕ, suc, ◌+◌, ◌-◌, List, [], ◌∷◌, ◌++◌, drop, Bool, true, false, ◌&&◌, not, ◌==◌, is_some, All, IfSome, Option, Some, None, codes, refl, sym, ap, ◌∙◌, subst}
+use Rattle.std.proofs.Common.{ℕ, ◌-◌, List, [], ◌∷◌, drop, Bool, true, false, ◌&&◌, not, ◌==◌, is_some, All, IfSome, Option, Some, None, codes}
 use Rattle.std.specs.Prelude.{slice_get}
 use Rattle.std.specs.Option.{option_map, option_map_or, option_or}
 use Rattle.std.proofs.lemmas.Bool.{cond_both}
-use Rattle.std.proofs.lemmas.List.Elements.{All-nil, All-cons, All-head, All-tail, All-drop, All-map}
-use Rattle.std.proofs.lemmas.Option.{MatchOption-at_some}
+use Rattle.std.proofs.lemmas.List.Elements.{All-head, All-tail, All-drop, All-map}
 use Rattle.sig_terms.specs.declared.pid.Pid.{Pid}
 use Rattle.sig_terms.specs.declared.reference.Ref.{Ref}
 use Rattle.sig_terms.specs.declared.term.Term.{Term}
@@ -16,10 +15,9 @@ use Rattle.sig_kinds.specs.declared.signal.Kind.{Kind}
 use Rattle.sig_kinds.specs.declared.signal.Kind.TheVariants.{Message, AliasMessage, Link, Unlink, UnlinkAck, Monitor, Demonitor, Exit, Down}
 use Rattle.sig_kinds.specs.declared.signal.Signal.{Signal}
 use Rattle.sig_kinds.specs.LinkRules.{LinkState, is_active, deactivated, link, unlink, on_link, on_unlink, on_ack}
-use Rattle.sig_kinds.specs.WatchRules.{WatchState, is_held, unmonitored, monitor, alias, demonitor, unalias, on_alias_message, on_demonitor, on_down}
+use Rattle.sig_kinds.specs.WatchRules.{WatchState, monitor, demonitor, unalias, on_alias_message, on_demonitor, on_down}
 use Rattle.sig_patterns.specs.declared.clause.Clause.{Clause}
 use Rattle.sig_patterns.specs.declared.expression.Expr.{Expr}
-use Rattle.sig_patterns.specs.declared.var.Var.{Var}
 use Rattle.sig_patterns.specs.Building.{value_of, is_small}
 use Rattle.sig_patterns.specs.Environment.{Environment}
 use Rattle.sig_patterns.specs.Inbox.{Inbox, terms_of, flushed_down, bound_in, cleared_in}
@@ -30,10 +28,10 @@ use Rattle.sig_script.specs.declared.instruction.Instr.TheVariants as instr
 use Rattle.sig_script.specs.declared.instruction.After.{After}
 use Rattle.sig_script.specs.Scripts.{Declared}
 use Rattle.sig_model.specs.ProcessState.{ProcessState}
-use Rattle.sig_model.specs.Bodies.{Body, relinked, rewatched, dropping, ending, normal, kill, system_limit}
+use Rattle.sig_model.specs.Bodies.{Body, relinked, dropping, ending, normal, kill, system_limit}
 use Rattle.sig_model.specs.ExitRule.{exit_rule, plain_exit, linked_exit}
-use Rattle.sig_model.specs.Executing.{with_value, with_pid, with_ref, with_target, sending, linking, linked_by, unlinking, unlinked_by, new_ref, monitoring, monitored_by, demonitoring, demonitored_by, flushed_into, flushed_by, unaliasing, unaliased_by, ref_of_var, marked_by, marking, sending_exit, marked_start, from_mark, hit_from, receiving, exec_body, executing}
-use Rattle.sig_model.specs.Handling.{linking_up, unlinking_from, acknowledging, through_alias, watching, unwatching, down_message, told_down, live_body, ended_body, handling}
+use Rattle.sig_model.specs.Executing.{with_value, with_pid, with_ref, with_target, sending, linked_by, unlinked_by, new_ref, monitored_by, demonitored_by, flushed_into, flushed_by, unaliased_by, ref_of_var, marked_by, marking, marked_start, from_mark, hit_from, receiving, exec_body, executing}
+use Rattle.sig_model.specs.Handling.{linking_up, unlinking_from, acknowledging, through_alias, unwatching, told_down, live_body, ended_body, handling}
 use Rattle.sig_model.specs.TermSizes.{IsSmallTerm, IsKeptTerm, KindSizes, TableSizes}
 use Rattle.sig_model.proofs.TermSizeLemmas.{small_tells, small_kept, atom_small, ref_small, exit_kept, down_kept}
 use Rattle.sig_record.specs.SizedRecord.{IsSizedOutcome}

@@ -1,5 +1,5 @@
 -- The record of a lawful crew has names that are name tokens and terms no larger than what is read.
-use Rattle.std.proofs.Common.{◌≡◌, ℕ, zero, suc, List, [], ◌∷◌, ◌++◌, map, length, get_or, true, false, Bool, IfSome, Option, Some, None, refl, sym, ap, ◌∙◌, subst}
+use Rattle.std.proofs.Common.{◌≡◌, ℕ, zero, suc, List, [], ◌∷◌, length, get_or, true, false, Bool, IfSome, Option, Some, None, sym, ap, ◌∙◌, subst}
 use Rattle.std.specs.Prelude.{All, slice_get, ◌==◌}
 use Rattle.std.specs.Option.{option_map}
 use Rattle.std.proofs.lemmas.Bool.{cond_both}
@@ -16,8 +16,8 @@ use Rattle.sig_runs.specs.Crew.{opening_machine}
 use Rattle.sig_runs.specs.Order.{events_by}
 use Rattle.sig_runs.specs.Everywhere.{HoldEverywhere}
 use Rattle.sig_model.specs.declared.event.Event.{Event}
-use Rattle.sig_model.specs.ProcessState.{ProcessState, is_cut}
-use Rattle.sig_model.specs.PrintedState.{is_late, state_of}
+use Rattle.sig_model.specs.ProcessState.{ProcessState}
+use Rattle.sig_model.specs.PrintedState.{state_of}
 use Rattle.sig_model.specs.Machine.{rules_of, opening_of}
 use Rattle.sig_model.specs.Running.{Running}
 use Rattle.sig_model.specs.SettledRun.{events_of}
@@ -27,7 +27,6 @@ use Rattle.sig_model.specs.TermSizes.{IsSmallTerm, KindSizes, TableSizes, term_s
 use Rattle.sig_model.proofs.TermSizeLemmas.{small_kept}
 use Rattle.sig_model.proofs.SizeLaw.{sizes_everywhere}
 use Rattle.sig_record.specs.declared.merging.MergedAt.{MergedAt}
-use Rattle.sig_record.specs.declared.report.Report.{Report}
 use Rattle.sig_record.specs.Merging.{IsMerged}
 use Rattle.sig_record.specs.RecordOf.{left_of, report_of, record_of}
 use Rattle.sig_record.specs.RunRecord.{events_listed, queued_for}

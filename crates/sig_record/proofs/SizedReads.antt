@@ -1,5 +1,5 @@
 -- A record whose names are name tokens, whose terms are no larger than what is read, and which lies in memory can be read.
-use Rattle.std.proofs.Common.{◌≡◌, ◌&&◌, true, List, ap, ◌∙◌, get_or}
+use Rattle.std.proofs.Common.{◌&&◌, List, ap, ◌∙◌, get_or}
 use Rattle.std.specs.Prelude.{All}
 use Rattle.sig_terms.specs.Readable.{IsTerm, IsReadable}
 use Rattle.sig_terms.specs.Words.{is_token}
