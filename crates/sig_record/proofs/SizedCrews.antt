@@ -20,6 +20,7 @@ use Rattle.sig_model.specs.ProcessState.{ProcessState}
 use Rattle.sig_model.specs.PrintedState.{state_of}
 use Rattle.sig_model.specs.Machine.{rules_of, opening_of}
 use Rattle.sig_model.specs.Running.{Running}
+use Rattle.sig_model.specs.Keeping.{IsKeeping}
 use Rattle.sig_model.specs.SettledRun.{events_of}
 use Rattle.sig_model.specs.OneWorker.{IsClear}
 use Rattle.sig_model.specs.CrewLaw.{IsLawfulCrew}
@@ -31,6 +32,16 @@ use Rattle.sig_record.specs.Merging.{IsMerged}
 use Rattle.sig_record.specs.RecordOf.{left_of, report_of, record_of}
 use Rattle.sig_record.specs.RunRecord.{events_listed, queued_for}
 use Rattle.sig_record.specs.SizedRecord.{AreNames, IsSizedEvent, IsSizedLeft, IsSizedKind, IsSizedSignal, IsSizedState, IsSizedReport, IsSizedRecord}
+use Rattle.sig_record.specs.Records.{IsRecord}
+use Rattle.sig_record.specs.RecordText.{record_text}
+use Rattle.sig_record.specs.RecordFronts.{record_in}
+use Rattle.sig_record.specs.ReadableRecord.{IsReadableRecord}
+use Rattle.sig_record.specs.StoredRecord.{IsStoredRecord}
+use Rattle.sig_record.proofs.CountedCrews.{crew_counted}
+use Rattle.sig_record.proofs.CountedLemmas.{counted_in_order}
+use Rattle.sig_record.proofs.RecordLaws.{record_again}
+use Rattle.sig_record.proofs.RecordLemmas.{record_kept, same_record}
+use Rattle.sig_record.proofs.SizedReads.{record_reads}
 use Rattle.sig_record.proofs.EventSizes.{run_told}
 use Rattle.sig_record.proofs.KeySorting.{order_of}
 use Rattle.sig_record.proofs.RunLemmas.{machine, has_queued, states_alike, plain_run, told_by, merged_order}
@@ -105,3 +116,18 @@ module _ (script : Program) (crew : List Running) (law : IsLawfulCrew script cre
   pub record_sized : AreNames script → IsSizedRecord (record_of crew)
   record_sized names =
       All-map IsSizedReport (report_of (length crew)) crew (λ i d lt. report_sized names i (get_or crew i d) (slice_get-get_or crew i d lt))
+
+  keeping : All IsKeeping crew
+  keeping = λ i d lt. law.keeping i (get_or crew i d) (slice_get-get_or crew i d lt)
+
+  kept : IsRecord (record_of crew)
+  kept =
+      subst IsRecord (same_record crew law.placed keeping (counted_in_order crew keeping (crew_counted script crew law)))
+      (record_kept crew law.placed keeping)
+
+  -- so it can be read where it lies in memory
+  pub record_readable : AreNames script → IsStoredRecord (record_of crew) → IsReadableRecord (record_of crew)
+  record_readable names stored = record_reads (record_of crew) kept stored (record_sized names)
+
+  pub record_reread : AreNames script → IsStoredRecord (record_of crew) → record_in (record_text (record_of crew)) ≡ Some (record_of crew)
+  record_reread names stored = record_again (record_of crew) (record_readable names stored)
