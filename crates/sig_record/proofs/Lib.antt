@@ -23,3 +23,8 @@ pub mod TermFronts
 pub mod ItemSteps
 pub mod WidePids
 pub mod Refused
+pub mod OutcomeSizes
+pub mod EventSizes
+pub mod SizedCrews
+pub mod SizedReads
+pub mod Stored

@@ -13,7 +13,7 @@ use Rattle.sig_runs.specs.LocalRun.{Act}
 use Rattle.sig_runs.specs.Crew.{Member, IsLawful, acts_of, queued_at, crew_machine, opening_machine}
 use Rattle.sig_runs.specs.Order.{IsOrder, act_at, events_at, events_by}
 use Rattle.sig_runs.specs.Settled.{IsSettled}
-use Rattle.sig_runs.proofs.Order.{order_events}
+use Rattle.sig_runs.proofs.Order.{order_events, order_is_run}
 use Rattle.sig_runs.proofs.Marks.{order_is_whole_run}
 use Rattle.sig_model.specs.declared.event.Event.{Event}
 use Rattle.sig_model.specs.ProcessState.{ProcessState}
@@ -88,7 +88,7 @@ module _ (script : Program) (crew : List Running) (law : IsLawfulCrew script cre
   unfolding rules_with
   queued_here p r there s = ap (λ o. queued_at (rules_of script) s p o) (slice_get-map whole_member crew p ∙ ap (λ o. option_map whole_member o) there)
 
-  has_queued : (p : ℕ) (r : Running) → slice_get crew p ≡ Some r → HasQueued machine (length crew) p r
+  pub has_queued : (p : ℕ) (r : Running) → slice_get crew p ≡ Some r → HasQueued machine (length crew) p r
   has_queued p r there =
       let k : IsKeeping r = law.keeping p r there in
       let count : r.count ≡ length crew = (law.placed p r there).1 in
@@ -100,7 +100,7 @@ module _ (script : Program) (crew : List Running) (law : IsLawfulCrew script cre
         others_below = All-weaker (IsSignalBelow r.count) (λ (x : Signal). x.from.0 < length crew) (λ x h. subst (λ n. x.from.0 < n) count h.from) r.taken_in k.below.taken_in;
       }
 
-  states_alike : map (λ (r : Running). r.state) crew ≡ machine.procs
+  pub states_alike : map (λ (r : Running). r.state) crew ≡ machine.procs
   states_alike = go crew
     where
       go : (rs : List Running) → map (λ (r : Running). r.state) rs ≡ map (λ (m : Member ProcessState Signal Event). m.local.state) (map whole_member rs)
@@ -161,19 +161,28 @@ module _ (script : Program) (crew : List Running) (law : IsLawfulCrew script cre
         subst (λ es. IsRun (whole_rules script) (opening_machine (opening_of script)) es machine) (sym (same_events order))
         (order_is_whole_run (rules_of script) marking (script_fresh script) (whole_of script) (keeps_sound script all_within) stamped (opening_of script) members (map place_of order) (opening_sound script) lawful (in_order order merged))
 
+    -- and one of the machine that looks from the marks on
+    pub plain_run : (order : List MergedAt) → IsMerged (record_of crew) order → IsRun (rules_of script) (opening_machine (opening_of script)) (events_listed (record_of crew) order) machine
+    plain_run order merged =
+        subst (λ es. IsRun (rules_of script) (opening_machine (opening_of script)) es machine) (sym (same_events order))
+        (order_is_run (rules_of script) stamped (opening_of script) members (map place_of order) lawful (in_order order merged))
+
+    -- those of one process are the events that it has
+    pub told_by : (order : List MergedAt) → IsMerged (record_of crew) order → (p : ℕ) → events_by p (events_listed (record_of crew) order) ≡ events_of (slice_get crew p)
+    told_by order merged p =
+        ap (λ es. events_by p es) (same_events order)
+        ∙ order_events (rules_of script) stamped (opening_of script) members (map place_of order) lawful (in_order order merged) p
+        ∙ acts_told_at p
+
     -- and the record tells of them and of their end
     tells_of : (order : List MergedAt) → IsMerged (record_of crew) order → record_of crew ≡ record_of_run script (events_listed (record_of crew) order) machine
-    tells_of order merged =
-        record_alike (events_listed (record_of crew) order)
-        (λ p. ap (λ es. events_by p es) (same_events order)
-        ∙ order_events (rules_of script) stamped (opening_of script) members (map place_of order) lawful (in_order order merged) p
-        ∙ acts_told_at p)
+    tells_of order merged = record_alike (events_listed (record_of crew) order) (told_by order merged)
 
     pid_at : (n p : ℕ) (o : Option Running) (r : Report) → slice_get crew p ≡ o → option_map (report_of n) o ≡ Some r → r.pid.0 ≡ p
     pid_at n p None r e at = absurd (none-some r at)
     pid_at n p (Some q) r e at = ap (λ (t : Report). t.pid.0) (sym (same_Some (report_of n q) r at)) ∙ (law.placed p q e).0
 
-    merged_order : IsMerged (record_of crew) (order_of (record_of crew))
+    pub merged_order : IsMerged (record_of crew) (order_of (record_of crew))
     merged_order = order_is_merged (record_of crew) (λ p r at. pid_at (length crew) p (slice_get crew p) r refl (sym (slice_get-map (report_of (length crew)) crew p) ∙ at))
 
     pub record_of_a_run : IsRecordOfRun script machine (record_of crew)

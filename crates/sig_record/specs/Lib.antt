@@ -11,3 +11,6 @@ pub mod Readers
 pub mod RecordFronts
 pub mod ReadableRecord
 pub mod Refusing
+pub mod Summarizing
+pub mod SizedRecord
+pub mod StoredRecord

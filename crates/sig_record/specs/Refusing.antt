@@ -1,6 +1,9 @@
 -- What a reader of lines answers, by what stands at the front of the bytes.
-use Rattle.std.specs.Prelude.{◌≡◌, Option, Some, None, Result, Ok, Err}
+use Rattle.std.specs.Prelude.{◌≡◌, List, Option, Some, None, Result, Ok, Err}
 use Rattle.sig_record.specs.declared.refusal.Refusal.{Refusal}
+use Rattle.sig_record.specs.declared.refusal.RecordError.{RecordError}
+use Rattle.sig_record.specs.declared.refusal.RecordError.TheVariants as wrong
+use Rattle.sig_record.specs.declared.report.Report.{Report}
 use Rattle.sig_record.specs.declared.refusal.Refusal.TheVariants as refused
 
 -- nothing stands there, or memory ran out
@@ -12,3 +15,9 @@ Refuses refused.Memory read = Unit {0}
 abbrev pub Yields : {X Y : Type 0} → (X → Y) → Result X Refusal → Option Y → Type 0
 Yields view (Ok x) read = read ≡ Some (view x)
 Yields view (Err e) read = Refuses e read
+
+-- this record, unless memory ran out
+abbrev pub GivesBack : List Report → Result (List Report) RecordError → Type 0
+GivesBack reports (Ok given) = given ≡ reports
+GivesBack reports (Err (wrong.BadRecord line)) = ⊥
+GivesBack reports (Err wrong.Memory) = Unit {0}

@@ -16,7 +16,7 @@ use std::alloc::{AllocError, Global};
 fn lefts_of(alloc: Global, mut inner: Inner) -> Result<Lefts, AllocError>
     ensures { IfOk result (λ lefts. lefts ≡ map left_of inner.queue.inbox.messages) }
 {
-    let mut lefts = Vec::new(alloc);
+    let mut lefts = Vec::with_capacity(alloc, inner.len())?;
     while let Some((arrival, message)) = inner.pop_front() {
         lefts.push(Left { arrival, message })?;
     }
@@ -27,6 +27,7 @@ fn lefts_of(alloc: Global, mut inner: Inner) -> Result<Lefts, AllocError>
 fn move_all(waiting: &mut Vec<Signal>, mut signals: Signals) -> Result<(), AllocError>
     ensures { OnOk result (waiting.new.items ≡ waiting.old.items ++ signals.items) }
 {
+    waiting.reserve(signals.len())?;
     while let Some(signal) = signals.pop_front() {
         waiting.push(signal)?;
     }
@@ -77,7 +78,7 @@ pub(crate) fn gather_all(alloc: Global, procs: Vec<Process>) -> Result<Vec<Repor
     ensures reports { IfOk result (λ reports. reports.items ≡ sorted_record (runnings_of procs.items)) }
     ensures keeping { OnOk result (All IsKeeping (runnings_of procs.items)) }
 {
-    let mut reports = Vec::new(alloc);
+    let mut reports = Vec::with_capacity(alloc, procs.len())?;
     for process in procs {
         reports.push(report(alloc, process)?)?;
     }

@@ -13,8 +13,10 @@ mod reading;
 mod record;
 mod refusal;
 mod report;
+mod rereading;
 mod runs;
 mod settling;
+mod summary;
 
 pub use merging::{Merged, MergedAt};
 pub use ordering::merged_record_is_the_order;
@@ -23,4 +25,6 @@ pub use reading::{read_record, texts_tell_records_apart};
 pub use record::Record;
 pub use refusal::RecordError;
 pub use report::{Left, Lefts, Queued, Report};
-pub use runs::a_lawful_crew_tells_a_run;
+pub use rereading::reread;
+pub use runs::{a_lawful_crew_tells_a_readable_record, a_lawful_crew_tells_a_run};
+pub use summary::{Summary, summarize};

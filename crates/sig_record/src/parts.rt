@@ -1,7 +1,6 @@
 //! Readers of the lines of one kind, and of a process's part of a record.
 
 ghost use Rattle.std.specs.Prelude.{◌≡◌, codes};
-ghost use Rattle.sig_record.specs.Readers.{joined};
 ghost use Rattle.sig_record.specs.Refusing.{Yields};
 ghost use Rattle.sig_record.specs.RecordFronts.{
   begins_by_digit,
@@ -9,7 +8,6 @@ ghost use Rattle.sig_record.specs.RecordFronts.{
   events_front,
   lefts_front,
   all_queued_front,
-  head_front,
   report_front,
   reports_front,
 };
@@ -20,8 +18,8 @@ use crate::refusal::Refusal;
 use crate::report::{Lefts, Queued, Report};
 use sig_lists::Sequence;
 use sig_model::Events;
+use sig_terms::Pid;
 use sig_terms::bytes::is_digit_byte;
-use sig_terms::{Name, Pid};
 use std::alloc::Global;
 
 fn begins_by_digit(bytes: &[u8]) -> bool
@@ -102,46 +100,16 @@ fn all_queued(alloc: Global, pid: u32, bytes: &[u8]) -> Result<(Queued, &[u8]), 
     }
 }
 
-/// A process's pid and name, and its events.
-type Begun = ((u32, Name), Events);
-
-fn begun(alloc: Global, pid: u32, bytes: &[u8]) -> Result<(Begun, &[u8]), Refusal>
-    ensures { Yields (λ x. (x.0, x.1.now)) result (joined (head_front pid) events_front bytes.now) }
-{
-    let (head, rest) = head_line(alloc, pid, bytes)?;
-    let (events, rest) = events(alloc, rest)?;
-    Ok(((head, events), rest))
-}
-
-fn with_lefts(alloc: Global, pid: u32, bytes: &[u8]) -> Result<((Begun, Lefts), &[u8]), Refusal>
-    ensures { Yields (λ x. (x.0, x.1.now)) result (joined (joined (head_front pid) events_front) lefts_front bytes.now) }
-{
-    let (begun, rest) = begun(alloc, pid, bytes)?;
-    let (lefts, rest) = lefts(alloc, rest)?;
-    Ok(((begun, lefts), rest))
-}
-
-fn with_queued(
-    alloc: Global,
-    pid: u32,
-    bytes: &[u8],
-) -> Result<(((Begun, Lefts), Queued), &[u8]), Refusal>
-    ensures { Yields (λ x. (x.0, x.1.now)) result
-        (joined (joined (joined (head_front pid) events_front) lefts_front) (all_queued_front pid) bytes.now) }
-{
-    let (lines, rest) = with_lefts(alloc, pid, bytes)?;
-    let (queued, rest) = all_queued(alloc, pid, rest)?;
-    Ok(((lines, queued), rest))
-}
-
 /// The part of this process.
 #[tactic(auto, unfolding(crate::specs::RecordFronts::report_front))]
 fn report(alloc: Global, pid: u32, bytes: &[u8]) -> Result<(Report, &[u8]), Refusal>
     ensures { Yields (λ x. (x.0, x.1.now)) result (report_front pid bytes.now) }
 {
-    let (lines, rest) = with_queued(alloc, pid, bytes)?;
+    let ((n, name), rest) = head_line(alloc, pid, bytes)?;
+    let (events, rest) = events(alloc, rest)?;
+    let (left, rest) = lefts(alloc, rest)?;
+    let (queued, rest) = all_queued(alloc, pid, rest)?;
     let (state, rest) = state_line(alloc, rest)?;
-    let ((((n, name), events), left), queued) = lines;
     let report = Report {
         pid: Pid(n),
         name,

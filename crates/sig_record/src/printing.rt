@@ -1,6 +1,7 @@
-ghost use Rattle.std.specs.Prelude.{◌≡◌, ◌++◌, OnOk, OnErr, decimal};
+ghost use Rattle.std.specs.Prelude.{◌≡◌, ◌++◌, OnOk, OnErr, All, true, decimal};
 ghost use Rattle.std.specs.List.{flat_map};
 ghost use Rattle.sig_terms.specs.TermText.{reference_text};
+ghost use Rattle.sig_terms.specs.Words.{is_token};
 ghost use Rattle.sig_record.specs.Putting.{IsPut};
 ghost use Rattle.sig_record.specs.RecordText.{
   did_text,
@@ -15,13 +16,25 @@ ghost use Rattle.sig_record.specs.RecordText.{
   report_text,
   record_text,
 };
+ghost use Rattle.sig_record.specs.ReadableRecord.{IsNarrow, IsWide, IsReadableRef, IsReadableDid, IsReadableRecord};
+ghost use Rattle.sig_record.specs.StoredRecord.{
+  IsStoredOutcome,
+  IsStoredEvent,
+  IsStoredLeft,
+  IsStoredKind,
+  IsStoredSignal,
+  IsStoredState,
+  IsStoredReport,
+  IsStoredRecord,
+};
+ghost use Rattle.sig_record.specs.SizedRecord.{IsSizedRecord};
 
 use crate::record::Record;
 use crate::report::{Left, Report};
 use itoa::Buffer;
 use sig_kinds::{Kind, Signal};
 use sig_model::{Did, Event, Outcome, State};
-use sig_terms::{Name, Ref};
+use sig_terms::{Name, Pid, Ref};
 use std::alloc::AllocError;
 
 fn put(into: &mut Vec<u8>, text: &[u8]) -> Result<(), AllocError>
@@ -38,14 +51,23 @@ fn put_number(into: &mut Vec<u8>, n: u64) -> Result<(), AllocError>
 }
 
 fn put_numbered(into: &mut Vec<u8>, word: &[u8], number: u64) -> Result<(), AllocError>
-    ensures { IsPut into.old.items into.new.items (word.now ++ decimal number) result }
+    ensures text { IsPut into.old.items into.new.items (word.now ++ decimal number) result }
+    ensures wide { IsWide number }
 {
     put(into, word)?;
     put_number(into, number)
 }
 
+fn put_pid(into: &mut Vec<u8>, word: &[u8], pid: Pid) -> Result<(), AllocError>
+    ensures text { IsPut into.old.items into.new.items (word.now ++ decimal pid.0) result }
+    ensures narrow { IsNarrow pid.0 }
+{
+    put_numbered(into, word, u64::from(pid.0))
+}
+
 fn put_did(into: &mut Vec<u8>, did: &Did) -> Result<(), AllocError>
-    ensures { IsPut into.old.items into.new.items (did_text did.now) result }
+    ensures text { IsPut into.old.items into.new.items (did_text did.now) result }
+    ensures stored { OnOk result (IsReadableDid did.now) }
 {
     match did {
         Did::Exec { place } => {
@@ -53,7 +75,7 @@ fn put_did(into: &mut Vec<u8>, did: &Did) -> Result<(), AllocError>
             put(into, b" ")
         }
         Did::From { from, number } => {
-            put_numbered(into, b" from ", u64::from(from.0))?;
+            put_pid(into, b" from ", *from)?;
             put_numbered(into, b" ", *number)?;
             put(into, b" ")
         }
@@ -61,7 +83,8 @@ fn put_did(into: &mut Vec<u8>, did: &Did) -> Result<(), AllocError>
 }
 
 fn put_outcome(into: &mut Vec<u8>, outcome: &Outcome) -> Result<(), AllocError>
-    ensures { IsPut into.old.items into.new.items (outcome_text outcome.now) result }
+    ensures text { IsPut into.old.items into.new.items (outcome_text outcome.now) result }
+    ensures stored { OnOk result (IsStoredOutcome outcome.now) }
 {
     match outcome {
         Outcome::Sent { to, message } => {
@@ -108,7 +131,8 @@ fn put_outcome(into: &mut Vec<u8>, outcome: &Outcome) -> Result<(), AllocError>
 
 #[tactic(auto, unfolding(crate::specs::RecordText::event_text))]
 fn put_event(into: &mut Vec<u8>, event: &Event) -> Result<(), AllocError>
-    ensures { IsPut into.old.items into.new.items (event_text event.now) result }
+    ensures text { IsPut into.old.items into.new.items (event_text event.now) result }
+    ensures stored { OnOk result (IsStoredEvent event.now) }
 {
     put_number(into, event.stamp)?;
     put_did(into, &event.did)?;
@@ -118,7 +142,8 @@ fn put_event(into: &mut Vec<u8>, event: &Event) -> Result<(), AllocError>
 
 #[tactic(auto, using(crate::proofs::Fronts::kept_front))]
 fn put_events(into: &mut Vec<u8>, events: &[Event]) -> Result<(), AllocError>
-    ensures { IsPut into.old.items into.new.items (flat_map event_text events.now) result }
+    ensures text { IsPut into.old.items into.new.items (flat_map event_text events.now) result }
+    ensures stored { OnOk result (All IsStoredEvent events.now) }
 {
     for event in events {
         put_event(into, event)?;
@@ -128,7 +153,8 @@ fn put_events(into: &mut Vec<u8>, events: &[Event]) -> Result<(), AllocError>
 
 #[tactic(auto, unfolding(crate::specs::RecordText::left_text), using(crate::proofs::Fronts::kept_front))]
 fn put_left(into: &mut Vec<u8>, left: &Left) -> Result<(), AllocError>
-    ensures { IsPut into.old.items into.new.items (left_text left.now) result }
+    ensures text { IsPut into.old.items into.new.items (left_text left.now) result }
+    ensures stored { OnOk result (IsStoredLeft left.now) }
 {
     put_numbered(into, b"left ", left.arrival)?;
     put(into, b" ")?;
@@ -139,7 +165,8 @@ fn put_left(into: &mut Vec<u8>, left: &Left) -> Result<(), AllocError>
 
 #[tactic(auto, using(crate::proofs::Fronts::kept_front))]
 fn put_lefts(into: &mut Vec<u8>, lefts: &[Left]) -> Result<(), AllocError>
-    ensures { IsPut into.old.items into.new.items (flat_map left_text lefts.now) result }
+    ensures text { IsPut into.old.items into.new.items (flat_map left_text lefts.now) result }
+    ensures stored { OnOk result (All IsStoredLeft lefts.now) }
 {
     for left in lefts {
         put_left(into, left)?;
@@ -154,14 +181,16 @@ fn link_word(linked: bool) -> &'static [u8]
 }
 
 fn put_reference(into: &mut Vec<u8>, word: &[u8], reference: Ref) -> Result<(), AllocError>
-    ensures { IsPut into.old.items into.new.items (word.now ++ reference_text reference) result }
+    ensures text { IsPut into.old.items into.new.items (word.now ++ reference_text reference) result }
+    ensures stored { OnOk result (IsReadableRef reference) }
 {
     put(into, word)?;
     reference.print(into)
 }
 
 fn put_kind(into: &mut Vec<u8>, kind: &Kind) -> Result<(), AllocError>
-    ensures { IsPut into.old.items into.new.items (kind_text kind.now) result }
+    ensures text { IsPut into.old.items into.new.items (kind_text kind.now) result }
+    ensures stored { OnOk result (IsStoredKind kind.now) }
 {
     match kind {
         Kind::Message { term } => {
@@ -193,9 +222,10 @@ fn put_kind(into: &mut Vec<u8>, kind: &Kind) -> Result<(), AllocError>
 
 #[tactic(auto, unfolding(crate::specs::RecordText::queued_text), using(crate::proofs::Fronts::kept_front))]
 fn put_queued(into: &mut Vec<u8>, signal: &Signal) -> Result<(), AllocError>
-    ensures { IsPut into.old.items into.new.items (queued_text signal.now) result }
+    ensures text { IsPut into.old.items into.new.items (queued_text signal.now) result }
+    ensures stored { OnOk result (IsStoredSignal signal.now) }
 {
-    put_numbered(into, b"queued ", u64::from(signal.from.0))?;
+    put_pid(into, b"queued ", signal.from)?;
     put_numbered(into, b" ", signal.number)?;
     put_numbered(into, b" ", signal.stamp)?;
     put(into, b" ")?;
@@ -205,7 +235,8 @@ fn put_queued(into: &mut Vec<u8>, signal: &Signal) -> Result<(), AllocError>
 
 #[tactic(auto, using(crate::proofs::Fronts::kept_front))]
 fn put_all_queued(into: &mut Vec<u8>, signals: &[Signal]) -> Result<(), AllocError>
-    ensures { IsPut into.old.items into.new.items (flat_map queued_text signals.now) result }
+    ensures text { IsPut into.old.items into.new.items (flat_map queued_text signals.now) result }
+    ensures stored { OnOk result (All IsStoredSignal signals.now) }
 {
     for signal in signals {
         put_queued(into, signal)?;
@@ -215,7 +246,8 @@ fn put_all_queued(into: &mut Vec<u8>, signals: &[Signal]) -> Result<(), AllocErr
 
 #[tactic(auto, using(crate::proofs::Fronts::kept_front))]
 fn put_state(into: &mut Vec<u8>, state: &State) -> Result<(), AllocError>
-    ensures { IsPut into.old.items into.new.items (state_text state.now) result }
+    ensures text { IsPut into.old.items into.new.items (state_text state.now) result }
+    ensures stored { OnOk result (IsStoredState state.now) }
 {
     match state {
         State::Ended { reason } => {
@@ -229,10 +261,11 @@ fn put_state(into: &mut Vec<u8>, state: &State) -> Result<(), AllocError>
     }
 }
 
-fn put_head(into: &mut Vec<u8>, pid: u32, name: &Name) -> Result<(), AllocError>
-    ensures { IsPut into.old.items into.new.items (head_text pid name.now) result }
+fn put_head(into: &mut Vec<u8>, pid: Pid, name: &Name) -> Result<(), AllocError>
+    ensures text { IsPut into.old.items into.new.items (head_text pid.0 name.now) result }
+    ensures stored { OnOk result (IsNarrow pid.0 × (is_token name.now ≡ true)) }
 {
-    put_numbered(into, b"process ", u64::from(pid))?;
+    put_pid(into, b"process ", pid)?;
     put(into, b" ")?;
     put(into, name.bytes())?;
     put(into, b"\n")
@@ -240,9 +273,10 @@ fn put_head(into: &mut Vec<u8>, pid: u32, name: &Name) -> Result<(), AllocError>
 
 #[tactic(auto, unfolding(crate::specs::RecordText::report_text))]
 fn put_report(into: &mut Vec<u8>, report: &Report) -> Result<(), AllocError>
-    ensures { IsPut into.old.items into.new.items (report_text report.now) result }
+    ensures text { IsPut into.old.items into.new.items (report_text report.now) result }
+    ensures stored { OnOk result (IsStoredReport report.now) }
 {
-    put_head(into, report.pid.0, &report.name)?;
+    put_head(into, report.pid, &report.name)?;
     put_events(into, report.events.as_slice())?;
     put_lefts(into, report.left.as_slice())?;
     put_all_queued(into, report.queued.as_slice())?;
@@ -251,7 +285,8 @@ fn put_report(into: &mut Vec<u8>, report: &Report) -> Result<(), AllocError>
 
 #[tactic(auto, using(crate::proofs::Fronts::kept_front))]
 fn put_reports(into: &mut Vec<u8>, reports: &[Report]) -> Result<(), AllocError>
-    ensures { IsPut into.old.items into.new.items (flat_map report_text reports.now) result }
+    ensures text { IsPut into.old.items into.new.items (flat_map report_text reports.now) result }
+    ensures stored { OnOk result (IsStoredRecord reports.now) }
 {
     for report in reports {
         put_report(into, report)?;
@@ -261,7 +296,8 @@ fn put_reports(into: &mut Vec<u8>, reports: &[Report]) -> Result<(), AllocError>
 
 #[tactic(auto, using(crate::proofs::Fronts::kept_front))]
 fn put_record(into: &mut Vec<u8>, reports: &[Report]) -> Result<(), AllocError>
-    ensures { IsPut into.old.items into.new.items (record_text reports.now) result }
+    ensures text { IsPut into.old.items into.new.items (record_text reports.now) result }
+    ensures stored { OnOk result (IsStoredRecord reports.now) }
 {
     put(into, b"sigrecord 1\n")?;
     put_reports(into, reports)?;
@@ -269,10 +305,12 @@ fn put_record(into: &mut Vec<u8>, reports: &[Report]) -> Result<(), AllocError>
 }
 
 /// Appends the record's text. Each record has one text. Where memory is refused, `into` is as
-/// before.
+/// before. A record whose names are name tokens and whose terms are no larger than what is read, as
+/// one that was gathered of a script with such names, can be read: `read_record` gives it back.
 pub fn print_record(given: &Record, into: &mut Vec<u8>) -> Result<(), AllocError>
     ensures text { OnOk result (into.new.items ≡ into.old.items ++ record_text given.now) }
     ensures err { OnErr result (into.new.items ≡ into.old.items) }
+    ensures readable { OnOk result (IsSizedRecord given.now → IsReadableRecord given.now) }
 {
     let before = into.len();
     let appended = put_record(into, given.reports());

@@ -4,7 +4,7 @@ ghost use Rattle.std.specs.Prelude.{◌≡◌, ◌≢◌, ◌≤◌, ℕ, List, 
 ghost use Rattle.sig_record.specs.declared.report.Report.{Report};
 ghost use Rattle.sig_record.specs.RecordText.{record_text};
 ghost use Rattle.sig_record.specs.ReadableRecord.{IsReadableRecord};
-ghost use Rattle.sig_record.specs.Refusing.{Yields};
+ghost use Rattle.sig_record.specs.Refusing.{Yields, GivesBack};
 ghost use Rattle.sig_record.specs.RecordFronts.{record_in};
 
 use crate::parts::reports;
@@ -46,6 +46,8 @@ pub fn read_record(alloc: Global, bytes: &[u8]) -> Result<Record, RecordError>
     ensures found { IfOk result (λ r. IsReadableRecord r × (bytes.now ≡ record_text r)) }
     ensures bad { (line : ℕ) → IsErrOf result (RecordError.BadRecord line) →
         (reports : List Report) → IsReadableRecord reports → bytes.now ≢ record_text reports }
+    // A record that can be read is read back from its text, unless memory runs out.
+    ensures again { (reports : List Report) → IsReadableRecord reports → bytes.now ≡ record_text reports → GivesBack reports result }
 {
     match whole(alloc, bytes) {
         Ok(reports) => Ok(Record { reports }),

@@ -1,4 +1,4 @@
-ghost use Rattle.std.specs.Prelude.{◌≡◌, List, map, true};
+ghost use Rattle.std.specs.Prelude.{◌≡◌, List, Some, map, true};
 ghost use Rattle.sig_script.specs.Scripts.{Program};
 ghost use Rattle.sig_runs.specs.Machine.{IsRun};
 ghost use Rattle.sig_runs.specs.Crew.{opening_machine, crew_machine};
@@ -13,6 +13,11 @@ ghost use Rattle.sig_record.specs.RecordOf.{record_of};
 ghost use Rattle.sig_record.specs.Merging.{IsMerged};
 ghost use Rattle.sig_record.specs.SettledRecord.{is_settled};
 ghost use Rattle.sig_record.specs.RunRecord.{events_listed, whole_rules, IsRecordOfRun};
+ghost use Rattle.sig_record.specs.RecordText.{record_text};
+ghost use Rattle.sig_record.specs.RecordFronts.{record_in};
+ghost use Rattle.sig_record.specs.ReadableRecord.{IsReadableRecord};
+ghost use Rattle.sig_record.specs.SizedRecord.{AreNames, IsSizedRecord};
+ghost use Rattle.sig_record.specs.StoredRecord.{IsStoredRecord};
 
 /// The record of a lawful crew with empty outboxes is the record of a run of the script's plain
 /// machine, in which a receive looks at all messages. Each list that `merge` may give of it is such
@@ -32,4 +37,17 @@ pub fn a_lawful_crew_tells_a_run()
         IsSettled (whole_rules script) (crew_machine (rules_of script) (map whole_member crew)) }
     ensures still { (script : Program) (crew : List Running) → IsLawfulCrew script crew → IsStillCrew crew →
         is_settled (record_of crew) ≡ true }
+{}
+
+/// The record of a lawful crew with empty outboxes, of a script whose processes' names are name
+/// tokens, has such names, and its terms are no larger than what is read. So where it lies in memory,
+/// as each record that `gather` gave does, its text is read back as this record. (The bounds are this
+/// project's own.)
+pub fn a_lawful_crew_tells_a_readable_record()
+    ensures sized { (script : Program) (crew : List Running) → IsLawfulCrew script crew → IsClear crew → AreNames script →
+        IsSizedRecord (record_of crew) }
+    ensures readable { (script : Program) (crew : List Running) → IsLawfulCrew script crew → IsClear crew → AreNames script →
+        IsStoredRecord (record_of crew) → IsReadableRecord (record_of crew) }
+    ensures again { (script : Program) (crew : List Running) → IsLawfulCrew script crew → IsClear crew → AreNames script →
+        IsStoredRecord (record_of crew) → record_in (record_text (record_of crew)) ≡ Some (record_of crew) }
 {}

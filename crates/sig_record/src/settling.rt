@@ -7,7 +7,7 @@ use crate::report::{Queued, Report};
 use sig_kinds::Signal;
 use sig_model::{Event, LAST_STAMP, State};
 
-fn is_cut(state: &State) -> bool
+pub(crate) fn is_cut(state: &State) -> bool
     ensures { result ≡ is_cut state.now }
 {
     matches!(state, State::Cut)

@@ -1,0 +1,12 @@
+-- What holds of a record's parts as they are printed.
+use Rattle.std.proofs.Common.{◌≡◌, ℕ, ◌+◌, ◌<◌, List, take, length, get_or, Result, Ok, Err, subst}
+use Rattle.std.specs.Prelude.{All, OnOk}
+use Rattle.std.proofs.lemmas.List.Elements.{All-more}
+
+pub if_ok : {T E P : Type 0} (r : Result T E) → P → OnOk r P
+if_ok (Ok x) p = p
+if_ok (Err e) p = tt
+
+-- one item more
+pub one_more : {A : Type 0} (P : A → Type 0) (xs : List A) (i : ℕ) (x : A) → i < length xs → x ≡ get_or xs i x → All P (take i xs) → P x → All P (take (i + 1) xs)
+one_more P xs i x lt is before now = All-more P xs i x lt before (subst P is now)
