@@ -78,7 +78,10 @@ fn is_proc_among(procs: &[DraftProc], name: &[u8]) -> bool
 fn begin(alloc: Global, draft: &mut Draft, name: Name) -> Result<(), Stop>
     ensures { Gives (λ u. draft.new) result (begun draft.old name) }
 {
-    close(&mut draft.procs, replace(&mut draft.section, Section::Before))?;
+    close(
+        &mut draft.procs,
+        replace(&mut draft.section, Section::Before),
+    )?;
     if is_proc_among(draft.procs.as_slice(), name.bytes()) {
         return Err(Stop::Fault(FaultKind::DuplicateName));
     }
@@ -204,11 +207,7 @@ fn add_clause(
 }
 
 /// A clause line in a receive.
-fn place_clause(
-    section: &mut Section,
-    pattern: Pattern,
-    target: Option<u32>,
-) -> Result<(), Stop>
+fn place_clause(section: &mut Section, pattern: Pattern, target: Option<u32>) -> Result<(), Stop>
     ensures { Gives (λ u. section.new) result (section_taken section.old (Form.On pattern target)) }
 {
     match section {
