@@ -173,8 +173,8 @@ down-clause-below =
     let rest : List Pattern = pat.Pin m ∷ pat.Atom (codes "process") ∷ last in
     pattern-below (pat.Atom (codes "DOWN") ∷ rest)
     (All-cons P (pat.Atom (codes "DOWN")) rest (pids_of_pattern-Atom (codes "DOWN"))
-        (All-cons P (pat.Pin m) (pat.Atom (codes "process") ∷ last) (pids_of_pattern-Pin m)
-            (All-cons P (pat.Atom (codes "process")) last (pids_of_pattern-Atom (codes "process")) (two P pat.Any (pat.Bind v) pids_of_pattern-Any (pids_of_pattern-Bind v)))))
+    (All-cons P (pat.Pin m) (pat.Atom (codes "process") ∷ last) (pids_of_pattern-Pin m)
+    (All-cons P (pat.Atom (codes "process")) last (pids_of_pattern-Atom (codes "process")) (two P pat.Any (pat.Bind v) pids_of_pattern-Any (pids_of_pattern-Bind v)))))
 
 call-below : (k : ℕ) → All (IsInstrBelow 9) (call k)
 call-below k =

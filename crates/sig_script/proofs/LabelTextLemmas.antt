@@ -148,7 +148,7 @@ placed_step names labels rest place all is i a b c whole first from p q e =
     let next : List (List ℕ) = placed_lines names labels (place + 1) is in
     let same-labels : labels_there rest place ≡ here = ap (λ (ls : List Label). labels_there ls place) from ∙ from_there place labels in
     let one : flat_map line_text ((here ++ own) ++ next) ≡ (flat_map line_text here ++ flat_map line_text own) ++ flat_map line_text next =
-        flat_map-append line_text (here ++ own) next ∙ ap (λ (xs : List ℕ). xs ++ flat_map line_text next) (flat_map-append line_text here own) in
+    flat_map-append line_text (here ++ own) next ∙ ap (λ (xs : List ℕ). xs ++ flat_map line_text next) (flat_map-append line_text here own) in
     let b-is : b ≡ a ++ flat_map line_text here = p ∙ ap (λ (ls : List (List ℕ)). a ++ flat_map line_text ls) same-labels in
     let c-is : c ≡ (a ++ flat_map line_text here) ++ flat_map line_text own = q ∙ ap (λ (xs : List ℕ). xs ++ flat_map line_text own) b-is in
     ap (λ (xs : List ℕ). xs ++ flat_map line_text next) (c-is ∙ append_assoc a (flat_map line_text here) (flat_map line_text own))

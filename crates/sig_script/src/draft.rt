@@ -23,6 +23,7 @@ use sig_patterns::{Clause, Clauses, Pattern, Var, pins};
 use sig_terms::Name;
 use sig_terms::bytes::equal_bytes;
 use std::alloc::Global;
+use std::mem::replace;
 
 /// Where in a script a line stands.
 #[derive(Drop)]
@@ -47,20 +48,19 @@ pub struct Draft {
     pub section: Section,
 }
 
-/// Closes the process that is being read.
-fn close(procs: DraftProcs, section: Section) -> Result<DraftProcs, Stop>
-    ensures { Gives (λ ps. ps) result (Ok (procs ++ open_proc section)) }
+/// Closes the process that was being read.
+fn close(procs: &mut DraftProcs, section: Section) -> Result<(), Stop>
+    ensures { Gives (λ u. procs.new) result (Ok (procs.old ++ open_proc section)) }
 {
-    let mut procs = procs;
     match section {
-        Section::Before => Ok(procs),
+        Section::Before => Ok(()),
         Section::Outside(proc) => {
             procs.add(proc)?;
-            Ok(procs)
+            Ok(())
         }
         Section::Inside(proc, _using, _clauses, _after) => {
             procs.add(proc)?;
-            Ok(procs)
+            Ok(())
         }
     }
 }
@@ -75,129 +75,107 @@ fn is_proc_among(procs: &[DraftProc], name: &[u8]) -> bool
 }
 
 /// A process line.
-fn begin(
-    alloc: Global,
-    turns: Option<u32>,
-    procs: DraftProcs,
-    section: Section,
-    name: Name,
-) -> Result<Draft, Stop>
-    ensures { Gives (λ d. d) result (begun (record { turns = turns; procs = procs; section = section }) name) }
+fn begin(alloc: Global, draft: &mut Draft, name: Name) -> Result<(), Stop>
+    ensures { Gives (λ u. draft.new) result (begun draft.old name) }
 {
-    let procs = close(procs, section)?;
-    if is_proc_among(procs.as_slice(), name.bytes()) {
+    close(
+        &mut draft.procs,
+        replace(&mut draft.section, Section::Before),
+    )?;
+    if is_proc_among(draft.procs.as_slice(), name.bytes()) {
         return Err(Stop::Fault(FaultKind::DuplicateName));
     }
-    if procs.len() >= MOST_PROCESSES {
+    if draft.procs.len() >= MOST_PROCESSES {
         return Err(Stop::Fault(FaultKind::TooManyProcesses));
     }
-    let proc = DraftProc {
+    draft.section = Section::Outside(DraftProc {
         name,
         labels: LabelTable::new(alloc),
         instrs: Sequence::new(alloc),
-    };
-    Ok(Draft {
-        turns,
-        procs,
-        section: Section::Outside(proc),
-    })
+    });
+    Ok(())
 }
 
 /// A label line.
 #[tactic(auto, using(crate::proofs::LabelLemmas::any_place))]
-fn add_label(proc: DraftProc, name: Name) -> Result<DraftProc, Stop>
-    requires instrs { length proc.instrs + 1 < 2 ^ 32 }
-    requires labels { length proc.labels < 2 ^ 32 }
-    ensures { Gives (λ p. p) result (labelled proc name) }
+fn add_label(alloc: Global, proc: &mut DraftProc, name: Name) -> Result<(), Stop>
+    requires instrs { length proc.old.instrs + 1 < 2 ^ 32 }
+    requires labels { length proc.old.labels < 2 ^ 32 }
+    ensures { Gives (λ u. proc.new) result (labelled proc.old name) }
 {
     if proc.labels.place_of(name.bytes()).is_some() {
         return Err(Stop::Fault(FaultKind::DuplicateLabel));
     }
     let place = proc.instrs.len() as u32 + 1;
-    let labels = proc.labels.with(Label { name, place })?;
-    Ok(DraftProc {
-        name: proc.name,
-        labels,
-        instrs: proc.instrs,
-    })
+    let labels = replace(&mut proc.labels, LabelTable::new(alloc));
+    proc.labels = labels.with(Label { name, place })?;
+    Ok(())
 }
 
 /// An instruction.
-fn add_instr(proc: DraftProc, instr: Instr) -> Result<DraftProc, Stop>
-    ensures { Gives (λ p. p) result (Ok (with_instr proc instr)) }
+fn add_instr(proc: &mut DraftProc, instr: Instr) -> Result<(), Stop>
+    ensures { Gives (λ u. proc.new) result (Ok (with_instr proc.old instr)) }
 {
-    let mut proc = proc;
     proc.instrs.add(instr)?;
-    Ok(proc)
+    Ok(())
 }
 
 /// A turns line.
-fn take_turns(
-    turns: Option<u32>,
-    procs: DraftProcs,
-    section: Section,
-    n: u64,
-) -> Result<Draft, Stop>
-    ensures { Gives (λ d. d) result (taken_at (record { turns = turns; procs = procs; section = section }) section (Form.Turns n)) }
+fn take_turns(draft: &mut Draft, n: u64) -> Result<(), Stop>
+    ensures { Gives (λ u. draft.new) result (taken_at draft.old draft.old.section (Form.Turns n)) }
 {
-    let Section::Before = section else {
+    let Section::Before = &draft.section else {
         return Err(Stop::Fault(FaultKind::Syntax));
     };
     if n <= u64::from(MOST_TURNS) {
-        Ok(Draft {
-            turns: Some(n as u32),
-            procs,
-            section: Section::Before,
-        })
+        draft.turns = Some(n as u32);
+        Ok(())
     } else {
         Err(Stop::Fault(FaultKind::TooManyTurns))
     }
 }
 
 /// A process line, outside a receive.
-fn take_process(
-    alloc: Global,
-    turns: Option<u32>,
-    procs: DraftProcs,
-    section: Section,
-    name: Name,
-) -> Result<Draft, Stop>
-    ensures { Gives (λ d. d) result (taken_at (record { turns = turns; procs = procs; section = section }) section (Form.Process name)) }
+fn take_process(alloc: Global, draft: &mut Draft, name: Name) -> Result<(), Stop>
+    ensures { Gives (λ u. draft.new) result (taken_at draft.old draft.old.section (Form.Process name)) }
 {
-    if let Section::Inside(_, _, _, _) = &section {
-        return Err(Stop::Fault(FaultKind::Syntax));
+    match &draft.section {
+        Section::Inside(_, _, _, _) => Err(Stop::Fault(FaultKind::Syntax)),
+        _ => begin(alloc, draft, name),
     }
-    begin(alloc, turns, procs, section, name)
 }
 
-/// A label line in a process, outside a receive: where the next line stands.
+/// A label line in a process, outside a receive.
 #[tactic(auto, using(crate::proofs::FitLemmas::one_few))]
-fn place_label(section: Section, name: Name) -> Result<Section, Stop>
-    requires { All (IsSmall (2 ^ 31)) (open_proc section) }
-    ensures { Gives (λ s. s) result (section_taken section (Form.Label name)) }
+fn place_label(alloc: Global, section: &mut Section, name: Name) -> Result<(), Stop>
+    requires { All (IsSmall (2 ^ 31)) (open_proc section.old) }
+    ensures { Gives (λ u. section.new) result (section_taken section.old (Form.Label name)) }
 {
     match section {
-        Section::Outside(proc) => Ok(Section::Outside(add_label(proc, name)?)),
+        Section::Outside(proc) => add_label(alloc, proc, name),
         _ => Err(Stop::Fault(FaultKind::Syntax)),
     }
 }
 
 /// An instruction that is no receive.
-fn place_instr(section: Section, instr: Instr) -> Result<Section, Stop>
-    ensures { Gives (λ s. s) result (section_taken section (Form.Do instr)) }
+fn place_instr(section: &mut Section, instr: Instr) -> Result<(), Stop>
+    ensures { Gives (λ u. section.new) result (section_taken section.old (Form.Do instr)) }
 {
     match section {
-        Section::Outside(proc) => Ok(Section::Outside(add_instr(proc, instr)?)),
+        Section::Outside(proc) => add_instr(proc, instr),
         _ => Err(Stop::Fault(FaultKind::Syntax)),
     }
 }
 
 /// The first line of a receive.
-fn place_receive(alloc: Global, section: Section, marker: Option<Var>) -> Result<Section, Stop>
-    ensures { Gives (λ s. s) result (section_taken section (Form.Receive marker)) }
+fn place_receive(alloc: Global, section: &mut Section, marker: Option<Var>) -> Result<(), Stop>
+    ensures { Gives (λ u. section.new) result (section_taken section.old (Form.Receive marker)) }
 {
-    match section {
-        Section::Outside(proc) => Ok(Section::Inside(proc, marker, Sequence::new(alloc), None)),
+    match replace(section, Section::Before) {
+        Section::Outside(proc) => {
+            *section = Section::Inside(proc, marker, Sequence::new(alloc), None);
+            Ok(())
+        }
         _ => Err(Stop::Fault(FaultKind::Syntax)),
     }
 }
@@ -215,73 +193,69 @@ fn pins_marker(marker: &Option<Var>, pattern: &Pattern) -> bool
 /// A clause behind these, in a receive with this marker.
 fn add_clause(
     marker: &Option<Var>,
-    clauses: Clauses,
+    clauses: &mut Clauses,
     pattern: Pattern,
     target: Option<u32>,
-) -> Result<Clauses, Stop>
-    ensures { Gives (λ cs. cs) result (with_clause marker.now clauses pattern target) }
+) -> Result<(), Stop>
+    ensures { Gives (λ u. clauses.new) result (with_clause marker.now clauses.old pattern target) }
 {
     if !pins_marker(marker, &pattern) {
         return Err(Stop::Fault(FaultKind::MarkerNotInClause));
     }
-    let mut clauses = clauses;
     clauses.add(Clause { pattern, target })?;
-    Ok(clauses)
+    Ok(())
 }
 
 /// A clause line in a receive.
-fn place_clause(
-    section: Section,
-    pattern: Pattern,
-    target: Option<u32>,
-) -> Result<Section, Stop>
-    ensures { Gives (λ s. s) result (section_taken section (Form.On pattern target)) }
+fn place_clause(section: &mut Section, pattern: Pattern, target: Option<u32>) -> Result<(), Stop>
+    ensures { Gives (λ u. section.new) result (section_taken section.old (Form.On pattern target)) }
 {
     match section {
-        Section::Inside(proc, marker, clauses, after) => {
-            let clauses = add_clause(&marker, clauses, pattern, target)?;
-            Ok(Section::Inside(proc, marker, clauses, after))
-        }
+        Section::Inside(_, marker, clauses, _) => add_clause(marker, clauses, pattern, target),
         _ => Err(Stop::Fault(FaultKind::Syntax)),
     }
 }
 
 /// The line of where a receive goes on that finds no message.
-fn place_after(section: Section, next: After) -> Result<Section, Stop>
-    ensures { Gives (λ s. s) result (section_taken section (Form.After next)) }
+fn place_after(section: &mut Section, next: After) -> Result<(), Stop>
+    ensures { Gives (λ u. section.new) result (section_taken section.old (Form.After next)) }
 {
     match section {
-        Section::Inside(proc, marker, clauses, _) => {
-            Ok(Section::Inside(proc, marker, clauses, Some(next)))
+        Section::Inside(_, _, _, after) => {
+            *after = Some(next);
+            Ok(())
         }
         _ => Err(Stop::Fault(FaultKind::Syntax)),
     }
 }
 
 /// The last line of a receive, which is one instruction.
-fn place_end(section: Section) -> Result<Section, Stop>
-    ensures { Gives (λ s. s) result (section_taken section Form.End) }
+fn place_end(section: &mut Section) -> Result<(), Stop>
+    ensures { Gives (λ u. section.new) result (section_taken section.old Form.End) }
 {
-    match section {
+    match replace(section, Section::Before) {
         Section::Inside(proc, using, clauses, after) => {
             let receive = Instr::Receive {
                 using,
                 clauses,
                 after,
             };
-            Ok(Section::Outside(add_instr(proc, receive)?))
+            let mut proc = proc;
+            add_instr(&mut proc, receive)?;
+            *section = Section::Outside(proc);
+            Ok(())
         }
         _ => Err(Stop::Fault(FaultKind::Syntax)),
     }
 }
 
-/// A form that begins no process and tells no turns: where the next line stands.
-fn place(alloc: Global, section: Section, form: Form) -> Result<Section, Stop>
-    requires { All (IsSmall (2 ^ 31)) (open_proc section) }
-    ensures { Gives (λ s. s) result (section_taken section form) }
+/// A form that begins no process and tells no turns.
+fn place(alloc: Global, section: &mut Section, form: Form) -> Result<(), Stop>
+    requires { All (IsSmall (2 ^ 31)) (open_proc section.old) }
+    ensures { Gives (λ u. section.new) result (section_taken section.old form) }
 {
     match form {
-        Form::Label(name) => place_label(section, name),
+        Form::Label(name) => place_label(alloc, section, name),
         Form::Do(instr) => place_instr(section, instr),
         Form::Receive { using } => place_receive(alloc, section, using),
         Form::On(pattern, target) => place_clause(section, pattern, target),
@@ -293,46 +267,35 @@ fn place(alloc: Global, section: Section, form: Form) -> Result<Section, Stop>
 
 /// A form behind what was read so far.
 #[tactic(auto, using(crate::proofs::FitLemmas::open_fits))]
-fn take_form(alloc: Global, draft: Draft, n: u64, form: Form) -> Result<Draft, Stop>
+fn take_form(alloc: Global, draft: &mut Draft, n: u64, form: Form) -> Result<(), Stop>
     requires few { n < 2 ^ 31 }
-    requires fit { IsFit n draft }
-    ensures { Gives (λ d. d) result (taken draft form) }
+    requires fit { IsFit n draft.old }
+    ensures { Gives (λ u. draft.new) result (taken draft.old form) }
 {
-    let Draft {
-        turns,
-        procs,
-        section,
-    } = draft;
     match form {
-        Form::Turns(n) => take_turns(turns, procs, section, n),
-        Form::Process(name) => take_process(alloc, turns, procs, section, name),
-        other => {
-            let section = place(alloc, section, other)?;
-            Ok(Draft {
-                turns,
-                procs,
-                section,
-            })
-        }
+        Form::Turns(n) => take_turns(draft, n),
+        Form::Process(name) => take_process(alloc, draft, name),
+        other => place(alloc, &mut draft.section, other),
     }
 }
 
-/// Line `n` behind what was read so far, or what is wrong with it.
+/// Line `n` behind what was read so far, or what is wrong with it. What was read is of no use
+/// behind a line that is wrong.
 pub fn take_line(
     alloc: Global,
     known: &Known,
-    draft: Draft,
+    draft: &mut Draft,
     n: u64,
     line: &[u8],
-) -> Result<Draft, Stop>
+) -> Result<(), Stop>
     requires known { IsFewKnown known.now }
     requires few { n < 2 ^ 31 }
-    requires fit { IsFit n draft }
-    ensures { Gives (λ d. d) result (line_taken known.now draft line.now) }
+    requires fit { IsFit n draft.old }
+    ensures { Gives (λ u. draft.new) result (line_taken known.now draft.old line.now) }
 {
-    match read_line(alloc, known, &draft, line)? {
+    match read_line(alloc, known, draft, line)? {
         Some(form) => take_form(alloc, draft, n, form),
-        None => Ok(draft),
+        None => Ok(()),
     }
 }
 
@@ -346,8 +309,9 @@ pub fn finish(draft: Draft, n: u64) -> Result<DraftScript, ScriptError>
             kind: FaultKind::Syntax,
         });
     }
-    match close(draft.procs, draft.section) {
-        Ok(procs) => Ok(DraftScript {
+    let mut procs = draft.procs;
+    match close(&mut procs, draft.section) {
+        Ok(()) => Ok(DraftScript {
             turns: draft.turns.unwrap_or(DEFAULT_TURNS),
             procs,
         }),

@@ -60,12 +60,7 @@ fn put_var(into: &mut Vec<u8>, word: &[u8], var: &Var) -> Result<(), AllocError>
 }
 
 /// Appends a word and an expression.
-fn put_one(
-    into: &mut Vec<u8>,
-    procs: &[Proc],
-    word: &[u8],
-    expr: &Expr,
-) -> Result<(), AllocError>
+fn put_one(into: &mut Vec<u8>, procs: &[Proc], word: &[u8], expr: &Expr) -> Result<(), AllocError>
     ensures { IsPut into.old.items into.new.items (spaced word.now (expr_text (names_of procs.now) expr.now ∷ [])) result }
 {
     put(into, word)?;
@@ -155,7 +150,11 @@ fn put_alias(into: &mut Vec<u8>, var: &Var, reply: bool) -> Result<(), AllocErro
 fn put_trap(into: &mut Vec<u8>, on: bool) -> Result<(), AllocError>
     ensures { IsPut into.old.items into.new.items (spaced (codes "trap") (switch_text on ∷ [])) result }
 {
-    if on { put(into, b"trap on") } else { put(into, b"trap off") }
+    if on {
+        put(into, b"trap on")
+    } else {
+        put(into, b"trap off")
+    }
 }
 
 fn put_goto(into: &mut Vec<u8>, labels: &[Label], label: u32) -> Result<(), AllocError>

@@ -42,7 +42,7 @@ fn negated(n: u64) -> i64
     requires { n ≤ 2 ^ 63 }
     ensures { result ≡ negative n }
 {
-    if n == 0 { 0 } else { -((n - 1) as i64) - 1 }
+    (-i128::from(n)) as i64
 }
 
 /// The integer.

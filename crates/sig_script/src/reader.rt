@@ -67,11 +67,11 @@ fn read_lines(alloc: Global, known: &Known, bytes: &[u8]) -> Result<DraftScript,
     let mut at = 0;
     while at < bytes.len() {
         let line = first_line(&bytes[at..]);
-        draft = match take_line(alloc, known, draft, n, line) {
-            Ok(next) => next,
+        match take_line(alloc, known, &mut draft, n, line) {
+            Ok(()) => {}
             Err(Stop::Fault(kind)) => return Err(ScriptError::Fault { line: n, kind }),
             Err(Stop::Memory) => return Err(ScriptError::Memory),
-        };
+        }
         at += line.len() + 1;
         n += 1;
     }

@@ -12,14 +12,14 @@ pub returns-then-label-place-clause-put : goal.returns-then-label-place-clause-p
 returns-then-label-place-clause-put c =
     let ne : (c.in-Some.label.now.place == c.args.place) ≡ false = grind (arith, nat_tests, c.if-label-place.true) in
     let behind : All (λ (m : Label). c.args.place + 1 ≤ m.place) c.loop-label.rest.now =
-        stop_behind c.args.place c.loop-label.rest.now c.in-Some.others.now c.in-Some.label.now c.in-Some.ensures.cases.0 ne c.loop-label.invariant.2 c.loop-label.invariant.3 in
+    stop_behind c.args.place c.loop-label.rest.now c.in-Some.others.now c.in-Some.label.now c.in-Some.ensures.cases.0 ne c.loop-label.invariant.2 c.loop-label.invariant.3 in
     (stop_text c.args.place c.loop-label.rest.now c.loop-label.into.items _ behind c.loop-label.invariant.0, tt)
 
 pub returns-then-label-place-clause-rest : goal.returns-then-label-place-clause-rest
 returns-then-label-place-clause-rest c =
     let ne : (c.in-Some.label.now.place == c.args.place) ≡ false = grind (arith, nat_tests, c.if-label-place.true) in
     let behind : All (λ (m : Label). c.args.place + 1 ≤ m.place) c.loop-label.rest.now =
-        stop_behind c.args.place c.loop-label.rest.now c.in-Some.others.now c.in-Some.label.now c.in-Some.ensures.cases.0 ne c.loop-label.invariant.2 c.loop-label.invariant.3 in
+    stop_behind c.args.place c.loop-label.rest.now c.in-Some.others.now c.in-Some.label.now c.in-Some.ensures.cases.0 ne c.loop-label.invariant.2 c.loop-label.invariant.3 in
     let is = stop_from c.args.place c.loop-label.rest.now behind in
     is ∙ c.loop-label.invariant.1
 

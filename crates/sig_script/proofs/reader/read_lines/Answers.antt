@@ -15,8 +15,8 @@ pub loop-at-preserved : goal.loop-at-preserved
 loop-at-preserved c = record {
   within = line-within c.loop-at.at c.first_line-line.result.now c.args.bytes.now c.loop-at-test.true c.first_line-line.ensures.bound;
   number = omega (arith, c.loop-at.invariant.number);
-  fit = fit_taken c.args.known.now c.loop-at.n c.loop-at.draft c.in-Ok.next c.first_line-line.result.now c.loop-at.invariant.fit c.in-Ok.ensures;
-  whole = step_taken c.args.known.now c.loop-at.n c.loop-at.at c.args.bytes.now c.first_line-line.result.now c.loop-at.draft c.in-Ok.next _
+  fit = fit_taken c.args.known.now c.loop-at.n c.loop-at.draft c.take_line.new.draft c.first_line-line.result.now c.loop-at.invariant.fit c.in-Ok.ensures;
+  whole = step_taken c.args.known.now c.loop-at.n c.loop-at.at c.args.bytes.now c.first_line-line.result.now c.loop-at.draft c.take_line.new.draft _
       c.loop-at-test.true c.first_line-line.ensures.line c.in-Ok.ensures c.loop-at.invariant.whole;
 }
 
