@@ -1,5 +1,5 @@
 -- The generated script keeps the bounds of scripts.
-use Rattle.std.proofs.Common.{◌≡◌, ℕ, zero, suc, ◌+◌, ◌*◌, ◌<◌, ◌≤◌, ◌^◌, List, [], ◌∷◌, ◌++◌, length, map, get_or, All, IfSome, Bool, true, false, Some, None, codes, pos, refl, sym, subst, ap, ◌∙◌, arith, append_assoc, length-append}
+use Rattle.std.proofs.Common.{◌≡◌, ℕ, zero, suc, ◌+◌, ◌*◌, ◌<◌, ◌≤◌, ◌^◌, List, [], ◌∷◌, ◌++◌, length, map, get_or, All, Bool, true, false, Some, codes, pos, refl, sym, subst, ap, ◌∙◌, arith, append_assoc, length-append}
 use Rattle.std.specs.List.{flat_map, range_with_len, concat, list_any}
 use Rattle.std.specs.Str.{bytes_eq}
 use Rattle.std.proofs.lemmas.List.FromFn.{length-range_with_len}
@@ -19,8 +19,8 @@ use Rattle.sig_script.specs.declared.label.Label.{Label}
 use Rattle.sig_script.specs.declared.instruction.Instr.{Instr}
 use Rattle.sig_script.specs.declared.instruction.Instr.TheVariants as instr
 use Rattle.sig_script.specs.declared.script.TheConstants.{MOST_TURNS}
-use Rattle.sig_script.specs.Parts.{exprs_of, clauses_of, mode_in, pids_of, pids_of_pattern}
-use Rattle.sig_script.specs.Scripts.{Declared, Program, IsLawful, IsPlace, AreRising, IsWithin, IsExprBelow, IsPatternBelow, IsInstrBelow, IsProcBelow, IsSound}
+use Rattle.sig_script.specs.Parts.{pids_of, pids_of_pattern}
+use Rattle.sig_script.specs.Scripts.{Declared, IsLawful, IsPlace, AreRising, IsWithin, IsExprBelow, IsPatternBelow, IsInstrBelow, IsProcBelow, IsSound}
 use Rattle.sig_script.specs.Generated.{var_named, call_clause, hub_receive, hub_answer, hub, to_hub, watch_hub, bind_mark, send_call, answer_clause, down_clause, await_answer, call, client, client_names, generated}
 use Rattle.sig_script.proofs.PidLemmas.{pids_of-Int, pids_of-Atom, pids_of-Var, pids_of-Pid, pids_of-Tuple, pids_of_pattern-Any, pids_of_pattern-Bind, pids_of_pattern-Pin, pids_of_pattern-Atom, pids_of_pattern-Tuple}
 use Rattle.sig_script.proofs.BoundTermLemmas.{no-mode, IsMonitorMode}

@@ -1,5 +1,5 @@
 -- The scripts that a reader gives: those whose canonical text is read back as an equal script.
-use Rattle.std.specs.Prelude.{◌≡◌, ◌≢◌, ◌≤◌, ◌<◌, ℕ, ◌+◌, ◌^◌, List, [], ◌∷◌, length, map, sum, max, Bool, true, false, ◌&&◌, nat_lt, IsTrue, All, IfSome, Option, Some, ℤ}
+use Rattle.std.specs.Prelude.{◌≡◌, ◌≢◌, ◌≤◌, ℕ, ◌+◌, List, [], ◌∷◌, length, map, sum, max, Bool, true, ◌&&◌, nat_lt, IsTrue, All, IfSome}
 use Rattle.std.specs.List.{list_all}
 use Rattle.sig_terms.specs.Words.{is_name, is_variable, is_atom}
 use Rattle.sig_terms.specs.Nodes.{greatest}

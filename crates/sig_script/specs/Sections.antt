@@ -1,10 +1,10 @@
 -- Where the next line stands behind a form that begins no process and tells no turns.
-use Rattle.std.specs.Prelude.{[], ◌∷◌, Some, None, Result, Ok, Err}
+use Rattle.std.specs.Prelude.{[], Some, None, Result, Ok, Err}
 use Rattle.sig_script.specs.declared.instruction.Instr.TheVariants as instr
 use Rattle.sig_script.specs.declared.fault.FaultKind.{FaultKind}
 use Rattle.sig_script.specs.declared.fault.FaultKind.TheVariants.{Syntax}
 use Rattle.sig_script.specs.declared.draft.Section.{Section}
-use Rattle.sig_script.specs.declared.draft.Section.TheVariants.{Before, Outside, Inside}
+use Rattle.sig_script.specs.declared.draft.Section.TheVariants.{Outside, Inside}
 use Rattle.sig_script.specs.declared.form.Form.{Form}
 use Rattle.sig_script.specs.declared.form.Form.TheVariants as form
 use Rattle.sig_script.specs.Faults.{on_ok}

@@ -1,4 +1,3 @@
-use Rattle.std.proofs.Common.{ℕ}
 use Rattle.sig_script.proofs.GeneratedLemmas.{sound_with}
 use Rattle.sig_script.proofs.generating.generate.Goals as goal
 

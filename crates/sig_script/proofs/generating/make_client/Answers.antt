@@ -1,6 +1,5 @@
-use Rattle.std.proofs.Common.{◌≡◌, sym, subst, arith, rules, List}
-use Rattle.sig_script.specs.Scripts.{Declared, IsWithin}
-use Rattle.sig_script.specs.Generated.{client}
+use Rattle.std.proofs.Common.{sym, subst, rules}
+use Rattle.sig_script.specs.Scripts.{IsWithin}
 use Rattle.sig_script.proofs.GeneratedLemmas.{client_within, client_is}
 use Rattle.sig_script.proofs.generating.make_client.Goals as goal
 

@@ -1,4 +1,4 @@
-use Rattle.std.proofs.Common.{rules, ◌++◌, List, ℕ, map, codes}
+use Rattle.std.proofs.Common.{List, ℕ, map, codes}
 use Rattle.std.specs.List.{flat_map}
 use Rattle.sig_script.specs.declared.label.Label.{Label}
 use Rattle.sig_script.specs.ScriptText.{names_of, instr_lines, line_text}

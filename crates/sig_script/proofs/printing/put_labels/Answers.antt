@@ -1,10 +1,8 @@
-use Rattle.std.proofs.Common.{rules, arith, ◌≡◌, ◌==◌, ◌++◌, ◌∷◌, ◌+◌, ◌≤◌, ◌∙◌, sym, All, List, ℕ, true, false}
-use Rattle.std.specs.List.{flat_map}
+use Rattle.std.proofs.Common.{arith, ◌≡◌, ◌==◌, ◌∷◌, ◌+◌, ◌≤◌, ◌∙◌, sym, All, true, false}
 use Rattle.std.proofs.lemmas.Bool.Decides.{nat_tests}
 use Rattle.sig_script.specs.declared.label.Label.{Label}
-use Rattle.sig_script.specs.ScriptText.{labels_there, label_line, line_text}
-use Rattle.sig_script.specs.Printing.{labels_from}
-use Rattle.sig_script.proofs.PrintLemmas.{kept_front, front_behind, kept_more}
+use Rattle.sig_script.specs.ScriptText.{label_line, line_text}
+use Rattle.sig_script.proofs.PrintLemmas.{kept_more}
 use Rattle.sig_script.proofs.LabelTextLemmas.{stop_behind, stop_from, stop_text, step_text, step_from, step_rising, step_behind}
 use Rattle.sig_script.proofs.printing.put_labels.Goals as goal
 

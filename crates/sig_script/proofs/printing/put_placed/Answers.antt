@@ -1,11 +1,10 @@
-use Rattle.std.proofs.Common.{rules, arith, ◌≡◌, ◌++◌, [], ◌∷◌, ◌+◌, ◌≤◌, ◌∙◌, sym, ap, refl, take, length, map, drop, All, List, ℕ}
+use Rattle.std.proofs.Common.{rules, arith, ◌≡◌, [], ◌∷◌, ◌+◌, sym, ap, refl, map, drop, List, ℕ}
 use Rattle.std.specs.List.{flat_map}
 use Rattle.std.proofs.lemmas.Bool.Decides.{nat_tests}
 use Rattle.std.proofs.lemmas.List.{drop_all, drop_more}
 use Rattle.std.proofs.Math.Seq.{take-length}
 use Rattle.sig_script.specs.declared.label.Label.{Label}
-use Rattle.sig_script.specs.ScriptText.{names_of, labels_there, instr_lines, placed_lines, line_text}
-use Rattle.sig_script.specs.Printing.{labels_from}
+use Rattle.sig_script.specs.ScriptText.{names_of, labels_there, instr_lines, line_text}
 use Rattle.sig_script.proofs.PrintLemmas.{kept_more}
 use Rattle.sig_script.proofs.LabelTextLemmas.{all_from, placed_step, placed_end, next_from, rest_rising, rest_behind}
 use Rattle.sig_script.proofs.printing.put_placed.Goals as goal
