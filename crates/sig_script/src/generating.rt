@@ -254,9 +254,9 @@ fn make_procs(alloc: Global, n: u32) -> Result<Procs, AllocError>
 }
 
 /// The generated script: a hub that answers calls, and eight clients, each of which makes `n` calls
-/// over a monitor that is an alias too, with a marker before the answer. `n` is at most
-/// [`MOST_CALLS`], so that the hub's turns suffice. It is a script that a text may spell. (The
-/// language of scripts is this project's own.)
+/// over a monitor that is an alias too, with a marker before the answer. `n` is at least 1 and at
+/// most [`MOST_CALLS`]: three instructions of the hub for each of `8 * n` calls are within its
+/// turns. (The language of scripts is this project's own.)
 #[tactic(auto, unfolding(crate::specs::Generated::generated), using(crate::proofs::GeneratedLemmas::generated_sound))]
 pub fn generate(alloc: Global, n: u32) -> Result<Script, AllocError>
     requires some { 1 ≤ n }

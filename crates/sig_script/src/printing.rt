@@ -61,7 +61,7 @@ fn put_labels<'l>(
 }
 
 /// Appends the instructions, each behind the labels at its place, and the labels behind the last.
-/// A label is looked at twice at most, since the labels' places never fall.
+/// The labels' places never fall, so those of a place stand at the front of those that are left.
 #[tactic(auto, using(crate::proofs::PrintLemmas::kept_front))]
 fn put_placed(
     into: &mut Vec<u8>,

@@ -1,5 +1,5 @@
 use Rattle.std.proofs.Common.{rules, ◌≡◌, ◌++◌, ◌∷◌, [], length, sym}
-use Rattle.sig_script.specs.Phrases.{ending, phrase_at}
+use Rattle.sig_script.specs.Phrases.{elements, ending, phrase_at}
 use Rattle.sig_script.proofs.PhraseLemmas.{one_more, goes_on, phrase_step, well_spelled_rest, no_token}
 use Rattle.sig_script.proofs.phrases.+front.Goals as goal
 
@@ -10,19 +10,25 @@ front-returns-in-len1-up-clause-value g t c =
 pub some_elements-returns-in_err-item-clause-value : goal.some_elements-returns-in_err-item-clause-value
 some_elements-returns-in_err-item-clause-value g t c =
     let read = phrase_at g.T.Phrase.spelling c.args.known.now c.args.line.now c.args.depth in
-    rw (one_more read (ending g.T.Phrase.spelling c.args.close read) (length c.args.tokens.now) c.loop.counter c.loop.left c.loop.items c.loop.rest.now _ c.loop-test.true c.loop.invariant.items) (search rules)
+    let finish = ending g.T.Phrase.spelling c.args.close read in
+    let whole = elements read finish (length c.args.tokens.now) c.args.nodes [] c.args.tokens.now in
+    rw (one_more read finish (length c.args.tokens.now) c.loop.counter c.loop.left c.loop.items c.loop.rest.now whole c.loop-test.true c.loop.invariant.items) (search rules)
 
 pub some_elements-returns-in_default-clause-value : goal.some_elements-returns-in_default-clause-value
 some_elements-returns-in_default-clause-value g t c =
     let read = phrase_at g.T.Phrase.spelling c.args.known.now c.args.line.now c.args.depth in
-    rw (one_more read (ending g.T.Phrase.spelling c.args.close read) (length c.args.tokens.now) c.loop.counter c.loop.left c.loop.items c.loop.rest.now _ c.loop-test.true c.loop.invariant.items) (search rules)
+    let finish = ending g.T.Phrase.spelling c.args.close read in
+    let whole = elements read finish (length c.args.tokens.now) c.args.nodes [] c.args.tokens.now in
+    rw (one_more read finish (length c.args.tokens.now) c.loop.counter c.loop.left c.loop.items c.loop.rest.now whole c.loop-test.true c.loop.invariant.items) (search rules)
 
 pub some_elements-loop-preserved : goal.some_elements-loop-preserved
 some_elements-loop-preserved g t c =
     let read = phrase_at g.T.Phrase.spelling c.args.known.now c.args.line.now c.args.depth in
+    let finish = ending g.T.Phrase.spelling c.args.close read in
+    let whole = elements read finish (length c.args.tokens.now) c.args.nodes [] c.args.tokens.now in
     let added : c.add.new.self ≡ c.loop.items ++ c.in_ok-item.item ∷ [] = c.in_ok-add.ensures in
     record {
       spelled = well_spelled_rest c.args.line.now c.in_ok-item.behind.now c.in-len1-up.len_at_least c.in_ok-item.ensures.spelled;
-      items = rw added (goes_on read (ending g.T.Phrase.spelling c.args.close read) (length c.args.tokens.now) c.loop.counter c.loop.left c.loop.items c.loop.rest.now
-          c.in_ok-item.item c.in_ok-item.fewer c.in_ok-item.behind.now no_token _ c.loop-test.true c.in-len1-up.len_at_least (sym c.if-is_comma.ensures) c.in_ok-item.ensures.value c.loop.invariant.items);
+      items = rw added (goes_on read finish (length c.args.tokens.now) c.loop.counter c.loop.left c.loop.items c.loop.rest.now
+          c.in_ok-item.item c.in_ok-item.fewer c.in_ok-item.behind.now no_token whole c.loop-test.true c.in-len1-up.len_at_least (sym c.if-is_comma.ensures) c.in_ok-item.ensures.value c.loop.invariant.items);
     }
