@@ -17,7 +17,7 @@ use Rattle.sig_record.specs.declared.report.Left.{Left}
 use Rattle.sig_record.specs.declared.report.Report.{Report}
 use Rattle.sig_record.specs.Records.{IsRecord}
 use Rattle.sig_record.specs.ReadableRecord.{IsReadableOutcome, IsReadableEvent, IsReadableLeft, IsReadableKind, IsReadableSignal, IsReadableState, IsReadableReport, IsReadableRecord}
-use Rattle.sig_record.specs.SizedRecord.{IsSizedOutcome, IsSizedEvent, IsSizedLeft, IsSizedKind, IsSizedSignal, IsSizedState, IsSizedReport, IsSizedRecord}
+use Rattle.sig_record.specs.SizedRecord.{IsSizedOutcome, IsSizedEvent, IsSizedLeft, IsSizedKind, IsSizedSignal, IsSizedState, IsSizedReport, IsSizedRecord, CanBeReread}
 use Rattle.sig_record.specs.StoredRecord.{IsStoredOutcome, IsStoredEvent, IsStoredLeft, IsStoredKind, IsStoredSignal, IsStoredState, IsStoredReport, IsStoredRecord}
 
 -- two facts of each item give a third
@@ -73,3 +73,11 @@ report_reads r s k = record {
 
 pub record_reads : (reports : List Report) → IsRecord reports → IsStoredRecord reports → IsSizedRecord reports → IsReadableRecord reports
 record_reads reports kept s k = record { kept = kept; each = both IsStoredReport IsSizedReport IsReadableReport report_reads reports s k }
+
+pub can_be_reread : (reports : List Report) → IsRecord reports → IsStoredRecord reports → CanBeReread reports
+unfolding CanBeReread
+can_be_reread reports kept s = record_reads reports kept s
+
+pub readable_by : (reports : List Report) → CanBeReread reports → IsSizedRecord reports → IsReadableRecord reports
+unfolding CanBeReread
+readable_by reports can sized = can sized

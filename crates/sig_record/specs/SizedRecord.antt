@@ -14,6 +14,7 @@ use Rattle.sig_model.specs.declared.state.State.TheVariants as state
 use Rattle.sig_model.specs.TermSizes.{IsKeptTerm}
 use Rattle.sig_record.specs.declared.report.Left.{Left}
 use Rattle.sig_record.specs.declared.report.Report.{Report}
+use Rattle.sig_record.specs.ReadableRecord.{IsReadableRecord}
 
 -- the name of each process of the script is a name token
 abbrev pub AreNames : Program → Type 0
@@ -56,3 +57,7 @@ pub record IsSizedReport (r : Report) : Type 0 where
 
 abbrev pub IsSizedRecord : List Report → Type 0
 IsSizedRecord reports = All IsSizedReport reports
+
+-- a reader takes the record, where its names are name tokens and its terms no larger than what is read
+unfoldable pub CanBeReread : List Report → Type 0
+CanBeReread reports = IsSizedRecord reports → IsReadableRecord reports

@@ -16,7 +16,7 @@ ghost use Rattle.sig_record.specs.RecordText.{
   report_text,
   record_text,
 };
-ghost use Rattle.sig_record.specs.ReadableRecord.{IsNarrow, IsWide, IsReadableRef, IsReadableDid, IsReadableRecord};
+ghost use Rattle.sig_record.specs.ReadableRecord.{IsNarrow, IsWide, IsReadableRef, IsReadableDid};
 ghost use Rattle.sig_record.specs.StoredRecord.{
   IsStoredOutcome,
   IsStoredEvent,
@@ -27,7 +27,7 @@ ghost use Rattle.sig_record.specs.StoredRecord.{
   IsStoredReport,
   IsStoredRecord,
 };
-ghost use Rattle.sig_record.specs.SizedRecord.{IsSizedRecord};
+ghost use Rattle.sig_record.specs.SizedRecord.{CanBeReread};
 
 use crate::record::Record;
 use crate::report::{Left, Report};
@@ -310,7 +310,7 @@ fn put_record(into: &mut Vec<u8>, reports: &[Report]) -> Result<(), AllocError>
 pub fn print_record(given: &Record, into: &mut Vec<u8>) -> Result<(), AllocError>
     ensures text { OnOk result (into.new.items ≡ into.old.items ++ record_text given.now) }
     ensures err { OnErr result (into.new.items ≡ into.old.items) }
-    ensures readable { OnOk result (IsSizedRecord given.now → IsReadableRecord given.now) }
+    ensures readable { OnOk result (CanBeReread given.now) }
 {
     let before = into.len();
     let appended = put_record(into, given.reports());

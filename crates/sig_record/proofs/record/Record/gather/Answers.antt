@@ -13,8 +13,6 @@ use Rattle.sig_record.proofs.CountedLemmas.{counted_in_order}
 use Rattle.sig_record.proofs.CountedCrews.{crew_counted}
 use Rattle.sig_record.proofs.RunLemmas.{record_of_a_run}
 use Rattle.sig_record.proofs.RecordLemmas.{record_kept, same_record}
-use Rattle.sig_record.specs.SizedRecord.{IsSizedRecord}
-use Rattle.sig_record.proofs.SizedCrews.{record_sized}
 use Rattle.sig_record.proofs.record.Record.gather.Goals as goal
 
 pub invariant_of-result : goal.invariant_of-result
@@ -37,9 +35,6 @@ returns-clause-lawful c =
     λ script law. c.in_ok-reports.ensures.reports
     ∙ same_record crew placed c.in_ok-reports.ensures.keeping (counted_in_order crew c.in_ok-reports.ensures.keeping (crew_counted script crew (subst (IsLawfulCrew script) (sym c.crew.view_is) law)))
     ∙ ap record_of c.crew.view_is
-
-pub returns-clause-sized : goal.returns-clause-sized
-returns-clause-sized c = λ script law names. subst IsSizedRecord (sym (returns-clause-lawful c script law)) (record_sized script c.args.crew law c.requires.clear names)
 
 pub returns-clause-run : goal.returns-clause-run
 returns-clause-run c =
