@@ -1,7 +1,7 @@
-use Rattle.words_trial.proofs.PlainLemmas.{plain_answer}
+use Rattle.sig_host.proofs.PlainLemmas.{plain_answer}
 use Rattle.std.proofs.Common.{Err}
-use Rattle.words_trial.proofs.WordsLemmas.{parsed, refused}
-use Rattle.words_trial.proofs.command_line.words.Goals as goal
+use Rattle.sig_host.proofs.WordsLemmas.{parsed, refused}
+use Rattle.sig_host.proofs.command_line.words.Goals as goal
 
 pub returns-in-Ok-clause-answer : goal.returns-in-Ok-clause-answer
 returns-in-Ok-clause-answer c = parsed _ _ c.in-Ok.matches _ c.in_ok-command.ensures c.in-Ok.ensures.matches c.in-Ok.ensures.kinds c.settings_of.ensures.some c.settings_of.ensures.none

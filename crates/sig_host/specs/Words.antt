@@ -1,5 +1,5 @@
 -- The arguments that the command takes, and the settings that they give.
-use Rattle.std.specs.Prelude.{◌≡◌, ◌≢◌, ◌⊎◌, ◌&&◌, ℕ, Bool, true, false, List, [], ◌∷◌, length, Option, Some, None, option_map, option_and_then, if◌then◌else◌, nat_lt, nat_le, codes, Result, Ok, Err, ⊤}
+use Rattle.std.specs.Prelude.{◌≡◌, ◌≢◌, ◌≤◌, ◌⊎◌, ◌&&◌, ℕ, Bool, true, false, List, [], ◌∷◌, length, Option, Some, None, IfSome, option_map, option_and_then, if◌then◌else◌, nat_lt, nat_le, codes, Result, Ok, Err, ⊤}
 use Rattle.std.specs.Char.{is_ascii_digit}
 use Rattle.std.specs.List.{list_all}
 use Rattle.std.specs.Str.{bytes_eq}
@@ -7,10 +7,10 @@ use Rattle.std.specs.Str.Parse.{digits_value}
 use Rattle.clap.specs.Words.{App, Row, Rule, Text, first_of, fault_of, matches_of, new_app, new_rule, takes, with_rule}
 use Rattle.clap.specs.Simple.{new_shape}
 use Rattle.clap.specs.declared.builder.action.ArgAction.TheVariants.{Set}
-use Rattle.words_trial.specs.declared.settings.Settings.{Settings}
-use Rattle.words_trial.specs.declared.settings.TheConstants.{MOST_GENERATED}
-use Rattle.words_trial.specs.declared.words_error.WordsError.{WordsError}
-use Rattle.words_trial.specs.declared.words_error.WordsError.TheVariants.{Usage, Memory}
+use Rattle.sig_host.specs.declared.settings.Settings.{Settings}
+use Rattle.sig_host.specs.declared.settings.TheConstants.{MOST_GENERATED}
+use Rattle.sig_host.specs.declared.words_error.WordsError.{WordsError}
+use Rattle.sig_host.specs.declared.words_error.WordsError.TheVariants.{Usage, Memory}
 
 -- the option that asks for generated work; it has one value
 abbrev pub generate_option : Rule
@@ -23,6 +23,10 @@ bare_command = record { top = record (new_shape (codes "sigrun")) { no_binary_na
 -- the command, as clap's own definitions see it
 abbrev pub command : App
 command = with_rule bare_command generate_option
+
+-- the calls of each client, if any, lie in their range
+abbrev pub IsInRange : Settings → Type 0
+IsInRange s = IfSome s.generate (λ calls. (1 ≤ calls) × (calls ≤ MOST_GENERATED))
 
 -- the number, where it lies between these two
 abbrev pub within : ℕ → ℕ → ℕ → Option ℕ

@@ -8,10 +8,10 @@ use Rattle.clap.specs.declared.parser.matches.ArgMatches.{ArgMatches}
 use Rattle.clap.specs.declared.parser.matches.Found.{Found}
 use Rattle.clap.proofs.OnLiterals.{clap_on_literals}
 use Rattle.clap.proofs.WalkLemmas.{first_value-rows}
-use Rattle.words_trial.specs.declared.settings.Settings.{Settings}
-use Rattle.words_trial.specs.declared.words_error.WordsError.{WordsError}
-use Rattle.words_trial.specs.declared.words_error.WordsError.TheVariants.{Usage, Memory}
-use Rattle.words_trial.specs.Words.{Answers, AreRefused, AreSettings, calls_of, command, setting_of, settings_by, settings_in}
+use Rattle.sig_host.specs.declared.settings.Settings.{Settings}
+use Rattle.sig_host.specs.declared.words_error.WordsError.{WordsError}
+use Rattle.sig_host.specs.declared.words_error.WordsError.TheVariants.{Usage, Memory}
+use Rattle.sig_host.specs.Words.{Answers, AreRefused, AreSettings, calls_of, command, setting_of, settings_by, settings_in}
 
 abbrev settings_from : Option Text → Option Settings
 settings_from value = option_map (λ generate. record { generate = generate }) (setting_of calls_of value)

@@ -8,10 +8,10 @@ use Rattle.std.specs.Char.{is_ascii_digit}
 use Rattle.std.specs.Str.{bytes_eq}
 use Rattle.clap.specs.Words.{Text, first_of, matches_of, takes}
 use Rattle.clap.proofs.OnLiterals.{clap_on_literals}
-use Rattle.words_trial.specs.declared.settings.Settings.{Settings}
-use Rattle.words_trial.specs.declared.words_error.WordsError.{WordsError}
-use Rattle.words_trial.specs.declared.words_error.WordsError.TheVariants.{Usage, Memory}
-use Rattle.words_trial.specs.Words.{Answers, AreRefused, AreSettings, calls_of, command, plain_from, plain_settings, setting_of, settings_by, settings_in, with_option}
+use Rattle.sig_host.specs.declared.settings.Settings.{Settings}
+use Rattle.sig_host.specs.declared.words_error.WordsError.{WordsError}
+use Rattle.sig_host.specs.declared.words_error.WordsError.TheVariants.{Usage, Memory}
+use Rattle.sig_host.specs.Words.{Answers, AreRefused, AreSettings, calls_of, command, plain_from, plain_settings, setting_of, settings_by, settings_in, with_option}
 
 -- what holds from `low` on, below `n`
 abbrev Below : (ℕ → Type 0) → ℕ → ℕ → Type 0
@@ -129,3 +129,13 @@ plain_answer words r h = go (plain_settings words) refl
     go : (o : Option Settings) → plain_settings words ≡ o → IfSome o (λ s. (r ≡ Ok s) ⊎ (r ≡ Err Memory))
     go None e = tt
     go (Some s) e = agrees words s r (plain_found words s e) h
+
+-- and they are never refused
+pub plain_kept : (words : List Text) (s : Settings) → plain_settings words ≡ Some s → AreRefused words → ⊥
+unfolding IsFound AreRefused
+plain_kept words s e (inl h) = true≢false (sym (plain_found words s e).0 ∙ h.0)
+plain_kept words s e (inr h) = let bad : Some s ≡ None = sym (plain_found words s e).1 ∙ h.1 in cc
+
+pub plain_only : (words : List Text) (s t : Settings) → plain_settings words ≡ Some s → AreSettings words t → t ≡ s
+unfolding IsFound AreSettings
+plain_only words s t e h = let both : Some t ≡ Some s = sym h.1 ∙ (plain_found words s e).1 in cc

@@ -1,5 +1,5 @@
 ghost use Rattle.std.specs.Prelude.{◌≡◌};
-ghost use Rattle.words_trial.specs.declared.words_error.WordsError.TheVariants.{Memory};
+ghost use Rattle.sig_host.specs.declared.words_error.WordsError.TheVariants.{Memory};
 
 use std::alloc::AllocError;
 use thiserror::Error;

@@ -1,10 +1,10 @@
 //! The command line: which arguments the command takes, and the settings that they give.
 
-ghost use Rattle.std.specs.Prelude.{◌≡◌, ◌≢◌, ◌⊎◌, map, IfOk, IfErr, IfSome, Ok, Err, Some, None, string_bytes};
+ghost use Rattle.std.specs.Prelude.{◌≡◌, ◌≢◌, ◌≤◌, ◌⊎◌, map, IfOk, IfErr, IfSome, Ok, Err, Some, None, string_bytes};
 ghost use Rattle.std.specs.Char.{is_ascii_digit};
 ghost use Rattle.std.specs.List.{list_all};
 ghost use Rattle.clap.specs.Words.{app_of, found_of, kind_of, rows_of};
-ghost use Rattle.words_trial.specs.Words.{command as the_command, within, number_within, settings_by, Answers, plain_settings};
+ghost use Rattle.sig_host.specs.Words.{command as the_command, within, number_within, settings_by, Answers, IsInRange, plain_settings};
 
 use crate::settings::{MOST_GENERATED, Settings};
 use crate::words_error::WordsError;
@@ -34,7 +34,8 @@ fn are_digits(text: &str) -> bool
 
 /// The number, where it lies between these two.
 fn within(least: u32, most: u32, number: u32) -> Option<u32>
-    ensures { result ≡ within least most number }
+    ensures number { result ≡ within least most number }
+    ensures range { IfSome result (λ n. (least ≤ n) × (n ≤ most)) }
 {
     if least <= number && number <= most {
         Some(number)
@@ -45,7 +46,8 @@ fn within(least: u32, most: u32, number: u32) -> Option<u32>
 
 /// The number that the text spells in decimal digits, where it lies between these two.
 fn number_within(least: u32, most: u32, text: &str) -> Option<u32>
-    ensures { result ≡ number_within least most text.now }
+    ensures number { result ≡ number_within least most text.now }
+    ensures range { IfSome result (λ n. (least ≤ n) × (n ≤ most)) }
 {
     if !are_digits(text) {
         return None;
@@ -59,6 +61,7 @@ fn number_within(least: u32, most: u32, text: &str) -> Option<u32>
 /// The settings that the values of the options give. The error is a value out of its range.
 fn settings_of(matches: &ArgMatches) -> Result<Settings, WordsError>
     ensures some { IfOk result (λ s. settings_by (rows_of (found_of matches.now)) ≡ Some s) }
+    ensures range { IfOk result IsInRange }
     ensures none { IfErr result (λ e. (e ≡ WordsError.Usage) × (settings_by (rows_of (found_of matches.now)) ≡ None)) }
 {
     match matches.get_str("generate") {
@@ -85,6 +88,7 @@ fn refusal(error: &Error) -> WordsError
 
 /// The settings that these arguments give: the program's own name isn't among them.
 pub fn words(alloc: Global, list: &[String]) -> Result<Settings, WordsError>
+    ensures range { IfOk result IsInRange }
     ensures answer { Answers (map string_bytes list.now) result }
     ensures plain { IfSome (plain_settings (map string_bytes list.now)) (λ s. (result ≡ Ok s) ⊎ (result ≡ Err WordsError.Memory)) }
 {
