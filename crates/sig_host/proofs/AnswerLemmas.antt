@@ -2,6 +2,7 @@
 use Rattle.std.proofs.Common.{◌≡◌, ◌⊎◌, ◌∙◌, ℕ, List, Option, Some, None, Result, Ok, Err, inl, inr, refl, ap, sym, subst}
 use Rattle.std.specs.Prelude.{IfSome}
 use Rattle.sig_script.specs.Scripts.{Program}
+use Rattle.sig_script.specs.Faults.{Fault}
 use Rattle.sig_script.specs.Grammar.{script_of}
 use Rattle.sig_script.specs.declared.fault.FaultKind.{FaultKind}
 use Rattle.sig_base.specs.Flow.{Rose}
@@ -56,7 +57,7 @@ module _ (r : Reading) (w : Writing) (summary : Option (List ℕ)) where
   not_refused line kind bytes script None e ok h = cc
   not_refused line kind bytes script (Some other) e ok h =
       let same : other ≡ bytes = cc in
-      let bad : Err (record { line = line; kind = kind }) ≡ Ok script = sym h ∙ ap script_of same ∙ ok in
+      let bad : ◌≡◌ {A = Result Program Fault} (Err (record { line = line; kind = kind })) (Ok script) = sym h ∙ ap script_of same ∙ ok in
       cc
 
   no_refusal : (g : Option ℕ) (line : ℕ) (kind : FaultKind) → HasScript g r → IsRun g r w (BadScript line kind) summary → ⊥

@@ -8,7 +8,7 @@ use Rattle.clap.specs.Words.{App, Row, Rule, Text, first_of, fault_of, matches_o
 use Rattle.clap.specs.Simple.{new_shape}
 use Rattle.clap.specs.declared.builder.action.ArgAction.TheVariants.{Set}
 use Rattle.sig_host.specs.declared.settings.Settings.{Settings}
-use Rattle.sig_host.specs.declared.settings.TheConstants.{MOST_GENERATED}
+use Rattle.sig_stand_in.specs.declared.generating.TheConstants.{MOST_CALLS}
 use Rattle.sig_host.specs.declared.words_error.WordsError.{WordsError}
 use Rattle.sig_host.specs.declared.words_error.WordsError.TheVariants.{Usage, Memory}
 
@@ -26,7 +26,7 @@ command = with_rule bare_command generate_option
 
 -- the calls of each client, if any, lie in their range
 abbrev pub IsInRange : Settings → Type 0
-IsInRange s = IfSome s.generate (λ calls. (1 ≤ calls) × (calls ≤ MOST_GENERATED))
+IsInRange s = IfSome s.generate (λ calls. (1 ≤ calls) × (calls ≤ MOST_CALLS))
 
 -- the number, where it lies between these two
 abbrev pub within : ℕ → ℕ → ℕ → Option ℕ
@@ -39,7 +39,7 @@ number_within least most text =
 
 -- the calls of each client that a value of `--generate` asks for
 abbrev pub calls_of : Text → Option ℕ
-calls_of = number_within 1 MOST_GENERATED
+calls_of = number_within 1 MOST_CALLS
 
 -- the setting of an option: none without a value, and no settings at all where the value is refused
 abbrev pub setting_of : (Text → Option ℕ) → Option Text → Option (Option ℕ)

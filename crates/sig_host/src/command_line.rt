@@ -6,10 +6,11 @@ ghost use Rattle.std.specs.List.{list_all};
 ghost use Rattle.clap.specs.Words.{app_of, found_of, kind_of, rows_of};
 ghost use Rattle.sig_host.specs.Words.{command as the_command, within, number_within, settings_by, Answers, IsInRange, plain_settings};
 
-use crate::settings::{MOST_GENERATED, Settings};
+use crate::settings::Settings;
 use crate::words_error::WordsError;
 use clap::error::ErrorKind;
 use clap::{Arg, ArgAction, ArgMatches, Command, Error};
+use sig_stand_in::MOST_CALLS;
 use std::alloc::{AllocError, Global};
 
 /// The command: the option `--generate`, which has one value, and nothing else.
@@ -66,7 +67,7 @@ fn settings_of(matches: &ArgMatches) -> Result<Settings, WordsError>
 {
     match matches.get_str("generate") {
         None => Ok(Settings { generate: None }),
-        Some(text) => match number_within(1, MOST_GENERATED, text) {
+        Some(text) => match number_within(1, MOST_CALLS, text) {
             Some(calls) => Ok(Settings {
                 generate: Some(calls),
             }),
@@ -86,7 +87,14 @@ fn refusal(error: &Error) -> WordsError
     }
 }
 
-/// The settings that these arguments give: the program's own name isn't among them.
+/// Reads the arguments, the program's own name not among them, as those of a command of clap with
+/// the option `--generate`, which asks for generated work of so many calls: one decimal digit or
+/// more, and a number from 1 to [`MOST_CALLS`]. On arguments that clap takes the settings are the
+/// values in its matches; without the option no work is generated.
+///
+/// - [`WordsError::Usage`]: clap doesn't take the arguments, or a value isn't in its range. It never
+///   comes where each option stands at most once, as two words, with a value in its range.
+/// - [`WordsError::Memory`]: there was no memory.
 pub fn words(alloc: Global, list: &[String]) -> Result<Settings, WordsError>
     ensures range { IfOk result IsInRange }
     ensures answer { Answers (map string_bytes list.now) result }

@@ -18,7 +18,7 @@ ghost use Rattle.sig_host.specs.Words.{IsInRange};
 
 use crate::command_line::words;
 use crate::ending::Ending;
-use crate::settings::{MOST_GENERATED, Settings};
+use crate::settings::Settings;
 use crate::status::Status;
 use crate::summing::summary_text;
 use crate::telling::tell;
@@ -29,7 +29,7 @@ use sig_model::lawful_crew_comes_to_rest;
 use sig_process::Crew;
 use sig_record::{Record, a_lawful_crew_tells_a_run, print_record};
 use sig_script::{FaultKind, MOST_BYTES, Script, ScriptError, read_script};
-use sig_stand_in::{generate, summarize};
+use sig_stand_in::{MOST_CALLS, generate, summarize};
 use sig_workers::run_one;
 use std::alloc::{AllocError, Global};
 
@@ -132,7 +132,7 @@ fn run_script<O: Sink>(alloc: Global, script: &Script, asked: bool, out: &mut O)
 /// Makes work of so many calls for each client, runs it, and writes the record.
 fn run_generated<O: Sink>(alloc: Global, calls: u32, out: &mut O) -> Ending
     requires least { 1 ≤ calls }
-    requires most { calls ≤ MOST_GENERATED }
+    requires most { calls ≤ MOST_CALLS }
     ensures { IsScriptRun (generated calls) true (record {
       held = O.held out.old;
       new = O.held out.new;

@@ -13,7 +13,7 @@ mod words_error;
 
 pub use command_line::words;
 pub use host::run;
-pub use settings::{MOST_GENERATED, Settings};
+pub use settings::Settings;
 pub use status::Status;
 pub use words_error::WordsError;
 

@@ -6,6 +6,9 @@ ghost use Rattle.sig_stand_in.specs.Generated.{generated};
 use sig_script::{Procs, Script};
 use std::alloc::{AllocError, Global};
 
+/// The most calls of each client of a generated script.
+pub const MOST_CALLS: u32 = 800;
+
 /// Work of n calls a client.
 pub fn generate(alloc: Global, n: u32) -> Result<Script, AllocError>
     requires { (1 ≤ n) × (n ≤ 800) }

@@ -4,5 +4,5 @@
 mod generating;
 mod summary;
 
-pub use generating::generate;
+pub use generating::{MOST_CALLS, generate};
 pub use summary::{Summary, summarize};
