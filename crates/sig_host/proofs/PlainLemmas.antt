@@ -11,7 +11,8 @@ use Rattle.clap.proofs.OnLiterals.{clap_on_literals}
 use Rattle.sig_host.specs.declared.settings.Settings.{Settings}
 use Rattle.sig_host.specs.declared.words_error.WordsError.{WordsError}
 use Rattle.sig_host.specs.declared.words_error.WordsError.TheVariants.{Usage, Memory}
-use Rattle.sig_host.specs.Words.{Answers, AreRefused, AreSettings, calls_of, command, plain_from, plain_settings, setting_of, settings_by, settings_in, with_option}
+use Rattle.sig_host.proofs.WordsLemmas.{settings_from}
+use Rattle.sig_host.specs.Words.{IsWordsAnswer, AreRefused, AreSettings, calls_of, command, plain_from, plain_settings, setting_of, settings_by, settings_in, with_option}
 
 -- what holds from `low` on, below `n`
 abbrev Below : (ℕ → Type 0) → ℕ → ℕ → Type 0
@@ -91,9 +92,7 @@ begins name value rest s e = go (bytes_eq name (codes "--generate")) refl e
     go true t e = ((bytes_eq-Decides _ _).0 t, of (calls_of value) refl (rw t at e))
     go false t e = let bad : None ≡ Some s = rw t at e in cc
 
-abbrev settings_from : Option Text → Option Settings
-settings_from value = option_map (λ generate. record { generate = generate }) (setting_of calls_of value)
-
+-- clap takes the words, and these are the settings in its matches
 IsFound : List Text → Settings → Type 0
 IsFound words s = (takes command words ≡ true) × (settings_in words ≡ Some s)
 
@@ -115,7 +114,7 @@ plain_found (name ∷ value ∷ rest) s e =
     let same : codes "--generate" ∷ value ∷ [] ≡ name ∷ value ∷ rest = rw (p.0, p.1.2) refl in
     subst (λ (ws : List Text). IsFound ws s) same (subst (IsFound (codes "--generate" ∷ value ∷ [])) p.1.3 (pair_found value p.1.0 p.1.1))
 
-agrees : (words : List Text) (s : Settings) (r : Result Settings WordsError) → IsFound words s → Answers words r → (r ≡ Ok s) ⊎ (r ≡ Err Memory)
+agrees : (words : List Text) (s : Settings) (r : Result Settings WordsError) → IsFound words s → IsWordsAnswer words r → (r ≡ Ok s) ⊎ (r ≡ Err Memory)
 unfolding IsFound AreSettings AreRefused
 agrees words s (Ok u) found h = let same : u ≡ s = cc in inl (ap Ok same)
 agrees words s (Err Usage) found (inl h) = absurd (true≢false (sym found.0 ∙ h.0))
@@ -123,7 +122,7 @@ agrees words s (Err Usage) found (inr h) = let bad : Some s ≡ None = sym found
 agrees words s (Err Memory) found h = inr refl
 
 -- so they have their settings, if there is memory
-pub plain_answer : (words : List Text) (r : Result Settings WordsError) → Answers words r → IfSome (plain_settings words) (λ s. (r ≡ Ok s) ⊎ (r ≡ Err Memory))
+pub plain_answer : (words : List Text) (r : Result Settings WordsError) → IsWordsAnswer words r → IfSome (plain_settings words) (λ s. (r ≡ Ok s) ⊎ (r ≡ Err Memory))
 plain_answer words r h = go (plain_settings words) refl
   where
     go : (o : Option Settings) → plain_settings words ≡ o → IfSome o (λ s. (r ≡ Ok s) ⊎ (r ≡ Err Memory))

@@ -11,9 +11,10 @@ use Rattle.clap.proofs.WalkLemmas.{first_value-rows}
 use Rattle.sig_host.specs.declared.settings.Settings.{Settings}
 use Rattle.sig_host.specs.declared.words_error.WordsError.{WordsError}
 use Rattle.sig_host.specs.declared.words_error.WordsError.TheVariants.{Usage, Memory}
-use Rattle.sig_host.specs.Words.{Answers, AreRefused, AreSettings, calls_of, command, setting_of, settings_by, settings_in}
+use Rattle.sig_host.specs.Words.{IsWordsAnswer, AreRefused, AreSettings, calls_of, command, setting_of, settings_by, settings_in}
 
-abbrev settings_from : Option Text → Option Settings
+-- the settings that the option's value gives
+abbrev pub settings_from : Option Text → Option Settings
 settings_from value = option_map (λ generate. record { generate = generate }) (setting_of calls_of value)
 
 from_value : (f : Found) (value : Option Text) → value ≡ first_value f (codes "generate") → settings_by (rows_of f) ≡ settings_from value
@@ -50,7 +51,7 @@ taken a words is kinds = ap (λ x. fault_of x words) (sym is) ∙ kinds (ap is_s
 pub parsed : (a : App) (words : List Text) (m : ArgMatches) (r : Result Settings WordsError) → a ≡ command → HasMatchesOf a words m
     → (is_simple_and_free a ≡ true → fault_of a words ≡ [])
     → IfOk r (λ s. settings_by (rows_of (found_of m)) ≡ Some s) → IfErr r (λ e. (e ≡ Usage) × (settings_by (rows_of (found_of m)) ≡ None))
-    → Answers words r
+    → IsWordsAnswer words r
 unfolding AreSettings AreRefused
 parsed a words m (Ok s) is has kinds some none = (taken a words is kinds, sym (settings_found a words m is has) ∙ some)
 parsed a words m (Err Usage) is has kinds some none = inr (taken a words is kinds, sym (settings_found a words m is has) ∙ none.1)
@@ -62,7 +63,7 @@ among_some k kinds h e = subst (IsAmong k) e h
 -- what the error of a parse says of them
 pub refused : (a : App) (words : List Text) (k : ErrorKind) (e : WordsError) → a ≡ command → (takes a words ≡ true → k ≡ OutOfMemory)
     → (is_simple_and_free a ≡ true → (k ≡ OutOfMemory) ⊎ IsAmong k (fault_of a words))
-    → (k ≡ OutOfMemory → e ≡ Memory) → Answers words (Err e)
+    → (k ≡ OutOfMemory → e ≡ Memory) → IsWordsAnswer words (Err e)
 unfolding AreRefused
 refused a words k Memory is passes kinds memory = tt
 refused a words k Usage is passes kinds memory = go (takes command words) refl

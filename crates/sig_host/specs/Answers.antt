@@ -64,12 +64,18 @@ pub record Reading : Type 0 where
   pub before : ℕ
   pub after : ℕ
 
+abbrev pub reading : Option (List ℕ) → Option (List ℕ) → ℕ → ℕ → Reading
+reading left rest before after = record { left = left; rest = rest; before = before; after = after }
+
 -- what a sink held and holds, and its faults before and after
 pub record Writing : Type 0 where
   pub held : Option (List ℕ)
   pub new : Option (List ℕ)
   pub before : ℕ
   pub after : ℕ
+
+abbrev pub writing : Option (List ℕ) → Option (List ℕ) → ℕ → ℕ → Writing
+writing held new before after = record { held = held; new = new; before = before; after = after }
 
 -- no read failed
 abbrev pub IsFine : Reading → Type 0

@@ -65,10 +65,10 @@ AreRefused words =
     ⊎ ((fault_of command words ≡ []) × (settings_in words ≡ None))
 
 -- what the answer says of the words
-abbrev pub Answers : List Text → Result Settings WordsError → Type 0
-Answers words (Ok s) = AreSettings words s
-Answers words (Err Usage) = AreRefused words
-Answers words (Err Memory) = ⊤
+abbrev pub IsWordsAnswer : List Text → Result Settings WordsError → Type 0
+IsWordsAnswer words (Ok s) = AreSettings words s
+IsWordsAnswer words (Err Usage) = AreRefused words
+IsWordsAnswer words (Err Memory) = ⊤
 
 -- The plain form: each option at most once, as two words, with a value in its range.
 

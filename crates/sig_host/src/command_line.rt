@@ -4,7 +4,7 @@ ghost use Rattle.std.specs.Prelude.{◌≡◌, ◌≢◌, ◌≤◌, ◌⊎◌, 
 ghost use Rattle.std.specs.Char.{is_ascii_digit};
 ghost use Rattle.std.specs.List.{list_all};
 ghost use Rattle.clap.specs.Words.{app_of, found_of, kind_of, rows_of};
-ghost use Rattle.sig_host.specs.Words.{command as the_command, within, number_within, settings_by, Answers, IsInRange, plain_settings};
+ghost use Rattle.sig_host.specs.Words.{command as the_command, within, number_within, settings_by, IsWordsAnswer, IsInRange, plain_settings};
 
 use crate::settings::Settings;
 use crate::words_error::WordsError;
@@ -97,7 +97,7 @@ fn refusal(error: &Error) -> WordsError
 /// - [`WordsError::Memory`]: there was no memory.
 pub fn words(alloc: Global, list: &[String]) -> Result<Settings, WordsError>
     ensures range { IfOk result IsInRange }
-    ensures answer { Answers (map string_bytes list.now) result }
+    ensures answer { IsWordsAnswer (map string_bytes list.now) result }
     ensures plain { IfSome (plain_settings (map string_bytes list.now)) (λ s. (result ≡ Ok s) ⊎ (result ≡ Err WordsError.Memory)) }
 {
     let command = command(alloc)?;

@@ -11,7 +11,9 @@ ghost use Rattle.sig_host.specs.Answers.{
   IsSourceRead,
   IsSourceRun,
   IsWellGiven,
+  reading,
   summary_for,
+  writing,
 };
 ghost use Rattle.sig_host.specs.Told.{told_text, text_in};
 ghost use Rattle.sig_host.specs.Words.{IsInRange};
@@ -98,12 +100,9 @@ fn run_texts(alloc: Global, script: &Script, asked: bool) -> Result<Texts, Alloc
 
 /// Writes the record. The summary is told once it is written.
 fn write_record<O: Sink>(texts: Texts, out: &mut O) -> Ending
-    ensures run { (script : Program) → (asked : Bool) → AreTexts script asked texts → IsScriptRun script asked (record {
-      held = O.held out.old;
-      new = O.held out.new;
-      before = O.faults out.old;
-      after = O.faults out.new;
-    }) result.status (text_in result.summary) }
+    ensures run { (script : Program) → (asked : Bool) → AreTexts script asked texts → IsScriptRun script asked
+        (writing (O.held out.old) (O.held out.new) (O.faults out.old) (O.faults out.new))
+        result.status (text_in result.summary) }
 {
     match write_whole(out, texts.record.as_slice()) {
         Written::Whole => Ending {
@@ -116,12 +115,8 @@ fn write_record<O: Sink>(texts: Texts, out: &mut O) -> Ending
 
 /// Runs the script, and writes the record. The texts are made whole before the first write.
 fn run_script<O: Sink>(alloc: Global, script: &Script, asked: bool, out: &mut O) -> Ending
-    ensures { IsScriptRun script.now asked (record {
-      held = O.held out.old;
-      new = O.held out.new;
-      before = O.faults out.old;
-      after = O.faults out.new;
-    }) result.status (text_in result.summary) }
+    ensures { IsScriptRun script.now asked (writing (O.held out.old) (O.held out.new) (O.faults out.old) (O.faults out.new))
+        result.status (text_in result.summary) }
 {
     match run_texts(alloc, script, asked) {
         Ok(texts) => write_record(texts, out),
@@ -133,12 +128,8 @@ fn run_script<O: Sink>(alloc: Global, script: &Script, asked: bool, out: &mut O)
 fn run_generated<O: Sink>(alloc: Global, calls: u32, out: &mut O) -> Ending
     requires least { 1 ≤ calls }
     requires most { calls ≤ MOST_CALLS }
-    ensures { IsScriptRun (generated calls) true (record {
-      held = O.held out.old;
-      new = O.held out.new;
-      before = O.faults out.old;
-      after = O.faults out.new;
-    }) result.status (text_in result.summary) }
+    ensures { IsScriptRun (generated calls) true (writing (O.held out.old) (O.held out.new) (O.faults out.old) (O.faults out.new))
+        result.status (text_in result.summary) }
 {
     match generate(alloc, calls) {
         Ok(script) => run_script(alloc, &script, true, out),
@@ -148,17 +139,10 @@ fn run_generated<O: Sink>(alloc: Global, calls: u32, out: &mut O) -> Ending
 
 /// Reads the script, runs it, and writes the record.
 fn run_source<S: Source, O: Sink>(alloc: Global, script: &mut S, out: &mut O) -> Ending
-    ensures { IsSourceRun (record {
-      left = S.left script.old;
-      rest = S.left script.new;
-      before = S.faults script.old;
-      after = S.faults script.new;
-    }) (record {
-      held = O.held out.old;
-      new = O.held out.new;
-      before = O.faults out.old;
-      after = O.faults out.new;
-    }) result.status (text_in result.summary) }
+    ensures { IsSourceRun
+        (reading (S.left script.old) (S.left script.new) (S.faults script.old) (S.faults script.new))
+        (writing (O.held out.old) (O.held out.new) (O.faults out.old) (O.faults out.new))
+        result.status (text_in result.summary) }
 {
     match read_source(alloc, script) {
         Ok(script) => run_script(alloc, &script, false, out),
@@ -174,17 +158,10 @@ fn run_settings<S: Source, O: Sink>(
     out: &mut O,
 ) -> Ending
     requires { IsInRange settings }
-    ensures { IsRun settings.generate (record {
-      left = S.left script.old;
-      rest = S.left script.new;
-      before = S.faults script.old;
-      after = S.faults script.new;
-    }) (record {
-      held = O.held out.old;
-      new = O.held out.new;
-      before = O.faults out.old;
-      after = O.faults out.new;
-    }) result.status (text_in result.summary) }
+    ensures { IsRun settings.generate
+        (reading (S.left script.old) (S.left script.new) (S.faults script.old) (S.faults script.new))
+        (writing (O.held out.old) (O.held out.new) (O.faults out.old) (O.faults out.new))
+        result.status (text_in result.summary) }
 {
     match settings.generate {
         Some(calls) => run_generated(alloc, calls, out),
@@ -199,17 +176,10 @@ fn run_words<S: Source, O: Sink>(
     script: &mut S,
     out: &mut O,
 ) -> Ending
-    ensures { IsAnswer (map string_bytes arguments.now) (record {
-      left = S.left script.old;
-      rest = S.left script.new;
-      before = S.faults script.old;
-      after = S.faults script.new;
-    }) (record {
-      held = O.held out.old;
-      new = O.held out.new;
-      before = O.faults out.old;
-      after = O.faults out.new;
-    }) result.status (text_in result.summary) }
+    ensures { IsAnswer (map string_bytes arguments.now)
+        (reading (S.left script.old) (S.left script.new) (S.faults script.old) (S.faults script.new))
+        (writing (O.held out.old) (O.held out.new) (O.faults out.old) (O.faults out.new))
+        result.status (text_in result.summary) }
 {
     match words(alloc, arguments) {
         Ok(settings) => run_settings(alloc, settings, script, out),
@@ -240,29 +210,15 @@ pub fn run<S: Source, O: Sink, E: Sink, G: Gate>(
     err: &mut E,
     _gate: &G,
 ) -> Status
-    ensures answer { (summary : Option (List ℕ)) × IsAnswer (map string_bytes arguments.now) (record {
-      left = S.left script.old;
-      rest = S.left script.new;
-      before = S.faults script.old;
-      after = S.faults script.new;
-    }) (record {
-      held = O.held out.old;
-      new = O.held out.new;
-      before = O.faults out.old;
-      after = O.faults out.new;
-    }) result summary
+    ensures answer { (summary : Option (List ℕ)) × IsAnswer (map string_bytes arguments.now)
+        (reading (S.left script.old) (S.left script.new) (S.faults script.old) (S.faults script.new))
+        (writing (O.held out.old) (O.held out.new) (O.faults out.old) (O.faults out.new))
+        result summary
         × ((Rose (E.faults err.old) (E.faults err.new) → ⊥) → Adds (E.held err.old) (E.held err.new) (told_text result summary)) }
-    ensures complete { IsWellGiven (map string_bytes arguments.now) (record {
-      left = S.left script.old;
-      rest = S.left script.new;
-      before = S.faults script.old;
-      after = S.faults script.new;
-    }) (record {
-      held = O.held out.old;
-      new = O.held out.new;
-      before = O.faults out.old;
-      after = O.faults out.new;
-    }) → (result ≡ Status.Done) ⊎ (result ≡ Status.Memory) }
+    ensures complete { IsWellGiven (map string_bytes arguments.now)
+        (reading (S.left script.old) (S.left script.new) (S.faults script.old) (S.faults script.new))
+        (writing (O.held out.old) (O.held out.new) (O.faults out.old) (O.faults out.new))
+        → (result ≡ Status.Done) ⊎ (result ≡ Status.Memory) }
 {
     let ending = run_words(alloc, arguments, script, out);
     tell(err, &ending);

@@ -68,9 +68,8 @@ pub(crate) const LONG: [(&[(&[u8], usize)], &[u8]); 22] = [
     ),
 ];
 
-/// Lines behind the header, and where they are refused and why.
-pub(crate) const REFUSED: [(&[u8], &[u8]); 132] = [
-    // turns, processes, labels and where they stand
+/// Refusals of turns, processes, labels and where they stand: the lines behind the header, and where they are refused and why.
+pub(crate) const HEADS: [(&[u8], &[u8]); 30] = [
     (b"foo", b"2: syntax"),
     (b"foo 99999999999999999999", b"2: int_range"),
     (b"turns -1", b"2: syntax"),
@@ -104,7 +103,10 @@ pub(crate) const REFUSED: [(&[u8], &[u8]); 132] = [
     (b"process a\nbind X Y", b"3: syntax"),
     (b"process a\nclear", b"3: syntax"),
     (b"process a\nclear @a", b"3: syntax"),
-    // expressions
+];
+
+/// Refusals of expressions: the lines behind the header, and where they are refused and why.
+pub(crate) const TERMS: [(&[u8], &[u8]); 20] = [
     (b"send @a hi", b"2: syntax"),
     (b"process a\nset x 1", b"3: syntax"),
     (b"process a\nset X", b"3: syntax"),
@@ -125,7 +127,10 @@ pub(crate) const REFUSED: [(&[u8], &[u8]); 132] = [
     (b"process a\nsend @b @c\nfoo", b"4: syntax"),
     (b"process a\nsend a @b\ngoto l", b"3: unknown_process"),
     (b"process a\ngoto l\nsend a @b", b"3: unknown_label"),
-    // receives
+];
+
+/// Refusals in receives: the lines behind the header, and where they are refused and why.
+pub(crate) const RECEIVES: [(&[u8], &[u8]); 24] = [
     (
         b"process a\nreceive\non {@b,X} -> l\nend",
         b"4: unknown_process",
@@ -153,7 +158,10 @@ pub(crate) const REFUSED: [(&[u8], &[u8]); 132] = [
     (b"process a\nreceive with X\nend", b"3: syntax"),
     (b"process a\nreceive\non x", b"5: syntax"),
     (b"process a\nreceive\n%\n\n", b"6: syntax"),
-    // what stands behind an instruction
+];
+
+/// Refusals of what stands behind an instruction: the lines behind the header, and where they are refused and why.
+pub(crate) const OPERANDS: [(&[u8], &[u8]); 31] = [
     (b"make_ref X", b"2: syntax"),
     (b"process a\nmake_ref", b"3: syntax"),
     (b"process a\nmake_ref x", b"3: syntax"),
@@ -185,7 +193,10 @@ pub(crate) const REFUSED: [(&[u8], &[u8]); 132] = [
     (b"process a\ntrap yes", b"3: syntax"),
     (b"process a\ntrap 'on'", b"3: syntax"),
     (b"process a\ntrap on off", b"3: syntax"),
-    // markers
+];
+
+/// Refusals of markers: the lines behind the header, and where they are refused and why.
+pub(crate) const MARKER_CLAUSES: [(&[u8], &[u8]); 18] = [
     (
         b"process a\nreceive using X\non ^Y\nend",
         b"4: marker_not_in_clause",
@@ -243,7 +254,10 @@ pub(crate) const REFUSED: [(&[u8], &[u8]); 132] = [
         b"process a\nreceive using R\non {@b} -> l\nend",
         b"4: marker_not_in_clause",
     ),
-    // more lines
+];
+
+/// More refusals: the lines behind the header, and where they are refused and why.
+pub(crate) const OTHERS: [(&[u8], &[u8]); 9] = [
     (
         b"process p1\nprocess p2\nprocess p3\nprocess p4\nprocess p5\nprocess p6\nprocess p7\n\
           process p8\nprocess p9\nprocess p10\nprocess p11\nprocess p12\nprocess p13\nprocess p14\n\

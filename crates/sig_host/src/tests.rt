@@ -9,7 +9,9 @@ use crate::large_tests::{GROWTHS, Growth};
 use crate::link_tests::{LINK_CALLS, LINKED_EXITS, QUEUED, UNLINKS};
 use crate::marker_tests::MARKERS;
 use crate::match_tests::MATCHES;
-use crate::refusal_tests::{LONG, OTHER_FIRST_LINES, REFUSED};
+use crate::refusal_tests::{
+    HEADS, LONG, MARKER_CLAUSES, OPERANDS, OTHER_FIRST_LINES, OTHERS, RECEIVES, TERMS,
+};
 use crate::text_tests::TEXTS;
 use crate::watch_tests::WATCHES;
 use itoa::Buffer;
@@ -563,6 +565,25 @@ fn first_unrefused<'a>(
     Ok(None)
 }
 
+/// The same of all these tables.
+fn first_unrefused_of_all(alloc: Global) -> Result<Option<&'static [u8]>, AllocError> {
+    let tables: [&[(&[u8], &[u8])]; 6] = [
+        &HEADS,
+        &TERMS,
+        &RECEIVES,
+        &OPERANDS,
+        &MARKER_CLAUSES,
+        &OTHERS,
+    ];
+    for rows in tables {
+        let unrefused = first_unrefused(alloc, rows)?;
+        if unrefused.is_some() {
+            return Ok(unrefused);
+        }
+    }
+    Ok(None)
+}
+
 /// The length of the first of the long texts that isn't refused so.
 fn first_unlimited(alloc: Global) -> Result<Option<usize>, AllocError> {
     for (pieces, place) in LONG {
@@ -578,7 +599,7 @@ fn first_unlimited(alloc: Global) -> Result<Option<usize>, AllocError> {
 #[test]
 fn texts_are_refused_at_their_line(rt: HostRuntime) -> Result<(), Fail> {
     let alloc = rt.alloc();
-    let unrefused = first_unrefused(alloc, REFUSED.as_slice())?;
+    let unrefused = first_unrefused_of_all(alloc)?;
     assert!(rt; unrefused.is_none(), "{unrefused:?}");
     let unlimited = first_unlimited(alloc)?;
     assert!(rt; unlimited.is_none(), "{unlimited:?} bytes");
