@@ -1,5 +1,5 @@
 -- The command takes words in the plain form.
-use Rattle.std.proofs.Common.{◌≡◌, ◌⊎◌, ◌∙◌, ℕ, suc, ◌<◌, ◌≤◌, ◌&&◌, ◌==◌, Bool, true, false, List, [], ◌∷◌, Option, Some, None, Result, Ok, Err, inl, inr, refl, ap, sym, subst, arith, codes, length, lt-ltb, true≢false}
+use Rattle.std.proofs.Common.{◌≡◌, ◌⊎◌, ◌∙◌, ℕ, suc, ◌<◌, ◌≤◌, Bool, true, false, List, [], ◌∷◌, Option, Some, None, Result, Ok, Err, inl, inr, refl, ap, sym, subst, arith, codes, length, lt-ltb, true≢false}
 use Rattle.std.proofs.lemmas.Bool.{cases_lt}
 use Rattle.std.proofs.lemmas.Slice.Eq.{bytes_eq-Decides}
 use Rattle.std.proofs.lemmas.Bool.Decides.{nat_tests}
@@ -12,7 +12,7 @@ use Rattle.sig_host.specs.declared.settings.Settings.{Settings}
 use Rattle.sig_host.specs.declared.words_error.WordsError.{WordsError}
 use Rattle.sig_host.specs.declared.words_error.WordsError.TheVariants.{Usage, Memory}
 use Rattle.sig_host.proofs.WordsLemmas.{settings_from}
-use Rattle.sig_host.specs.Words.{IsWordsAnswer, AreRefused, AreSettings, calls_of, command, plain_from, plain_settings, setting_of, settings_by, settings_in, with_option}
+use Rattle.sig_host.specs.Words.{IsWordsAnswer, AreRefused, AreSettings, calls_of, command, plain_from, plain_settings, settings_in}
 
 -- what holds from `low` on, below `n`
 abbrev Below : (ℕ → Type 0) → ℕ → ℕ → Type 0

@@ -1,10 +1,10 @@
 -- The arguments that the command takes, and the settings that they give.
-use Rattle.std.specs.Prelude.{◌≡◌, ◌≢◌, ◌≤◌, ◌⊎◌, ◌&&◌, ℕ, Bool, true, false, List, [], ◌∷◌, length, Option, Some, None, IfSome, option_map, option_and_then, if◌then◌else◌, nat_lt, nat_le, codes, Result, Ok, Err, ⊤}
+use Rattle.std.specs.Prelude.{◌≡◌, ◌≢◌, ◌≤◌, ◌⊎◌, ◌&&◌, ℕ, true, false, List, [], ◌∷◌, length, Option, Some, None, IfSome, option_map, option_and_then, if◌then◌else◌, nat_lt, nat_le, codes, Result, Ok, Err, ⊤}
 use Rattle.std.specs.Char.{is_ascii_digit}
 use Rattle.std.specs.List.{list_all}
 use Rattle.std.specs.Str.{bytes_eq}
 use Rattle.std.specs.Str.Parse.{digits_value}
-use Rattle.clap.specs.Words.{App, Row, Rule, Text, first_of, fault_of, matches_of, new_app, new_rule, takes, with_rule}
+use Rattle.clap.specs.Words.{App, Row, Rule, Text, first_of, fault_of, matches_of, new_rule, takes, with_rule}
 use Rattle.clap.specs.Simple.{new_shape}
 use Rattle.clap.specs.declared.builder.action.ArgAction.TheVariants.{Set}
 use Rattle.sig_host.specs.declared.settings.Settings.{Settings}

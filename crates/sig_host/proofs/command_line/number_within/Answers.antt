@@ -1,4 +1,4 @@
-use Rattle.std.proofs.Common.{rules, ◌∙◌, sym}
+use Rattle.std.proofs.Common.{rules, ◌∙◌}
 use Rattle.sig_host.proofs.NumberLemmas.{not_digits, a_number, no_number}
 use Rattle.sig_host.proofs.command_line.number_within.Goals as goal
 
