@@ -1,5 +1,5 @@
 -- What each answer of a run says of the bytes that were read and written.
-use Rattle.std.specs.Prelude.{◌≡◌, ℕ, ◌<◌, List, take, Option, IfSome, Result, Ok, Err}
+use Rattle.std.specs.Prelude.{◌≡◌, ℕ, Bool, List, take, true, false, Option, Some, None, IfSome, Result, Ok, Err, ⊤}
 use Rattle.sig_base.specs.Flow.{Rose, Adds}
 use Rattle.sig_script.specs.declared.fault.FaultKind.{FaultKind}
 use Rattle.sig_script.specs.Scripts.{Program}
@@ -14,6 +14,12 @@ use Rattle.sig_record.specs.declared.report.Report.{Report}
 use Rattle.sig_record.specs.RecordOf.{record_of}
 use Rattle.sig_record.specs.RunRecord.{whole_rules, IsRecordOfRun}
 use Rattle.sig_record.specs.RecordText.{record_text}
+use Rattle.sig_stand_in.specs.Generated.{generated}
+use Rattle.sig_stand_in.specs.Summarizing.{summary_of}
+use Rattle.sig_host.specs.declared.settings.Settings.{Settings}
+use Rattle.sig_host.specs.declared.texts.Texts.{Texts}
+use Rattle.sig_host.specs.Told.{summary_text, text_in}
+use Rattle.sig_host.specs.Words.{AreRefused, AreSettings, plain_settings, settings_in}
 use Rattle.sig_host.specs.declared.status.Status.{Status}
 use Rattle.sig_host.specs.declared.status.Status.TheVariants.{Done, BadScript, Usage, ReadFault, WriteFault, Memory}
 
@@ -21,19 +27,27 @@ use Rattle.sig_host.specs.declared.status.Status.TheVariants.{Done, BadScript, U
 abbrev pub IsRefused : ℕ → FaultKind → List ℕ → Type 0
 IsRefused line kind bytes = script_of bytes ≡ Err (record { line = line; kind = kind })
 
--- The text is the printed record of a run of the plain machine on the script: its events, in the order of their stamps, are
--- possible one after another from the opening, each receive looks at all messages, each signal was handled once, in the order of
--- its sender, or is printed as queued, and the machine has come to rest (Erlang Reference Manual, Processes, Delivery of Signals;
+-- The reports are the record of a run of the plain machine on the script: its events, in the order of their stamps, are possible
+-- one after another from the opening, each receive looks at all messages, each signal was handled once, in the order of its sender,
+-- or is reported as queued, and the machine has come to rest (Erlang Reference Manual, Processes, Delivery of Signals;
 -- Expressions, Receive). With one worker it is the record of the run of one worker, of which a script has one.
-pub record IsRecordOf (script : Program) (text : List ℕ) : Type 0 where
-  pub reports : List Report
-  pub is : text ≡ record_text reports
+pub record IsRecordOf (script : Program) (reports : List Report) : Type 0 where
   pub machine : Machine ProcessState Signal
   pub run : IsRecordOfRun script machine reports
   pub settled : IsSettled (whole_rules script) machine
   pub last : List Running
   pub alone : RunsTo (opened_crew script) last
   pub told : reports ≡ record_of last
+
+-- the text of the summary of these reports, where one is asked for
+abbrev pub summary_for : Bool → List Report → Option (List ℕ)
+summary_for true reports = Some (summary_text (summary_of reports))
+summary_for false reports = None
+
+-- the texts of a record of a run of the script, and of its summary where one is asked for
+abbrev pub AreTexts : Program → Bool → Texts → Type 0
+AreTexts script asked t =
+    (reports : List Report) × IsRecordOf script reports × (t.record.items ≡ record_text reports) × (text_in t.summary ≡ summary_for asked reports)
 
 -- reading the script: what the source had left, its faults before and after, and the script or why there is none
 abbrev pub IsSourceRead : Option (List ℕ) → ℕ → ℕ → Result Program Status → Type 0
@@ -43,41 +57,96 @@ IsSourceRead left before after (Err ReadFault) = Rose before after
 IsSourceRead left before after (Err Memory) = after ≡ before
 IsSourceRead left before after (Err _) = ⊥
 
--- running the script: what `out` held and holds, its faults before and after, and how it ended
-abbrev pub IsScriptRun : Program → Option (List ℕ) → Option (List ℕ) → ℕ → ℕ → Status → Type 0
-IsScriptRun script held new before after Done = (text : List ℕ) × IsRecordOf script text × Adds held new text
-IsScriptRun script held new before after WriteFault =
-    Rose before after × ((text : List ℕ) × (n : ℕ) × IsRecordOf script text × Adds held new (take n text))
-IsScriptRun script held new before after Memory = new ≡ held
-IsScriptRun script held new before after _ = ⊥
-
--- what went in and what came out: how many arguments, what the source had left and has, its faults before and after, and what
--- `out` held and holds and its faults before and after
-pub record Sides : Type 0 where
-  pub arguments : ℕ
+-- what a source had left and has, and its faults before and after
+pub record Reading : Type 0 where
   pub left : Option (List ℕ)
   pub rest : Option (List ℕ)
-  pub source_before : ℕ
-  pub source_after : ℕ
+  pub before : ℕ
+  pub after : ℕ
+
+abbrev pub reading : Option (List ℕ) → Option (List ℕ) → ℕ → ℕ → Reading
+reading left rest before after = record { left = left; rest = rest; before = before; after = after }
+
+-- what a sink held and holds, and its faults before and after
+pub record Writing : Type 0 where
   pub held : Option (List ℕ)
   pub new : Option (List ℕ)
-  pub out_before : ℕ
-  pub out_after : ℕ
+  pub before : ℕ
+  pub after : ℕ
 
--- the script that the source spells was run, and `out` has taken these bytes of the record's text
-abbrev pub HasRun : Sides → (List ℕ → Type 0) → Type 0
-HasRun s Has = IfSome s.left (λ bytes. (script : Program) × (script_of bytes ≡ Ok script) × ((text : List ℕ) × IsRecordOf script text × Has text))
+abbrev pub writing : Option (List ℕ) → Option (List ℕ) → ℕ → ℕ → Writing
+writing held new before after = record { held = held; new = new; before = before; after = after }
 
 -- no read failed
-abbrev pub IsSourceFine : Sides → Type 0
-IsSourceFine s = s.source_after ≡ s.source_before
+abbrev pub IsFine : Reading → Type 0
+IsFine r = r.after ≡ r.before
 
--- what each answer says; with any but ReadFault no read failed, and with Usage the source wasn't read
-abbrev pub IsAnswer : Sides → Status → Type 0
-IsAnswer s Done = (s.arguments ≡ 0) × HasRun s (λ text. Adds s.held s.new text) × IsSourceFine s
-IsAnswer s (BadScript line kind) = (s.arguments ≡ 0) × IfSome s.left (IsRefused line kind) × IsSourceFine s × (s.new ≡ s.held)
-IsAnswer s Usage = (0 < s.arguments) × (s.rest ≡ s.left) × IsSourceFine s × (s.new ≡ s.held)
-IsAnswer s ReadFault = (s.arguments ≡ 0) × Rose s.source_before s.source_after × (s.new ≡ s.held)
-IsAnswer s WriteFault =
-    (s.arguments ≡ 0) × Rose s.out_before s.out_after × HasRun s (λ text. (n : ℕ) × Adds s.held s.new (take n text)) × IsSourceFine s
-IsAnswer s Memory = (s.arguments ≡ 0) × IsSourceFine s × (s.new ≡ s.held)
+-- the source wasn't read
+abbrev pub IsUnread : Reading → Type 0
+IsUnread r = (r.rest ≡ r.left) × IsFine r
+
+-- nothing was written
+abbrev pub IsUnwritten : Writing → Type 0
+IsUnwritten w = w.new ≡ w.held
+
+-- the whole text of the record of a run of the script was written; this text of its summary, if one is asked for, is to be told
+abbrev pub IsPrinted : Program → Bool → Writing → Option (List ℕ) → Type 0
+IsPrinted script asked w summary =
+    (reports : List Report) × IsRecordOf script reports × Adds w.held w.new (record_text reports) × (summary ≡ summary_for asked reports)
+
+-- a write failed, and the beginning of that text was written
+abbrev pub IsCutOff : Program → Writing → Type 0
+IsCutOff script w =
+    Rose w.before w.after × ((reports : List Report) × (n : ℕ) × IsRecordOf script reports × Adds w.held w.new (take n (record_text reports)))
+
+-- running a script and writing its record, and how that ended: with this text of a summary or none
+abbrev pub IsScriptRun : Program → Bool → Writing → Status → Option (List ℕ) → Type 0
+IsScriptRun script asked w Done summary = IsPrinted script asked w summary
+IsScriptRun script asked w WriteFault summary = IsCutOff script w
+IsScriptRun script asked w Memory summary = IsUnwritten w
+IsScriptRun script asked w _ summary = ⊥
+
+-- the source spells a script, of which this holds
+abbrev pub Spells : Reading → (Program → Type 0) → Type 0
+Spells r Holds = IfSome r.left (λ bytes. (script : Program) × (script_of bytes ≡ Ok script) × Holds script)
+
+-- running the script that the source spells
+abbrev pub IsSourceRun : Reading → Writing → Status → Option (List ℕ) → Type 0
+IsSourceRun r w Done summary = Spells r (λ script. IsPrinted script false w summary) × IsFine r × (summary ≡ None)
+IsSourceRun r w (BadScript line kind) summary = IfSome r.left (IsRefused line kind) × IsFine r × IsUnwritten w
+IsSourceRun r w ReadFault summary = Rose r.before r.after × IsUnwritten w
+IsSourceRun r w WriteFault summary = Spells r (λ script. IsCutOff script w) × Rose w.before w.after × IsFine r
+IsSourceRun r w Memory summary = IsFine r × IsUnwritten w
+IsSourceRun r w Usage summary = ⊥
+
+-- running the script that the settings ask for: generated work, for which the source isn't read, or what the source spells
+abbrev pub IsRun : Option ℕ → Reading → Writing → Status → Option (List ℕ) → Type 0
+IsRun (Some calls) r w status summary = IsUnread r × IsScriptRun (generated calls) true w status summary
+IsRun None r w status summary = IsSourceRun r w status summary
+
+-- the words have settings, and this is a run that they ask for
+abbrev pub IsRunAsked : List (List ℕ) → Reading → Writing → Status → Option (List ℕ) → Type 0
+IsRunAsked words r w status summary = (settings : Settings) × AreSettings words settings × IsRun settings.generate r w status summary
+
+-- the settings of the words ask for generated work
+abbrev pub AskForWork : List (List ℕ) → Type 0
+AskForWork words = (calls : ℕ) × (settings_in words ≡ Some (record { generate = Some calls }))
+
+-- what each status says of the words, of what was read, and of what was written
+abbrev pub IsAnswer : List (List ℕ) → Reading → Writing → Status → Option (List ℕ) → Type 0
+IsAnswer words r w Usage summary = AreRefused words × IsUnread r × IsUnwritten w
+IsAnswer words r w Memory summary = IsFine r × IsUnwritten w × (AskForWork words → IsUnread r)
+IsAnswer words r w status summary = IsRunAsked words r w status summary
+
+-- there is a script to be run: it is generated, or the source spells it
+abbrev pub HasScript : Option ℕ → Reading → Type 0
+HasScript (Some calls) r = ⊤
+HasScript None r = (bytes : List ℕ) × (script : Program) × (r.left ≡ Some bytes) × (script_of bytes ≡ Ok script)
+
+-- the words are in the plain form, there is a script to be run, and no read and no write to `out` failed
+pub record IsWellGiven (words : List (List ℕ)) (r : Reading) (w : Writing) : Type 0 where
+  pub settings : Settings
+  pub plain : plain_settings words ≡ Some settings
+  pub script : HasScript settings.generate r
+  pub source : Rose r.before r.after → ⊥
+  pub out : Rose w.before w.after → ⊥

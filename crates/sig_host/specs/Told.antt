@@ -1,7 +1,9 @@
 -- What a run tells of its end: a number, and a text on `err`.
-use Rattle.std.specs.Prelude.{ℕ, List, [], ◌++◌, codes, decimal}
+use Rattle.std.specs.Prelude.{ℕ, List, [], ◌++◌, Option, Some, None, option_map, codes, decimal, Vec}
+use Rattle.std.specs.Global.{Global}
 use Rattle.sig_script.specs.declared.fault.FaultKind.{FaultKind}
 use Rattle.sig_script.specs.declared.fault.FaultKind.TheVariants as kind
+use Rattle.sig_stand_in.specs.declared.summary.Summary.{Summary}
 use Rattle.sig_host.specs.declared.status.Status.{Status}
 use Rattle.sig_host.specs.declared.status.Status.TheVariants.{Done, BadScript, Usage, ReadFault, WriteFault, Memory}
 
@@ -32,10 +34,29 @@ word_of kind.TooLong = codes "too_long"
 abbrev pub refusal_text : ℕ → FaultKind → List ℕ
 refusal_text line kind = codes "sigrun: line " ++ decimal line ++ codes ": " ++ word_of kind ++ codes "\n"
 
-abbrev pub told_text : Status → List ℕ
-told_text Done = []
-told_text (BadScript line kind) = refusal_text line kind
-told_text Usage = codes "usage: sigrun\n"
-told_text ReadFault = codes "sigrun: read fault\n"
-told_text WriteFault = codes "sigrun: write fault\n"
-told_text Memory = codes "sigrun: out of memory\n"
+-- how many there are of something
+abbrev pub count_line : List ℕ → ℕ → List ℕ
+count_line name count = name ++ codes " " ++ decimal count ++ codes "\n"
+
+-- the six lines of a summary
+abbrev pub summary_text : Summary → List ℕ
+summary_text s =
+    count_line (codes "processes") s.processes ++ count_line (codes "events") s.events ++ count_line (codes "kept") s.kept
+    ++ count_line (codes "ended") s.ended ++ count_line (codes "waiting") s.waiting ++ count_line (codes "cut") s.cut
+
+-- the bytes of a text, where there is one
+abbrev pub text_in : Option (Vec ℕ Global) → Option (List ℕ)
+text_in = option_map (λ text. text.items)
+
+abbrev pub text_or_none : Option (List ℕ) → List ℕ
+text_or_none None = []
+text_or_none (Some text) = text
+
+-- what is told of a status, where Done has this text of a summary or none
+abbrev pub told_text : Status → Option (List ℕ) → List ℕ
+told_text Done summary = text_or_none summary
+told_text (BadScript line kind) summary = refusal_text line kind
+told_text Usage summary = codes "usage: sigrun [--generate N]\n"
+told_text ReadFault summary = codes "sigrun: read fault\n"
+told_text WriteFault summary = codes "sigrun: write fault\n"
+told_text Memory summary = codes "sigrun: out of memory\n"

@@ -1,12 +1,21 @@
 //! The top call: from the arguments and the bytes of a script to the bytes of the record of its run.
 #![tactic(auto)]
 
+mod command_line;
+mod ending;
 mod host;
+mod settings;
 mod status;
+mod summing;
 mod telling;
+mod texts;
+mod words_error;
 
+pub use command_line::words;
 pub use host::run;
+pub use settings::Settings;
 pub use status::Status;
+pub use words_error::WordsError;
 
 #[cfg(test)]
 mod document_tests;

@@ -1,33 +1,25 @@
 //! Texts that are refused, and texts at their limits, through the top call.
 
-use sig_script::FaultKind;
-
 const VALUE: &[u8] = b"sigscript 1\nprocess a\nset X ";
 
 const CLAUSE: &[u8] = b"sigscript 1\nprocess a\nreceive\non ";
 
 /// Texts in pieces, each so many times, and the line and the kind where they are refused.
-pub(crate) const LONG: [(&[(&[u8], usize)], Option<(u64, FaultKind)>); 22] = [
-    (&[(b"sigscript 1\n%", 1), (b"x", 1048563)], None),
-    (
-        &[(b"sigscript 1\n%", 1), (b"x", 1048564)],
-        Some((0, FaultKind::TooLong)),
-    ),
-    (&[(b"sigscript 1\n", 1), (b" ", 1048564)], None),
-    (&[(b" ", 1048576)], Some((1, FaultKind::Header))),
-    (&[(b" ", 1048577)], Some((0, FaultKind::TooLong))),
-    (&[(b"sigscript 1\nprocess ", 1), (b"a", 255)], None),
-    (
-        &[(b"sigscript 1\nprocess ", 1), (b"a", 256)],
-        Some((2, FaultKind::Syntax)),
-    ),
+pub(crate) const LONG: [(&[(&[u8], usize)], &[u8]); 22] = [
+    (&[(b"sigscript 1\n%", 1), (b"x", 1048563)], b""),
+    (&[(b"sigscript 1\n%", 1), (b"x", 1048564)], b"0: too_long"),
+    (&[(b"sigscript 1\n", 1), (b" ", 1048564)], b""),
+    (&[(b" ", 1048576)], b"1: header"),
+    (&[(b" ", 1048577)], b"0: too_long"),
+    (&[(b"sigscript 1\nprocess ", 1), (b"a", 255)], b""),
+    (&[(b"sigscript 1\nprocess ", 1), (b"a", 256)], b"2: syntax"),
     (
         &[
             (b"sigscript 1\nprocess a\nreceive\non ", 1),
             (b"A", 255),
             (b"\nend", 1),
         ],
-        None,
+        b"",
     ),
     (
         &[
@@ -35,294 +27,266 @@ pub(crate) const LONG: [(&[(&[u8], usize)], Option<(u64, FaultKind)>); 22] = [
             (b"A", 256),
             (b"\nend", 1),
         ],
-        Some((4, FaultKind::Syntax)),
+        b"4: syntax",
     ),
-    (&[(VALUE, 1), (b"{", 63), (b"a", 1), (b"}", 63)], None),
+    (&[(VALUE, 1), (b"{", 63), (b"a", 1), (b"}", 63)], b""),
     (
         &[(VALUE, 1), (b"{", 64), (b"a", 1), (b"}", 64)],
-        Some((3, FaultKind::TermTooLarge)),
+        b"3: term_too_large",
     ),
-    (&[(VALUE, 1), (b"[", 64), (b"]", 64)], None),
-    (
-        &[(VALUE, 1), (b"[", 65), (b"]", 65)],
-        Some((3, FaultKind::TermTooLarge)),
-    ),
-    (&[(VALUE, 1), (b"[a", 1), (b",a", 1022), (b"]", 1)], None),
+    (&[(VALUE, 1), (b"[", 64), (b"]", 64)], b""),
+    (&[(VALUE, 1), (b"[", 65), (b"]", 65)], b"3: term_too_large"),
+    (&[(VALUE, 1), (b"[a", 1), (b",a", 1022), (b"]", 1)], b""),
     (
         &[(VALUE, 1), (b"[a", 1), (b",a", 1023), (b"]", 1)],
-        Some((3, FaultKind::TermTooLarge)),
+        b"3: term_too_large",
     ),
     (
         &[(VALUE, 1), (b"[a", 1), (b",a", 1022), (b",]", 1)],
-        Some((3, FaultKind::Syntax)),
+        b"3: syntax",
     ),
     (
         &[(VALUE, 1), (b"[a", 1), (b",a", 1022), (b",a", 1)],
-        Some((3, FaultKind::TermTooLarge)),
+        b"3: term_too_large",
     ),
-    (&[(CLAUSE, 1), (b"[", 64), (b"]", 64), (b"\nend", 1)], None),
+    (&[(CLAUSE, 1), (b"[", 64), (b"]", 64), (b"\nend", 1)], b""),
     (
         &[(CLAUSE, 1), (b"[", 65), (b"]", 65), (b"\nend", 1)],
-        Some((4, FaultKind::TermTooLarge)),
+        b"4: term_too_large",
     ),
     (
         &[(CLAUSE, 1), (b"[_", 1), (b",_", 1022), (b"]\nend", 1)],
-        None,
+        b"",
     ),
     (
         &[(CLAUSE, 1), (b"[_", 1), (b",_", 1021), (b"|_]\nend", 1)],
-        None,
+        b"",
     ),
     (
         &[(CLAUSE, 1), (b"[_", 1), (b",_", 1022), (b"|_]\nend", 1)],
-        Some((4, FaultKind::TermTooLarge)),
+        b"4: term_too_large",
     ),
 ];
 
-/// Refusals of turns, processes, labels and where they stand: the lines behind the header, and the line and the kind.
-pub(crate) const HEADS: [(&[u8], u64, FaultKind); 30] = [
-    (b"foo", 2, FaultKind::Syntax),
-    (b"foo 99999999999999999999", 2, FaultKind::IntRange),
-    (b"turns -1", 2, FaultKind::Syntax),
-    (b"turns 1 1", 2, FaultKind::Syntax),
-    (b"turns a", 2, FaultKind::Syntax),
-    (b"turns", 2, FaultKind::Syntax),
-    (b"turns 1\nturns 1", 3, FaultKind::Syntax),
-    (b"turns 20001", 2, FaultKind::TooManyTurns),
-    (b"turns 20001 1", 2, FaultKind::Syntax),
-    (b"turns 99999999999999999999", 2, FaultKind::IntRange),
-    (b"process a\nturns 1", 3, FaultKind::Syntax),
-    (b"process 'a'", 2, FaultKind::Syntax),
-    (b"process A", 2, FaultKind::Syntax),
-    (b"process a b", 2, FaultKind::Syntax),
-    (b"process a\n\nprocess a", 4, FaultKind::DuplicateName),
-    (b"process a\nlabel l\nlabel l", 4, FaultKind::DuplicateLabel),
-    (b"process a\nlabel 'l'", 3, FaultKind::Syntax),
-    (b"label l", 2, FaultKind::Syntax),
-    (b"process a\ngoto l", 3, FaultKind::UnknownLabel),
+/// Refusals of turns, processes, labels and where they stand: the lines behind the header, and where they are refused and why.
+pub(crate) const HEADS: [(&[u8], &[u8]); 30] = [
+    (b"foo", b"2: syntax"),
+    (b"foo 99999999999999999999", b"2: int_range"),
+    (b"turns -1", b"2: syntax"),
+    (b"turns 1 1", b"2: syntax"),
+    (b"turns a", b"2: syntax"),
+    (b"turns", b"2: syntax"),
+    (b"turns 1\nturns 1", b"3: syntax"),
+    (b"turns 20001", b"2: too_many_turns"),
+    (b"turns 20001 1", b"2: syntax"),
+    (b"turns 99999999999999999999", b"2: int_range"),
+    (b"process a\nturns 1", b"3: syntax"),
+    (b"process 'a'", b"2: syntax"),
+    (b"process A", b"2: syntax"),
+    (b"process a b", b"2: syntax"),
+    (b"process a\n\nprocess a", b"4: duplicate_name"),
+    (b"process a\nlabel l\nlabel l", b"4: duplicate_label"),
+    (b"process a\nlabel 'l'", b"3: syntax"),
+    (b"label l", b"2: syntax"),
+    (b"process a\ngoto l", b"3: unknown_label"),
     (
         b"process a\ngoto l\nprocess b\nlabel l",
-        3,
-        FaultKind::UnknownLabel,
+        b"3: unknown_label",
     ),
-    (b"process a\ngoto l m", 3, FaultKind::Syntax),
-    (b"process a\ngoto", 3, FaultKind::Syntax),
-    (b"process a\ngoto L", 3, FaultKind::Syntax),
-    (b"process a\nstop 1", 3, FaultKind::Syntax),
-    (b"process a\nreserve X", 3, FaultKind::Syntax),
-    (b"process a\nbind", 3, FaultKind::Syntax),
-    (b"process a\nbind x", 3, FaultKind::Syntax),
-    (b"process a\nbind X Y", 3, FaultKind::Syntax),
-    (b"process a\nclear", 3, FaultKind::Syntax),
-    (b"process a\nclear @a", 3, FaultKind::Syntax),
+    (b"process a\ngoto l m", b"3: syntax"),
+    (b"process a\ngoto", b"3: syntax"),
+    (b"process a\ngoto L", b"3: syntax"),
+    (b"process a\nstop 1", b"3: syntax"),
+    (b"process a\nreserve X", b"3: syntax"),
+    (b"process a\nbind", b"3: syntax"),
+    (b"process a\nbind x", b"3: syntax"),
+    (b"process a\nbind X Y", b"3: syntax"),
+    (b"process a\nclear", b"3: syntax"),
+    (b"process a\nclear @a", b"3: syntax"),
 ];
 
-/// Refusals of expressions: the lines behind the header, and the line and the kind.
-pub(crate) const TERMS: [(&[u8], u64, FaultKind); 20] = [
-    (b"send @a hi", 2, FaultKind::Syntax),
-    (b"process a\nset x 1", 3, FaultKind::Syntax),
-    (b"process a\nset X", 3, FaultKind::Syntax),
-    (b"process a\nset X 1 2", 3, FaultKind::Syntax),
-    (b"process a\nset X _", 3, FaultKind::Syntax),
-    (b"process a\nset X ^Y", 3, FaultKind::Syntax),
-    (b"process a\nset X [a|b]", 3, FaultKind::Syntax),
-    (b"process a\nset X {a,}", 3, FaultKind::Syntax),
-    (b"process a\nset X {a b}", 3, FaultKind::Syntax),
-    (b"process a\nset X {a]", 3, FaultKind::Syntax),
-    (b"process a\nset X [a", 3, FaultKind::Syntax),
-    (
-        b"process a\nset X 9223372036854775808",
-        3,
-        FaultKind::IntRange,
-    ),
-    (
-        b"process a\nset X {9223372036854775808,'",
-        3,
-        FaultKind::IntRange,
-    ),
-    (
-        b"process a\nset X {',9223372036854775808",
-        3,
-        FaultKind::Syntax,
-    ),
-    (
-        b"process a\nset X -9223372036854775809",
-        3,
-        FaultKind::IntRange,
-    ),
-    (b"process a\nsend @a", 3, FaultKind::Syntax),
-    (b"process a\nsend @b hi", 3, FaultKind::UnknownProcess),
-    (b"process a\nsend @b @c\nfoo", 4, FaultKind::Syntax),
-    (
-        b"process a\nsend a @b\ngoto l",
-        3,
-        FaultKind::UnknownProcess,
-    ),
-    (b"process a\ngoto l\nsend a @b", 3, FaultKind::UnknownLabel),
+/// Refusals of expressions: the lines behind the header, and where they are refused and why.
+pub(crate) const TERMS: [(&[u8], &[u8]); 20] = [
+    (b"send @a hi", b"2: syntax"),
+    (b"process a\nset x 1", b"3: syntax"),
+    (b"process a\nset X", b"3: syntax"),
+    (b"process a\nset X 1 2", b"3: syntax"),
+    (b"process a\nset X _", b"3: syntax"),
+    (b"process a\nset X ^Y", b"3: syntax"),
+    (b"process a\nset X [a|b]", b"3: syntax"),
+    (b"process a\nset X {a,}", b"3: syntax"),
+    (b"process a\nset X {a b}", b"3: syntax"),
+    (b"process a\nset X {a]", b"3: syntax"),
+    (b"process a\nset X [a", b"3: syntax"),
+    (b"process a\nset X 9223372036854775808", b"3: int_range"),
+    (b"process a\nset X {9223372036854775808,'", b"3: int_range"),
+    (b"process a\nset X {',9223372036854775808", b"3: syntax"),
+    (b"process a\nset X -9223372036854775809", b"3: int_range"),
+    (b"process a\nsend @a", b"3: syntax"),
+    (b"process a\nsend @b hi", b"3: unknown_process"),
+    (b"process a\nsend @b @c\nfoo", b"4: syntax"),
+    (b"process a\nsend a @b\ngoto l", b"3: unknown_process"),
+    (b"process a\ngoto l\nsend a @b", b"3: unknown_label"),
 ];
 
-/// Refusals in receives: the lines behind the header, and the line and the kind.
-pub(crate) const RECEIVES: [(&[u8], u64, FaultKind); 24] = [
+/// Refusals in receives: the lines behind the header, and where they are refused and why.
+pub(crate) const RECEIVES: [(&[u8], &[u8]); 24] = [
     (
         b"process a\nreceive\non {@b,X} -> l\nend",
-        4,
-        FaultKind::UnknownProcess,
+        b"4: unknown_process",
     ),
-    (
-        b"process a\nreceive\non X -> l\nend",
-        4,
-        FaultKind::UnknownLabel,
-    ),
-    (
-        b"process a\nreceive\nafter -> l\nend",
-        4,
-        FaultKind::UnknownLabel,
-    ),
-    (
-        b"process a\nreceive\non X -> l m\nend",
-        4,
-        FaultKind::Syntax,
-    ),
-    (b"process a\nreceive\non X ->\nend", 4, FaultKind::Syntax),
-    (b"process a\nreceive\non X l\nend", 4, FaultKind::Syntax),
-    (b"process a\nreceive\non [|X]\nend", 4, FaultKind::Syntax),
-    (b"process a\nreceive\non [A|B,C]\nend", 4, FaultKind::Syntax),
-    (b"process a\nreceive\non {A|B}\nend", 4, FaultKind::Syntax),
-    (b"process a\nreceive\non ^x\nend", 4, FaultKind::Syntax),
-    (
-        b"process a\nreceive\nafter\non X\nend",
-        5,
-        FaultKind::Syntax,
-    ),
-    (
-        b"process a\nreceive\nafter\nafter\nend",
-        5,
-        FaultKind::Syntax,
-    ),
-    (b"process a\nreceive\nsend @a x\nend", 4, FaultKind::Syntax),
-    (b"process a\nreceive\nreceive\nend", 4, FaultKind::Syntax),
-    (b"process a\nreceive\nlink @a\nend", 4, FaultKind::Syntax),
-    (b"process a\nreceive\nunlink @a\nend", 4, FaultKind::Syntax),
-    (b"process a\nreceive\nexit a\nend", 4, FaultKind::Syntax),
-    (b"process a\nreceive\ntrap on\nend", 4, FaultKind::Syntax),
-    (b"process a\nreceive\nreserve\nend", 4, FaultKind::Syntax),
-    (b"process a\nreceive\nclear X\nend", 4, FaultKind::Syntax),
-    (b"process a\nreceive X\nend", 3, FaultKind::Syntax),
-    (b"process a\nreceive with X\nend", 3, FaultKind::Syntax),
-    (b"process a\nreceive\non x", 5, FaultKind::Syntax),
-    (b"process a\nreceive\n%\n\n", 6, FaultKind::Syntax),
+    (b"process a\nreceive\non X -> l\nend", b"4: unknown_label"),
+    (b"process a\nreceive\nafter -> l\nend", b"4: unknown_label"),
+    (b"process a\nreceive\non X -> l m\nend", b"4: syntax"),
+    (b"process a\nreceive\non X ->\nend", b"4: syntax"),
+    (b"process a\nreceive\non X l\nend", b"4: syntax"),
+    (b"process a\nreceive\non [|X]\nend", b"4: syntax"),
+    (b"process a\nreceive\non [A|B,C]\nend", b"4: syntax"),
+    (b"process a\nreceive\non {A|B}\nend", b"4: syntax"),
+    (b"process a\nreceive\non ^x\nend", b"4: syntax"),
+    (b"process a\nreceive\nafter\non X\nend", b"5: syntax"),
+    (b"process a\nreceive\nafter\nafter\nend", b"5: syntax"),
+    (b"process a\nreceive\nsend @a x\nend", b"4: syntax"),
+    (b"process a\nreceive\nreceive\nend", b"4: syntax"),
+    (b"process a\nreceive\nlink @a\nend", b"4: syntax"),
+    (b"process a\nreceive\nunlink @a\nend", b"4: syntax"),
+    (b"process a\nreceive\nexit a\nend", b"4: syntax"),
+    (b"process a\nreceive\ntrap on\nend", b"4: syntax"),
+    (b"process a\nreceive\nreserve\nend", b"4: syntax"),
+    (b"process a\nreceive\nclear X\nend", b"4: syntax"),
+    (b"process a\nreceive X\nend", b"3: syntax"),
+    (b"process a\nreceive with X\nend", b"3: syntax"),
+    (b"process a\nreceive\non x", b"5: syntax"),
+    (b"process a\nreceive\n%\n\n", b"6: syntax"),
 ];
 
-/// Refusals of what stands behind an instruction: the lines behind the header, and the line and the kind.
-pub(crate) const OPERANDS: [(&[u8], u64, FaultKind); 31] = [
-    (b"make_ref X", 2, FaultKind::Syntax),
-    (b"process a\nmake_ref", 3, FaultKind::Syntax),
-    (b"process a\nmake_ref x", 3, FaultKind::Syntax),
-    (b"process a\nmake_ref X Y", 3, FaultKind::Syntax),
-    (b"process a\nmonitor @a", 3, FaultKind::Syntax),
-    (b"process a\nmonitor M @a reply", 3, FaultKind::Syntax),
-    (b"process a\nmonitor M @a demonitor x", 3, FaultKind::Syntax),
-    (
-        b"process a\nmonitor M @b demonitor",
-        3,
-        FaultKind::UnknownProcess,
-    ),
-    (b"process a\ndemonitor M reply", 3, FaultKind::Syntax),
-    (b"process a\ndemonitor M flush flush", 3, FaultKind::Syntax),
-    (b"process a\nalias A flush", 3, FaultKind::Syntax),
-    (b"process a\nalias A 'reply'", 3, FaultKind::Syntax),
-    (b"process a\nunalias A B", 3, FaultKind::Syntax),
-    (b"link @a", 2, FaultKind::Syntax),
-    (b"process a\nlink", 3, FaultKind::Syntax),
-    (b"process a\nlink @a @a", 3, FaultKind::Syntax),
-    (b"process a\nlink @b", 3, FaultKind::UnknownProcess),
-    (b"unlink @a", 2, FaultKind::Syntax),
-    (b"process a\nunlink", 3, FaultKind::Syntax),
-    (b"process a\nunlink a b", 3, FaultKind::Syntax),
-    (b"process a\nunlink @b", 3, FaultKind::UnknownProcess),
-    (b"exit a", 2, FaultKind::Syntax),
-    (b"process a\nexit", 3, FaultKind::Syntax),
-    (b"process a\nexit a b", 3, FaultKind::Syntax),
-    (b"process a\nexit_to @a", 3, FaultKind::Syntax),
-    (b"process a\nexit_to @a b c", 3, FaultKind::Syntax),
-    (b"process a\nexit_to @b kill", 3, FaultKind::UnknownProcess),
-    (b"process a\ntrap", 3, FaultKind::Syntax),
-    (b"process a\ntrap yes", 3, FaultKind::Syntax),
-    (b"process a\ntrap 'on'", 3, FaultKind::Syntax),
-    (b"process a\ntrap on off", 3, FaultKind::Syntax),
+/// Refusals of what stands behind an instruction: the lines behind the header, and where they are refused and why.
+pub(crate) const OPERANDS: [(&[u8], &[u8]); 31] = [
+    (b"make_ref X", b"2: syntax"),
+    (b"process a\nmake_ref", b"3: syntax"),
+    (b"process a\nmake_ref x", b"3: syntax"),
+    (b"process a\nmake_ref X Y", b"3: syntax"),
+    (b"process a\nmonitor @a", b"3: syntax"),
+    (b"process a\nmonitor M @a reply", b"3: syntax"),
+    (b"process a\nmonitor M @a demonitor x", b"3: syntax"),
+    (b"process a\nmonitor M @b demonitor", b"3: unknown_process"),
+    (b"process a\ndemonitor M reply", b"3: syntax"),
+    (b"process a\ndemonitor M flush flush", b"3: syntax"),
+    (b"process a\nalias A flush", b"3: syntax"),
+    (b"process a\nalias A 'reply'", b"3: syntax"),
+    (b"process a\nunalias A B", b"3: syntax"),
+    (b"link @a", b"2: syntax"),
+    (b"process a\nlink", b"3: syntax"),
+    (b"process a\nlink @a @a", b"3: syntax"),
+    (b"process a\nlink @b", b"3: unknown_process"),
+    (b"unlink @a", b"2: syntax"),
+    (b"process a\nunlink", b"3: syntax"),
+    (b"process a\nunlink a b", b"3: syntax"),
+    (b"process a\nunlink @b", b"3: unknown_process"),
+    (b"exit a", b"2: syntax"),
+    (b"process a\nexit", b"3: syntax"),
+    (b"process a\nexit a b", b"3: syntax"),
+    (b"process a\nexit_to @a", b"3: syntax"),
+    (b"process a\nexit_to @a b c", b"3: syntax"),
+    (b"process a\nexit_to @b kill", b"3: unknown_process"),
+    (b"process a\ntrap", b"3: syntax"),
+    (b"process a\ntrap yes", b"3: syntax"),
+    (b"process a\ntrap 'on'", b"3: syntax"),
+    (b"process a\ntrap on off", b"3: syntax"),
 ];
 
-/// Refusals of markers: the lines behind the header, and the line and the kind.
-pub(crate) const MARKER_CLAUSES: [(&[u8], u64, FaultKind); 18] = [
+/// Refusals of markers: the lines behind the header, and where they are refused and why.
+pub(crate) const MARKER_CLAUSES: [(&[u8], &[u8]); 18] = [
     (
         b"process a\nreceive using X\non ^Y\nend",
-        4,
-        FaultKind::MarkerNotInClause,
+        b"4: marker_not_in_clause",
     ),
     (
         b"process a\nreceive using X\non X\nend",
-        4,
-        FaultKind::MarkerNotInClause,
+        b"4: marker_not_in_clause",
     ),
     (
         b"process a\nreceive using X\non [^Y,X]\nend",
-        4,
-        FaultKind::MarkerNotInClause,
+        b"4: marker_not_in_clause",
     ),
     (
         b"process a\nreceive using X\non [X|T]\nend",
-        4,
-        FaultKind::MarkerNotInClause,
+        b"4: marker_not_in_clause",
     ),
-    (b"reserve", 2, FaultKind::Syntax),
-    (b"process a\nreceive using\nend", 3, FaultKind::Syntax),
-    (b"process a\nreceive using x\nend", 3, FaultKind::Syntax),
-    (b"process a\nreceive using X y\nend", 3, FaultKind::Syntax),
-    (b"process a\nreceive 'using' X\nend", 3, FaultKind::Syntax),
+    (b"reserve", b"2: syntax"),
+    (b"process a\nreceive using\nend", b"3: syntax"),
+    (b"process a\nreceive using x\nend", b"3: syntax"),
+    (b"process a\nreceive using X y\nend", b"3: syntax"),
+    (b"process a\nreceive 'using' X\nend", b"3: syntax"),
     (
         b"process a\nreceive using R\non {ok,R}\nend",
-        4,
-        FaultKind::MarkerNotInClause,
+        b"4: marker_not_in_clause",
     ),
     (
         b"process a\nreceive using R\non [_|^S]\nend",
-        4,
-        FaultKind::MarkerNotInClause,
+        b"4: marker_not_in_clause",
     ),
     (
         b"process a\nreceive using R\non ^R\n\non _\nend",
-        6,
-        FaultKind::MarkerNotInClause,
+        b"6: marker_not_in_clause",
     ),
     (
         b"process a\nreceive using R\non {ok,R} ->\nend",
-        4,
-        FaultKind::Syntax,
+        b"4: syntax",
     ),
     (
         b"process a\nreceive using R\non 9223372036854775808\nend",
-        4,
-        FaultKind::IntRange,
+        b"4: int_range",
     ),
     (
         b"process a\nreceive using R\nafter\non R\nend",
-        5,
-        FaultKind::Syntax,
+        b"5: syntax",
     ),
     (
         b"process a\nreceive using R\non R\nfoo",
-        4,
-        FaultKind::MarkerNotInClause,
+        b"4: marker_not_in_clause",
     ),
     (
         b"process a\nlink @b\nreceive using R\non R\nend",
-        5,
-        FaultKind::MarkerNotInClause,
+        b"5: marker_not_in_clause",
     ),
     (
         b"process a\nreceive using R\non {@b} -> l\nend",
-        4,
-        FaultKind::MarkerNotInClause,
+        b"4: marker_not_in_clause",
+    ),
+];
+
+/// More refusals: the lines behind the header, and where they are refused and why.
+pub(crate) const OTHERS: [(&[u8], &[u8]); 9] = [
+    (
+        b"process p1\nprocess p2\nprocess p3\nprocess p4\nprocess p5\nprocess p6\nprocess p7\n\
+          process p8\nprocess p9\nprocess p10\nprocess p11\nprocess p12\nprocess p13\nprocess p14\n\
+          process p15\nprocess p16\nprocess p17\nprocess p18\nprocess p19\nprocess p20\nprocess p21\n\
+          process p22\nprocess p23\nprocess p24\nprocess p25\nprocess p26\nprocess p27\nprocess p28\n\
+          process p29\nprocess p30\nprocess p31\nprocess p32\nprocess p33\nprocess p34\nprocess p35\n\
+          process p36\nprocess p37\nprocess p38\nprocess p39\nprocess p40\nprocess p41\nprocess p42\n\
+          process p43\nprocess p44\nprocess p45\nprocess p46\nprocess p47\nprocess p48\nprocess p49\n\
+          process p50\nprocess p51\nprocess p52\nprocess p53\nprocess p54\nprocess p55\nprocess p56\n\
+          process p57\nprocess p58\nprocess p59\nprocess p60\nprocess p61\nprocess p62\nprocess p63\n\
+          process p64\nprocess p65\n",
+        b"66: too_many_processes",
+    ),
+    (b"process a\ngoto z\n", b"3: unknown_label"),
+    (b"\n% more\nstart a\n", b"4: syntax"),
+    (b"process a\nset X -9223372036854775809\n", b"3: int_range"),
+    (
+        b"process a\nreceive\non [[[[[[[[[[[[[[[[[[[[[[[[[[[[[[[[[[[[[[[[[[[[[[[[[[[[[[[[[[[[[[[[[\n",
+        b"4: term_too_large",
+    ),
+    (b"process a\n\nprocess a\n", b"4: duplicate_name"),
+    (b"process a\nsend @b hi\nprocess a\n", b"4: duplicate_name"),
+    (
+        b"process a\nsend @b hi\nreceive using R\non {^R,X}\non {ok,R}\nend\n",
+        b"6: marker_not_in_clause",
+    ),
+    (
+        b"process a\nreceive\non x -> l\nend\nprocess b\nlabel l\n",
+        b"4: unknown_label",
     ),
 ];
 

@@ -8,9 +8,9 @@ use sig_script::FaultKind;
 pub enum Status {
     /// The record's text was written whole.
     Done,
-    /// The bytes that were read are no script.
+    /// The bytes that were read are no script, or are too many for one: then it is line 0.
     BadScript { line: u64, kind: FaultKind },
-    /// There are arguments, of which the command has none.
+    /// The command doesn't take the arguments, or a value isn't in its range.
     Usage,
     /// A read failed.
     ReadFault,

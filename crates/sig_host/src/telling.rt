@@ -2,8 +2,9 @@
 
 ghost use Rattle.std.specs.Prelude.{◌≡◌, ◌≤◌, OnOk, IsErr};
 ghost use Rattle.sig_base.specs.Flow.{Rose, Adds};
-ghost use Rattle.sig_host.specs.Told.{word_of, refusal_text, told_text};
+ghost use Rattle.sig_host.specs.Told.{word_of, refusal_text, text_in, text_or_none, told_text};
 
+use crate::ending::Ending;
 use crate::status::Status;
 use itoa::Buffer;
 use sig_base::{Sink, Written, write_whole};
@@ -60,14 +61,26 @@ fn tell_refusal<E: Sink>(err: &mut E, line: u64, kind: FaultKind) -> Result<(), 
     Ok(())
 }
 
-/// Writes what there is to tell. A fault there changes no status.
-pub fn tell<E: Sink>(err: &mut E, status: Status)
-    ensures { (Rose (E.faults err.old) (E.faults err.new) → ⊥) → Adds (E.held err.old) (E.held err.new) (told_text status) }
+/// Writes the summary, if there is one.
+fn tell_summary<E: Sink>(err: &mut E, summary: &Option<Vec<u8>>) -> Result<(), Untold>
+    ensures told { OnOk result (Adds (E.held err.old) (E.held err.new) (text_or_none (text_in summary.now))) }
+    ensures fault { IsErr result → Rose (E.faults err.old) (E.faults err.new) }
 {
-    let _ = match status {
-        Status::Done => Ok(()),
+    match summary {
+        Some(text) => tell_piece(err, text.as_slice()),
+        None => tell_piece(err, b""),
+    }
+}
+
+/// Writes what there is to tell of a run's end. A fault there changes no status.
+pub fn tell<E: Sink>(err: &mut E, ending: &Ending)
+    ensures { (Rose (E.faults err.old) (E.faults err.new) → ⊥) →
+        Adds (E.held err.old) (E.held err.new) (told_text ending.now.status (text_in ending.now.summary)) }
+{
+    let _ = match ending.status {
+        Status::Done => tell_summary(err, &ending.summary),
         Status::BadScript { line, kind } => tell_refusal(err, line, kind),
-        Status::Usage => tell_piece(err, b"usage: sigrun\n"),
+        Status::Usage => tell_piece(err, b"usage: sigrun [--generate N]\n"),
         Status::ReadFault => tell_piece(err, b"sigrun: read fault\n"),
         Status::WriteFault => tell_piece(err, b"sigrun: write fault\n"),
         Status::Memory => tell_piece(err, b"sigrun: out of memory\n"),

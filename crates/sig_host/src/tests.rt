@@ -5,17 +5,19 @@ ghost use Rattle.std.specs.Prelude.{◌<◌};
 use super::*;
 use crate::document_tests::{EXAMPLES, REFUSALS};
 use crate::exit_tests::{EXIT_SIGNALS, EXITS};
-use crate::large_tests::LARGE;
+use crate::large_tests::{GROWTHS, Growth};
 use crate::link_tests::{LINK_CALLS, LINKED_EXITS, QUEUED, UNLINKS};
 use crate::marker_tests::MARKERS;
 use crate::match_tests::MATCHES;
 use crate::refusal_tests::{
-    HEADS, LONG, MARKER_CLAUSES, OPERANDS, OTHER_FIRST_LINES, RECEIVES, TERMS,
+    HEADS, LONG, MARKER_CLAUSES, OPERANDS, OTHER_FIRST_LINES, OTHERS, RECEIVES, TERMS,
 };
 use crate::text_tests::TEXTS;
 use crate::watch_tests::WATCHES;
 use itoa::Buffer;
-use sig_base::{FailingSink, FailingSource, MemorySink, MemorySource, OpenGate, Sink, Source};
+use sig_base::{
+    FailingSink, FailingSource, MemorySink, MemorySource, OpenGate, Sink, Source, read_all,
+};
 use sig_process::Crew;
 use sig_record::{Record, RecordError, print_record, read_record};
 use sig_script::{FaultKind, read_script};
@@ -55,6 +57,8 @@ const OPEN_RECEIVE: Status = Status::BadScript {
 
 const TOLD_OPEN_RECEIVE: &[u8] = b"sigrun: line 5: syntax\n";
 
+const SUMMARY_OF_100: &[u8] = b"processes 9\nevents 9608\nkept 1600\nended 8\nwaiting 1\ncut 0\n";
+
 /// Runs with no arguments, and an `err` that never fails.
 fn run_with<S: Source, O: Sink>(
     alloc: Global,
@@ -68,7 +72,7 @@ fn run_with<S: Source, O: Sink>(
 }
 
 #[test]
-fn texts_give_their_records(rt: HostRuntime) -> Result<(), Fail> {
+fn texts_are_read_in_pieces(rt: HostRuntime) -> Result<(), Fail> {
     let alloc = rt.alloc();
     let rows: [(&[u8], usize, Status, &[u8], &[u8]); 8] = [
         (ONE_MESSAGE, 1, Status::Done, ONE_MESSAGE_RECORD, b""),
@@ -121,37 +125,16 @@ fn text_of(alloc: Global, pieces: &[(&[u8], usize)]) -> Result<Vec<u8>, AllocErr
 }
 
 #[test]
-fn long_texts_are_read_up_to_their_limits(rt: HostRuntime) -> Result<(), Fail> {
-    let alloc = rt.alloc();
-    for (pieces, refusal) in LONG {
-        let text = text_of(alloc, pieces)?;
-        let (answer, _, _) = run_text(alloc, text.as_slice())?;
-        let status = match refusal {
-            None => Status::Done,
-            Some((line, kind)) => Status::BadScript { line, kind },
-        };
-        assert!(rt; answer == status, "{} bytes", text.len());
-    }
-    Ok(())
-}
-
-#[test]
-fn a_failed_read_writes_nothing(rt: HostRuntime) -> Result<(), Fail> {
+fn faults_end_a_run(rt: HostRuntime) -> Result<(), Fail> {
     let alloc = rt.alloc();
     let fails = vec![in alloc; 2]?;
-    let mut source = FailingSource::new(Vec::from_slice(alloc, ONE_MESSAGE)?, 10, fails);
-    let mut out = MemorySink::with_room(alloc, 1000)?;
-    let (answer, err) = run_with(alloc, &mut source, &mut out)?;
+    let mut broken = FailingSource::new(Vec::from_slice(alloc, ONE_MESSAGE)?, 10, fails);
+    let mut empty = MemorySink::with_room(alloc, 1000)?;
+    let (answer, err) = run_with(alloc, &mut broken, &mut empty)?;
     assert!(rt; answer == Status::ReadFault);
     assert!(rt; answer.number() == 3);
-    assert!(rt; out.held().is_empty());
+    assert!(rt; empty.held().is_empty());
     assert!(rt; err.held() == b"sigrun: read fault\n".as_slice());
-    Ok(())
-}
-
-#[test]
-fn a_failed_write_leaves_the_beginning(rt: HostRuntime) -> Result<(), Fail> {
-    let alloc = rt.alloc();
     let fails = vec![in alloc; 2]?;
     let mut source = MemorySource::new(Vec::from_slice(alloc, ONE_MESSAGE)?, 100);
     let mut out = FailingSink::with_room(alloc, 1000, 10, fails)?;
@@ -163,14 +146,75 @@ fn a_failed_write_leaves_the_beginning(rt: HostRuntime) -> Result<(), Fail> {
     Ok(())
 }
 
+/// The text of each of these words.
+fn strings(alloc: Global, list: &[&str]) -> Result<Vec<String>, AllocError> {
+    let mut strings = Vec::new(alloc);
+    for word in list {
+        strings.push(String::from_str(alloc, word)?)?;
+    }
+    Ok(strings)
+}
+
+/// Words that the command takes, and the calls that they ask for.
+const WORDS: [(&[&str], Option<u32>); 6] = [
+    (&[], None),
+    (&["--"], None),
+    (&["--generate", "1"], Some(1)),
+    (&["--generate", "800"], Some(800)),
+    (&["--generate", "00000000000000000000005"], Some(5)),
+    (&["--generate=5"], Some(5)),
+];
+
+/// Words that it doesn't take.
+const OTHER_WORDS: [&[&str]; 18] = [
+    &["--generate", "0"],
+    &["--generate", "801"],
+    &["--generate", "18446744073709551617"],
+    &["--generate", ""],
+    &["--generate", "5x"],
+    &["--generate", "+5"],
+    &["--generate", "-5"],
+    &["--generate", "--", "5"],
+    &["--generate="],
+    &["--generate"],
+    &["--generate", "5", "6"],
+    &["--generate", "5", "--generate", "5"],
+    &["--generate=5", "--generate=6"],
+    &["--gen", "5"],
+    &["--help"],
+    &["-h"],
+    &["--version"],
+    &["generate"],
+];
+
 #[test]
-fn arguments_and_faults_of_err(rt: HostRuntime) -> Result<(), Fail> {
+fn words_give_their_settings(rt: HostRuntime) -> Result<(), Fail> {
     let alloc = rt.alloc();
-    let arguments = vec![in alloc; String::from_str(alloc, "--help")?]?;
+    for (list, generate) in WORDS {
+        let given = strings(alloc, list)?;
+        let answer = words(alloc, given.as_slice());
+        assert!(rt; answer == Ok(Settings { generate }), "{list:?}");
+    }
+    for list in OTHER_WORDS {
+        let given = strings(alloc, list)?;
+        let answer = words(alloc, given.as_slice());
+        assert!(rt; answer == Err(WordsError::Usage), "{list:?}");
+    }
+    Ok(())
+}
+
+/// Runs with these arguments and a script that is there to be read: the status, whether the script
+/// wasn't read, and what was written and told.
+fn run_words(
+    alloc: Global,
+    list: &[&str],
+    room: usize,
+) -> Result<(Status, bool, MemorySink, MemorySink), AllocError> {
+    let arguments = strings(alloc, list)?;
     let mut source = MemorySource::new(Vec::from_slice(alloc, ONE_MESSAGE)?, 100);
-    let mut out = MemorySink::with_room(alloc, 1000)?;
-    let mut err = MemorySink::with_room(alloc, 5)?;
-    let answer = run(
+    let mut out = MemorySink::with_room(alloc, ROOM)?;
+    let mut err = MemorySink::with_room(alloc, room)?;
+    let status = run(
         alloc,
         arguments.as_slice(),
         &mut source,
@@ -178,22 +222,31 @@ fn arguments_and_faults_of_err(rt: HostRuntime) -> Result<(), Fail> {
         &mut err,
         &OpenGate,
     );
-    assert!(rt; answer == Status::Usage);
-    assert!(rt; out.held().is_empty());
-    assert!(rt; err.held() == b"usage".as_slice());
-    let mut refused = MemorySource::new(Vec::new(alloc), 100);
-    let mut full = MemorySink::with_room(alloc, 0)?;
-    let none = Vec::new(alloc);
-    let answer = run(
-        alloc,
-        none.as_slice(),
-        &mut refused,
-        &mut out,
-        &mut full,
-        &OpenGate,
-    );
-    assert!(rt; answer == NO_HEADER);
-    assert!(rt; full.held().is_empty());
+    let mut left = Vec::new(alloc);
+    let _ = read_all(&mut source, 1000, &mut left);
+    Ok((status, left.as_slice() == ONE_MESSAGE, out, err))
+}
+
+const TOLD_USAGE: &[u8] = b"usage: sigrun [--generate N]\n";
+
+#[test]
+fn arguments_are_told(rt: HostRuntime) -> Result<(), Fail> {
+    let alloc = rt.alloc();
+    let rows: [(&[&str], usize, u8, &[u8]); 6] = [
+        (&["--generate", "0"], 100, 2, TOLD_USAGE),
+        (&["--generate", "801"], 100, 2, TOLD_USAGE),
+        (&["--help"], 100, 2, TOLD_USAGE),
+        (&["--help"], 5, 2, b"usage"),
+        (&["--generate", "100"], 100, 0, SUMMARY_OF_100),
+        (&["--generate", "1"], 12, 0, b"processes 9\n"),
+    ];
+    for (list, room, number, told) in rows {
+        let (status, unread, out, err) = run_words(alloc, list, room)?;
+        assert!(rt; status.number() == number, "{list:?}");
+        assert!(rt; unread, "{list:?}");
+        assert!(rt; out.held().is_empty() == (number == 2), "{list:?}");
+        assert!(rt; err.held() == told, "{list:?}");
+    }
     Ok(())
 }
 
@@ -435,32 +488,6 @@ fn first_other<'a>(
     Ok(None)
 }
 
-#[test]
-fn scripts_give_their_records(rt: HostRuntime) -> Result<(), Fail> {
-    let alloc = rt.alloc();
-    let tables: [&[(&[u8], &[u8])]; 14] = [
-        &TAKEN,
-        &VALUES,
-        &GOING,
-        &PATTERNS,
-        &MATCHES,
-        &LARGE,
-        &EXITS,
-        &EXIT_SIGNALS,
-        &LINK_CALLS,
-        &LINKED_EXITS,
-        &UNLINKS,
-        &QUEUED,
-        &WATCHES,
-        &MARKERS,
-    ];
-    for rows in tables {
-        let other = first_other(alloc, rows)?;
-        assert!(rt; other.is_none(), "{other:?}");
-    }
-    Ok(())
-}
-
 /// The first of these texts that gives another record, or of which something is told.
 fn first_unlike<'a>(
     alloc: Global,
@@ -476,41 +503,94 @@ fn first_unlike<'a>(
 }
 
 #[test]
-fn texts_and_documents_give_their_records(rt: HostRuntime) -> Result<(), Fail> {
+fn scripts_give_their_records(rt: HostRuntime) -> Result<(), Fail> {
     let alloc = rt.alloc();
-    let tables: [&[(&[u8], &[u8])]; 2] = [&TEXTS, &EXAMPLES];
+    let tables: [&[(&[u8], &[u8])]; 13] = [
+        &TAKEN,
+        &VALUES,
+        &GOING,
+        &PATTERNS,
+        &MATCHES,
+        &EXITS,
+        &EXIT_SIGNALS,
+        &LINK_CALLS,
+        &LINKED_EXITS,
+        &UNLINKS,
+        &QUEUED,
+        &WATCHES,
+        &MARKERS,
+    ];
     for rows in tables {
+        let other = first_other(alloc, rows)?;
+        assert!(rt; other.is_none(), "{other:?}");
+    }
+    for rows in [TEXTS.as_slice(), EXAMPLES.as_slice()] {
         let unlike = first_unlike(alloc, rows)?;
         assert!(rt; unlike.is_none(), "{unlike:?}");
     }
     Ok(())
 }
 
-#[test]
-fn refusals_of_the_documents_are_told(rt: HostRuntime) -> Result<(), Fail> {
-    let alloc = rt.alloc();
-    for (text, told) in REFUSALS {
-        let (status, out, err) = run_text(alloc, text)?;
-        assert!(rt; status.number() == 1, "{text:?}");
-        assert!(rt; out.held().is_empty(), "{text:?}");
-        assert!(rt; err.held() == told, "{text:?}");
+/// The line of `err` for a line and a kind, or nothing where there are none.
+fn refusal(alloc: Global, place: &[u8]) -> Result<Vec<u8>, AllocError> {
+    let mut told = Vec::new(alloc);
+    if !place.is_empty() {
+        told.extend_from_slice(b"sigrun: line ")?;
+        told.extend_from_slice(place)?;
+        told.push(b'\n')?;
     }
-    Ok(())
+    Ok(told)
+}
+
+/// Whether the text is refused so: nothing is written, and this is told. A text of which nothing is
+/// told is accepted.
+fn tells(alloc: Global, text: &[u8], told: &[u8]) -> Result<bool, AllocError> {
+    let (status, out, err) = run_text(alloc, text)?;
+    let refused = status.number() == 1;
+    Ok(err.held() == told && refused != told.is_empty() && refused == out.held().is_empty())
 }
 
 /// The first of these lines behind the header that aren't refused so.
-fn first_accepted<'a>(
+fn first_unrefused<'a>(
     alloc: Global,
-    rows: &[(&'a [u8], u64, FaultKind)],
+    rows: &[(&'a [u8], &'a [u8])],
 ) -> Result<Option<&'a [u8]>, AllocError> {
-    for (lines, line, kind) in rows {
-        let (status, out, _) = run_lines(alloc, lines)?;
-        let refused = Status::BadScript {
-            line: *line,
-            kind: *kind,
-        };
-        if status != refused || !out.held().is_empty() {
+    for (lines, place) in rows {
+        let text = text_of(alloc, &[(b"sigscript 1\n", 1), (lines, 1)])?;
+        let told = refusal(alloc, place)?;
+        if !tells(alloc, text.as_slice(), told.as_slice())? {
             return Ok(Some(*lines));
+        }
+    }
+    Ok(None)
+}
+
+/// The same of all these tables.
+fn first_unrefused_of_all(alloc: Global) -> Result<Option<&'static [u8]>, AllocError> {
+    let tables: [&[(&[u8], &[u8])]; 6] = [
+        &HEADS,
+        &TERMS,
+        &RECEIVES,
+        &OPERANDS,
+        &MARKER_CLAUSES,
+        &OTHERS,
+    ];
+    for rows in tables {
+        let unrefused = first_unrefused(alloc, rows)?;
+        if unrefused.is_some() {
+            return Ok(unrefused);
+        }
+    }
+    Ok(None)
+}
+
+/// The length of the first of the long texts that isn't refused so.
+fn first_unlimited(alloc: Global) -> Result<Option<usize>, AllocError> {
+    for (pieces, place) in LONG {
+        let text = text_of(alloc, pieces)?;
+        let told = refusal(alloc, place)?;
+        if !tells(alloc, text.as_slice(), told.as_slice())? {
+            return Ok(Some(text.len()));
         }
     }
     Ok(None)
@@ -519,36 +599,30 @@ fn first_accepted<'a>(
 #[test]
 fn texts_are_refused_at_their_line(rt: HostRuntime) -> Result<(), Fail> {
     let alloc = rt.alloc();
-    let tables: [&[(&[u8], u64, FaultKind)]; 5] = [
-        &HEADS,
-        &TERMS,
-        &RECEIVES,
-        &OPERANDS,
-        &MARKER_CLAUSES,
-    ];
-    for rows in tables {
-        let accepted = first_accepted(alloc, rows)?;
-        assert!(rt; accepted.is_none(), "{accepted:?}");
+    let unrefused = first_unrefused_of_all(alloc)?;
+    assert!(rt; unrefused.is_none(), "{unrefused:?}");
+    let unlimited = first_unlimited(alloc)?;
+    assert!(rt; unlimited.is_none(), "{unlimited:?} bytes");
+    for (text, told) in REFUSALS {
+        assert!(rt; tells(alloc, text, told)?, "{text:?}");
     }
     for text in OTHER_FIRST_LINES {
-        let (status, _, _) = run_text(alloc, text)?;
-        assert!(rt; status == NO_HEADER, "{text:?}");
+        assert!(rt; tells(alloc, text, TOLD_NO_HEADER)?, "{text:?}");
     }
     Ok(())
 }
 
-#[test]
-fn the_largest_count_of_turns_is_made(rt: HostRuntime) -> Result<(), Fail> {
-    let alloc = rt.alloc();
+/// The record of a process that goes to the label before it until its turns are over.
+fn record_of_turns(alloc: Global) -> Result<Vec<u8>, AllocError> {
     let mut record = Vec::from_slice(alloc, b"process 0 a\n")?;
     for stamp in 1..20001 {
         push_line(&mut record, stamp, b" exec 1 done")?;
     }
     record.extend_from_slice(b"state cut\n")?;
-    let lines = b"turns 20000\nprocess a\nlabel l\ngoto l\n";
-    assert!(rt; gives(alloc, lines, record.as_slice())?);
-    Ok(())
+    Ok(record)
 }
+
+const TURNS: &[u8] = b"turns 20000\nprocess a\nlabel l\ngoto l\n";
 
 const PING_PONG: &[u8] = b"turns 1500\n\
     process a\nlabel l\nsend @b ping\nreceive\non pong\nend\ngoto l\n\
@@ -574,9 +648,8 @@ fn push_ponger(text: &mut Vec<u8>, stamp: u64, number: u64) -> Result<(), AllocE
     push_line(text, stamp + 5, b" exec 3 done")
 }
 
-#[test]
-fn two_processes_play_until_both_are_cut(rt: HostRuntime) -> Result<(), Fail> {
-    let alloc = rt.alloc();
+/// The record of two processes that play until both are cut.
+fn record_of_play(alloc: Global) -> Result<Vec<u8>, AllocError> {
     let mut pinger = Vec::from_slice(alloc, b"process 0 a\n")?;
     let mut ponger = Vec::from_slice(alloc, b"process 1 b\n")?;
     for round in 0..500 {
@@ -586,86 +659,83 @@ fn two_processes_play_until_both_are_cut(rt: HostRuntime) -> Result<(), Fail> {
     pinger.extend_from_slice(b"state cut\n")?;
     ponger.extend_from_slice(b"state cut\n")?;
     pinger.extend_from_slice(ponger.as_slice())?;
-    assert!(rt; gives(alloc, PING_PONG, pinger.as_slice())?);
+    Ok(pinger)
+}
+
+/// A tuple of so many copies of the value, at least one.
+fn tuple_of(alloc: Global, copies: usize, value: &[u8]) -> Result<Vec<u8>, AllocError> {
+    let mut tuple = Vec::from_slice(alloc, b"{")?;
+    for copy in 0..copies {
+        if copy > 0 {
+            tuple.push(b',')?;
+        }
+        tuple.extend_from_slice(value)?;
+    }
+    tuple.push(b'}')?;
+    Ok(tuple)
+}
+
+/// A line with an instruction, and its event.
+fn push_event(text: &mut Vec<u8>, number: u64, did: &[u8]) -> Result<(), AllocError> {
+    let mut digits = Buffer::new();
+    let digits = digits.format(number).as_bytes();
+    for piece in [digits, b" exec ", digits, b" ", did, b"\n"] {
+        text.extend_from_slice(piece)?;
+    }
     Ok(())
 }
 
-/// More texts behind the header line that are refused, with the line and the kind, and what is told.
-const REFUSED: [(&[u8], u64, FaultKind, &[u8]); 9] = [
-    (
-        b"process p1\nprocess p2\nprocess p3\nprocess p4\nprocess p5\nprocess p6\nprocess p7\n\
-          process p8\nprocess p9\nprocess p10\nprocess p11\nprocess p12\nprocess p13\nprocess p14\n\
-          process p15\nprocess p16\nprocess p17\nprocess p18\nprocess p19\nprocess p20\nprocess p21\n\
-          process p22\nprocess p23\nprocess p24\nprocess p25\nprocess p26\nprocess p27\nprocess p28\n\
-          process p29\nprocess p30\nprocess p31\nprocess p32\nprocess p33\nprocess p34\nprocess p35\n\
-          process p36\nprocess p37\nprocess p38\nprocess p39\nprocess p40\nprocess p41\nprocess p42\n\
-          process p43\nprocess p44\nprocess p45\nprocess p46\nprocess p47\nprocess p48\nprocess p49\n\
-          process p50\nprocess p51\nprocess p52\nprocess p53\nprocess p54\nprocess p55\nprocess p56\n\
-          process p57\nprocess p58\nprocess p59\nprocess p60\nprocess p61\nprocess p62\nprocess p63\n\
-          process p64\nprocess p65\n",
-        66,
-        FaultKind::TooManyProcesses,
-        b"sigrun: line 66: too_many_processes\n",
-    ),
-    (
-        b"process a\ngoto z\n",
-        3,
-        FaultKind::UnknownLabel,
-        b"sigrun: line 3: unknown_label\n",
-    ),
-    (
-        b"\n% more\nstart a\n",
-        4,
-        FaultKind::Syntax,
-        b"sigrun: line 4: syntax\n",
-    ),
-    (
-        b"process a\nset X -9223372036854775809\n",
-        3,
-        FaultKind::IntRange,
-        b"sigrun: line 3: int_range\n",
-    ),
-    (
-        b"process a\nreceive\non [[[[[[[[[[[[[[[[[[[[[[[[[[[[[[[[[[[[[[[[[[[[[[[[[[[[[[[[[[[[[[[[[\n",
-        4,
-        FaultKind::TermTooLarge,
-        b"sigrun: line 4: term_too_large\n",
-    ),
-    (
-        b"process a\n\nprocess a\n",
-        4,
-        FaultKind::DuplicateName,
-        b"sigrun: line 4: duplicate_name\n",
-    ),
-    (
-        b"process a\nsend @b hi\nprocess a\n",
-        4,
-        FaultKind::DuplicateName,
-        b"sigrun: line 4: duplicate_name\n",
-    ),
-    (
-        b"process a\nsend @b hi\nreceive using R\non {^R,X}\non {ok,R}\nend\n",
-        6,
-        FaultKind::MarkerNotInClause,
-        b"sigrun: line 6: marker_not_in_clause\n",
-    ),
-    (
-        b"process a\nreceive\non x -> l\nend\nprocess b\nlabel l\n",
-        4,
-        FaultKind::UnknownLabel,
-        b"sigrun: line 4: unknown_label\n",
-    ),
-];
+/// The script that makes a value grow, and its record. Both are without their first lines.
+fn grown(alloc: Global, growth: &Growth) -> Result<(Vec<u8>, Vec<u8>), AllocError> {
+    let mut script = text_of(
+        alloc,
+        &[(b"process a\nset X ", 1), (growth.first, 1), (b"\n", 1)],
+    )?;
+    let mut record = text_of(
+        alloc,
+        &[
+            (b"process 0 a\n1 exec 1 set ", 1),
+            (growth.first, 1),
+            (b"\n", 1),
+        ],
+    )?;
+    let mut value = Vec::from_slice(alloc, growth.first)?;
+    let mut number = 1u64;
+    for (copies, times) in growth.steps {
+        for _ in 0..*times {
+            number = number.saturating_add(1);
+            value = tuple_of(alloc, *copies, value.as_slice())?;
+            let new = tuple_of(alloc, *copies, b"X")?;
+            script.extend_from_slice(text_of(
+                alloc,
+                &[(b"set X ", 1), (new.as_slice(), 1), (b"\n", 1)],
+            )?.as_slice())?;
+            let did = text_of(alloc, &[(b"set ", 1), (value.as_slice(), 1)])?;
+            push_event(&mut record, number, did.as_slice())?;
+        }
+    }
+    script.extend_from_slice(growth.last)?;
+    let end = text_of(alloc, &[(b"ended ", 1), (growth.reason, 1)])?;
+    push_event(&mut record, number.saturating_add(1), end.as_slice())?;
+    record.extend_from_slice(text_of(
+        alloc,
+        &[(b"state ", 1), (end.as_slice(), 1), (b"\n", 1)],
+    )?.as_slice())?;
+    Ok((script, record))
+}
 
 #[test]
-fn refusals_are_told_with_line_and_kind(rt: HostRuntime) -> Result<(), Fail> {
+fn long_runs_give_their_records(rt: HostRuntime) -> Result<(), Fail> {
     let alloc = rt.alloc();
-    for (lines, line, kind, told) in REFUSED {
-        let (status, out, err) = run_lines(alloc, lines)?;
-        assert!(rt; status == Status::BadScript { line, kind }, "{lines:?}");
-        assert!(rt; status.number() == 1, "{lines:?}");
-        assert!(rt; out.held().is_empty(), "{lines:?}");
-        assert!(rt; err.held() == told, "{lines:?}");
+    assert!(rt; gives(alloc, TURNS, record_of_turns(alloc)?.as_slice())?);
+    assert!(rt; gives(alloc, PING_PONG, record_of_play(alloc)?.as_slice())?);
+    for growth in &GROWTHS {
+        let (script, record) = grown(alloc, growth)?;
+        assert!(rt;
+            gives(alloc, script.as_slice(), record.as_slice())?,
+            "{:?}",
+            growth.last
+        );
     }
     Ok(())
 }
@@ -675,20 +745,6 @@ fn record_of(alloc: Global, text: &[u8]) -> Result<Record, Fail> {
     let script = read_script(alloc, text)?;
     let crew = run_one(Crew::open(alloc, &script)?)?;
     Ok(Record::gather(alloc, crew)?)
-}
-
-#[test]
-fn events_are_merged_by_their_stamps(rt: HostRuntime) -> Result<(), Fail> {
-    let alloc = rt.alloc();
-    let record = record_of(alloc, ONE_MESSAGE)?;
-    let mut pairs = Vec::new(alloc);
-    for at in record.merge(alloc)?.as_slice() {
-        pairs.push((at.pid.0, at.place))?;
-    }
-    let expected = [(0, 0), (0, 1), (1, 0), (1, 1), (1, 2)];
-    assert!(rt; pairs.as_slice() == expected.as_slice(), "{pairs:?}");
-    assert!(rt; record.settled());
-    Ok(())
 }
 
 /// A script in which process 1 is cut before it has handled one signal of each of the others, and
@@ -710,8 +766,16 @@ fn many_senders(alloc: Global, last: u64) -> Result<Vec<u8>, Fail> {
 }
 
 #[test]
-fn signals_of_many_senders_are_sorted(rt: HostRuntime) -> Result<(), Fail> {
+fn records_are_merged_and_sorted(rt: HostRuntime) -> Result<(), Fail> {
     let alloc = rt.alloc();
+    let merged = record_of(alloc, ONE_MESSAGE)?;
+    let mut events = Vec::new(alloc);
+    for at in merged.merge(alloc)?.as_slice() {
+        events.push((at.pid.0, at.place))?;
+    }
+    let expected = [(0, 0), (0, 1), (1, 0), (1, 1), (1, 2)];
+    assert!(rt; events.as_slice() == expected.as_slice(), "{events:?}");
+    assert!(rt; merged.settled());
     let text = many_senders(alloc, 24)?;
     let record = record_of(alloc, text.as_slice())?;
     let hub = record.reports().get(1).ok_or("no report")?;
@@ -736,18 +800,12 @@ fn refused_line(alloc: Global, bytes: &[u8]) -> Option<u64> {
 }
 
 #[test]
-fn records_are_read_back(rt: HostRuntime) -> Result<(), Fail> {
+fn records_and_no_other_texts_are_read(rt: HostRuntime) -> Result<(), Fail> {
     let alloc = rt.alloc();
     let record = read_record(alloc, ONE_MESSAGE_RECORD)?;
     let mut text = Vec::new(alloc);
     print_record(&record, &mut text)?;
     assert!(rt; text.as_slice() == ONE_MESSAGE_RECORD);
-    Ok(())
-}
-
-#[test]
-fn other_texts_are_no_records(rt: HostRuntime) -> Result<(), Fail> {
-    let alloc = rt.alloc();
     let whole = ONE_MESSAGE_RECORD.len();
     let mut lengths = Vec::new(alloc);
     for length in 0..=whole {

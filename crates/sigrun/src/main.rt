@@ -1,4 +1,5 @@
-//! Runs a script of processes from standard input, and prints the record of the run.
+//! Runs a script of processes from standard input, or with `--generate N` one that it makes, and
+//! prints the record of the run.
 #![tactic(auto)]
 
 use sig_base::{OpenGate, StdSink, StdSource};
@@ -42,6 +43,6 @@ fn main(rt: HostRuntime) -> ExitCode {
         Err(fault) if fault.kind() == io::ErrorKind::OutOfMemory => {
             refuse(&rt, Status::Memory, "sigrun: out of memory")
         }
-        Err(_) => refuse(&rt, Status::Usage, "usage: sigrun"),
+        Err(_) => refuse(&rt, Status::Usage, "usage: sigrun [--generate N]"),
     }
 }
