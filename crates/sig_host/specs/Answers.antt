@@ -14,8 +14,8 @@ use Rattle.sig_record.specs.declared.report.Report.{Report}
 use Rattle.sig_record.specs.RecordOf.{record_of}
 use Rattle.sig_record.specs.RunRecord.{whole_rules, IsRecordOfRun}
 use Rattle.sig_record.specs.RecordText.{record_text}
-use Rattle.sig_stand_in.specs.Generated.{generated}
-use Rattle.sig_stand_in.specs.Summarizing.{summary_of}
+use Rattle.sig_script.specs.Generated.{generated}
+use Rattle.sig_record.specs.Summarizing.{summary_of}
 use Rattle.sig_host.specs.declared.settings.Settings.{Settings}
 use Rattle.sig_host.specs.declared.texts.Texts.{Texts}
 use Rattle.sig_host.specs.Told.{summary_text, text_in}

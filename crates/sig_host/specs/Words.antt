@@ -8,7 +8,7 @@ use Rattle.clap.specs.Words.{App, Row, Rule, Text, first_of, fault_of, matches_o
 use Rattle.clap.specs.Simple.{new_shape}
 use Rattle.clap.specs.declared.builder.action.ArgAction.TheVariants.{Set}
 use Rattle.sig_host.specs.declared.settings.Settings.{Settings}
-use Rattle.sig_stand_in.specs.declared.generating.TheConstants.{MOST_CALLS}
+use Rattle.sig_script.specs.declared.generating.TheConstants.{MOST_CALLS}
 use Rattle.sig_host.specs.declared.words_error.WordsError.{WordsError}
 use Rattle.sig_host.specs.declared.words_error.WordsError.TheVariants.{Usage, Memory}
 

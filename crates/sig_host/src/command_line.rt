@@ -10,7 +10,7 @@ use crate::settings::Settings;
 use crate::words_error::WordsError;
 use clap::error::ErrorKind;
 use clap::{Arg, ArgAction, ArgMatches, Command, Error};
-use sig_stand_in::MOST_CALLS;
+use sig_script::MOST_CALLS;
 use std::alloc::{AllocError, Global};
 
 /// The command: the option `--generate`, which has one value, and nothing else.

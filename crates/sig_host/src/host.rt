@@ -1,7 +1,7 @@
 ghost use Rattle.std.specs.Prelude.{◌≡◌, ◌≢◌, ◌≤◌, ◌⊎◌, ℕ, Bool, true, List, map, string_bytes, IfOk, Option, Some};
 ghost use Rattle.sig_base.specs.Flow.{Rose, Adds};
 ghost use Rattle.sig_script.specs.Scripts.{Program};
-ghost use Rattle.sig_stand_in.specs.Generated.{generated};
+ghost use Rattle.sig_script.specs.Generated.{generated};
 ghost use Rattle.sig_host.specs.Answers.{
   AreTexts,
   IsAnswer,
@@ -29,9 +29,8 @@ use crate::words_error::WordsError;
 use sig_base::{Gate, ReadAll, Sink, Source, Written, read_all, write_whole};
 use sig_model::lawful_crew_comes_to_rest;
 use sig_process::Crew;
-use sig_record::{Record, a_lawful_crew_tells_a_run, print_record};
-use sig_script::{FaultKind, MOST_BYTES, Script, ScriptError, read_script};
-use sig_stand_in::{MOST_CALLS, generate, summarize};
+use sig_record::{Record, a_lawful_crew_tells_a_run, print_record, summarize};
+use sig_script::{FaultKind, MOST_BYTES, MOST_CALLS, Script, ScriptError, generate, read_script};
 use sig_workers::run_one;
 use std::alloc::{AllocError, Global};
 

@@ -4,7 +4,7 @@ ghost use Rattle.std.specs.Prelude.{◌≡◌, ◌++◌, IfOk, OnOk};
 ghost use Rattle.sig_host.specs.Told.{count_line, summary_text};
 
 use itoa::Buffer;
-use sig_stand_in::Summary;
+use sig_record::Summary;
 use std::alloc::{AllocError, Global};
 
 /// Appends a line: a name, and how many of it there are.

@@ -1,8 +1,0 @@
-//! Stand-ins, which go.
-#![tactic(auto)]
-
-mod generating;
-mod summary;
-
-pub use generating::{MOST_CALLS, generate};
-pub use summary::{Summary, summarize};
