@@ -28,3 +28,4 @@ pub mod EventSizes
 pub mod SizedCrews
 pub mod SizedReads
 pub mod Stored
+pub mod ScriptNames
