@@ -1,0 +1,35 @@
+-- What seats put, took and were told is so.
+use Rattle.std.specs.Prelude.{◌≡◌, ℕ, ◌≤◌, Bool, true, false, List, [], length}
+use mathlib.Core.Option.{some}
+use lib.ListN.{get_elem?}
+use Rattle.q_layout.specs.declared.Signal.{Signal}
+use Rattle.q_layout.specs.declared.Senders.{Senders}
+use Rattle.q_layout.specs.Sets.{has}
+use Rattle.q_layout.specs.Sent.{of, Within, AllWithin}
+use Rattle.q_core.specs.declared.Knows.{Knows}
+use Rattle.q_core.specs.Core.{QState}
+
+-- what the seat i with these senders, this role and these lists knows. Each sender has one owner, and the role has one reader
+pub record SeatListsAs (all : Senders) (owner : ℕ → ℕ) (reader : ℕ) (log all_taken base : List Signal) (i : ℕ) (senders : Senders) (role : Bool) (put : List Signal) (told_of : List (List Signal)) (taken : List Signal) (fetching : Bool) : Type 0 where
+  pub known : (s : ℕ) → has senders s ≡ true → has all s ≡ true
+  pub short : length senders.flags ≤ 256
+  pub owns : (s : ℕ) → has senders s ≡ true → owner s ≡ i
+  pub reads : role ≡ true → reader ≡ i
+  pub own : (s : ℕ) → has senders s ≡ true → of s put ≡ of s log
+  pub only : (s : ℕ) → has senders s ≡ false → of s put ≡ []
+  pub told : AllWithin told_of log
+  pub took : role ≡ true → taken ≡ all_taken
+  pub took_none : role ≡ false → taken ≡ []
+  -- while it fetches, all that it put and was told had been put when it took the bits
+  pub based : fetching ≡ true → Within put base × AllWithin told_of base
+
+abbrev pub SeatLists : QState → ℕ → Knows → Type 0
+SeatLists q i v = SeatListsAs q.opening.senders q.owner q.reader q.log q.taken q.base i v.senders v.role v.put v.told v.taken v.fetching
+
+pub record ListsAs (all : Senders) (owner : ℕ → ℕ) (reader : ℕ) (log all_taken base : List Signal) (seats : List Knows) : Type 0 where
+  pub each : (i : ℕ) (v : Knows) → get_elem? seats i ≡ some v → SeatListsAs all owner reader log all_taken base i v.senders v.role v.put v.told v.taken v.fetching
+  -- no signal comes from anyone else
+  pub strange : (s : ℕ) → has all s ≡ false → of s log ≡ []
+
+abbrev pub Lists : QState → Type 0
+Lists q = ListsAs q.opening.senders q.owner q.reader q.log q.taken q.base q.seats
