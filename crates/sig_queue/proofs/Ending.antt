@@ -5,26 +5,26 @@ use mathlib.Core.Option.{some, some-injective, some-ne-none}
 use native.Mathlib.Decide.{ℕ_discrete}
 use lib.ListN.{get_elem?}
 use Rattle.atomic_table.specs.Table.{State, opening, Final, Seen}
-use Rattle.q_layout.specs.declared.Signal.{Signal}
-use Rattle.q_layout.specs.declared.Opening.{Opening}
-use Rattle.q_layout.specs.declared.Outer.{Outer}
-use Rattle.q_layout.specs.declared.Policy.{Policy}
-use Rattle.q_layout.specs.Policies.{begins_on, IsPolicy, IsLawful, fetch_count}
-use Rattle.q_layout.specs.Sets.{has}
-use Rattle.q_layout.specs.Sent.{of}
-use Rattle.q_layout.proofs.Sending.{first_here, bool_cases, of-append}
-use Rattle.q_core.specs.declared.Slot.{Slot}
-use Rattle.q_core.specs.declared.Slot.TheVariants as slot
-use Rattle.q_core.specs.declared.Knows.{Knows}
-use Rattle.q_core.specs.Views.{number, table_from, mode_word, first_seat}
-use Rattle.q_core.specs.Core.{QState, opened_with, opened, Idle, buffer_of}
-use Rattle.q_core.specs.Agree.{Among, Turn, HasOuter, HasBuffer}
-use Rattle.q_core.specs.Lists.{Lists}
-use Rattle.q_core.proofs.Putting.{at_table, not_both}
-use Rattle.q_core.proofs.Agreeing.{same_view, agrees}
-use Rattle.q_core.proofs.Listing.{lists}
-use Rattle.q_core.proofs.Lawful.{lawful, mod_small}
-use Rattle.q_core.proofs.Journaling.{journals}
+use Rattle.sig_kinds.specs.declared.signal.Signal.{Signal}
+use Rattle.sig_layout.specs.declared.setup.Setup.{Setup}
+use Rattle.sig_layout.specs.declared.outer.Outer.{Outer}
+use Rattle.sig_layout.specs.declared.policy.Policy.{Policy}
+use Rattle.sig_layout.specs.Policies.{begins_on, IsPolicy, IsLawful, fetch_count}
+use Rattle.sig_layout.specs.Sets.{has}
+use Rattle.sig_layout.specs.Sent.{of}
+use Rattle.sig_layout.proofs.Sending.{first_here, bool_cases, of-append}
+use Rattle.sig_queue.specs.declared.slot.Slot.{Slot}
+use Rattle.sig_queue.specs.declared.slot.Slot.TheVariants as slot
+use Rattle.sig_layout.specs.declared.knows.Knows.{Knows}
+use Rattle.sig_layout.specs.Views.{number, table_from, mode_word, first_seat}
+use Rattle.sig_layout.specs.Core.{QState, opened_with, opened, Idle, buffer_of}
+use Rattle.sig_layout.specs.Agree.{Among, Turn, HasOuter, HasBuffer}
+use Rattle.sig_layout.specs.Lists.{Lists}
+use Rattle.sig_layout.proofs.Putting.{at_table, not_both}
+use Rattle.sig_layout.proofs.Agreeing.{same_view, agrees}
+use Rattle.sig_layout.proofs.Listing.{lists}
+use Rattle.sig_layout.proofs.Lawful.{lawful, mod_small}
+use Rattle.sig_layout.proofs.Journaling.{journals}
 use Rattle.sig_queue.specs.Tied.{apart, home, cell_home, homes_of, Tied, list_or}
 use Rattle.sig_queue.specs.Ends.{zeros, first_words, first_outer, all_buffers, lists_in, joined_all}
 use Rattle.sig_queue.proofs.Fetches.{flag_dropped}

@@ -6,19 +6,19 @@ use Rattle.std.specs.Prelude.{IfSome}
 use mathlib.Core.Logic.{dite}
 use native.Mathlib.Decide.{ℕ_discrete}
 use Rattle.atomic_table.specs.Table.{rest, turned}
-use Rattle.q_layout.specs.declared.Signal.{Signal}
-use Rattle.q_layout.specs.declared.Outer.{Outer}
-use Rattle.q_layout.specs.Outers.{behind}
-use Rattle.q_core.specs.declared.Slot.{Slot}
-use Rattle.q_core.specs.declared.Slot.TheVariants as slot
-use Rattle.q_core.specs.declared.Part.{Part}
-use Rattle.q_core.specs.declared.Knows.{Knows}
-use Rattle.q_core.specs.Views.{filled_at, flag, flags_of, tail, part, with_bits, gains, turned_away_at, given_back, took_part, loses}
-use Rattle.q_core.specs.Core.{put, with_bit}
-use Rattle.q_core.specs.Agree.{Apart}
-use Rattle.q_core.proofs.Putting.{put_here, put_else, get_table, not_both}
-use Rattle.q_core.proofs.Lawful.{bit_now, bit_else, no_bit}
-use Rattle.sig_queue.specs.declared.fetch.Found.{Found}
+use Rattle.sig_kinds.specs.declared.signal.Signal.{Signal}
+use Rattle.sig_layout.specs.declared.outer.Outer.{Outer}
+use Rattle.sig_layout.specs.Outers.{behind}
+use Rattle.sig_queue.specs.declared.slot.Slot.{Slot}
+use Rattle.sig_queue.specs.declared.slot.Slot.TheVariants as slot
+use Rattle.sig_layout.specs.declared.part.Part.{Part}
+use Rattle.sig_layout.specs.declared.knows.Knows.{Knows}
+use Rattle.sig_layout.specs.Views.{filled_at, flag, flags_of, tail, part, with_bits, gains, turned_away_at, given_back, took_part, loses}
+use Rattle.sig_layout.specs.Core.{put, with_bit}
+use Rattle.sig_layout.specs.Agree.{Apart}
+use Rattle.sig_layout.proofs.Putting.{put_here, put_else, get_table, not_both}
+use Rattle.sig_layout.proofs.Lawful.{bit_now, bit_else, no_bit}
+use Rattle.sig_queue.specs.declared.found.Found.{Found}
 use Rattle.sig_queue.specs.Tied.{Held, Foreign}
 use Rattle.sig_queue.specs.Parts.{first_part, held_or, IsFirst}
 use Rattle.sig_queue.specs.Fetching.{picked, same_number, numbers, all_of, slots_of, outer_out, skips, Finding, Standing, Emptying, Leaving}

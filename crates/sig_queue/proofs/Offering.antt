@@ -1,14 +1,14 @@
 -- What an offer says, put together from what its steps say.
 use Rattle.std.proofs.Common.{◌≡◌, ℕ, ◌+◌, ◌<◌, arith, length, true, List, [], ◌∷◌, ◌++◌, sym, refl, ap, ◌∙◌, append_assoc}
-use Rattle.q_layout.specs.declared.Signal.{Signal}
-use Rattle.q_layout.specs.declared.Senders.{Senders}
-use Rattle.q_layout.specs.Sets.{has, least}
-use Rattle.q_layout.proofs.Sending.{least_of}
-use Rattle.q_core.specs.declared.Knows.{Knows}
-use Rattle.q_core.specs.Core.{Idle}
-use Rattle.q_core.specs.Views.{number, IsSomebody, saw, gains, turned_away_at}
-use Rattle.sig_queue.specs.declared.offer.Aside.{Aside}
-use Rattle.sig_queue.specs.declared.offer.Aside.TheVariants as aside
+use Rattle.sig_kinds.specs.declared.signal.Signal.{Signal}
+use Rattle.sig_layout.specs.declared.senders.Senders.{Senders}
+use Rattle.sig_layout.specs.Sets.{has, least}
+use Rattle.sig_layout.proofs.Sending.{least_of}
+use Rattle.sig_layout.specs.declared.knows.Knows.{Knows}
+use Rattle.sig_layout.specs.Core.{Idle}
+use Rattle.sig_layout.specs.Views.{number, IsSomebody, saw, gains, turned_away_at}
+use Rattle.sig_queue.specs.declared.aside.Aside.{Aside}
+use Rattle.sig_queue.specs.declared.aside.Aside.TheVariants as aside
 use Rattle.sig_queue.specs.Tied.{Foreign}
 use Rattle.sig_queue.specs.Calls.{Under, OfferedAside}
 

@@ -1,10 +1,10 @@
 -- Offers one after another.
 use Rattle.std.proofs.Common.{◌≡◌, ℕ, ◌+◌, ◌%◌, Bool, true, false, List, [], ◌∷◌, ◌++◌, sym, refl, ap, ◌∙◌, append_assoc, append-nil, ⊎_elim}
-use Rattle.q_layout.specs.declared.Signal.{Signal}
-use Rattle.q_core.specs.declared.Knows.{Knows}
-use Rattle.q_core.specs.Views.{mode_word}
-use Rattle.sig_queue.specs.declared.queue.Via.{Via}
-use Rattle.sig_queue.specs.declared.queue.Via.TheVariants as via
+use Rattle.sig_kinds.specs.declared.signal.Signal.{Signal}
+use Rattle.sig_layout.specs.declared.knows.Knows.{Knows}
+use Rattle.sig_layout.specs.Views.{mode_word}
+use Rattle.sig_layout.specs.declared.via.Via.{Via}
+use Rattle.sig_layout.specs.declared.via.Via.TheVariants as via
 use Rattle.sig_queue.specs.Parts.{mode_loads, looked}
 use Rattle.sig_queue.specs.Calls.{PutBy, RefusedOne, Tried, SentBy}
 

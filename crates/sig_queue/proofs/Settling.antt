@@ -1,16 +1,16 @@
 -- The end of a fetch.
 use Rattle.std.proofs.Common.{◌≡◌, ℕ, ◌+◌, subst, Bool, false, List, [], ◌∷◌, ◌++◌, length, sym, ap, ◌∙◌, arith, append-nil, Some}
 use Rattle.atomic_table.specs.Table.{rest}
-use Rattle.q_layout.specs.declared.Signal.{Signal}
-use Rattle.q_layout.specs.declared.Entry.TheVariants.{Fetch}
-use Rattle.q_layout.specs.declared.Outer.{Outer}
-use Rattle.q_layout.specs.Outers.{emptied}
-use Rattle.q_core.specs.declared.Slot.{Slot}
-use Rattle.q_core.specs.declared.Slot.TheVariants as slot
-use Rattle.q_core.specs.declared.Part.{Part}
-use Rattle.q_core.specs.declared.Knows.{Knows}
-use Rattle.q_core.specs.Views.{signals_of, after_same, after_fetch}
-use Rattle.sig_queue.specs.declared.fetch.Taken.{Taken}
+use Rattle.sig_kinds.specs.declared.signal.Signal.{Signal}
+use Rattle.sig_layout.specs.declared.entry.Entry.TheVariants.{Fetch}
+use Rattle.sig_layout.specs.declared.outer.Outer.{Outer}
+use Rattle.sig_layout.specs.Outers.{emptied}
+use Rattle.sig_queue.specs.declared.slot.Slot.{Slot}
+use Rattle.sig_queue.specs.declared.slot.Slot.TheVariants as slot
+use Rattle.sig_layout.specs.declared.part.Part.{Part}
+use Rattle.sig_layout.specs.declared.knows.Knows.{Knows}
+use Rattle.sig_layout.specs.Views.{signals_of, after_same, after_fetch}
+use Rattle.sig_queue.specs.declared.taken.Taken.{Taken}
 use Rattle.sig_queue.specs.Tied.{Held, Foreign, Fresh}
 use Rattle.sig_queue.specs.Fetching.{all_of, journal_of, Standing, Emptying, Leaving}
 use Rattle.sig_queue.specs.Calls.{bare, taken_by, Finished}

@@ -1,5 +1,6 @@
 -- Each atomic step of the table is a step of the core.
-use Rattle.std.proofs.Common.{◌≡◌, ◌≢◌, ℕ, zero, suc, ◌+◌, ◌*◌, ◌%◌, ◌^◌, ◌<◌, ◌≤◌, ◌==◌, bit_or, subst, Bool, true, false, List, [], ◌∷◌, ◌++◌, length, get_or, set, sym, refl, ap, ◌∙◌, arith, eq-eqb, ne_eqb, append_assoc, inl, inr, ⊎_elim, Option, Some, None}
+use Rattle.std.proofs.Common.{◌≡◌, ◌≢◌, ℕ, zero, suc, ◌+◌, ◌*◌, ◌%◌, ◌^◌, ◌<◌, ◌≤◌, ◌==◌, bit_or, subst, Bool, true, false, List, [], ◌∷◌, ◌++◌, All, length, get_or, set, sym, refl, ap, ◌∙◌, arith, eq-eqb, ne_eqb, append_assoc, inl, inr, ⊎_elim, Option, Some, None}
+use Rattle.std.proofs.lemmas.List.Elements.{All-nil, All-cons}
 use mathlib.Core.Logic.{dite}
 use mathlib.Core.Option as maybe
 use mathlib.Core.Option.{none, some}
@@ -8,32 +9,37 @@ use lib.ListN.{get_elem?}
 use prog.Atomic.{either}
 use Rattle.atomic_table.specs.Table.{State, step, Act, keeps, takes, gives, stepped, carried_after, Valid, Allows, Splits, Joins, rest}
 use Rattle.atomic_table.proofs.Lists.{set_again, set_else}
-use Rattle.q_layout.specs.declared.Signal.{Signal}
-use Rattle.q_layout.specs.declared.Entry.TheVariants.{Direct}
-use Rattle.q_layout.specs.declared.Senders.{Senders}
-use Rattle.q_layout.specs.declared.Opening.{Opening}
-use Rattle.q_layout.specs.declared.Outer.{Outer}
-use Rattle.q_layout.specs.Sets.{has}
-use Rattle.q_layout.specs.Sent.{of, Prefix, AllWithin}
-use Rattle.q_layout.specs.Core.{some_refused}
-use Rattle.q_layout.proofs.Sending.{first_here, has_below}
-use Rattle.q_core.specs.declared.Slot.{Slot}
-use Rattle.q_core.specs.declared.Slot.TheVariants as slot
-use Rattle.q_core.specs.declared.Part.{Part}
-use Rattle.q_core.specs.declared.Knows.{Knows}
-use Rattle.q_layout.specs.Policies.{due_at, is_install, is_remove, IsPolicy}
-use Rattle.q_core.specs.Views.{number, IsSomebody, table_from, mode_word, flag, signals_of, holding, turned_away, after_put, after_same, with_bits, after_fetch, switched_on, switched_off, after_remove, saw, counted, gains, turned_away_at, saw_under, marked, given_back, loses, put_aside, took_part, passed, left_of, right_of, note_of, joined, spent}
-use Rattle.q_layout.specs.Outers.{added, emptied, removed, behind}
-use Rattle.q_core.specs.Core as core
-use Rattle.q_core.specs.Core.{Cell, QState, put, with_bit, buffer_of, opened_with, Idle, Begins, Unmasked, Reached, by_take_outer, by_refuse_outer, by_put, by_leave, by_take_bits, by_fetch, by_mode_on, by_mode_off, by_remove, by_load_mode, by_load_filled, by_take_buffer, by_refuse_buffer, by_set_back, by_load_under, by_set_bit, by_put_aside, by_leave_buffer, by_take_part, by_pass, by_split, by_note, by_join, opened}
-use Rattle.q_core.specs.Agree.{Apart, Among, HeldBy, HoldsAll, Turn, HasOuter, HasBuffer, Agrees}
-use Rattle.q_core.specs.Lists.{Lists}
-use Rattle.q_core.specs.Law.{Law}
-use Rattle.q_core.proofs.Putting.{put_here, put_else, get_table, at_table, same_table, mapped_table}
-use Rattle.q_core.proofs.Agreeing.{same_view, agrees}
-use Rattle.q_core.proofs.Listing.{lists}
-use Rattle.q_core.proofs.Lawful.{lawful, fetched_all, mod_small}
-use Rattle.sig_queue.specs.Tied.{apart, home, cell_home, words_of, homes_of, shown, Tied, Held, Foreign, tried_outer, tried_buffer, loaded_mode, loaded_under, loaded_filled, bit_set, bits_taken, bit_back, stored_on, stored_off, left_put, left_same, left_fetch, left_remove, left_aside, left_buffer, left_part, left_passed, looked_only}
+use Rattle.sig_kinds.specs.declared.signal.Signal.{Signal}
+use Rattle.sig_layout.specs.declared.entry.Entry.TheVariants.{Direct}
+use Rattle.sig_layout.specs.declared.setup.Setup.{Setup}
+use Rattle.sig_layout.specs.declared.item.Item.{Item}
+use Rattle.sig_layout.specs.declared.outer.Outer.{Outer}
+use Rattle.sig_layout.specs.Sets.{has}
+use Rattle.sig_layout.specs.Sent.{sender, putter, of, signals, Prefix, Within, AllWithin}
+use Rattle.sig_layout.specs.Core.{some_refused}
+use Rattle.sig_layout.proofs.Sending.{prefix_through, prefix_signals}
+use Rattle.sig_layout.proofs.Members.{has_below, least_has}
+use Rattle.sig_queue.specs.declared.slot.Slot.{Slot}
+use Rattle.sig_queue.specs.declared.slot.Slot.TheVariants as slot
+use Rattle.sig_layout.specs.declared.part.Part.{Part}
+use Rattle.sig_layout.specs.declared.knows.Knows.{Knows}
+use Rattle.sig_layout.specs.Policies.{IsPolicy}
+use Rattle.sig_layout.specs.Summaries.{due_at, is_install, is_remove}
+use Rattle.sig_layout.specs.Openings.{IsNext}
+use Rattle.sig_layout.specs.Views.{number, IsSomebody, table_from, mode_word, flag, filled_at, with_bit, signals_of, holding, turned_away, after_put, after_same, with_bits, after_fetch, switched_on, switched_off, after_remove, saw, counted, gains, turned_away_at, saw_under, marked, given_back, loses, put_aside, took_part, passed, left_of, right_of, note_of, joined, spent}
+use Rattle.sig_layout.specs.Outers.{added, emptied, removed, behind}
+use Rattle.sig_layout.specs.Core as core
+use Rattle.sig_layout.specs.Core.{Cell, QState, put, buffer_of, opened_with, Idle, Begins, Unmasked, Reached, by_take_outer, by_refuse_outer, by_put, by_leave, by_take_bits, by_fetch, by_mode_on, by_mode_off, by_remove, by_load_mode, by_load_filled, by_take_buffer, by_refuse_buffer, by_set_back, by_load_under, by_set_bit, by_put_aside, by_leave_buffer, by_take_part, by_pass, by_split, by_note, by_join, opened}
+use Rattle.sig_layout.specs.Agree.{Apart, Among, HeldBy, HoldsAll, Turn, HasOuter, HasBuffer, Agrees}
+use Rattle.sig_layout.specs.Lists.{Lists}
+use Rattle.sig_layout.specs.Law.{Law}
+use Rattle.sig_layout.proofs.Putting.{put_here, put_else, get_table, at_table, same_table, mapped_table}
+use Rattle.sig_layout.proofs.Agreeing.{same_view, agrees}
+use Rattle.sig_layout.proofs.Listing.{lists}
+use Rattle.sig_layout.proofs.Lawful.{lawful, fetched_all, mod_small}
+use Rattle.sig_queue.proofs.Taking.{took_carried}
+use Rattle.sig_layout.proofs.Carrying.{carried}
+use Rattle.sig_queue.specs.Tied.{HasTaken, FreshBut, TookCarried, apart, home, cell_home, words_of, homes_of, shown, Tied, Held, Foreign, tried_outer, tried_buffer, loaded_mode, loaded_under, loaded_filled, bit_set, bits_taken, bit_back, stored_on, stored_off, left_put, left_same, left_fetch, left_remove, left_aside, left_buffer, left_part, left_passed, looked_only}
 
 -- a list whose place is set to what was found there
 set_found : (xs : List ℕ) (i : ℕ) → set xs i (get_or xs i 0) ≡ xs
@@ -85,12 +91,10 @@ module _ (h : maybe.Option Slot) (cells : ℕ → Cell) (b : ℕ) (low : b < 64)
 home_out : (n k : ℕ) (x y : Slot) → n ≡ suc k → home n x ≡ home n y
 home_out n k x y e = ap (λ (z : ℕ). home z x) e ∙ sym (ap (λ (z : ℕ). home z y) e)
 
-through : (xs ys zs : List Signal) → Prefix xs ys → Prefix ys zs → Prefix xs zs
-through xs ys zs p q = (p.0 ++ q.0, sym (append_assoc xs p.0 q.0) ∙ (ap (λ (l : List Signal). l ++ q.0) p.1 ∙ q.1))
-
-all_through : (told : List (List Signal)) (ys zs : List Signal) → AllWithin told ys → ((s : ℕ) → Prefix (of s ys) (of s zs)) → AllWithin told zs
-all_through [] ys zs h p = tt
-all_through (xs ∷ more) ys zs h p = ((λ s. through (of s xs) (of s ys) (of s zs) (h.0 s) (p s)), all_through more ys zs h.1 p)
+-- all that was told is among what was put when the bits were taken, so of a sender of which all that is here, all that was told is
+all_taken_of : (told : List (List Item)) (base : List Item) (v : Knows) (s : ℕ) → AllWithin told base → HasTaken v s base → All (HasTaken v s) told
+all_taken_of [] base v s h t = All-nil (HasTaken v s)
+all_taken_of (xs ∷ more) base v s h t = All-cons (HasTaken v s) xs more (prefix_through _ _ _ (prefix_signals s xs base (h.0 s)) t) (all_taken_of more base v s h.1 t)
 
 -- who holds a turn that the seat doesn't hold is another, and its number is not one of this seat's
 pub foreign : (q : QState) → Lists q → (id : ℕ) (v : Knows) → get_elem? q.seats id ≡ some v → (word : ℕ) (holder : Option ℕ) (Has : Knows → Type 0) → Turn q.seats word holder Has → (Has v → ⊥) → word ≢ 0 → Foreign v word
@@ -99,10 +103,8 @@ foreign q law id v at word holder Has (inr h) idle n = let ok = law.each id v at
     let apart : h.by ≢ id = (λ e. idle (subst Has (same_view q.seats id h.by v h.view e at h.here) h.has)) in record {
       taken = n;
       other = λ s has_s is. let num : number h.view ≡ s = (let w = h.word_is in omega arith) in
-          let low : s < 256 = (let b = has_below v.senders.flags s has_s in let k = ok.short in omega arith) in
-          let found = first_here h.view.senders.flags 0 (let k = its.short in omega arith) (λ e. omega arith) in
-          let j : found.0 ≡ s = (let e = found.1 in omega arith) in
-          apart (sym (its.owns s (ap (λ (z : ℕ). get_or h.view.senders.flags z false) (sym j) ∙ found.2)) ∙ ok.owns s has_s);
+          let low : s < 256 = has_below v.senders s has_s in
+          apart (sym (its.owns s (ap (has h.view.senders) (sym num) ∙ least_has h.view.senders (λ e. omega arith))) ∙ ok.owns s has_s);
       not_role = λ role is. let num : number h.view ≡ 256 = (let w = h.word_is in omega arith) in
           apart (sym (its.reads (h.somebody num)) ∙ ok.reads role);
     }
@@ -129,51 +131,50 @@ heads p p' ps ps' e = ap (front p) e
 first_is : (p p' : Part) → p ∷ [] ≡ p' ∷ [] → p ≡ p'
 first_is p p' e = ap (front p) e
 
-module _ (z : Opening) where
+module _ (z : Setup) where
   -- what is asked of a step, at a table that shows a state of the core
   abbrev Steps : ℕ → Held → ℕ → (ℕ → ℕ) → (ℕ → Held → Type 0) → State Slot Knows → Type 0
   Steps id me i f told s = get_elem? s.views id ≡ some me.0 → (w : Knows) × (a : Act Slot) × Valid s.homes me.1 a × Tied z (stepped s i (f (get_or s.words i 0)) id me.1 w a) × told (get_or s.words i 0) (w, carried_after me.1 a)
 
-  pub same_opening : (q : QState) → Reached z q → q.opening ≡ z
-  same_opening _ opened = refl
-  same_opening _ (by_take_outer q i v can r) = same_opening q r
-  same_opening _ (by_refuse_outer q i v at r) = same_opening q r
-  same_opening _ (by_put q i v o x can r) = same_opening q r
-  same_opening _ (by_leave q i v o can r) = same_opening q r
-  same_opening _ (by_take_bits q i v o can r) = same_opening q r
-  same_opening _ (by_fetch q i v o can r) = same_opening q r
-  same_opening _ (by_mode_on q i v o can r) = same_opening q r
-  same_opening _ (by_mode_off q i v o can r) = same_opening q r
-  same_opening _ (by_remove q i v o can r) = same_opening q r
-  same_opening _ (by_load_mode q i v can r) = same_opening q r
-  same_opening _ (by_load_filled q i v at r) = same_opening q r
-  same_opening _ (by_take_buffer q i v c can r) = same_opening q r
-  same_opening _ (by_refuse_buffer q i v c at r) = same_opening q r
-  same_opening _ (by_set_back q i v c o can r) = same_opening q r
-  same_opening _ (by_load_under q i v p can r) = same_opening q r
-  same_opening _ (by_set_bit q i v p can r) = same_opening q r
-  same_opening _ (by_put_aside q i v p x can r) = same_opening q r
-  same_opening _ (by_leave_buffer q i v p ps can r) = same_opening q r
-  same_opening _ (by_take_part q i v p ps o can r) = same_opening q r
-  same_opening _ (by_pass q i v p ps o can r) = same_opening q r
-  same_opening _ (by_split q i v given role can r) = same_opening q r
-  same_opening _ (by_note q i v at r) = same_opening q r
-  same_opening _ (by_join q i v j w can r) = same_opening q r
+  pub same_setup : (q : QState) → Reached z q → q.setup ≡ z
+  same_setup _ opened = refl
+  same_setup _ (by_take_outer q i v can r) = same_setup q r
+  same_setup _ (by_refuse_outer q i v at r) = same_setup q r
+  same_setup _ (by_put q i v o x can r) = same_setup q r
+  same_setup _ (by_leave q i v o can r) = same_setup q r
+  same_setup _ (by_take_bits q i v o can r) = same_setup q r
+  same_setup _ (by_fetch q i v o can r) = same_setup q r
+  same_setup _ (by_mode_on q i v o can r) = same_setup q r
+  same_setup _ (by_mode_off q i v o can r) = same_setup q r
+  same_setup _ (by_remove q i v o can r) = same_setup q r
+  same_setup _ (by_load_mode q i v can r) = same_setup q r
+  same_setup _ (by_load_filled q i v at r) = same_setup q r
+  same_setup _ (by_take_buffer q i v c can r) = same_setup q r
+  same_setup _ (by_refuse_buffer q i v c at r) = same_setup q r
+  same_setup _ (by_set_back q i v c o can r) = same_setup q r
+  same_setup _ (by_load_under q i v p can r) = same_setup q r
+  same_setup _ (by_set_bit q i v p can r) = same_setup q r
+  same_setup _ (by_put_aside q i v p x can r) = same_setup q r
+  same_setup _ (by_leave_buffer q i v p ps can r) = same_setup q r
+  same_setup _ (by_take_part q i v p ps o can r) = same_setup q r
+  same_setup _ (by_pass q i v p ps o can r) = same_setup q r
+  same_setup _ (by_split q i v given role can r) = same_setup q r
+  same_setup _ (by_note q i v at r) = same_setup q r
+  same_setup _ (by_join q i v j w can r) = same_setup q r
 
   pub record Stands (q : QState) : Type 0 where
     pub reached : Reached z q
-    pub short : length z.senders.flags ≤ 256
     pub proper : IsPolicy z.policy
     pub agrees : Agrees q
     pub lists : Lists q
     pub law : Law q
 
-  stands : (q : QState) → Reached z q → length z.senders.flags ≤ 256 → IsPolicy z.policy → Stands q
-  stands q r short proper = record { reached = r; short = short; proper = proper; agrees = agrees z q r; lists = lists z short q r; law = lawful z short q r }
+  stands : (q : QState) → Reached z q → IsPolicy z.policy → Stands q
+  stands q r proper = record { reached = r; proper = proper; agrees = agrees z q r; lists = lists z q r; law = lawful z q r }
 
   -- so a step need be looked at only where the table shows a lawful state of the core
   allows : (slots id : ℕ) (me : Held) (i : ℕ) (f : ℕ → ℕ) (told : ℕ → Held → Type 0) → ((q : QState) → Stands q → Steps id me i f told (shown q)) → Allows (Tied z) slots id me i f told
-  allows slots id me i f told each s tied len at lt = subst (Steps id me i f told) (sym tied.is) (each tied.core (stands tied.core tied.reached tied.short tied.proper)) at
+  allows slots id me i f told each s tied len at lt = subst (Steps id me i f told) (sym tied.is) (each tied.core (stands tied.core tied.reached tied.proper)) at
 
   -- the same for a seat whose slots are x and others
   allows_with : (slots id : ℕ) (me : Held) (x : ℕ × Slot) (i : ℕ) (f : ℕ → ℕ) (told : Held → ℕ → Held → Type 0) → me.1 ≡ x ∷ rest me.1 → ((xs : List (ℕ × Slot)) (q : QState) → Stands q → Steps id (me.0, x ∷ xs) i f (told (me.0, x ∷ xs)) (shown q)) → Allows (Tied z) slots id me i f (told me)
@@ -192,7 +193,6 @@ module _ (z : Opening) where
           core = q';
           reached = by_take_outer q id v (record { at = at; free = free; idle = idle; somebody = somebody }) st.reached;
           is = λ k. record { words = T (word k) (mode_word q.mode) q.filled (table_from 0 64 (λ c. (q.cells c).word)); homes = homes_of q'; views = q'.seats };
-          short = st.short;
           proper = st.proper;
         },
         ((λ e. (q.outer, refl)), (λ n. absurd (n free))),
@@ -205,25 +205,23 @@ module _ (z : Opening) where
           core = q';
           reached = by_refuse_outer q id v at st.reached;
           is = λ k. record { words = T (word k) (mode_word q.mode) q.filled (table_from 0 64 (λ c. (q.cells c).word)); homes = homes_of q'; views = q'.seats };
-          short = st.short;
           proper = st.proper;
         },
         ((λ e. absurd (n e)), (λ _. (refl, foreign q st.lists id v at q.turn q.holder HasOuter st.agrees.turn (not_outer v idle) n))),
       )))
 
-  pub puts : (slots id : ℕ) (me : Held) (o : Outer) (x : Signal) → me.0.held ≡ Some o → me.0.fetching ≡ false → me.0.removing ≡ false → me.0.switched ≡ is_install (due_at z.policy (o.journal ++ Direct (some_refused me.0.refused) ∷ [])) → me.0.saw_off ≡ true → has me.0.senders x.from ≡ true
+  pub puts : (slots id : ℕ) (me : Held) (o : Outer) (x : Signal) → me.0.held ≡ Some o → me.0.fetching ≡ false → me.0.removing ≡ false → me.0.switched ≡ is_install (due_at z.policy (o.journal ++ Direct (some_refused me.0.refused) ∷ [])) → me.0.saw_off ≡ true → has me.0.senders x.from.0 ≡ true → IsNext z me.0.put x
       → me.1 ≡ (0, slot.Outer (added o x (some_refused me.0.refused) me.0.switched)) ∷ rest me.1
       → Allows (Tied z) slots id me 0 (λ _. 0) (λ _. left_put (step slots 0 0 0 none) me 0)
-  puts slots id me o x held nf nr due off from out = let v : Knows = me.0 in let o' : Outer = added o x (some_refused v.refused) v.switched in
+  puts slots id me o x held nf nr due off from next out = let v : Knows = me.0 in let o' : Outer = added o x (some_refused v.refused) v.switched in
       allows_with slots id me (0, slot.Outer o') 0 (λ _. 0) (λ m _. left_put (step slots 0 0 0 none) m 0) out (λ xs q st at. let q' : QState = core.leave_put q id v o x in (
         after_put v o',
         gives,
         tt,
         record {
           core = q';
-          reached = by_put q id v o x (record { at = at; held = held; fetching = nf; removing = nr; installs = due ∙ ap (λ (y : Opening). is_install (due_at y.policy (o.journal ++ Direct (some_refused v.refused) ∷ []))) (sym (same_opening q st.reached)); off = off; from = from }) st.reached;
+          reached = by_put q id v o x (record { at = at; held = held; fetching = nf; removing = nr; installs = due ∙ ap (λ (y : Setup). is_install (due_at y.policy (o.journal ++ Direct (some_refused v.refused) ∷ []))) (sym (same_setup q st.reached)); off = off; from = from; next = subst (λ (y : Setup). IsNext y v.put x) (sym (same_setup q st.reached)) next }) st.reached;
           is = refl;
-          short = st.short;
           proper = st.proper;
         },
         refl,
@@ -241,19 +239,20 @@ module _ (z : Opening) where
           core = q';
           reached = by_leave q id v o (record { at = at; held = held; removing = nr; switched = ns; unmasked = unmasked }) st.reached;
           is = λ k. record { words = words_of q'; homes = some (slot.Outer (sym value k)) ∷ table_from 0 64 (λ c. cell_home (q.cells c)); views = q'.seats };
-          short = st.short;
           proper = st.proper;
         },
         refl,
       ))
 
-  pub fetches : (slots id : ℕ) (me : Held) (o : Outer) (due : Bool) → me.0.held ≡ Some o → me.0.fetching ≡ true → me.0.removing ≡ false → me.0.switched ≡ false → Unmasked me.0 → me.0.role ≡ true → me.0.due ≡ false
+  pub fetches : (slots id : ℕ) (me : Held) (o : Outer) (due : Bool) (y : Setup) → y ≡ z → me.0.held ≡ Some o → me.0.fetching ≡ true → me.0.removing ≡ false → me.0.switched ≡ false → Unmasked me.0 → me.0.role ≡ true → me.0.due ≡ false
       → due ≡ is_remove (due_at z.policy (emptied o me.0.moved).journal) → me.1 ≡ (0, slot.Outer (emptied o me.0.moved)) ∷ rest me.1
-      → Allows (Tied z) slots id me 0 (λ _. 0) (λ _. left_fetch due (step slots 0 0 0 none) me 0)
-  fetches slots id me o due held f nr ns unmasked role not_due due_is out = let v : Knows = me.0 in let o' : Outer = emptied o v.moved in
-      allows_with slots id me (0, slot.Outer o') 0 (λ _. 0) (λ m _. left_fetch due (step slots 0 0 0 none) m 0) out (λ xs q st at. let q' : QState = core.leave_fetch q id v o in let doing = (st.agrees.each id v at).outer o held in let ok = st.lists.each id v at in
-      let same_due : core.makes_due q id v o ≡ due = ap (λ (y : Opening). is_remove (due_at y.policy o'.journal)) (same_opening q st.reached) ∙ sym due_is in
+      → Allows (Tied z) slots id me 0 (λ _. 0) (λ _. left_fetch y due (step slots 0 0 0 none) me 0)
+  fetches slots id me o due y same held f nr ns unmasked role not_due due_is out = let v : Knows = me.0 in let o' : Outer = emptied o v.moved in
+      allows_with slots id me (0, slot.Outer o') 0 (λ _. 0) (λ m _. left_fetch y due (step slots 0 0 0 none) m 0) out (λ xs q st at. let q' : QState = core.leave_fetch q id v o in let doing = (st.agrees.each id v at).outer o held in let ok = st.lists.each id v at in
+      let same_due : core.makes_due q id v o ≡ due = ap (λ (y : Setup). is_remove (due_at y.policy o'.journal)) (same_setup q st.reached) ∙ sym due_is in
       let all_taken : q.taken ++ q.outer.signals ≡ v.taken ++ signals_of v.held = ap (λ (l : List Signal). l ++ q.outer.signals) (sym (ok.took role)) ∙ ap (λ (l : List Signal). v.taken ++ l) (ap (λ (y : Outer). y.signals) doing.value ∙ sym (ap signals_of held)) in
+      let base_taken : (s : ℕ) → filled_at v.back (buffer_of s) ≡ false → HasTaken (after_fetch v due) s q.base = (λ s clear. subst (λ (l : List Signal). Prefix (of sender s (signals q.base)) (of sender s l)) all_taken
+          (fetched_all mod_small q st.law (doing.fetch ∙ f) (λ d low. doing.masks (doing.fetch ∙ f) d low ∙ unmasked d low) s (ap (λ (n : ℕ). filled_at n (buffer_of s)) (doing.given (doing.fetch ∙ f)) ∙ clear))) in
       let based = ok.based f in (
         after_fetch v due,
         gives,
@@ -262,16 +261,15 @@ module _ (z : Opening) where
           core = q';
           reached = by_fetch q id v o (record { at = at; held = held; fetching = f; removing = nr; switched = ns; unmasked = unmasked; role = role; not_due = not_due }) st.reached;
           is = λ k. record { words = words_of q'; homes = homes_of q'; views = set q.seats id (after_fetch v (sym same_due k)) };
-          short = st.short;
           proper = st.proper;
         },
         (
           refl,
-          (λ none_back. let base_taken : (s : ℕ) → Prefix (of s q.base) (of s (v.taken ++ signals_of v.held)) = (λ s. subst (λ (l : List Signal). Prefix (of s q.base) (of s l)) all_taken
-              (fetched_all mod_small q st.law (doing.fetch ∙ f) (λ d low. doing.masks (doing.fetch ∙ f) d low ∙ unmasked d low) (doing.given (doing.fetch ∙ f) ∙ none_back) s)) in record {
-                own = λ s. through (of s v.put) (of s q.base) (of s (v.taken ++ signals_of v.held)) (based.0 s) (base_taken s);
-                told = all_through v.told q.base (v.taken ++ signals_of v.held) based.1 base_taken;
-              }),
+          record {
+            own = λ s clear. prefix_through _ _ _ (prefix_signals s v.put q.base (based.0 s)) (base_taken s clear);
+            told = λ s clear. all_taken_of v.told q.base (after_fetch v due) s based.1 (base_taken s clear);
+          },
+          took_carried y q (same_setup q st.reached ∙ sym same) st.law (carried z q st.reached) (after_fetch v due) all_taken,
         ),
       ))
 
@@ -286,7 +284,6 @@ module _ (z : Opening) where
           core = q';
           reached = by_remove q id v o (record { at = at; held = held; fetching = nf; removing = r; switched = ns; role = role; is_due = is_due; whole = whole }) st.reached;
           is = refl;
-          short = st.short;
           proper = st.proper;
         },
         refl,
@@ -298,7 +295,7 @@ module _ (z : Opening) where
     with_bits v q.filled,
     keeps,
     tt,
-    record { core = q'; reached = by_take_bits q id v o (record { at = at; begins = begins }) st.reached; is = refl; short = st.short; proper = st.proper },
+    record { core = q'; reached = by_take_bits q id v o (record { at = at; begins = begins }) st.reached; is = refl; proper = st.proper },
     refl,
   ))
 
@@ -315,7 +312,6 @@ module _ (z : Opening) where
         homes = home q.turn (slot.Outer q.outer) ∷ same_put cell_home q.cells c x refl j;
         views = q'.seats;
       };
-      short = st.short;
       proper = st.proper;
     },
     refl,
@@ -334,7 +330,6 @@ module _ (z : Opening) where
         homes = home q.turn (slot.Outer q.outer) ∷ same_put cell_home q.cells c x refl j;
         views = q'.seats;
       };
-      short = st.short;
       proper = st.proper;
     },
     (λ p' one'. ap (λ (r : Part). let m : Held = (marked v r, me.1) in m) (first_is p p' (sym one ∙ one'))),
@@ -346,7 +341,7 @@ module _ (z : Opening) where
     saw v q.mode,
     keeps,
     tt,
-    record { core = q'; reached = by_load_mode q id v (record { at = at; idle = idle }) st.reached; is = refl; short = st.short; proper = st.proper },
+    record { core = q'; reached = by_load_mode q id v (record { at = at; idle = idle }) st.reached; is = refl; proper = st.proper },
     (q.mode, refl, refl),
   ))
 
@@ -363,7 +358,6 @@ module _ (z : Opening) where
         homes = home q.turn (slot.Outer q.outer) ∷ same_put cell_home q.cells c x refl j;
         views = q'.seats;
       };
-      short = st.short;
       proper = st.proper;
     },
     (λ p' one'. (q.mode, refl, ap (λ (r : Part). let m : Held = (saw_under v r q.mode, me.1) in m) (first_is p p' (sym one ∙ one')))),
@@ -374,7 +368,7 @@ module _ (z : Opening) where
     counted v q.filled,
     keeps,
     tt,
-    record { core = q'; reached = by_load_filled q id v at st.reached; is = refl; short = st.short; proper = st.proper },
+    record { core = q'; reached = by_load_filled q id v at st.reached; is = refl; proper = st.proper },
     refl,
   ))
 
@@ -383,7 +377,7 @@ module _ (z : Opening) where
     switched_on v,
     keeps,
     tt,
-    record { core = q'; reached = by_mode_on q id v o (record { at = at; begins = begins }) st.reached; is = refl; short = st.short; proper = st.proper },
+    record { core = q'; reached = by_mode_on q id v o (record { at = at; begins = begins }) st.reached; is = refl; proper = st.proper },
     refl,
   ))
 
@@ -392,7 +386,7 @@ module _ (z : Opening) where
     switched_off v,
     keeps,
     tt,
-    record { core = q'; reached = by_mode_off q id v o (record { at = at; begins = begins; blind = blind; role = role; is_due = is_due }) st.reached; is = refl; short = st.short; proper = st.proper },
+    record { core = q'; reached = by_mode_off q id v o (record { at = at; begins = begins; blind = blind; role = role; is_due = is_due }) st.reached; is = refl; proper = st.proper },
     refl,
   ))
 
@@ -415,7 +409,6 @@ module _ (z : Opening) where
             homes = homes_put (home q.turn (slot.Outer q.outer)) q.cells b low (b + 1) y none refl refl k;
             views = q'.seats;
           };
-          short = st.short;
           proper = st.proper;
         },
         (λ c e. let same : b ≡ c = omega arith in ((λ _. (x.list, ap (λ (r : ℕ). let m : Held = (gains v r x.list, (r + 1, slot.List x.list) ∷ me.1) in m) same)), (λ n. absurd (n free)))),
@@ -428,7 +421,6 @@ module _ (z : Opening) where
           core = q';
           reached = by_refuse_buffer q id v b at st.reached;
           is = λ k. record { words = (ap (λ (m : ℕ). set (words_of q) i m) new ∙ set_found (words_of q) i) k; homes = homes_of q; views = q'.seats };
-          short = st.short;
           proper = st.proper;
         },
         (λ c e. let same : b ≡ c = omega arith in (
@@ -459,8 +451,7 @@ module _ (z : Opening) where
               homes = homes_put (home q.turn (slot.Outer q.outer)) q.cells p.number low (p.number + 1) y (some (slot.List p.list)) refl (ap (λ (l : List Signal). some (slot.List l)) (sym h.list)) k;
               views = q'.seats;
             };
-            short = st.short;
-            proper = st.proper;
+              proper = st.proper;
           },
           refl,
         ))
@@ -486,8 +477,7 @@ module _ (z : Opening) where
               homes = (homes_put (home q.turn (slot.Outer q.outer)) q.cells p.number low (p.number + 1) y (some (slot.List [])) refl refl ∙ ap (λ (h : maybe.Option Slot). h ∷ table_from 0 64 (λ c. cell_home (put q.cells p.number y c))) (outer_moves q st o held at (behind o p.list))) k;
               views = q'.seats;
             };
-            short = st.short;
-            proper = st.proper;
+              proper = st.proper;
           },
           (λ p' ps' o' first' held'. let same = same_first p' ps' o o' held first' held' in λ k. (took_part v (same.1 k) (same.0 k), xs)),
         ))
@@ -506,15 +496,14 @@ module _ (z : Opening) where
               homes = (homes_put (home q.turn (slot.Outer q.outer)) q.cells p.number low (p.number + 1) y (some (slot.List [])) refl refl ∙ ap (λ (h : maybe.Option Slot). h ∷ table_from 0 64 (λ c. cell_home (put q.cells p.number y c))) (outer_moves q st o held at (behind o p.list))) k;
               views = q'.seats;
             };
-            short = st.short;
-            proper = st.proper;
+              proper = st.proper;
           },
           (λ p' ps' o' first' held'. let same = same_first p' ps' o o' held first' held' in λ k. (passed v (same.1 k) (same.0 k), xs)),
         ))
 
-  pub puts_aside : (slots id i : ℕ) (me : Held) (p : Part) (x : Signal) → p.number < 64 → i ≡ 8 * (p.number + 3) → me.0.parts ≡ p ∷ [] → me.0.held ≡ None → p.sure ≡ true → p.set ≡ true → me.0.saw_off ≡ false → has me.0.senders x.from ≡ true → buffer_of x.from ≡ p.number
+  pub puts_aside : (slots id i : ℕ) (me : Held) (p : Part) (x : Signal) → p.number < 64 → i ≡ 8 * (p.number + 3) → me.0.parts ≡ p ∷ [] → me.0.held ≡ None → p.sure ≡ true → p.set ≡ true → me.0.saw_off ≡ false → has me.0.senders x.from.0 ≡ true → IsNext z me.0.put x → buffer_of x.from.0 ≡ p.number
       → me.1 ≡ (p.number + 1, slot.List (p.list ++ x ∷ [])) ∷ rest me.1 → Allows (Tied z) slots id me i (λ _. 0) (λ _. left_aside (step slots i 0 0 none) me 0)
-  puts_aside slots id i me p x low is one idle sure is_set blind from here out = let v : Knows = me.0 in allows_with slots id me (p.number + 1, slot.List (p.list ++ x ∷ [])) i (λ _. 0) (λ m _. left_aside (step slots i 0 0 none) m 0) out (λ xs q st at. let q' : QState = core.buffer_put q id v p x in
+  puts_aside slots id i me p x low is one idle sure is_set blind from next here out = let v : Knows = me.0 in allows_with slots id me (p.number + 1, slot.List (p.list ++ x ∷ [])) i (λ _. 0) (λ m _. left_aside (step slots i 0 0 none) m 0) out (λ xs q st at. let q' : QState = core.buffer_put q id v p x in
       let h = held_part slots id i me p [] low is one q st.agrees at in
       let y : Cell = record (q.cells p.number) { list = (q.cells p.number).list ++ x ∷ []; word = 0; holder = None; set = false; sure = false } in (
         put_aside v (p.list ++ x ∷ []),
@@ -522,26 +511,24 @@ module _ (z : Opening) where
         tt,
         record {
           core = q';
-          reached = by_put_aside q id v p x (record { at = at; one = one; idle = idle; sure = sure; is_set = is_set; blind = blind; from = from; home = here }) st.reached;
+          reached = by_put_aside q id v p x (record { at = at; one = one; idle = idle; sure = sure; is_set = is_set; blind = blind; from = from; next = subst (λ (y : Setup). IsNext y v.put x) (sym (same_setup q st.reached)) next; home = here }) st.reached;
           is = λ k. record {
             words = words_put q.turn (mode_word q.mode) q.filled q.cells p.number low i y is k;
             homes = homes_put (home q.turn (slot.Outer q.outer)) q.cells p.number low (p.number + 1) y (some (slot.List (p.list ++ x ∷ []))) refl (ap (λ (l : List Signal). some (slot.List (l ++ x ∷ []))) (sym h.list)) k;
             views = q'.seats;
           };
-          short = st.short;
           proper = st.proper;
         },
         refl,
       ))
 
   -- seats
-  pub splits : (id : ℕ) (v : Knows) (given : Senders) (role : Bool) → Idle v → length given.flags ≡ 256 → ((s : ℕ) → has given s ≡ true → has v.senders s ≡ true) → (role ≡ true → v.role ≡ true)
+  pub splits : (id : ℕ) (v : Knows) (given : List ℕ) (role : Bool) → Idle v → ((s : ℕ) → has given s ≡ true → has v.senders s ≡ true) → (role ≡ true → v.role ≡ true)
       → Splits (Tied z) id v (left_of v given role) (right_of v given role)
-  splits id v given role idle len some_of role_of s tied at = let q : QState = tied.core in let e = tied.is in record {
+  splits id v given role idle some_of role_of s tied at = let q : QState = tied.core in let e = tied.is in record {
     core = core.split q id v given role;
-    reached = by_split q id v given role (record { at = ap (λ (y : State Slot Knows). get_elem? y.views id) (sym e) ∙ at; idle = idle; sized = len; some_of = some_of; role_of = role_of }) tied.reached;
+    reached = by_split q id v given role (record { at = ap (λ (y : State Slot Knows). get_elem? y.views id) (sym e) ∙ at; idle = idle; some_of = some_of; role_of = role_of }) tied.reached;
     is = λ k. record { words = (e k).words; homes = (e k).homes; views = set (e k).views id (left_of v given role) ++ right_of v given role ∷ [] };
-    short = tied.short;
     proper = tied.proper;
   }
 
@@ -550,7 +537,6 @@ module _ (z : Opening) where
     core = core.note q id v;
     reached = by_note q id v (ap (λ (y : State Slot Knows). get_elem? y.views id) (sym e) ∙ at) tied.reached;
     is = (λ k. record { words = s.words; homes = s.homes; views = set_again s.views id v at k ++ note_of v ∷ [] }) ∙ (λ k. record { words = (e k).words; homes = (e k).homes; views = (e k).views ++ note_of v ∷ [] });
-    short = tied.short;
     proper = tied.proper;
   }
 
@@ -559,7 +545,6 @@ module _ (z : Opening) where
     core = core.join q id v other w;
     reached = by_join q id v other w (record { at = ap (λ (y : State Slot Knows). get_elem? y.views id) (sym e) ∙ at; apart = apart; there = ap (λ (y : State Slot Knows). get_elem? y.views other) (sym e) ∙ (sym (set_else s.views id other (joined v w) apart) ∙ there); idle = idle; still = still }) tied.reached;
     is = λ k. record { words = (e k).words; homes = (e k).homes; views = set (set (e k).views id (joined v w)) other spent };
-    short = tied.short;
     proper = tied.proper;
   }
 
@@ -568,7 +553,7 @@ module _ (z : Opening) where
     v,
     keeps,
     tt,
-    record { core = q; reached = st.reached; is = λ k. record { words = words_of q; homes = homes_of q; views = set_again q.seats id v at k }; short = st.short; proper = st.proper },
+    record { core = q; reached = st.reached; is = λ k. record { words = words_of q; homes = homes_of q; views = set_again q.seats id v at k }; proper = st.proper },
     refl,
   ))
 

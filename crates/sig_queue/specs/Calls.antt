@@ -1,77 +1,61 @@
 -- What the calls of the queue say.
-use Rattle.std.specs.Prelude.{◌≡◌, ◌⊎◌, ℕ, ◌+◌, ◌%◌, Bool, true, false, List, [], ◌∷◌, ◌++◌, length, Option, Some, None}
+use Rattle.std.specs.Prelude.{◌≡◌, ◌⊎◌, ℕ, ◌+◌, Bool, true, false, List, [], ◌∷◌, ◌++◌, length, Option, Some, None}
 use Rattle.atomic_table.specs.Seated.{TableId}
-use Rattle.q_layout.specs.declared.Signal.{Signal}
-use Rattle.q_layout.specs.declared.Opening.{Opening}
-use Rattle.q_core.specs.declared.Knows.{Knows}
-use Rattle.sig_queue.specs.declared.queue.SigQueue.{SigQueue}
-use Rattle.sig_queue.specs.declared.queue.QSeat.{QSeat}
-use Rattle.sig_queue.specs.declared.queue.Via.{Via}
-use Rattle.sig_queue.specs.declared.queue.Via.TheVariants as via
-use Rattle.sig_queue.specs.declared.queue.Offer.{Offer}
-use Rattle.sig_queue.specs.declared.queue.Offer.TheVariants as offer
-use Rattle.sig_queue.specs.declared.offer.Aside.{Aside}
-use Rattle.sig_queue.specs.declared.offer.Aside.TheVariants as aside
-use Rattle.sig_queue.specs.declared.offer.Outward.{Outward}
-use Rattle.sig_queue.specs.declared.offer.Outward.TheVariants as outward
-use Rattle.sig_queue.specs.declared.queue.Sent.{Sent}
-use Rattle.sig_queue.specs.declared.queue.Sent.TheVariants as sent
-use Rattle.sig_queue.specs.declared.queue.Hold.{Hold}
-use Rattle.sig_queue.specs.declared.queue.Hold.TheVariants as hold
-use Rattle.q_core.specs.Views.{holding, turned_away}
-use Rattle.q_layout.specs.declared.Outer.{Outer}
-use Rattle.sig_queue.specs.declared.queue.Fetch.{Fetch}
-use Rattle.sig_queue.specs.declared.queue.Fetch.TheVariants as fetch
-use Rattle.sig_queue.specs.declared.fetch.Taken.{Taken}
-use Rattle.q_core.specs.Views.{filled_at, signals_of}
-use Rattle.q_core.specs.declared.Part.{Part}
+use Rattle.sig_kinds.specs.declared.signal.Signal.{Signal}
+use Rattle.sig_layout.specs.declared.setup.Setup.{Setup}
+use Rattle.sig_layout.specs.declared.knows.Knows.{Knows}
+use Rattle.sig_layout.specs.declared.via.Via.{Via}
+use Rattle.sig_layout.specs.declared.via.Via.TheVariants as via
+use Rattle.sig_queue.specs.declared.offer.Offer.{Offer}
+use Rattle.sig_queue.specs.declared.offer.Offer.TheVariants as offer
+use Rattle.sig_queue.specs.declared.aside.Aside.{Aside}
+use Rattle.sig_queue.specs.declared.aside.Aside.TheVariants as aside
+use Rattle.sig_queue.specs.declared.outward.Outward.{Outward}
+use Rattle.sig_queue.specs.declared.outward.Outward.TheVariants as outward
+use Rattle.sig_queue.specs.declared.sent.Sent.{Sent}
+use Rattle.sig_queue.specs.declared.sent.Sent.TheVariants as sent
+use Rattle.sig_queue.specs.declared.hold.Hold.{Hold}
+use Rattle.sig_queue.specs.declared.hold.Hold.TheVariants as hold
+use Rattle.sig_layout.specs.Views.{holding, turned_away}
+use Rattle.sig_layout.specs.declared.outer.Outer.{Outer}
+use Rattle.sig_queue.specs.declared.fetch.Fetch.{Fetch}
+use Rattle.sig_queue.specs.declared.fetch.Fetch.TheVariants as fetch
+use Rattle.sig_queue.specs.declared.taken.Taken.{Taken}
+use Rattle.sig_layout.specs.Views.{filled_at, signals_of, buffer_in}
+use Rattle.sig_layout.specs.Core.{buffer_of}
+use Rattle.sig_layout.specs.declared.part.Part.{Part}
 use Rattle.sig_queue.specs.Fetching.{skips, all_of, numbers, picked, same_number}
-use Rattle.sig_queue.specs.Tied.{Foreign, Fresh}
-use Rattle.sig_queue.specs.Parts.{looked}
-
--- what a seat knows
-abbrev pub knows : QSeat → Knows
-knows seat = seat.place.me.0
-
--- which queue a seat is of, and which a queue is
-abbrev pub seat_queue : QSeat → TableId
-seat_queue seat = seat.place.table_id
-
-abbrev pub queue_id : SigQueue → TableId
-queue_id queue = queue.table.shared.table_id
-
--- what the queue was opened with
-abbrev pub opening_of : SigQueue → Opening
-opening_of queue = queue.opening
+use Rattle.sig_queue.specs.Tied.{Foreign, FreshBut, TookCarried}
+use Rattle.sig_queue.specs.Parts.{item, looked}
 
 -- under the turn of a buffer
 abbrev pub Under : Signal → Knows → Aside → Knows → Type 0
 Under x v (aside.Off y) w = (y ≡ x) × (w ≡ record (looked v (false ∷ [])) { saw_off = true; parts = [] })
-Under x v aside.Put w = w ≡ record (looked v (true ∷ [])) { saw_off = false; parts = []; put = v.put ++ x ∷ [] }
+Under x v aside.Put w = w ≡ record (looked v (true ∷ [])) { saw_off = false; parts = []; put = v.put ++ item (via.Buffer (buffer_in v.parts)) x ∷ [] }
 Under x v (aside.Busy y n) w = ⊥
 Under x v (aside.Memory y) w = (y ≡ x) × (w ≡ record (looked v (true ∷ [])) { saw_off = false; parts = [] })
 
 -- an offer to buffer b. It was off only where the last load of the mode gave 0, and put only where it gave 1
 abbrev pub OfferedAside : ℕ → Signal → Knows → Aside → Knows → Type 0
 OfferedAside b x v (aside.Off y) w = (y ≡ x) × ((bs : List Bool) × (w ≡ record (looked v (bs ++ false ∷ [])) { saw_off = true }))
-OfferedAside b x v aside.Put w = (bs : List Bool) × (w ≡ record (looked v (bs ++ true ∷ [])) { put = v.put ++ x ∷ [] })
+OfferedAside b x v aside.Put w = (bs : List Bool) × (w ≡ record (looked v (bs ++ true ∷ [])) { put = v.put ++ item (via.Buffer b) x ∷ [] })
 OfferedAside b x v (aside.Busy y n) w = (y ≡ x) × ((bs : List Bool) × (w ≡ record (looked v bs) { refusals = v.refusals ++ (b + 3, n) ∷ [] })) × Foreign v n
 OfferedAside b x v (aside.Memory y) w = (y ≡ x) × ((bs : List Bool) × (w ≡ looked v bs))
 
 -- an offer to the outer list
 abbrev pub OfferedOut : Signal → Knows → Outward → Knows → Type 0
-OfferedOut x v outward.Put w = w ≡ record v { saw_off = false; put = v.put ++ x ∷ []; refused = 0 }
+OfferedOut x v outward.Put w = w ≡ record v { saw_off = false; put = v.put ++ item via.Outer x ∷ []; refused = 0 }
 OfferedOut x v (outward.Busy y n) w = (y ≡ x) × (w ≡ record v { saw_off = false; refused = v.refused + 1; refusals = v.refusals ++ (0, n) ∷ [] }) × Foreign v n
 OfferedOut x v (outward.Memory y) w = (y ≡ x) × (w ≡ record v { saw_off = false })
 
 -- the way of a put: to the outer list only where the last load of the mode in this call gave 0, and to the sender's buffer only where it gave 1
 abbrev pub PutBy : Signal → Knows → Via → Knows → Type 0
-PutBy x v via.Outer w = (bs : List Bool) × (w ≡ record (looked v (bs ++ false ∷ [])) { put = v.put ++ x ∷ []; refused = 0 })
-PutBy x v (via.Buffer b) w = (b ≡ x.from % 64) × ((bs : List Bool) × (w ≡ record (looked v (bs ++ true ∷ [])) { put = v.put ++ x ∷ [] }))
+PutBy x v via.Outer w = (bs : List Bool) × (w ≡ record (looked v (bs ++ false ∷ [])) { put = v.put ++ item via.Outer x ∷ []; refused = 0 })
+PutBy x v (via.Buffer b) w = (b ≡ buffer_of x.from.0) × ((bs : List Bool) × (w ≡ record (looked v (bs ++ true ∷ [])) { put = v.put ++ item (via.Buffer b) x ∷ [] }))
 
 -- the one exchange that was refused: on the outer turn, or on the turn of the sender's buffer
 abbrev pub RefusedOne : Signal → Knows → ℕ → Knows → Type 0
-RefusedOne x v n w = (bs : List Bool) × ((w ≡ record (looked v bs) { refused = v.refused + 1; refusals = v.refusals ++ (0, n) ∷ [] }) ⊎ (w ≡ record (looked v bs) { refusals = v.refusals ++ (x.from % 64 + 3, n) ∷ [] }))
+RefusedOne x v n w = (bs : List Bool) × ((w ≡ record (looked v bs) { refused = v.refused + 1; refusals = v.refusals ++ (0, n) ∷ [] }) ⊎ (w ≡ record (looked v bs) { refusals = v.refusals ++ (buffer_of x.from.0 + 3, n) ∷ [] }))
 
 abbrev pub Offered : Signal → Knows → Offer → Knows → Type 0
 Offered x v (offer.Put way) w = PutBy x v way w
@@ -83,15 +67,15 @@ abbrev pub taken_by : Knows → List Signal
 taken_by u = signals_of u.held ++ all_of u.parts
 
 abbrev pub bare : Knows → Knows
-bare u = record u { held = None; fetching = false; mask = []; back = false; moved = 0; parts = [] }
+bare u = record u { held = None; fetching = false; mask = []; back = 0; moved = 0; parts = [] }
 
-abbrev pub Finished : Knows → Taken → Knows → Type 0
-Finished u t w = (w ≡ record (bare u) { taken = u.taken ++ taken_by u; fetches = u.fetches + 1; due = t.due }) × (u.back ≡ false → Fresh w)
+abbrev pub Finished : Setup → Knows → Taken → Knows → Type 0
+Finished z u t w = (w ≡ record (bare u) { taken = u.taken ++ taken_by u; fetches = u.fetches + 1; due = t.due }) × FreshBut u.back w × TookCarried z w
 
 -- a fetch that found its buffers takes all, or leaves all as it was
-abbrev pub Settled : List Signal → List Signal → Knows → Option Taken → Knows → Type 0
-Settled before now u (Some t) w = (now ≡ before ++ taken_by u) × (t.count ≡ length (taken_by u)) × Finished u t w
-Settled before now u None w = (now ≡ before) × (w ≡ record (bare u) { saw_off = false })
+abbrev pub Settled : Setup → List Signal → List Signal → Knows → Option Taken → Knows → Type 0
+Settled z before now u (Some t) w = (now ≡ before ++ taken_by u) × (t.count ≡ length (taken_by u)) × Finished z u t w
+Settled z before now u None w = (now ≡ before) × (w ≡ record (bare u) { saw_off = false })
 
 -- first the outer list, and then the lists of some buffers, by ascending number
 pub record InOrder (new : List Signal) : Type 0 where
@@ -101,29 +85,29 @@ pub record InOrder (new : List Signal) : Type 0 where
   pub is : new ≡ outer ++ all_of parts
   pub ascending : numbers parts ≡ picked same_number (filled_at held) 0 64
 
-abbrev pub FetchedAs : List Signal → List Signal → Knows → ℕ → Bool → ℕ → Knows → Type 0
-FetchedAs before now v count due skipped w = (new : List Signal) × (values : ℕ → ℕ) × (now ≡ before ++ new) × (count ≡ length new)
+abbrev pub FetchedAs : Setup → List Signal → List Signal → Knows → ℕ → Bool → ℕ → Knows → Type 0
+FetchedAs z before now v count due skipped w = (new : List Signal) × (values : ℕ → ℕ) × (now ≡ before ++ new) × (count ≡ length new)
     × (w ≡ record v { held = None; taken = v.taken ++ new; fetches = v.fetches + 1; due = due; refusals = v.refusals ++ skips values skipped 64 })
-    × ((c : ℕ) → filled_at skipped c ≡ true → Foreign v (values c)) × (skipped ≡ 0 → Fresh w) × InOrder new
+    × ((c : ℕ) → filled_at skipped c ≡ true → Foreign v (values c)) × FreshBut skipped w × TookCarried z w × InOrder new
 
 abbrev pub Left : List Signal → List Signal → Knows → Knows → Type 0
 Left before now v w = (now ≡ before) × ((more : List (ℕ × ℕ)) × (w ≡ record v { held = None; refusals = v.refusals ++ more }))
 
 -- under the outer turn
-abbrev pub FetchedHeld : List Signal → List Signal → Knows → Fetch → Knows → Type 0
-FetchedHeld before now v (fetch.Took count due skipped) w = FetchedAs before now v count due skipped w
-FetchedHeld before now v (fetch.Busy n) w = ⊥
-FetchedHeld before now v fetch.Memory w = Left before now v w
+abbrev pub FetchedHeld : Setup → List Signal → List Signal → Knows → Fetch → Knows → Type 0
+FetchedHeld z before now v (fetch.Took count due skipped) w = FetchedAs z before now v count due skipped w
+FetchedHeld z before now v (fetch.Busy n) w = ⊥
+FetchedHeld z before now v fetch.Memory w = Left before now v w
 
--- the signals that came into the caller's list are those that the seat took. The refusals are as before, and then one for each bit of `skipped`, by ascending number. Where nothing was skipped, all that the seat put and was told of was taken
-abbrev pub Fetched : List Signal → List Signal → Knows → Fetch → Knows → Type 0
-Fetched before now v (fetch.Took count due skipped) w = FetchedAs before now v count due skipped w
-Fetched before now v (fetch.Busy n) w = (now ≡ before) × (w ≡ record v { refused = v.refused + 1; refusals = v.refusals ++ (0, n) ∷ [] }) × Foreign v n
-Fetched before now v fetch.Memory w = Left before now v w
+-- The signals that came into the caller's list are those that the seat took. The refusals are as before, and then one for each bit of `skipped`, by ascending number. All that the seat put and was told of was taken, but of senders whose buffers are in `skipped`
+abbrev pub Fetched : Setup → List Signal → List Signal → Knows → Fetch → Knows → Type 0
+Fetched z before now v (fetch.Took count due skipped) w = FetchedAs z before now v count due skipped w
+Fetched z before now v (fetch.Busy n) w = (now ≡ before) × (w ≡ record v { refused = v.refused + 1; refusals = v.refusals ++ (0, n) ∷ [] }) × Foreign v n
+Fetched z before now v fetch.Memory w = Left before now v w
 
 abbrev pub Holds : Knows → TableId → Hold → Type 0
-Holds v z (hold.Held h) = (h.place.table_id ≡ z) × ((o : Outer) × (h.place.me.0 ≡ holding v o))
-Holds v z (hold.Busy seat n) = (seat_queue seat ≡ z) × (knows seat ≡ turned_away v n) × Foreign v n
+Holds v z (hold.Held h) = (h.queue ≡ z) × ((o : Outer) × (h.knows ≡ holding v o))
+Holds v z (hold.Busy seat n) = (seat.queue ≡ z) × (seat.knows ≡ turned_away v n) × Foreign v n
 
 -- the seat was refused some times, and loaded the mode some times
 abbrev pub refused_as : Knows → List Bool → Knows → Knows
@@ -134,8 +118,8 @@ pub record Tried (v w : Knows) : Type 0 where
   pub is : w ≡ refused_as v loads w
 
 abbrev pub SentBy : Signal → Knows → Via → Knows → Type 0
-SentBy x v via.Outer w = (bs : List Bool) × (w ≡ record (looked v (bs ++ false ∷ [])) { put = v.put ++ x ∷ []; refused = 0; refusals = w.refusals })
-SentBy x v (via.Buffer b) w = (b ≡ x.from % 64) × ((bs : List Bool) × (w ≡ record (looked v (bs ++ true ∷ [])) { put = v.put ++ x ∷ []; refused = w.refused; refusals = w.refusals }))
+SentBy x v via.Outer w = (bs : List Bool) × (w ≡ record (looked v (bs ++ false ∷ [])) { put = v.put ++ item via.Outer x ∷ []; refused = 0; refusals = w.refusals })
+SentBy x v (via.Buffer b) w = (b ≡ buffer_of x.from.0) × ((bs : List Bool) × (w ≡ record (looked v (bs ++ true ∷ [])) { put = v.put ++ item (via.Buffer b) x ∷ []; refused = w.refused; refusals = w.refusals }))
 
 abbrev pub SentAs : Signal → Knows → Sent → Knows → Type 0
 SentAs x v (sent.Put way) w = SentBy x v way w

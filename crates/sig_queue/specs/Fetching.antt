@@ -1,14 +1,14 @@
 -- What a seat has while it fetches many buffers at once.
 use Rattle.std.specs.Prelude.{◌≡◌, ℕ, zero, suc, ◌+◌, ◌<◌, ◌≤◌, Bool, true, false, if◌then◌else◌, List, [], ◌∷◌, ◌++◌, length, Option, Some, None, IfSome}
-use Rattle.q_layout.specs.declared.Signal.{Signal}
-use Rattle.q_layout.specs.declared.Entry.{Entry}
-use Rattle.q_layout.specs.declared.Outer.{Outer}
-use Rattle.q_core.specs.declared.Slot.{Slot}
-use Rattle.q_core.specs.declared.Slot.TheVariants as slot
-use Rattle.q_core.specs.declared.Part.{Part}
-use Rattle.q_core.specs.declared.Knows.{Knows}
-use Rattle.q_core.specs.Views.{filled_at, flag, signals_of}
-use Rattle.sig_queue.specs.declared.fetch.Found.{Found}
+use Rattle.sig_kinds.specs.declared.signal.Signal.{Signal}
+use Rattle.sig_layout.specs.declared.entry.Entry.{Entry}
+use Rattle.sig_layout.specs.declared.outer.Outer.{Outer}
+use Rattle.sig_queue.specs.declared.slot.Slot.{Slot}
+use Rattle.sig_queue.specs.declared.slot.Slot.TheVariants as slot
+use Rattle.sig_layout.specs.declared.part.Part.{Part}
+use Rattle.sig_layout.specs.declared.knows.Knows.{Knows}
+use Rattle.sig_layout.specs.Views.{filled_at, flag, signals_of}
+use Rattle.sig_queue.specs.declared.found.Found.{Found}
 use Rattle.sig_queue.specs.Tied.{Held, Foreign}
 
 -- f c for each c from k on, n of them, that p holds of
@@ -55,7 +55,7 @@ pub record Finding (v : Knows) (n k : ℕ) (me : Held) (z : Found) : Type 0 wher
   pub count : z.count ≡ length me.0.parts
   pub to_come : (c : ℕ) → c < 64 → k ≤ c → flag me.0.mask c ≡ filled_at n c
   pub kept : (c : ℕ) → c < k → flag me.0.mask c ≡ filled_at z.held c
-  pub back : z.skipped ≡ 0 → me.0.back ≡ false
+  pub back : me.0.back ≡ z.skipped
   pub values : ℕ → ℕ
   pub refusals : me.0.refusals ≡ v.refusals ++ skips values z.skipped k
   pub others : (c : ℕ) → filled_at z.skipped c ≡ true → Foreign v (values c)

@@ -1,9 +1,12 @@
 -- The buffer that a seat took first, and the outer value that it holds.
 use Rattle.std.specs.Prelude.{◌≡◌, ℕ, Bool, List, [], ◌∷◌, ◌++◌, Option, Some, None}
-use Rattle.q_layout.specs.declared.Outer.{Outer}
-use Rattle.q_core.specs.declared.Part.{Part}
-use Rattle.q_core.specs.declared.Knows.{Knows}
-use Rattle.q_core.specs.Views.{part, tail, mode_word}
+use Rattle.sig_kinds.specs.declared.signal.Signal.{Signal}
+use Rattle.sig_layout.specs.declared.via.Via.{Via}
+use Rattle.sig_layout.specs.declared.item.Item.{Item}
+use Rattle.sig_layout.specs.declared.outer.Outer.{Outer}
+use Rattle.sig_layout.specs.declared.part.Part.{Part}
+use Rattle.sig_layout.specs.declared.knows.Knows.{Knows}
+use Rattle.sig_layout.specs.Views.{part, tail, mode_word}
 
 abbrev pub first_part : List Part → Part
 first_part [] = part 0 []
@@ -19,6 +22,10 @@ IsOne ps b = (ps ≡ first_part ps ∷ []) × ((first_part ps).number ≡ b)
 
 abbrev pub IsFirst : List Part → ℕ → Type 0
 IsFirst ps b = (ps ≡ first_part ps ∷ tail ps) × ((first_part ps).number ≡ b)
+
+-- a signal with the way by which it was put
+abbrev pub item : Via → Signal → Item
+item way x = record { signal = x; via = way }
 
 -- loads of the mode
 abbrev pub mode_loads : List Bool → List (ℕ × ℕ)

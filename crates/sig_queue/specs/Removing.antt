@@ -1,8 +1,8 @@
 -- What a seat has while it removes the buffers.
 use Rattle.std.specs.Prelude.{◌≡◌, ℕ, ◌+◌, ◌≤◌, List, [], ◌∷◌, Some}
-use Rattle.q_layout.specs.declared.Signal.{Signal}
-use Rattle.q_layout.specs.Bags.{Roomy}
-use Rattle.q_core.specs.declared.Knows.{Knows}
+use Rattle.sig_kinds.specs.declared.signal.Signal.{Signal}
+use Rattle.sig_layout.specs.Rooms.{Roomy}
+use Rattle.sig_layout.specs.declared.knows.Knows.{Knows}
 use Rattle.sig_queue.specs.Tied.{Held}
 use Rattle.sig_queue.specs.Parts.{held_or}
 use Rattle.sig_queue.specs.Fetching.{outer_out}

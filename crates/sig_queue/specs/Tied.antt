@@ -1,20 +1,23 @@
 -- The table as threads see it is a state of the core.
-use Rattle.std.specs.Prelude.{◌≡◌, ◌≢◌, ℕ, zero, suc, ◌+◌, ◌*◌, ◌≤◌, Bool, true, false, List, [], ◌∷◌, length, Some}
+use Rattle.std.specs.Prelude.{◌≡◌, ◌≢◌, ℕ, zero, suc, ◌+◌, ◌*◌, ◌≤◌, Bool, true, false, List, [], ◌∷◌, All, Some}
 use mathlib.Core.Option as maybe
 use mathlib.Core.Option.{none, some}
 use Rattle.atomic_table.specs.Table.{State, Me, Step, rest}
-use Rattle.q_layout.specs.declared.Signal.{Signal}
-use Rattle.q_layout.specs.declared.Opening.{Opening}
-use Rattle.q_layout.specs.declared.Outer.{Outer}
-use Rattle.q_layout.specs.Policies.{IsPolicy}
-use Rattle.q_layout.specs.Sets.{has}
-use Rattle.q_layout.specs.Sent.{of, Prefix, AllWithin}
-use Rattle.q_core.specs.declared.Slot.{Slot}
-use Rattle.q_core.specs.declared.Slot.TheVariants as slot
-use Rattle.q_core.specs.declared.Part.{Part}
-use Rattle.q_core.specs.declared.Knows.{Knows}
-use Rattle.q_core.specs.Views.{table_from, mode_word, holding, turned_away, after_put, after_same, with_bits, after_fetch, switched_on, switched_off, after_remove, saw, counted, gains, turned_away_at, saw_under, marked, given_back, loses, put_aside, took_part, passed}
-use Rattle.q_core.specs.Core.{Cell, QState, Reached}
+use Rattle.sig_kinds.specs.declared.signal.Signal.{Signal}
+use Rattle.sig_layout.specs.declared.setup.Setup.{Setup}
+use Rattle.sig_layout.specs.declared.outer.Outer.{Outer}
+use Rattle.sig_layout.specs.declared.item.Item.{Item}
+use Rattle.sig_layout.specs.declared.policy.Policy.TheVariants.{Never}
+use Rattle.sig_layout.specs.Policies.{IsPolicy}
+use Rattle.sig_layout.specs.Openings.{IsCarried, IsCounted}
+use Rattle.sig_layout.specs.Sets.{has}
+use Rattle.sig_layout.specs.Sent.{sender, putter, of, signals, Prefix}
+use Rattle.sig_queue.specs.declared.slot.Slot.{Slot}
+use Rattle.sig_queue.specs.declared.slot.Slot.TheVariants as slot
+use Rattle.sig_layout.specs.declared.part.Part.{Part}
+use Rattle.sig_layout.specs.declared.knows.Knows.{Knows}
+use Rattle.sig_layout.specs.Views.{table_from, filled_at, mode_word, holding, turned_away, after_put, after_same, with_bits, after_fetch, switched_on, switched_off, after_remove, saw, counted, gains, turned_away_at, saw_under, marked, given_back, loses, put_aside, took_part, passed}
+use Rattle.sig_layout.specs.Core.{Cell, QState, Reached, buffer_of}
 
 -- a value is at home where its turn is free
 abbrev pub home : ℕ → Slot → maybe.Option Slot
@@ -40,11 +43,10 @@ abbrev pub shown : QState → State Slot Knows
 shown q = record { words = words_of q; homes = homes_of q; views = q.seats }
 
 -- The rule of the table: it shows a state that core steps reach from the opening
-pub record Tied (z : Opening) (s : State Slot Knows) : Type 0 where
+pub record Tied (z : Setup) (s : State Slot Knows) : Type 0 where
   pub core : QState
   pub reached : Reached z core
   pub is : s ≡ shown core
-  pub short : length z.senders.flags ≤ 256
   pub proper : IsPolicy z.policy
 
 abbrev pub Held : Type 0
@@ -56,10 +58,19 @@ pub record Foreign (v : Knows) (n : ℕ) : Type 0 where
   pub other : (s : ℕ) → has v.senders s ≡ true → n ≢ s + 1
   pub not_role : v.role ≡ true → n ≢ 257
 
--- all that the seat put, and all that it was told of, is among what it took
-pub record Fresh (v : Knows) : Type 0 where
-  pub own : (s : ℕ) → Prefix (of s v.put) (of s v.taken)
-  pub told : AllWithin v.told v.taken
+-- of the sender s, the seat took all of these
+abbrev pub HasTaken : Knows → ℕ → List Item → Type 0
+HasTaken v s put = Prefix (of sender s (signals put)) (of sender s v.taken)
+
+-- all that the seat put, and all that it was told of, is among what it took, but of senders of these buffers
+pub record FreshBut (skipped : ℕ) (v : Knows) : Type 0 where
+  pub own : (s : ℕ) → filled_at skipped (buffer_of s) ≡ false → HasTaken v s v.put
+  pub told : (s : ℕ) → filled_at skipped (buffer_of s) ≡ false → All (HasTaken v s) v.told
+
+-- all that the seat took is of senders of the queue, and goes to its receiver, and each sender's numbers count up from its first
+pub record TookCarried (z : Setup) (v : Knows) : Type 0 where
+  pub all : All (IsCarried z) v.taken
+  pub counted : IsCounted z v.taken
 
 abbrev pub outer_or : Slot → Outer
 outer_or (slot.Outer o) = o
@@ -79,6 +90,9 @@ outer_in (x ∷ xs) = outer_or x.1
 abbrev pub list_in : List (ℕ × Slot) → List Signal
 list_in [] = []
 list_in (x ∷ xs) = list_or x.1
+
+abbrev pub no_setup : Setup
+no_setup = record { policy = Never; senders = []; opening = record { receiver = record { 0 = 0 }; count = 0; first = [] } }
 
 -- what each step tells
 abbrev pub Tells : Type 1
@@ -120,8 +134,8 @@ left_put st m n m' = m' ≡ (after_put m.0 (outer_in m.1), rest m.1)
 abbrev pub left_same : Tells
 left_same st m n m' = m' ≡ (after_same m.0, rest m.1)
 
-abbrev pub left_fetch : Bool → Tells
-left_fetch due st m n m' = (m' ≡ (after_fetch m.0 due, rest m.1)) × (m.0.back ≡ false → Fresh (after_fetch m.0 due))
+abbrev pub left_fetch : Setup → Bool → Tells
+left_fetch z due st m n m' = (m' ≡ (after_fetch m.0 due, rest m.1)) × FreshBut m.0.back (after_fetch m.0 due) × TookCarried z (after_fetch m.0 due)
 
 abbrev pub left_remove : Tells
 left_remove st m n m' = m' ≡ (after_remove m.0, rest m.1)

@@ -1,25 +1,26 @@
 //! How a queue ends.
-ghost use Rattle.std.specs.Prelude.{◌≡◌, ℕ, ◌+◌, ◌<◌, ◌≤◌, ◌++◌, [], true, false, List, vec_len, vec_capacity, length, slice_index_or, slice_set, IsTrue};
+ghost use Rattle.std.specs.Prelude.{◌≡◌, ℕ, ◌+◌, ◌<◌, ◌≤◌, ◌++◌, [], true, false, List, vec_capacity, length, slice_index_or, slice_set};
 ghost use mathlib.Core.Option.{some};
 ghost use lib.ListN.{get_elem?};
-ghost use Rattle.q_layout.specs.Policies.{IsLawful, fetch_count};
-ghost use Rattle.q_layout.specs.Sets.{has};
-ghost use Rattle.q_layout.specs.Sent.{of};
-ghost use Rattle.q_layout.specs.declared.Signal.{Signal};
-ghost use Rattle.sig_queue.specs.Calls.{knows, seat_queue, queue_id, opening_of};
-ghost use Rattle.sig_queue.specs.Ends.{lists_in, rest_of};
+ghost use Rattle.sig_kinds.specs.declared.signal.Signal.{Signal};
+ghost use Rattle.sig_layout.specs.Sets.{has};
+ghost use Rattle.sig_queue.specs.Ends.{lists_in, IsEnding, EndsAs};
 ghost use Rattle.sig_queue.specs.Accounts.{account_of};
 
-use crate::queue::{Closed, QSeat, SigQueue};
+use crate::closed::Closed;
+use crate::qseat::QSeat;
 use crate::receipt::Receipt;
-use q_core::Slot;
-use q_layout::{Outer, Signals};
+use crate::rest::Rest;
+use crate::rule::Place;
+use crate::sig_queue::SigQueue;
+use crate::slot::Slot;
+use sig_layout::{Batch, Journal, Outer};
 use std::alloc::Global;
 
 type Table = atomic_table::Closed<Slot, Global>;
 
 // The list of a slot.
-fn take_one(closed: &mut Table, slot: usize) -> Signals
+fn take_one(closed: &mut Table, slot: usize) -> Batch
     requires there { (slot < closed.old.slots.len) × (slice_index_or closed.old.slots.filled slot false ≡ true) }
     requires list { (l : List Signal) × (get_elem? (closed.old.slots.items) slot ≡ some (Slot.List l)) }
     ensures list { get_elem? (closed.old.slots.items) slot ≡ some (Slot.List result) }
@@ -33,7 +34,7 @@ fn take_one(closed: &mut Table, slot: usize) -> Signals
 }
 
 // The lists of all buffers. There is room for them.
-fn take_lists(closed: &mut Table, lists: &mut Vec<Signals>)
+fn take_lists(closed: &mut Table, lists: &mut Vec<Batch>)
     requires size { closed.old.slots.len ≡ 65 }
     requires filled { (k : ℕ) → k < 65 → slice_index_or closed.old.slots.filled k false ≡ true }
     requires held { (k : ℕ) → k < 64 → (l : List Signal) × (get_elem? (closed.old.slots.items) (k + 1) ≡ some (Slot.List l)) }
@@ -50,28 +51,18 @@ fn take_lists(closed: &mut Table, lists: &mut Vec<Signals>)
 }
 
 impl SigQueue {
-    // What is left.
-    fn end(self, seat: QSeat) -> Closed
-        requires own { seat_queue seat ≡ queue_id self }
-        requires role { (knows seat).role ≡ true }
-        requires all { (s : ℕ) → has (opening_of self).senders s ≡ true → has (knows seat).senders s ≡ true }
-        ensures journal { IsLawful (opening_of self).policy result.journal }
-        ensures fetches { (knows seat).fetches ≡ fetch_count result.journal }
-        ensures rest { (s : ℕ) → of s (knows seat).put ≡ of s ((knows seat).taken ++ rest_of result) }
+    // What is left, and the journal.
+    fn end(self, place: Place) -> (Rest, Journal)
+        requires own { place.table_id ≡ self.id }
+        requires idle { IsEnding self.setup place.me }
+        ensures ends { EndsAs self.setup place.me.0 result.0 result.1 }
     {
         let SigQueue {
             table,
-            opening: _,
-            alloc: _,
+            policy: _,
+            alloc,
             mut lists,
         } = self;
-        let QSeat {
-            place,
-            senders: _,
-            role: _,
-            due: _,
-            refused: _,
-        } = seat;
         let mut closed = table.close_with(place);
         take_lists(&mut closed, &mut lists);
         let slot = closed.take(0);
@@ -79,27 +70,28 @@ impl SigQueue {
         let Slot::Outer(outer) = slot else {
             unreachable!()
         };
-        let Outer { signals, journal } = outer;
-        Closed {
-            outer: signals,
-            lists,
-            journal,
-        }
+        let Outer { signals, journal } = outer.into_outer();
+        (Rest::new(alloc, signals, lists), journal)
     }
 
-    /// Ends the queue. What each sender put is what was taken of it, and then what is left of it: first in the outer list, and then in the buffers.
-    pub fn close(self, mut seat: QSeat) -> (Closed, Receipt)
-        requires own { seat_queue seat ≡ queue_id self }
-        requires role { (knows seat).role ≡ true }
-        requires all { (s : ℕ) → has (opening_of self).senders s ≡ true → has (knows seat).senders s ≡ true }
-        ensures journal { IsLawful (opening_of self).policy result.0.journal }
-        ensures fetches { (knows seat).fetches ≡ fetch_count result.0.journal }
-        ensures rest { (s : ℕ) → of s (knows seat).put ≡ of s ((knows seat).taken ++ rest_of result.0) }
-        ensures receipt { account_of result.1 ≡ record { senders = (knows seat).senders; policy = (opening_of self).policy; put = (knows seat).put } }
+    /// Ends the queue. The seat has all senders and the role, so that nothing can be put any more.
+    /// What each sender put is what was taken of it, and then what is left of it: first in the outer
+    /// list, and then in the buffers.
+    pub fn close(self, mut seat: QSeat) -> Closed
+        requires own { seat.queue ≡ self.id }
+        requires role { seat.knows.role ≡ true }
+        requires all { (s : ℕ) → has self.setup.senders s ≡ true → has seat.knows.senders s ≡ true }
+        ensures ends { EndsAs self.setup seat.knows result.rest result.journal }
+        ensures receipt { result.receipt ≡ account_of self.setup seat.knows.put }
     {
         let note = self.note(&mut seat);
-        let policy = self.opening.policy;
-        let receipt = Receipt::of(&seat.place, note.place, policy);
-        (self.end(seat), receipt)
+        let QSeat { place, .. } = seat;
+        let receipt = Receipt::of(&place, note.place, &self.table.shared);
+        let (rest, journal) = self.end(place);
+        Closed {
+            rest,
+            journal,
+            receipt,
+        }
     }
 }

@@ -1,14 +1,17 @@
 //! How a queue begins.
 ghost use Rattle.std.specs.Prelude.{◌≡◌, ◌≤◌, [], ◌∷◌, IfOk, vec_capacity};
-ghost use Rattle.q_layout.specs.Policies.{IsPolicy, begins_on, first_journal as first_entries};
-ghost use Rattle.q_core.specs.Views.{first_seat, mode_word};
-ghost use Rattle.sig_queue.specs.Calls.{knows, seat_queue, queue_id, opening_of};
-ghost use Rattle.sig_queue.specs.Ends.{first_words as words_at_first, first_outer, all_buffers};
+ghost use Rattle.sig_layout.specs.Policies.{begins_on, first_journal as first_entries};
+ghost use Rattle.sig_layout.specs.Openings.{IsSetup};
+ghost use Rattle.sig_layout.specs.Views.{first_seat, mode_word};
+ghost use Rattle.sig_queue.specs.Ends.{first_words as words_at_first, first_outer, all_buffers, setup_of};
 
-use crate::queue::{QSeat, SigQueue};
+use crate::outer_box::OuterBox;
+use crate::qseat::QSeat;
+use crate::sig_queue::SigQueue;
+use crate::slot::Slot;
 use atomic_table::Table;
-use q_core::Slot;
-use q_layout::{Entry, Journal, Opening, Outer, Pieces, Policy, Signals};
+use sig_layout::{Batch, Entry, Journal, Opening, Outer, Pieces, Policy, Senders, Setup};
+use sig_lists::Pushed;
 use std::alloc::{AllocError, Global};
 
 // The word of the mode.
@@ -34,7 +37,9 @@ fn first_journal(alloc: Global, policy: Policy) -> Result<Journal, AllocError>
 {
     let mut journal = Journal::new(alloc);
     if let Policy::Always = policy {
-        journal.add(Entry::Install)?;
+        if let Pushed::Memory { .. } = journal.push(Entry::Install) {
+            return Err(AllocError);
+        }
     }
     Ok(journal)
 }
@@ -47,12 +52,13 @@ fn first_slots(alloc: Global, policy: Policy) -> Result<Vec<Slot>, AllocError>
         signals: Pieces::new(alloc),
         journal,
     };
+    let outer = OuterBox::new(alloc, outer)?;
     let mut slots = Vec::new(alloc);
     if slots.push(Slot::Outer(outer)).is_err() {
         return Err(AllocError);
     }
     for _ in 0..64usize {
-        if slots.push(Slot::List(Signals::new(alloc))).is_err() {
+        if slots.push(Slot::List(Batch::new(alloc))).is_err() {
             return Err(AllocError);
         }
     }
@@ -60,7 +66,7 @@ fn first_slots(alloc: Global, policy: Policy) -> Result<Vec<Slot>, AllocError>
 }
 
 // Room for 64 lists.
-fn room_for_lists(alloc: Global) -> Result<Vec<Signals>, AllocError>
+fn room_for_lists(alloc: Global) -> Result<Vec<Batch>, AllocError>
     ensures { IfOk result (λ v. (v.items ≡ []) × (64 ≤ vec_capacity v)) }
 {
     let mut lists = Vec::new(alloc);
@@ -69,26 +75,40 @@ fn room_for_lists(alloc: Global) -> Result<Vec<Signals>, AllocError>
 }
 
 impl SigQueue {
-    /// An empty queue, and the seat that has all.
-    pub fn open(alloc: Global, opening: Opening) -> Result<(SigQueue, QSeat), AllocError>
-        requires { IsPolicy opening.policy }
-        ensures { IfOk result (λ r. (seat_queue r.1 ≡ queue_id r.0) × (opening_of r.0 ≡ opening) × (knows r.1 ≡ first_seat opening.senders)) }
+    /// An empty queue, and the seat that has all senders and the receiver's role. Each sender is below
+    /// the opening's count, and the opening has a first number for each pid below it. Fails only for
+    /// want of memory.
+    pub fn open(
+        alloc: Global,
+        policy: Policy,
+        senders: Senders,
+        opening: &Opening,
+    ) -> Result<(SigQueue, QSeat), AllocError>
+        requires { IsSetup (setup_of policy senders opening.now) }
+        ensures own { IfOk result (λ r. (r.1.queue ≡ r.0.id) × (r.0.setup ≡ setup_of policy senders opening.now)) }
+        ensures first { IfOk result (λ r. r.1.knows ≡ first_seat senders) }
     {
         let lists = room_for_lists(alloc)?;
-        let slots = first_slots(alloc, opening.policy)?;
-        let words = first_words(opening.policy);
-        let Ok((table, place)) = Table::new(alloc, &words, slots, &opening) else {
+        let slots = first_slots(alloc, policy)?;
+        let words = first_words(policy);
+        let setup = Setup {
+            policy,
+            senders,
+            opening: opening.copy(alloc)?,
+        };
+        let Ok((table, place)) = Table::new(alloc, &words, slots, &setup) else {
             return Err(AllocError);
         };
         let queue = SigQueue {
             table,
-            opening,
+            policy,
             alloc,
             lists,
         };
         let seat = QSeat {
             place,
-            senders: opening.senders,
+            senders,
+            least: senders.least(),
             role: true,
             due: false,
             refused: false,

@@ -1,12 +1,13 @@
 //! What each step on the table tells. No value of these types is made.
-ghost use Rattle.q_core.specs.Views.{left_of, right_of, note_of, joined, spent};
-ghost use Rattle.q_layout.specs.declared.Senders.{Senders};
-ghost use Rattle.std.specs.Prelude.{Bool, ℕ, false};
-ghost use Rattle.q_layout.specs.Sets.{no_senders};
-ghost use Rattle.sig_queue.specs.Tied.{tried_outer, tried_buffer, loaded_mode, loaded_under, loaded_filled, bit_set, bits_taken, bit_back, stored_on, stored_off, left_put, left_same, left_fetch, left_remove, left_aside, left_buffer, left_part, left_passed, looked_only};
+ghost use Rattle.sig_layout.specs.Views.{left_of, right_of, note_of, joined, spent};
+ghost use Rattle.sig_layout.specs.declared.setup.Setup.{Setup};
+ghost use Rattle.std.specs.Prelude.{Bool, ℕ, List, false};
+ghost use Rattle.sig_layout.specs.Sets.{no_senders};
+ghost use Rattle.sig_queue.specs.Tied.{no_setup, tried_outer, tried_buffer, loaded_mode, loaded_under, loaded_filled, bit_set, bits_taken, bit_back, stored_on, stored_off, left_put, left_same, left_fetch, left_remove, left_aside, left_buffer, left_part, left_passed, looked_only};
 
+use crate::slot::Slot;
 use atomic_table::{Join, Play, Split};
-use q_core::{Knows, Slot};
+use sig_layout::Knows;
 use std::marker::{Brand, PhantomData};
 
 pub(crate) struct TryOuter;
@@ -92,13 +93,18 @@ impl Play<Slot, Knows> for LeaveSame {
     ghost then = { left_same };
 }
 
-/// Whether a fetch leaves a removal due. The caller's proof picks it.
+/// Whether a fetch leaves a removal due, and what the queue was opened with. The caller's proof picks
+/// both.
 pub(crate) trait Leaves {
     ghost due: { Bool };
+
+    ghost setup: { Setup };
 }
 
 impl Leaves for Brand {
     ghost due = { false };
+
+    ghost setup = { no_setup };
 }
 
 pub(crate) struct LeaveFetch<G> {
@@ -106,7 +112,7 @@ pub(crate) struct LeaveFetch<G> {
 }
 
 impl<G: Leaves> Play<Slot, Knows> for LeaveFetch<G> {
-    ghost then = { left_fetch G.due };
+    ghost then = { left_fetch G.setup G.due };
 }
 
 pub(crate) struct LeaveRemove;
@@ -147,7 +153,7 @@ impl Play<Slot, Knows> for LookOnly {
 
 /// What a split gives away. The caller's proof picks it.
 pub(crate) trait Share {
-    ghost given: { Senders };
+    ghost given: { List ℕ };
 
     ghost role: { Bool };
 }

@@ -1,21 +1,13 @@
-//! A value that only contracts see: what was put into queues that were closed.
-ghost use Rattle.std.specs.Prelude.{◌≡◌, ◌++◌, []};
-ghost use Rattle.q_layout.specs.Sets.{no_senders};
-ghost use Rattle.sig_queue.specs.declared.receipt.Account.{Account};
-ghost use Rattle.sig_queue.specs.Accounts.{no_account, followed, account_of};
+ghost use Rattle.std.specs.Prelude.{◌≡◌};
+ghost use Rattle.sig_queue.specs.declared.account.Account.{Account};
+ghost use Rattle.sig_queue.specs.Accounts.{no_account, account_of, followed, MayFollow};
 
-use crate::queue::Place;
+use crate::account::Account;
+use crate::rule::{Place, Words};
+use crate::slot::Slot;
 use atomic_table::{Mark, PerchRule, RuledPerch};
-use q_core::{Knows, Slot};
-use q_layout::{Policy, Senders, Signals};
-use std::marker::{Brand, PhantomData};
-
-/// What a receipt says. No value of it is made.
-pub struct Account {
-    pub senders: Senders,
-    pub policy: Policy,
-    pub put: Signals,
-}
+use sig_layout::Knows;
+use std::marker::{Brand, Model, PhantomData};
 
 /// What a receipt is to say. The caller's proof picks it.
 pub(crate) trait Says {
@@ -36,11 +28,20 @@ impl<G: Says> PerchRule<Account> for Stated<G> {
     ghost first = { G.account };
 }
 
-/// It can't be copied, and has no bytes.
+/// What was put into a queue that was closed, or into several, one after the other. Only contracts
+/// see it: it has no bytes. `close` alone makes one, and it can't be copied.
 #[derive(Drop)]
 pub struct Receipt {
     like: Place,
     mark: Mark<Account>,
+}
+
+impl Model for Receipt {
+    ghost use Rattle.sig_queue.specs.declared.account.Account.{Account};
+
+    ghost Value = { Account };
+
+    ghost view = { λ r. r.mark.view };
 }
 
 // A mark that says what the proof picks. The perch is let go at once.
@@ -51,7 +52,7 @@ fn state<G: Says>(like: &Place) -> Mark<Account>
     mark
 }
 
-fn state_of<G: Says>(like: &Place, _policy: Policy) -> Mark<Account>
+fn state_of<G: Says>(like: &Place, _words: &Words) -> Mark<Account>
     ensures { result.view ≡ G.account }
 {
     state::<G>(like)
@@ -68,18 +69,19 @@ fn state_both<G: Says>(
 }
 
 impl Receipt {
-    // What the seat put. The other place is any of this queue.
-    pub(crate) fn of(seat: &Place, like: Place, policy: Policy) -> Receipt
-        ensures { account_of result ≡ record { senders = seat.now.me.0.senders; policy = policy; put = seat.now.me.0.put } }
+    // What the seat put into the queue with these words. The other place is any of this queue.
+    pub(crate) fn of(seat: &Place, like: Place, words: &Words) -> Receipt
+        ensures { result ≡ account_of words.now.key seat.now.me.0.put }
     {
-        let mark = state_of::<Brand>(seat, policy);
+        let mark = state_of::<Brand>(seat, words);
         Receipt { like, mark }
     }
 
-    /// What the later receipt has comes behind what this one has.
+    /// What the later receipt has comes behind what this one has. It is of the same receiver, senders
+    /// and policy, and the numbers of each sender go on.
     pub fn follow(&mut self, later: Receipt)
-        requires { ((account_of self.old).senders ≡ (account_of later).senders) × ((account_of self.old).policy ≡ (account_of later).policy) }
-        ensures { account_of self.new ≡ followed (account_of self.old) (account_of later) }
+        requires { MayFollow self.old later }
+        ensures { self.new ≡ followed self.old later }
     {
         self.mark = state_both::<Brand>(&self.like, &self.mark, &later.mark);
     }

@@ -1,21 +1,24 @@
 //! A removal: the mode goes off, and all buffers are emptied into the outer list, under one outer turn.
 ghost use Rattle.std.specs.Prelude.{◌≡◌, ◌≢◌, ℕ, ◌+◌, ◌<◌, ◌≤◌, ◌++◌, [], ◌∷◌, List, length, true, false, Some, None, OnOk, OnErr};
-ghost use Rattle.q_layout.specs.Core.{some_refused};
-ghost use Rattle.q_layout.specs.Outers.{behind, removed};
-ghost use Rattle.q_layout.specs.declared.Signal.{Signal};
-ghost use Rattle.q_core.specs.Core.{Begins};
-ghost use Rattle.q_core.specs.declared.Knows.{Knows};
-ghost use Rattle.q_core.specs.Views.{number, IsSomebody, gains, after_same};
+ghost use Rattle.sig_layout.specs.Outers.{behind, removed};
+ghost use Rattle.sig_kinds.specs.declared.signal.Signal.{Signal};
+ghost use Rattle.sig_layout.specs.declared.outer.Outer.{Outer};
+ghost use Rattle.sig_layout.specs.Core.{Begins, some_refused};
+ghost use Rattle.sig_layout.specs.declared.knows.Knows.{Knows};
+ghost use Rattle.sig_layout.specs.Views.{number, IsSomebody, gains, after_same};
 ghost use Rattle.sig_queue.specs.Parts.{held_or};
 ghost use Rattle.sig_queue.specs.Fetching.{outer_out};
 ghost use Rattle.sig_queue.specs.Removing.{waited, waits, Passing, WithRoom};
-ghost use Rattle.sig_queue.specs.Calls.{knows, seat_queue, queue_id};
 
-use crate::queue::{Place, QSeat, SigQueue};
-use crate::steps::{Words, leave_remove, leave_same, mode_off, put_value, take_value, try_outer};
+use crate::outer_box::OuterBox;
+use crate::qseat::QSeat;
+use crate::rule::{Place, Words};
+use crate::sig_queue::SigQueue;
+use crate::slot::Slot;
+use crate::steps::{leave_remove, leave_same, mode_off, put_value, take_value, try_outer};
 use crate::turns::{leave_passed, put_list, take_list, try_buffer};
-use q_core::Slot;
-use q_layout::{Entry, Growing, Journal, Outer, Signals};
+use sig_layout::{Batch, Entry, Growing, Journal, Outer, Pieces};
+use sig_lists::Pushed;
 use std::alloc::{AllocError, Global};
 use std::sync::Wait;
 use std::thread;
@@ -84,7 +87,7 @@ fn pass_one<R: Wait>(
     wait_buffer(rt, words, place, buffer, mine);
     let list = take_list(words, place, buffer);
     growing.take(list);
-    put_list(words, place, buffer, Signals::new(alloc));
+    put_list(words, place, buffer, Batch::new(alloc));
     leave_passed(words, place, buffer);
 }
 
@@ -117,6 +120,7 @@ fn remove_with_room<R: Wait>(
     words: &Words,
     place: &mut Place,
     mine: u64,
+    mut outer: OuterBox,
     mut growing: Growing,
     journal: Journal,
 )
@@ -132,25 +136,21 @@ fn remove_with_room<R: Wait>(
 {
     mode_off(words, place);
     pass_all(rt, alloc, words, place, mine, &mut growing);
-    put_value(
-        words,
-        place,
-        Outer {
-            signals: growing.into_pieces(),
-            journal,
-        },
-    );
+    let signals = growing.into_pieces();
+    outer.swap(Outer { signals, journal });
+    put_value(words, place, outer);
     leave_remove(words, place);
 }
 
 // The outer value as it was found comes back, and the outer turn is left.
-fn leave_found(words: &Words, place: &mut Place, outer: Outer)
+fn leave_found(words: &Words, place: &mut Place, mut outer: OuterBox, signals: Pieces, journal: Journal)
     requires table { (place.old.table_id ≡ words.now.table_id) × (words.now.table_id.words ≡ 536) }
-    requires begins { Begins place.old.me.0 outer }
+    requires begins { Begins place.old.me.0 (record { signals = signals; journal = journal }) }
     requires slots { place.old.me.1 ≡ outer_out ∷ [] }
     ensures same { (place.new.table_id ≡ place.old.table_id) × (place.new.id ≡ place.old.id) × (place.new.me.1 ≡ []) }
     ensures left { place.new.me.0 ≡ after_same place.old.me.0 }
 {
+    outer.swap(Outer { signals, journal });
     put_value(words, place, outer);
     leave_same(words, place);
 }
@@ -172,45 +172,50 @@ fn remove_held<R: Wait>(
     ensures ok { OnOk result (place.new.me.0 ≡ record (waits place.old.me.0 place.new.me.0) { held = None; removing = false; progress = 0; due = false }) }
     ensures err { OnErr result (place.new.me.0 ≡ after_same place.old.me.0) }
 {
+    let mut outer = take_value(words, place);
     let Outer {
         signals,
         mut journal,
-    } = take_value(words, place);
+    } = outer.swap(Outer {
+        signals: Pieces::new(alloc),
+        journal: Journal::new(alloc),
+    });
     match signals.grow(64) {
         Ok(growing) => {
-            if journal.add(Entry::Remove).is_err() {
-                let signals = growing.into_pieces();
-                leave_found(words, place, Outer { signals, journal });
+            if let Pushed::Memory { .. } = journal.push(Entry::Remove) {
+                leave_found(words, place, outer, growing.into_pieces(), journal);
                 return Err(AllocError);
             }
-            remove_with_room(rt, alloc, words, place, mine, growing, journal);
+            remove_with_room(rt, alloc, words, place, mine, outer, growing, journal);
             Ok(())
         }
         Err(signals) => {
-            leave_found(words, place, Outer { signals, journal });
+            leave_found(words, place, outer, signals, journal);
             Err(AllocError)
         }
     }
 }
 
 impl SigQueue {
-    /// Whether the last fetch made a removal due that wasn't made yet.
+    /// Whether the last fetch of the seat made a removal due that wasn't made yet.
     pub fn removal_due(seat: &QSeat) -> bool
-        ensures { result ≡ (knows seat.now).due }
+        ensures { result ≡ seat.now.knows.due }
     {
         seat.due
     }
 
-    /// Takes the mode off and empties all buffers into the outer list. Where memory is wanting all is as before.
+    /// Takes the mode off and moves what lies in the buffers behind the outer list. It may wait for
+    /// other seats. The seat has the receiver's role, and a removal is due. Fails only for want of
+    /// memory; all is as before then, and the removal still due.
     pub fn remove<R: Wait>(&self, rt: &R, seat: &mut QSeat) -> Result<(), AllocError>
-        requires own { seat_queue seat.old ≡ queue_id self.now }
-        requires due { ((knows seat.old).role ≡ true) × ((knows seat.old).due ≡ true) }
-        ensures own { seat_queue seat.new ≡ seat_queue seat.old }
-        ensures ok { OnOk result (knows seat.new ≡ record (waited (knows seat.old) (knows seat.new)) { due = false }) }
-        ensures err { OnErr result (knows seat.new ≡ waited (knows seat.old) (knows seat.new)) }
+        requires own { seat.old.queue ≡ self.now.id }
+        requires due { (seat.old.knows.role ≡ true) × (seat.old.knows.due ≡ true) }
+        ensures own { seat.new.queue ≡ seat.old.queue }
+        ensures ok { OnOk result (seat.new.knows ≡ record (waited seat.old.knows seat.new.knows) { due = false }) }
+        ensures err { OnErr result (seat.new.knows ≡ waited seat.old.knows seat.new.knows) }
     {
         let words = &self.table.shared;
-        let mine = seat.senders.least() + 1;
+        let mine = seat.least + 1;
         seat.refused = wait_outer(rt, words, &mut seat.place, mine, seat.refused);
         remove_held(rt, self.alloc, words, &mut seat.place, mine)?;
         seat.due = false;

@@ -1,32 +1,30 @@
 //! One function for each kind of step on OUTER, MODE and FILLED. Each is tied to the step of the core that has its name.
 ghost use Rattle.std.specs.Prelude.{◌≡◌, ◌≢◌, ℕ, ◌+◌, ◌<◌, ◌++◌, [], ◌∷◌, List, length, true, false, Some, None};
 ghost use Rattle.atomic_table.specs.Table.{rest};
-ghost use Rattle.q_layout.specs.declared.Outer.{Outer};
-ghost use Rattle.q_layout.specs.declared.Signal.{Signal};
-ghost use Rattle.q_layout.specs.declared.Entry.TheVariants.{Direct};
-ghost use Rattle.q_layout.specs.Sets.{has};
-ghost use Rattle.q_layout.specs.Core.{some_refused};
-ghost use Rattle.q_layout.specs.Policies.{due_at, is_install, is_remove};
-ghost use Rattle.q_core.specs.Core.{Begins, Unmasked};
-ghost use Rattle.q_core.specs.Views.{number, IsSomebody, flag, holding, turned_away, after_put, after_same, after_fetch, after_remove, switched_on, switched_off, with_bits, given_back, saw, saw_under, counted, marked};
-ghost use Rattle.q_layout.specs.Outers.{added, emptied, removed};
-ghost use Rattle.sig_queue.specs.Tied.{Foreign, Fresh, outer_in};
+ghost use Rattle.sig_layout.specs.declared.outer.Outer.{Outer};
+ghost use Rattle.sig_kinds.specs.declared.signal.Signal.{Signal};
+ghost use Rattle.sig_layout.specs.declared.entry.Entry.TheVariants.{Direct};
+ghost use Rattle.sig_layout.specs.Sets.{has};
+ghost use Rattle.sig_layout.specs.Openings.{IsNext};
+ghost use Rattle.sig_layout.specs.Core.{some_refused};
+ghost use Rattle.sig_layout.specs.Summaries.{due_at, is_install, is_remove};
+ghost use Rattle.sig_layout.specs.Core.{Begins, Unmasked};
+ghost use Rattle.sig_layout.specs.Views.{number, IsSomebody, flag, holding, turned_away, after_put, after_same, after_fetch, after_remove, switched_on, switched_off, with_bits, given_back, saw, saw_under, counted, marked};
+ghost use Rattle.sig_layout.specs.Outers.{added, emptied, removed};
+ghost use Rattle.sig_queue.specs.Tied.{Foreign, FreshBut, TookCarried, outer_in};
 ghost use Rattle.sig_queue.specs.Parts.{first_part, IsOne};
 
 use crate::plays::{
     LeaveFetch, LeavePut, LeaveRemove, LeaveSame, Leaves, LoadFilled, LoadMode, LoadUnder,
     LookOnly, SetBack, SetBit, StoreOff, StoreOn, TakeBits, TryOuter, Which,
 };
-use crate::queue::{Place, QueueRule};
-use atomic_table::Shared;
-use q_core::{Knows, Slot};
-use q_layout::{Opening, Outer};
+use crate::outer_box::OuterBox;
+use crate::rule::{Place, Words};
+use crate::slot::Slot;
 
 // The words stand 8 apart, so that no two lie in one line of a cache.
 const MODE: usize = 8;
 const FILLED: usize = 16;
-
-pub(crate) type Words = Shared<Slot, Knows, Opening, QueueRule>;
 
 // Tries the outer turn once.
 pub(crate) fn try_outer(words: &Words, place: &mut Place, mine: u64) -> u64
@@ -40,7 +38,7 @@ pub(crate) fn try_outer(words: &Words, place: &mut Place, mine: u64) -> u64
 }
 
 // The outer value out.
-pub(crate) fn take_value(words: &Words, place: &mut Place) -> Outer
+pub(crate) fn take_value(words: &Words, place: &mut Place) -> OuterBox
     requires table { place.old.table_id ≡ words.now.table_id }
     requires out { (o : Outer) × (place.old.me.1 ≡ (0, Slot.Outer o) ∷ rest place.old.me.1) }
     ensures same { (place.new.table_id ≡ place.old.table_id) × (place.new.id ≡ place.old.id) × (place.new.me ≡ (place.old.me.0, (0, Slot.Out) ∷ rest place.old.me.1)) }
@@ -53,7 +51,7 @@ pub(crate) fn take_value(words: &Words, place: &mut Place) -> Outer
 }
 
 // The outer value back.
-pub(crate) fn put_value(words: &Words, place: &mut Place, outer: Outer)
+pub(crate) fn put_value(words: &Words, place: &mut Place, outer: OuterBox)
     requires table { place.old.table_id ≡ words.now.table_id }
     requires out { place.old.me.1 ≡ (0, Slot.Out) ∷ rest place.old.me.1 }
     ensures same { (place.new.table_id ≡ place.old.table_id) × (place.new.id ≡ place.old.id) × (place.new.me ≡ (place.old.me.0, (0, Slot.Outer outer) ∷ rest place.old.me.1)) }
@@ -64,7 +62,7 @@ pub(crate) fn put_value(words: &Words, place: &mut Place, outer: Outer)
 // Leaves the outer turn with one more signal, which lies in the slot.
 pub(crate) fn leave_put(words: &Words, place: &mut Place)
     requires table { (place.old.table_id ≡ words.now.table_id) × (words.now.table_id.words ≡ 536) }
-    requires held { (o : Outer) × (x : Signal) × (place.old.me.0.held ≡ Some o) × (place.old.me.0.switched ≡ is_install (due_at words.now.key.policy (o.journal ++ Direct (some_refused place.old.me.0.refused) ∷ []))) × (has place.old.me.0.senders x.from ≡ true) × (place.old.me.1 ≡ (0, Slot.Outer (added o x (some_refused place.old.me.0.refused) place.old.me.0.switched)) ∷ rest place.old.me.1) }
+    requires held { (o : Outer) × (x : Signal) × (place.old.me.0.held ≡ Some o) × (place.old.me.0.switched ≡ is_install (due_at words.now.key.policy (o.journal ++ Direct (some_refused place.old.me.0.refused) ∷ []))) × (has place.old.me.0.senders x.from.0 ≡ true) × IsNext words.now.key place.old.me.0.put x × (place.old.me.1 ≡ (0, Slot.Outer (added o x (some_refused place.old.me.0.refused) place.old.me.0.switched)) ∷ rest place.old.me.1) }
     requires nothing { (place.old.me.0.fetching ≡ false) × (place.old.me.0.removing ≡ false) }
     requires off { place.old.me.0.saw_off ≡ true }
     ensures same { (place.new.table_id ≡ place.old.table_id) × (place.new.id ≡ place.old.id) }
@@ -87,13 +85,14 @@ pub(crate) fn leave_same(words: &Words, place: &mut Place)
 // Leaves the outer turn with all taken. The last argument is for the proof, which picks `G` by it.
 pub(crate) fn leave_fetch<G: Leaves>(words: &Words, place: &mut Place, due: bool)
     requires table { (place.old.table_id ≡ words.now.table_id) × (words.now.table_id.words ≡ 536) }
-    requires picked { G.due ≡ due }
+    requires picked { (G.due ≡ due) × (G.setup ≡ words.now.key) }
     requires held { (o : Outer) × (place.old.me.0.held ≡ Some o) × (due ≡ is_remove (due_at words.now.key.policy (emptied o place.old.me.0.moved).journal)) × (place.old.me.1 ≡ (0, Slot.Outer (emptied o place.old.me.0.moved)) ∷ rest place.old.me.1) }
     requires fetching { (place.old.me.0.fetching ≡ true) × (place.old.me.0.removing ≡ false) × (place.old.me.0.switched ≡ false) × Unmasked place.old.me.0 }
     requires role { (place.old.me.0.role ≡ true) × (place.old.me.0.due ≡ false) }
     ensures same { (place.new.table_id ≡ place.old.table_id) × (place.new.id ≡ place.old.id) }
     ensures took { place.new.me ≡ (after_fetch place.old.me.0 due, rest place.old.me.1) }
-    ensures fresh { place.old.me.0.back ≡ false → Fresh (after_fetch place.old.me.0 due) }
+    ensures fresh { FreshBut place.old.me.0.back (after_fetch place.old.me.0 due) }
+    ensures carried { TookCarried words.now.key (after_fetch place.old.me.0 due) }
 {
     words.store::<LeaveFetch<G>>(place, 0, 0);
 }

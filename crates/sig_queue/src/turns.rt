@@ -1,20 +1,20 @@
 //! One function for each kind of step on the turn of a buffer.
 ghost use Rattle.std.specs.Prelude.{◌≡◌, ◌≢◌, ℕ, ◌+◌, ◌<◌, ◌++◌, [], ◌∷◌, List, length, true, false, Some, None};
 ghost use Rattle.atomic_table.specs.Table.{rest};
-ghost use Rattle.q_layout.specs.declared.Outer.{Outer};
-ghost use Rattle.q_layout.specs.declared.Signal.{Signal};
-ghost use Rattle.q_layout.specs.Sets.{has};
-ghost use Rattle.q_core.specs.Core.{buffer_of};
-ghost use Rattle.q_core.specs.Agree.{Apart};
-ghost use Rattle.q_core.specs.Views.{number, IsSomebody, flag, gains, turned_away_at, loses, put_aside, took_part, passed};
+ghost use Rattle.sig_layout.specs.declared.outer.Outer.{Outer};
+ghost use Rattle.sig_kinds.specs.declared.signal.Signal.{Signal};
+ghost use Rattle.sig_layout.specs.Sets.{has};
+ghost use Rattle.sig_layout.specs.Openings.{IsNext};
+ghost use Rattle.sig_layout.specs.Core.{buffer_of};
+ghost use Rattle.sig_layout.specs.Agree.{Apart};
+ghost use Rattle.sig_layout.specs.Views.{number, IsSomebody, flag, gains, turned_away_at, loses, put_aside, took_part, passed};
 ghost use Rattle.sig_queue.specs.Tied.{Foreign, list_in};
 ghost use Rattle.sig_queue.specs.Parts.{first_part, held_or, IsOne, IsFirst};
 
 use crate::plays::{LeaveAside, LeaveBuffer, LeavePart, LeavePassed, TryBuffer};
-use crate::queue::Place;
-use crate::steps::Words;
-use q_core::Slot;
-use q_layout::Signals;
+use crate::rule::{Place, Words};
+use crate::slot::Slot;
+use sig_layout::Batch;
 
 // Tries the turn of a buffer once.
 pub(crate) fn try_buffer(words: &Words, place: &mut Place, buffer: usize, mine: u64) -> u64
@@ -29,7 +29,7 @@ pub(crate) fn try_buffer(words: &Words, place: &mut Place, buffer: usize, mine: 
 }
 
 // The list out.
-pub(crate) fn take_list(words: &Words, place: &mut Place, buffer: usize) -> Signals
+pub(crate) fn take_list(words: &Words, place: &mut Place, buffer: usize) -> Batch
     requires table { (place.old.table_id ≡ words.now.table_id) × (buffer < 64) }
     requires out { (l : List Signal) × (place.old.me.1 ≡ (buffer + 1, Slot.List l) ∷ rest place.old.me.1) }
     ensures same { (place.new.table_id ≡ place.old.table_id) × (place.new.id ≡ place.old.id) × (place.new.me ≡ (place.old.me.0, (buffer + 1, Slot.Out) ∷ rest place.old.me.1)) }
@@ -42,7 +42,7 @@ pub(crate) fn take_list(words: &Words, place: &mut Place, buffer: usize) -> Sign
 }
 
 // The list back.
-pub(crate) fn put_list(words: &Words, place: &mut Place, buffer: usize, list: Signals)
+pub(crate) fn put_list(words: &Words, place: &mut Place, buffer: usize, list: Batch)
     requires table { (place.old.table_id ≡ words.now.table_id) × (buffer < 64) }
     requires out { place.old.me.1 ≡ (buffer + 1, Slot.Out) ∷ rest place.old.me.1 }
     ensures same { (place.new.table_id ≡ place.old.table_id) × (place.new.id ≡ place.old.id) × (place.new.me ≡ (place.old.me.0, (buffer + 1, Slot.List list) ∷ rest place.old.me.1)) }
@@ -66,7 +66,7 @@ pub(crate) fn leave_aside(words: &Words, place: &mut Place, buffer: usize)
     requires table { (place.old.table_id ≡ words.now.table_id) × (words.now.table_id.words ≡ 536) × (buffer < 64) }
     requires idle { (place.old.me.0.held ≡ None) × (place.old.me.0.saw_off ≡ false) }
     requires one { IsOne place.old.me.0.parts buffer × ((first_part place.old.me.0.parts).sure ≡ true) × ((first_part place.old.me.0.parts).set ≡ true) }
-    requires out { (x : Signal) × (has place.old.me.0.senders x.from ≡ true) × (buffer_of x.from ≡ buffer) × (place.old.me.1 ≡ (buffer + 1, Slot.List ((first_part place.old.me.0.parts).list ++ x ∷ [])) ∷ rest place.old.me.1) }
+    requires out { (x : Signal) × (has place.old.me.0.senders x.from.0 ≡ true) × IsNext words.now.key place.old.me.0.put x × (buffer_of x.from.0 ≡ buffer) × (place.old.me.1 ≡ (buffer + 1, Slot.List ((first_part place.old.me.0.parts).list ++ x ∷ [])) ∷ rest place.old.me.1) }
     ensures same { (place.new.table_id ≡ place.old.table_id) × (place.new.id ≡ place.old.id) }
     ensures left { place.new.me ≡ (put_aside place.old.me.0 (list_in place.old.me.1), rest place.old.me.1) }
 {

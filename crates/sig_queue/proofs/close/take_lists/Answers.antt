@@ -2,11 +2,11 @@ use Rattle.std.proofs.Common.{rules, ◌≡◌, ◌+◌, ◌++◌, ◌∷◌, []
 use Rattle.std.specs.Prelude.{vec_len}
 use mathlib.Core.Option.{some}
 use lib.ListN.{get_elem?}
-use Rattle.q_layout.specs.declared.Signal.{Signal}
-use Rattle.q_core.specs.declared.Slot.{Slot}
-use Rattle.q_core.specs.declared.Slot.TheVariants as slot
-use Rattle.q_core.specs.Views.{table_from}
-use Rattle.q_core.proofs.Putting.{length_table}
+use Rattle.sig_kinds.specs.declared.signal.Signal.{Signal}
+use Rattle.sig_queue.specs.declared.slot.Slot.{Slot}
+use Rattle.sig_queue.specs.declared.slot.Slot.TheVariants as slot
+use Rattle.sig_layout.specs.Views.{table_from}
+use Rattle.sig_layout.proofs.Putting.{length_table}
 use Rattle.sig_queue.specs.Tied.{list_or}
 use Rattle.sig_queue.proofs.Ending.{at_or, table_more, no_table, emptied_set}
 use Rattle.sig_queue.proofs.close.take_lists.Goals as goal

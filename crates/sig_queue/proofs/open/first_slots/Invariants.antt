@@ -1,5 +1,5 @@
 use Rattle.std.proofs.Common.{◌≡◌, ◌∷◌}
-use Rattle.q_core.specs.declared.Slot.TheVariants as slot
+use Rattle.sig_queue.specs.declared.slot.Slot.TheVariants as slot
 use Rattle.sig_queue.specs.Ends.{first_outer, buffers}
 use Rattle.sig_queue.proofs.open.first_slots.Given as goal
 

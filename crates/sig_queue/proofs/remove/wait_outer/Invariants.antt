@@ -1,5 +1,5 @@
 use Rattle.std.proofs.Common.{◌≡◌}
-use Rattle.q_layout.specs.Core.{some_refused}
+use Rattle.sig_layout.specs.Core.{some_refused}
 use Rattle.sig_queue.specs.Removing.{waited}
 use Rattle.sig_queue.proofs.remove.wait_outer.Given as goal
 

@@ -1,5 +1,5 @@
 use Rattle.std.proofs.Common.{rules, sym, ap, ◌∙◌, ◌*◌, ◌%◌, ◌^◌, ℕ, arith}
-use Rattle.q_core.specs.Views.{flag}
+use Rattle.sig_layout.specs.Views.{flag}
 use Rattle.sig_queue.proofs.Ties.{sets_back}
 use Rattle.sig_queue.proofs.steps.set_back.Goals as goal
 

@@ -1,7 +1,7 @@
 use Rattle.std.proofs.Common.{rules, sym, ap, ◌∙◌, ◌+◌, ◌*◌, ◌<◌, ◌∷◌, [], ℕ, arith}
 use Rattle.atomic_table.specs.Table.{rest}
-use Rattle.q_core.specs.declared.Slot.TheVariants as slot
-use Rattle.q_core.specs.Views.{tail}
+use Rattle.sig_queue.specs.declared.slot.Slot.TheVariants as slot
+use Rattle.sig_layout.specs.Views.{tail}
 use Rattle.sig_queue.specs.Parts.{first_part, held_or}
 use Rattle.sig_queue.proofs.Ties.{passes, word_is}
 use Rattle.sig_queue.proofs.turns.leave_passed.Goals as goal

@@ -1,0 +1,21 @@
+use crate::rule::Place;
+use std::marker::Model;
+
+/// What a seat knew to have been put. Contracts see of which queue it is, and what it knows.
+#[derive(Drop)]
+pub struct Note {
+    pub(crate) place: Place,
+}
+
+impl Model for Note {
+    ghost use Rattle.sig_queue.specs.Seats.{Seated, IsNote};
+
+    ghost Value = { Seated };
+
+    ghost view = { λ n. record {
+      queue = n.place.table_id;
+      knows = n.place.me.0;
+    } };
+
+    ghost invariant = { λ n. IsNote n.place.me };
+}
