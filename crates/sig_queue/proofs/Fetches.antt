@@ -13,10 +13,11 @@ use Rattle.sig_queue.specs.declared.slot.Slot.{Slot}
 use Rattle.sig_queue.specs.declared.slot.Slot.TheVariants as slot
 use Rattle.sig_layout.specs.declared.part.Part.{Part}
 use Rattle.sig_layout.specs.declared.knows.Knows.{Knows}
-use Rattle.sig_layout.specs.Views.{filled_at, flag, flags_of, tail, part, with_bits, gains, turned_away_at, given_back, took_part, loses}
-use Rattle.sig_layout.specs.Core.{put, with_bit}
+use Rattle.sig_layout.specs.Views.{filled_at, with_bit, flag, flags_of, tail, part, with_bits, gains, turned_away_at, given_back, took_part, loses}
+use Rattle.sig_layout.specs.Core.{put}
 use Rattle.sig_layout.specs.Agree.{Apart}
-use Rattle.sig_layout.proofs.Putting.{put_here, put_else, get_table, not_both}
+use Rattle.sig_layout.proofs.Putting.{put_here, put_else, get_table}
+use Rattle.sig_layout.proofs.Sending.{not_both}
 use Rattle.sig_layout.proofs.Lawful.{bit_now, bit_else, no_bit}
 use Rattle.sig_queue.specs.declared.found.Found.{Found}
 use Rattle.sig_queue.specs.Tied.{Held, Foreign}
@@ -113,10 +114,6 @@ rounds {X = X} xs ys zs n is len = ap (λ (z : List X). drop n z ++ take n z) is
 pub flag_of_bits : (n c : ℕ) → c < 64 → flag (flags_of n) c ≡ filled_at n c
 flag_of_bits n c h = get_table 0 64 c (filled_at n) false h ∙ ap (filled_at n) (omega arith)
 
--- a word with a bit is not 0
-with_bit_some : (n c : ℕ) → c < 64 → with_bit n c ≡ 0 → ⊥
-with_bit_some n c h e = not_both (filled_at 0 c) (ap (λ (z : ℕ). filled_at z c) (sym e) ∙ bit_now n c h) (no_bit c)
-
 pub flag_dropped : (fs : List Bool) (c : ℕ) → flag (set fs c false) c ≡ false
 flag_dropped [] c = refl
 flag_dropped (x ∷ xs) zero = refl
@@ -131,7 +128,7 @@ finding_starts v n me z is no_parts none_held none_skipped none_counted no_total
   count = none_counted ∙ ap length (sym no_parts);
   to_come = λ c low _. flag_of_bits n c low;
   kept = λ c h. absurd (omega arith);
-  back = λ _. refl;
+  back = sym none_skipped;
   values = λ _. 0;
   refusals = sym (append-nil v.refusals) ∙ ap (λ (l : List (ℕ × ℕ)). v.refusals ++ l) (sym (picked_none (λ c. (c + 3, 0)) (filled_at z.skipped) 0));
   others = λ c h. not_both (filled_at z.skipped c) h (ap (λ (k : ℕ). filled_at k c) none_skipped ∙ no_bit c);
@@ -191,7 +188,7 @@ module _ (v : Knows) (n k : ℕ) (me : Held) (z : Found) (f : Finding v n k me z
         to_come = λ c low' h. f.to_come c low' (omega arith);
         kept = λ c h. ⊎_elim (λ (b : c < k). f.kept c b ∙ (sym (bit_on z.held c b) ∙ ap (λ (m : ℕ). filled_at m c) (sym held)))
             (λ (e : c ≡ k). subst (λ (d : ℕ). flag me.0.mask d ≡ filled_at z'.held d) (sym e) (f.to_come k low (omega arith) ∙ (bit ∙ (sym (bit_now z.held k low) ∙ ap (λ (m : ℕ). filled_at m k) (sym held))))) (below_next c h);
-        back = λ e. f.back (sym skipped ∙ e);
+        back = f.back ∙ sym skipped;
         values = f.values;
         refusals = f.refusals ∙ ap (λ (r : List (ℕ × ℕ)). v.refusals ++ r) (sym (picked_no (λ c. (c + 3, f.values c)) (filled_at z.skipped) 0 k (ap (filled_at z.skipped) next_is ∙ f.none_skipped k (omega arith))) ∙ (ap (skips f.values z.skipped) one_more ∙ ap (λ (m : ℕ). skips f.values m (k + 1)) (sym skipped)));
         others = λ c h. f.others c (ap (λ (m : ℕ). filled_at m c) (sym skipped) ∙ h);
@@ -204,14 +201,14 @@ module _ (v : Knows) (n k : ℕ) (me : Held) (z : Found) (f : Finding v n k me z
   pub finding_skipped : (x : ℕ) (me' : Held) (z' : Found) → me' ≡ (given_back (turned_away_at me.0 (k + 3) x) k, me.1) → Foreign me.0 x → v.saw_off ≡ false → z'.held ≡ z.held → z'.skipped ≡ with_bit z.skipped k → z'.count ≡ z.count → z'.total ≡ z.total → Finding v n (k + 1) me' z'
   finding_skipped x me' z' is other blind held skipped count total = let skipped' : ℕ = with_bit z.skipped k in let values' : ℕ → ℕ = put f.values k x in
       subst (λ (m : Held). Finding v n (k + 1) m z') (sym is) record {
-        view = ap (λ (w : Knows). given_back (turned_away_at w (k + 3) x) k) f.view ∙ (λ j. record v { parts = me.0.parts; mask = set me.0.mask k false; back = true; refusals = me.0.refusals ++ (k + 3, x) ∷ []; saw_off = sym blind j });
+        view = ap (λ (w : Knows). given_back (turned_away_at w (k + 3) x) k) f.view ∙ (λ j. record v { parts = me.0.parts; mask = set me.0.mask k false; back = with_bit me.0.back k; refusals = me.0.refusals ++ (k + 3, x) ∷ []; saw_off = sym blind j });
         slots = f.slots;
         numbers_are = f.numbers_are ∙ (sym (picked_no same_number (filled_at z.held) 0 k (ap (filled_at z.held) next_is ∙ f.none_held k (omega arith))) ∙ (ap (picked same_number (filled_at z.held) 0) one_more ∙ ap (λ (m : ℕ). picked same_number (filled_at m) 0 (k + 1)) (sym held)));
         count = count ∙ f.count;
         to_come = λ c low' h. get_or-set_other me.0.mask k c false false (λ e. omega arith) ∙ f.to_come c low' (omega arith);
         kept = λ c h. ⊎_elim (λ (b : c < k). get_or-set_other me.0.mask k c false false (λ e. omega arith) ∙ (f.kept c b ∙ ap (λ (m : ℕ). filled_at m c) (sym held)))
             (λ (e : c ≡ k). subst (λ (d : ℕ). flag (set me.0.mask k false) d ≡ filled_at z'.held d) (sym e) (flag_dropped me.0.mask k ∙ (sym (f.none_held k (omega arith)) ∙ ap (λ (m : ℕ). filled_at m k) (sym held)))) (below_next c h);
-        back = λ e. absurd (with_bit_some z.skipped k low (sym skipped ∙ e));
+        back = ap (λ (n : ℕ). with_bit n k) f.back ∙ sym skipped;
         values = values';
         refusals = ap (λ (r : List (ℕ × ℕ)). r ++ (k + 3, x) ∷ []) (f.refusals ∙ ap (λ (r : List (ℕ × ℕ)). v.refusals ++ r) (picked_same (λ c. (c + 3, f.values c)) (λ c. (c + 3, values' c)) (filled_at z.skipped) (filled_at skipped') 0 k
             (λ c h. ap (λ (y : ℕ). let r : ℕ × ℕ = (c + 3, y) in r) (sym (put_else f.values k c x (λ e. omega arith)))) (λ c h. sym (bit_on z.skipped c (omega arith)))))

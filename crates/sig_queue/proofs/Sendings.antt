@@ -1,11 +1,15 @@
 -- Offers one after another.
-use Rattle.std.proofs.Common.{◌≡◌, ℕ, ◌+◌, ◌%◌, Bool, true, false, List, [], ◌∷◌, ◌++◌, sym, refl, ap, ◌∙◌, append_assoc, append-nil, ⊎_elim}
+use Rattle.std.proofs.Common.{◌≡◌, ℕ, ◌+◌, Bool, true, false, List, [], ◌∷◌, ◌++◌, sym, refl, ap, ◌∙◌, subst, append_assoc, append-nil, ⊎_elim}
 use Rattle.sig_kinds.specs.declared.signal.Signal.{Signal}
+use Rattle.sig_layout.specs.declared.item.Item.{Item}
+use Rattle.sig_layout.specs.declared.setup.Setup.{Setup}
 use Rattle.sig_layout.specs.declared.knows.Knows.{Knows}
+use Rattle.sig_layout.specs.Openings.{IsNext}
 use Rattle.sig_layout.specs.Views.{mode_word}
+use Rattle.sig_layout.specs.Core.{buffer_of}
 use Rattle.sig_layout.specs.declared.via.Via.{Via}
 use Rattle.sig_layout.specs.declared.via.Via.TheVariants as via
-use Rattle.sig_queue.specs.Parts.{mode_loads, looked}
+use Rattle.sig_queue.specs.Parts.{item, mode_loads, looked}
 use Rattle.sig_queue.specs.Calls.{PutBy, RefusedOne, Tried, SentBy}
 
 loads-append : (bs cs : List Bool) → mode_loads (bs ++ cs) ≡ mode_loads bs ++ mode_loads cs
@@ -26,7 +30,7 @@ module _ (x : Signal) (v u w : Knows) (t : Tried v u) where
     is = ⊎_elim
         (λ (e : w ≡ record (looked u k.0) { refused = u.refused + 1; refusals = u.refusals ++ (0, n) ∷ [] }). e ∙ (ap (λ (z : Knows). record (looked z k.0) { refused = u.refused + 1; refusals = u.refusals ++ (0, n) ∷ [] }) t.is
         ∙ (λ i. record v { loads = more_loads v.loads t.loads k.0 i; refused = sym (ap (λ (z : Knows). z.refused) e) i; refusals = sym (ap (λ (z : Knows). z.refusals) e) i })))
-        (λ (e : w ≡ record (looked u k.0) { refusals = u.refusals ++ (x.from % 64 + 3, n) ∷ [] }). e ∙ (ap (λ (z : Knows). record (looked z k.0) { refused = u.refused; refusals = u.refusals ++ (x.from % 64 + 3, n) ∷ [] }) t.is
+        (λ (e : w ≡ record (looked u k.0) { refusals = u.refusals ++ (buffer_of x.from.0 + 3, n) ∷ [] }). e ∙ (ap (λ (z : Knows). record (looked z k.0) { refused = u.refused; refusals = u.refusals ++ (buffer_of x.from.0 + 3, n) ∷ [] }) t.is
         ∙ (λ i. record v { loads = more_loads v.loads t.loads k.0 i; refused = sym (ap (λ (z : Knows). z.refused) e) i; refusals = sym (ap (λ (z : Knows). z.refusals) e) i }))) k.1;
   }
 
@@ -45,14 +49,18 @@ module _ (x : Signal) (v u w : Knows) (t : Tried v u) where
   pub sent_by : (way : Via) → PutBy x u way w → SentBy x v way w
   sent_by via.Outer k = (
     t.loads ++ k.0,
-    k.1 ∙ (ap (λ (z : Knows). record (looked z (k.0 ++ false ∷ [])) { put = u.put ++ x ∷ []; refused = 0; refusals = u.refusals }) t.is
-        ∙ (λ i. record v { loads = last_load k.0 false i; put = same_put i ++ x ∷ []; refused = 0; refusals = sym (ap (λ (z : Knows). z.refusals) k.1) i })),
+    k.1 ∙ (ap (λ (z : Knows). record (looked z (k.0 ++ false ∷ [])) { put = u.put ++ item via.Outer x ∷ []; refused = 0; refusals = u.refusals }) t.is
+        ∙ (λ i. record v { loads = last_load k.0 false i; put = same_put i ++ item via.Outer x ∷ []; refused = 0; refusals = sym (ap (λ (z : Knows). z.refusals) k.1) i })),
   )
   sent_by (via.Buffer b) k = (
     k.0,
     (
       t.loads ++ k.1.0,
-      k.1.1 ∙ (ap (λ (z : Knows). record (looked z (k.1.0 ++ true ∷ [])) { put = u.put ++ x ∷ []; refused = u.refused; refusals = u.refusals }) t.is
-          ∙ (λ i. record v { loads = last_load k.1.0 true i; put = same_put i ++ x ∷ []; refused = sym (ap (λ (z : Knows). z.refused) k.1.1) i; refusals = sym (ap (λ (z : Knows). z.refusals) k.1.1) i })),
+      k.1.1 ∙ (ap (λ (z : Knows). record (looked z (k.1.0 ++ true ∷ [])) { put = u.put ++ item (via.Buffer b) x ∷ []; refused = u.refused; refusals = u.refusals }) t.is
+          ∙ (λ i. record v { loads = last_load k.1.0 true i; put = same_put i ++ item (via.Buffer b) x ∷ []; refused = sym (ap (λ (z : Knows). z.refused) k.1.1) i; refusals = sym (ap (λ (z : Knows). z.refusals) k.1.1) i })),
     ),
   )
+
+-- a signal that may come next may still come next after refused offers
+pub same_next : (z : Setup) (x y : Signal) (v u : Knows) → Tried v u → y ≡ x → IsNext z v.put x → IsNext z u.put y
+same_next z x y v u t same next = subst (λ (p : List Item × Signal). IsNext z p.0 p.1) (λ i. (sym (ap (λ (k : Knows). k.put) t.is) i, sym same i)) next

@@ -4,6 +4,7 @@ use Rattle.atomic_table.specs.Table.{rest}
 use Rattle.sig_kinds.specs.declared.signal.Signal.{Signal}
 use Rattle.sig_layout.specs.declared.entry.Entry.TheVariants.{Fetch}
 use Rattle.sig_layout.specs.declared.outer.Outer.{Outer}
+use Rattle.sig_layout.specs.declared.setup.Setup.{Setup}
 use Rattle.sig_layout.specs.Outers.{emptied}
 use Rattle.sig_queue.specs.declared.slot.Slot.{Slot}
 use Rattle.sig_queue.specs.declared.slot.Slot.TheVariants as slot
@@ -11,7 +12,7 @@ use Rattle.sig_layout.specs.declared.part.Part.{Part}
 use Rattle.sig_layout.specs.declared.knows.Knows.{Knows}
 use Rattle.sig_layout.specs.Views.{signals_of, after_same, after_fetch}
 use Rattle.sig_queue.specs.declared.taken.Taken.{Taken}
-use Rattle.sig_queue.specs.Tied.{Held, Foreign, Fresh}
+use Rattle.sig_queue.specs.Tied.{Held, FreshBut, TookCarried}
 use Rattle.sig_queue.specs.Fetching.{all_of, journal_of, Standing, Emptying, Leaving}
 use Rattle.sig_queue.specs.Calls.{bare, taken_by, Finished}
 use Rattle.sig_queue.proofs.Fetches.{standing_ends}
@@ -52,8 +53,8 @@ module _ (me m : Held) (outer : Outer) (held n : ℕ) (st : Standing held 64 me 
     pub finished_view : (w : Knows) (due : Bool) → w ≡ after_fetch m.0 due → w ≡ record (bare u) { taken = u.taken ++ taken_by u; fetches = u.fetches + 1; due = due }
     finished_view w due e = e ∙ (ap (λ (x : Knows). after_fetch x due) (seat_is ∙ em.view) ∙ (λ i. record (bare u) { parts = none_left i; taken = u.taken ++ signals_are i; fetches = u.fetches + 1; due = due }))
 
-    pub finished : (w : Knows) (t : Taken) → w ≡ after_fetch m.0 t.due → (m.0.back ≡ false → Fresh (after_fetch m.0 t.due)) → Finished u t w
-    finished w t e f = (finished_view w t.due e, (λ b. subst Fresh (sym e) (f (ap (λ (x : Knows). x.back) (seat_is ∙ em.view) ∙ b))))
+    pub finished : (z : Setup) (w : Knows) (t : Taken) → w ≡ after_fetch m.0 t.due → FreshBut m.0.back (after_fetch m.0 t.due) → TookCarried z (after_fetch m.0 t.due) → Finished z u t w
+    finished z w t e fresh carried = (finished_view w t.due e, subst (λ (n : ℕ). FreshBut n w) (ap (λ (x : Knows). x.back) (seat_is ∙ em.view)) (subst (FreshBut m.0.back) (sym e) fresh), subst (TookCarried z) (sym e) carried)
 
 pub all_moved_in : (now before : List Signal) (ps : List Part) (more : List Signal) → ps ≡ [] → now ++ all_of ps ≡ before ++ more → now ≡ before ++ more
 all_moved_in now before ps more none e = sym (append-nil now) ∙ (ap (λ (z : List Part). now ++ all_of z) (sym none) ∙ e)
@@ -61,12 +62,3 @@ all_moved_in now before ps more none e = sym (append-nil now) ∙ (ap (λ (z : L
 -- the value in front of the slots is one value
 pub same_outer : (a b : Outer) (xs ys zs : List (ℕ × Slot)) → zs ≡ (0, slot.Outer a) ∷ xs → zs ≡ (0, slot.Outer b) ∷ ys → a ≡ b
 same_outer a b xs ys zs e g = ap Rattle.sig_queue.specs.Tied.outer_in (sym e ∙ g)
-
--- a seat that held the outer turn, and did nothing with it yet
-pub record Fresh_start (v : Knows) : Type 0 where
-  pub fetching : v.fetching ≡ false
-  pub parts : v.parts ≡ []
-  pub saw : v.saw_off ≡ false
-  pub mask : v.mask ≡ []
-  pub back : v.back ≡ false
-  pub moved : v.moved ≡ 0

@@ -25,6 +25,7 @@ pub record Seated : Type 0 where
 pub record Keeps (v : Knows) (senders : List ℕ) (least : ℕ) (role due refused : Bool) : Type 0 where
   pub senders_are : v.senders ≡ senders
   pub number_is : number v ≡ least
+  pub low : least ≤ 256
   pub role_is : v.role ≡ role
   pub due_is : v.due ≡ due
   pub refused_is : refused ≡ some_refused v.refused

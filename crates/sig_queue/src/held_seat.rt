@@ -15,9 +15,13 @@ pub struct HeldSeat {
 }
 
 impl Model for HeldSeat {
+    ghost use Rattle.std.specs.Coded.{codes};
+    ghost use Rattle.sig_terms.specs.contracts.term.Term as term;
     ghost use Rattle.sig_queue.specs.Seats.{Seated, IsHolder};
 
     ghost Value = { Seated };
+
+    ghost coded = { Prim.hlevel (codes, term.the_row.coded) };
 
     ghost view = { λ s. record {
       queue = s.place.table_id;

@@ -8,9 +8,13 @@ pub struct Note {
 }
 
 impl Model for Note {
+    ghost use Rattle.std.specs.Coded.{codes};
+    ghost use Rattle.sig_terms.specs.contracts.term.Term as term;
     ghost use Rattle.sig_queue.specs.Seats.{Seated, IsNote};
 
     ghost Value = { Seated };
+
+    ghost coded = { Prim.hlevel (codes, term.the_row.coded) };
 
     ghost view = { λ n. record {
       queue = n.place.table_id;

@@ -37,9 +37,13 @@ pub struct Receipt {
 }
 
 impl Model for Receipt {
+    ghost use Rattle.std.specs.Coded.{codes};
+    ghost use Rattle.sig_terms.specs.contracts.term.Term as term;
     ghost use Rattle.sig_queue.specs.declared.account.Account.{Account};
 
     ghost Value = { Account };
+
+    ghost coded = { Prim.hlevel (codes, term.the_row.coded) };
 
     ghost view = { λ r. r.mark.view };
 }

@@ -16,9 +16,13 @@ pub struct Receipts {
 
 impl Model for Receipts {
     ghost use Rattle.std.specs.Prelude.{List};
+    ghost use Rattle.std.specs.Coded.{codes};
+    ghost use Rattle.sig_terms.specs.contracts.term.Term as term;
     ghost use Rattle.sig_queue.specs.declared.account.Account.{Account};
 
     ghost Value = { List Account };
+
+    ghost coded = { Prim.hlevel (codes, term.the_row.coded) };
 
     ghost view = { λ r. r.items.items };
 }

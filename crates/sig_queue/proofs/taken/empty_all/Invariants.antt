@@ -9,6 +9,6 @@ invariant-loop-buffer l = record {
   standing : Standing l.held l.buffer l.place.me l.left;
   emptying : Emptying l.initial.place.me.0 l.place.me;
   fetching : l.place.me.0.fetching ≡ true;
-  moved : l.into.list ++ all_of l.place.me.0.parts ≡ l.initial.into.list ++ all_of l.initial.place.me.0.parts;
+  moved : l.into.items ++ all_of l.place.me.0.parts ≡ l.initial.into.items ++ all_of l.initial.place.me.0.parts;
   room : length (all_of l.place.me.0.parts) ≤ l.into.spare;
 }
