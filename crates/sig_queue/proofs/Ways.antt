@@ -11,7 +11,7 @@ use Rattle.sig_layout.specs.Carried.{one_outer, outer_count}
 use Rattle.sig_layout.proofs.Sending.{of_own, of_other}
 
 -- without the first item of the sender s
-drop_first : ℕ → List Item → List Item
+abbrev drop_first : ℕ → List Item → List Item
 drop_first s [] = []
 drop_first s (y ∷ ys) = if putter y == s then ys else y ∷ drop_first s ys
 

@@ -30,11 +30,11 @@ followed a b = record a { put = a.put ++ b.put }
 
 abbrev pub EachMayFollow : List Account → List Account → Type 0
 EachMayFollow [] [] = Unit {0}
-EachMayFollow [] (b ∷ bs) = ⊥
-EachMayFollow (a ∷ as) [] = ⊥
-EachMayFollow (a ∷ as) (b ∷ bs) = MayFollow a b × EachMayFollow as bs
+EachMayFollow [] (y ∷ ys) = ⊥
+EachMayFollow (x ∷ xs) [] = ⊥
+EachMayFollow (x ∷ xs) (y ∷ ys) = MayFollow x y × EachMayFollow xs ys
 
 abbrev pub all_followed : List Account → List Account → List Account
-all_followed [] bs = []
-all_followed (a ∷ as) [] = a ∷ as
-all_followed (a ∷ as) (b ∷ bs) = followed a b ∷ all_followed as bs
+all_followed [] ys = []
+all_followed (x ∷ xs) [] = x ∷ xs
+all_followed (x ∷ xs) (y ∷ ys) = followed x y ∷ all_followed xs ys
