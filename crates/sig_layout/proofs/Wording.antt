@@ -1,6 +1,6 @@
 -- The running summary says of a journal what the table of the policies asks, and a journal whose entries were allowed one by one
 -- is lawful.
-use Rattle.std.proofs.Common.{◌≡◌, ◌≢◌, ◌⊎◌, ℕ, zero, suc, ◌+◌, ◌-◌, ◌<◌, ◌≤◌, ◌||◌, ltb, subst, Bool, true, false, if◌then◌else◌, List, [], ◌∷◌, ◌++◌, length, sym, refl, ap, ◌∙◌, arith, append_assoc, append-nil, inl, inr, ⊎_elim}
+use Rattle.std.proofs.Common.{◌≡◌, ◌≢◌, ◌⊎◌, ℕ, ◌+◌, ◌-◌, ◌<◌, ◌≤◌, ltb, subst, Bool, true, false, if◌then◌else◌, List, [], ◌∷◌, ◌++◌, sym, refl, ap, ◌∙◌, arith, append_assoc, append-nil, inl, inr, ⊎_elim}
 use Rattle.std.specs.List.{All}
 use Rattle.std.proofs.lemmas.Bool.{ltb-true, ltb-false}
 use Rattle.std.proofs.lemmas.List.Elements.{All-append, All-nil, All-cons, All-head, All-tail}
@@ -11,10 +11,10 @@ use Rattle.sig_layout.specs.declared.decision.Due.{Due}
 use Rattle.sig_layout.specs.declared.decision.Due.TheVariants as due
 use Rattle.sig_layout.specs.declared.policy.Policy.{Policy}
 use Rattle.sig_layout.specs.declared.policy.Policy.TheVariants.{Never, Always, Churn, Auto}
-use Rattle.sig_layout.specs.Summaries.{fresh, scored, run_on, after, summary, summed, due_of, due_at, May, Allowed, IsAllowed}
-use Rattle.sig_layout.specs.Policies.{IsPolicy, IsStill, IsDirect, IsLittle, direct_count, fetch_count, IsPeriod, whole, installed, removed, score_from, HasReached, HasIdled, AsksInstall, AsksRemove, InstallDue, RemoveDue, IsDue, RemovesNext, IsLawful}
-use Rattle.sig_layout.proofs.Sending.{not_both, bool_cases, or_cases, or_neither}
-use Rattle.sig_layout.proofs.Summing.{put_keeps}
+use Rattle.sig_layout.specs.Summaries.{fresh, scored, run_on, after, summary, summed, due_of, due_at, Allowed, IsAllowed, May}
+use Rattle.sig_layout.specs.Policies.{IsStill, IsDirect, IsLittle, direct_count, fetch_count, IsPeriod, whole, installed, removed, score_from, HasReached, HasIdled, InstallDue, RemoveDue, IsDue, RemovesNext, IsLawful}
+use Rattle.sig_layout.proofs.Sending.{or_cases, or_neither}
+use Rattle.sig_layout.proofs.Summing.{put_keeps, neither, summed_more}
 
 abbrev Entries : Type 0
 Entries = List Entry
@@ -44,7 +44,8 @@ pub record LaterCut (p front rest : Entries) (e : Entry) : Type 0 where
   pub is : p ≡ front ++ middle
   pub tail : rest ≡ middle ++ e ∷ []
 
-cut : (p front rest : Entries) (e : Entry) → p ++ e ∷ [] ≡ front ++ rest → ((rest ≡ []) × (front ≡ p ++ e ∷ [])) ⊎ LaterCut p front rest e
+cut : (p front rest : Entries) (e : Entry) → p ++ e ∷ [] ≡ front ++ rest
+    → ((rest ≡ []) × (front ≡ p ++ e ∷ [])) ⊎ LaterCut p front rest e
 cut p [] rest e h = inr record { middle = p; is = refl; tail = sym h }
 cut [] (x ∷ []) [] e h = inl (refl, sym h)
 cut [] (x ∷ []) (y ∷ ys) e h = let k : [] ≡ y ∷ ys = ap tail_of h in absurd cc
@@ -86,7 +87,8 @@ period_is _ _ _ (installed before p h) = walk-append (false, []) before (Install
 period_is _ _ _ (removed before p h) = walk-append (false, []) before (Remove ∷ p) ∙ walk_still false [] p h
 
 one_period : (j : Entries) (b c : Bool) (p q : Entries) → IsPeriod j b p → IsPeriod j c q → (b ≡ c) × (p ≡ q)
-one_period j b c p q h k = let e : (b, p) ≡ (c, q) = sym (period_is j b p h) ∙ period_is j c q k in (ap (λ (z : Bool × Entries). z.0) e, ap (λ (z : Bool × Entries). z.1) e)
+one_period j b c p q h k = let e : (b, p) ≡ (c, q) = sym (period_is j b p h) ∙ period_is j c q k in
+    (ap (λ (z : Bool × Entries). z.0) e, ap (λ (z : Bool × Entries). z.1) e)
 
 still_of : (j : Entries) (b : Bool) (p : Entries) → IsPeriod j b p → All IsStill p
 still_of _ _ _ (whole p h) = h
@@ -95,8 +97,10 @@ still_of _ _ _ (removed before p h) = h
 
 period_more : (j : Entries) (b : Bool) (p : Entries) (e : Entry) → IsStill e → IsPeriod j b p → IsPeriod (j ++ e ∷ []) b (p ++ e ∷ [])
 period_more _ _ _ e s (whole p h) = whole (p ++ e ∷ []) (all_more IsStill p e h s)
-period_more _ _ _ e s (installed before p h) = subst (λ (z : Entries). IsPeriod z true (p ++ e ∷ [])) (sym (append_assoc before (Install ∷ p) (e ∷ []))) (installed before (p ++ e ∷ []) (all_more IsStill p e h s))
-period_more _ _ _ e s (removed before p h) = subst (λ (z : Entries). IsPeriod z false (p ++ e ∷ [])) (sym (append_assoc before (Remove ∷ p) (e ∷ []))) (removed before (p ++ e ∷ []) (all_more IsStill p e h s))
+period_more _ _ _ e s (installed before p h) = subst (λ (z : Entries). IsPeriod z true (p ++ e ∷ []))
+    (sym (append_assoc before (Install ∷ p) (e ∷ []))) (installed before (p ++ e ∷ []) (all_more IsStill p e h s))
+period_more _ _ _ e s (removed before p h) = subst (λ (z : Entries). IsPeriod z false (p ++ e ∷ []))
+    (sym (append_assoc before (Remove ∷ p) (e ∷ []))) (removed before (p ++ e ∷ []) (all_more IsStill p e h s))
 
 -- counts and the score of a list with more behind it
 directs-append : (a b : Entries) → direct_count (a ++ b) ≡ direct_count a + direct_count b
@@ -153,7 +157,12 @@ module _ (p : Entries) (e : Entry) where
   More = p ++ e ∷ []
 
   reached_more : HasReached p → HasReached More
-  reached_more h = record { front = h.front; rest = h.rest ++ e ∷ []; is = ap (λ (z : Entries). z ++ e ∷ []) h.is ∙ append_assoc h.front h.rest (e ∷ []); score = h.score }
+  reached_more h = record {
+    front = h.front;
+    rest = h.rest ++ e ∷ [];
+    is = ap (λ (z : Entries). z ++ e ∷ []) h.is ∙ append_assoc h.front h.rest (e ∷ []);
+    score = h.score;
+  }
 
   reached_now : 64 ≤ score_from 0 More → HasReached More
   reached_now k = record { front = More; rest = []; is = sym (append-nil More); score = k }
@@ -169,29 +178,62 @@ module _ (p : Entries) (e : Entry) where
     front = h.front;
     row = h.row;
     rest = h.rest ++ e ∷ [];
-    is = ap (λ (z : Entries). z ++ e ∷ []) h.is ∙ (append_assoc h.front (h.row ++ h.rest) (e ∷ []) ∙ ap (λ (z : Entries). h.front ++ z) (append_assoc h.row h.rest (e ∷ [])));
+    is = ap (λ (z : Entries). z ++ e ∷ []) h.is ∙ (append_assoc h.front (h.row ++ h.rest) (e ∷ [])
+        ∙ ap (λ (z : Entries). h.front ++ z) (append_assoc h.row h.rest (e ∷ [])));
     little = h.little;
     sixteen = h.sixteen;
   }
 
   busy_more : (HasIdled p → ⊥) → ((r : Entries) → Row More r → fetch_count r < 16) → HasIdled More → ⊥
   busy_more never few h = ⊎_elim
-      (λ (t : (h.rest ≡ []) × (h.front ++ h.row ≡ More)). let k = few h.row record { front = h.front; is = sym t.1; little = h.little } in let l = h.sixteen in absurd (omega arith))
-      (λ (t : LaterCut p (h.front ++ h.row) h.rest e). never record { front = h.front; row = h.row; rest = t.middle; is = t.is ∙ append_assoc h.front h.row t.middle; little = h.little; sixteen = h.sixteen })
+      (λ (t : (h.rest ≡ []) × (h.front ++ h.row ≡ More)). let k = few h.row record {
+        front = h.front;
+        is = sym t.1;
+        little = h.little;
+      } in let l = h.sixteen in absurd (omega arith))
+      (λ (t : LaterCut p (h.front ++ h.row) h.rest e). never record {
+        front = h.front;
+        row = h.row;
+        rest = t.middle;
+        is = t.is ∙ append_assoc h.front h.row t.middle;
+        little = h.little;
+        sixteen = h.sixteen;
+      })
       (cut p (h.front ++ h.row) h.rest e (h.is ∙ sym (append_assoc h.front h.row h.rest)))
 
   row_more : (r : Entries) → Row p r → IsLittle e → Row More (r ++ e ∷ [])
-  row_more r h l = record { front = h.front; is = ap (λ (z : Entries). z ++ e ∷ []) h.is ∙ append_assoc h.front r (e ∷ []); little = all_more IsLittle r e h.little l }
+  row_more r h l = record {
+    front = h.front;
+    is = ap (λ (z : Entries). z ++ e ∷ []) h.is ∙ append_assoc h.front r (e ∷ []);
+    little = all_more IsLittle r e h.little l;
+  }
 
   -- a row at the end is none, or one before with this entry behind it
   row_cut : (r : Entries) → Row More r → (r ≡ []) ⊎ ((m : Entries) × (r ≡ m ++ e ∷ []) × Row p m × IsLittle e)
   row_cut r h = ⊎_elim
       (λ (t : (r ≡ []) × (h.front ≡ More)). inl t.0)
-      (λ (t : LaterCut p h.front r e). let all = subst (All IsLittle) t.tail h.little in inr (t.middle, t.tail, record { front = h.front; is = t.is; little = all_front IsLittle t.middle (e ∷ []) all }, All-head IsLittle e [] (all_rest IsLittle t.middle (e ∷ []) all)))
+      (λ (t : LaterCut p h.front r e). let all = subst (All IsLittle) t.tail h.little in
+      inr (
+        t.middle,
+        t.tail,
+        record {
+          front = h.front;
+          is = t.is;
+          little = all_front IsLittle t.middle (e ∷ []) all;
+        },
+        All-head IsLittle e [] (all_rest IsLittle t.middle (e ∷ []) all),
+      ))
       (cut p h.front r e h.is)
 
 idled_now : (p r : Entries) → Row p r → 16 ≤ fetch_count r → HasIdled p
-idled_now p r h k = record { front = h.front; row = r; rest = []; is = h.is ∙ ap (λ (z : Entries). h.front ++ z) (sym (append-nil r)); little = h.little; sixteen = k }
+idled_now p r h k = record {
+  front = h.front;
+  row = r;
+  rest = [];
+  is = h.is ∙ ap (λ (z : Entries). h.front ++ z) (sym (append-nil r));
+  little = h.little;
+  sixteen = k;
+}
 
 row_direct : (p : Entries) (n : ℕ) (b : Bool) → RowIs p n → RowIs (p ++ Direct b ∷ []) n
 row_direct p n b h = record {
@@ -200,7 +242,8 @@ row_direct p n b h = record {
   count = (let a = fetches-append h.row (Direct b ∷ []) in let k = h.count in omega arith);
   most = λ r w. ⊎_elim
       (λ (t : r ≡ []). let a = ap fetch_count t in omega arith)
-      (λ (t : (m : Entries) × (r ≡ m ++ Direct b ∷ []) × Row p m × IsLittle (Direct b)). let a = ap fetch_count t.1 in let d = fetches-append t.0 (Direct b ∷ []) in let k = h.most t.0 t.2 in omega arith)
+      (λ (t : (m : Entries) × (r ≡ m ++ Direct b ∷ []) × Row p m × IsLittle (Direct b)). let a = ap fetch_count t.1 in
+      let d = fetches-append t.0 (Direct b ∷ []) in let k = h.most t.0 t.2 in omega arith)
       (row_cut p (Direct b) r w);
 }
 
@@ -211,7 +254,8 @@ row_fetch_by p n m true little h = record {
   count = (let a = fetches-append h.row (Fetch m ∷ []) in let k = h.count in omega arith);
   most = λ r w. ⊎_elim
       (λ (t : r ≡ []). let a = ap fetch_count t in omega arith)
-      (λ (t : (x : Entries) × (r ≡ x ++ Fetch m ∷ []) × Row p x × IsLittle (Fetch m)). let a = ap fetch_count t.1 in let d = fetches-append t.0 (Fetch m ∷ []) in let k = h.most t.0 t.2 in omega arith)
+      (λ (t : (x : Entries) × (r ≡ x ++ Fetch m ∷ []) × Row p x × IsLittle (Fetch m)). let a = ap fetch_count t.1 in
+      let d = fetches-append t.0 (Fetch m ∷ []) in let k = h.most t.0 t.2 in omega arith)
       (row_cut p (Fetch m) r w);
 }
 row_fetch_by p n m false much h = record {
@@ -220,7 +264,8 @@ row_fetch_by p n m false much h = record {
   count = refl;
   most = λ r w. ⊎_elim
       (λ (t : r ≡ []). let a = ap fetch_count t in omega arith)
-      (λ (t : (x : Entries) × (r ≡ x ++ Fetch m ∷ []) × Row p x × IsLittle (Fetch m)). let a = ltb-false m 4 much in let l : m < 4 = t.3 in absurd (omega arith))
+      (λ (t : (x : Entries) × (r ≡ x ++ Fetch m ∷ []) × Row p x × IsLittle (Fetch m)). let a = ltb-false m 4 much in
+      let l : m < 4 = t.3 in absurd (omega arith))
       (row_cut p (Fetch m) r w);
 }
 
@@ -233,7 +278,8 @@ score_direct p n false h = ap (λ (z : ℕ). z - 1) h ∙ sym (score-append 0 p 
 
 unreached_fetch : (p : Entries) (m : ℕ) → (HasReached p → ⊥) → HasReached (p ++ Fetch m ∷ []) → ⊥
 unreached_fetch p m never h = ⊎_elim
-    (λ (t : (h.rest ≡ []) × (h.front ≡ p ++ Fetch m ∷ [])). let k = h.score in let a = ap (score_from 0) t.1 in let b = score-append 0 p (Fetch m ∷ []) in never record { front = p; rest = []; is = sym (append-nil p); score = omega arith })
+    (λ (t : (h.rest ≡ []) × (h.front ≡ p ++ Fetch m ∷ [])). let k = h.score in let a = ap (score_from 0) t.1 in
+    let b = score-append 0 p (Fetch m ∷ []) in never record { front = p; rest = []; is = sym (append-nil p); score = omega arith })
     (λ (t : LaterCut p h.front h.rest (Fetch m)). never record { front = h.front; rest = t.middle; is = t.is; score = h.score })
     (cut p h.front h.rest (Fetch m) h.is)
 
@@ -260,7 +306,12 @@ tells_fresh j b h = record {
   score = refl;
   reached = λ k. absurd cc;
   unreached = λ _ r. none_reached r.front r.rest r.is r.score;
-  row = record { row = []; ends = record { front = []; is = refl; little = All-nil IsLittle }; count = refl; most = λ r w. let k = no_row w.front r w.is in omega arith };
+  row = record {
+    row = [];
+    ends = record { front = []; is = refl; little = All-nil IsLittle };
+    count = refl;
+    most = λ r w. let k = no_row w.front r w.is in omega arith;
+  };
   idled = λ k. absurd cc;
   busy = λ _ r. none_idled r.front r.row r.rest r.is r.sixteen;
   low = λ _. omega arith;
@@ -275,8 +326,10 @@ tells_direct j s r t = let score = score_direct t.p s.score r t.score in let row
   score = score;
   reached = λ h. ⊎_elim
       (λ (k : s.reached ≡ true). reached_more t.p (Direct r) (t.reached k))
-      (λ (k : ltb 63 (scored s.score r) ≡ true). let l = ltb-true 63 (scored s.score r) k in reached_now t.p (Direct r) (omega arith)) (or_cases s.reached (ltb 63 (scored s.score r)) h);
-  unreached = λ h. let off = or_neither s.reached (ltb 63 (scored s.score r)) h in let l = ltb-false 63 (scored s.score r) off.1 in unreached_more t.p (Direct r) (t.unreached off.0) (omega arith);
+      (λ (k : ltb 63 (scored s.score r) ≡ true). let l = ltb-true 63 (scored s.score r) k in
+      reached_now t.p (Direct r) (omega arith)) (or_cases s.reached (ltb 63 (scored s.score r)) h);
+  unreached = λ h. let off = or_neither s.reached (ltb 63 (scored s.score r)) h in let l = ltb-false 63 (scored s.score r) off.1 in
+      unreached_more t.p (Direct r) (t.unreached off.0) (omega arith);
   row = row;
   idled = λ h. idled_more t.p (Direct r) (t.idled h);
   busy = λ h. busy_more t.p (Direct r) (t.busy h) (λ x w. let k = row.most x w in let l = t.low h in omega arith);
@@ -295,8 +348,10 @@ tells_fetch j s m t = let row = row_fetch t.p s.run m t.row in let n : ℕ = run
   row = row;
   idled = λ h. ⊎_elim
       (λ (k : s.sixteen ≡ true). idled_more t.p (Fetch m) (t.idled k))
-      (λ (k : ltb 15 n ≡ true). let l = ltb-true 15 n k in let c = row.count in idled_now (t.p ++ Fetch m ∷ []) row.row row.ends (omega arith)) (or_cases s.sixteen (ltb 15 n) h);
-  busy = λ h. let off = or_neither s.sixteen (ltb 15 n) h in let l = ltb-false 15 n off.1 in busy_more t.p (Fetch m) (t.busy off.0) (λ x w. let k = row.most x w in omega arith);
+      (λ (k : ltb 15 n ≡ true). let l = ltb-true 15 n k in let c = row.count in
+      idled_now (t.p ++ Fetch m ∷ []) row.row row.ends (omega arith)) (or_cases s.sixteen (ltb 15 n) h);
+  busy = λ h. let off = or_neither s.sixteen (ltb 15 n) h in let l = ltb-false 15 n off.1 in
+      busy_more t.p (Fetch m) (t.busy off.0) (λ x w. let k = row.most x w in omega arith);
   low = λ h. let off = or_neither s.sixteen (ltb 15 n) h in let l = ltb-false 15 n off.1 in omega arith;
 }
 
@@ -308,7 +363,8 @@ tells_after j s Remove t = tells_fresh (j ++ Remove ∷ []) false (removed j [] 
 
 tells_from : (before : Entries) (s : Summary) (es : Entries) → Tells before s → Tells (before ++ es) (summary s es)
 tells_from before s [] t = subst (λ (z : Entries). Tells z s) (sym (append-nil before)) t
-tells_from before s (e ∷ es) t = subst (λ (z : Entries). Tells z (summary (after s e) es)) (append_assoc before (e ∷ []) es) (tells_from (before ++ e ∷ []) (after s e) es (tells_after before s e t))
+tells_from before s (e ∷ es) t = subst (λ (z : Entries). Tells z (summary (after s e) es)) (append_assoc before (e ∷ []) es)
+    (tells_from (before ++ e ∷ []) (after s e) es (tells_after before s e t))
 
 pub tells : (j : List Entry) → Tells j (summed j)
 tells j = tells_from [] (fresh false) j (tells_fresh [] false (whole [] (All-nil IsStill)))
@@ -328,17 +384,37 @@ module _ (j : Entries) (s : Summary) (t : Tells j s) where
   always_by true h = (not_off Always h, λ d. d.2)
   always_by false h = (t.p, is_on false h, tt)
 
-  churn_by : (n : ℕ) (b f d : Bool) → s.installed ≡ b → ltb s.fetches n ≡ f → ltb s.directs n ≡ d → IsDue (Churn n) j (if b then (if f then due.Nothing else due.Remove) else (if d then due.Nothing else due.Install))
-  churn_by n true true d h f g = (not_off (Churn n) h, λ r. let e = ap fetch_count (one_period j true true t.p r.0 (is_on true h) r.1).1 in let l = ltb-true s.fetches n f in let k : n ≤ fetch_count r.0 = r.2 in let c = t.fetches in absurd (omega arith))
+  churn_by : (n : ℕ) (b f d : Bool) → s.installed ≡ b → ltb s.fetches n ≡ f → ltb s.directs n ≡ d
+      → IsDue (Churn n) j (if b then (if f then due.Nothing else due.Remove) else (if d then due.Nothing else due.Install))
+  churn_by n true true d h f g = (
+    not_off (Churn n) h,
+    λ r. let e = ap fetch_count
+        (one_period j true true t.p r.0 (is_on true h) r.1).1 in let l = ltb-true s.fetches n f in let k : n ≤ fetch_count r.0 = r.2 in
+        let c = t.fetches in absurd (omega arith),
+  )
   churn_by n true false d h f g = (t.p, is_on true h, (let l = ltb-false s.fetches n f in let c = t.fetches in omega arith))
-  churn_by n false f true h k g = ((λ r. let e = ap direct_count (one_period j false false t.p r.0 (is_on false h) r.1).1 in let l = ltb-true s.directs n g in let k : n ≤ direct_count r.0 = r.2 in let c = t.directs in absurd (omega arith)), not_on (Churn n) h)
+  churn_by n false f true h k g = (
+    (λ r. let e = ap direct_count (one_period j false false t.p r.0 (is_on false h) r.1).1 in
+        let l = ltb-true s.directs n g in let k : n ≤ direct_count r.0 = r.2 in let c = t.directs in
+        absurd (omega arith)),
+    not_on (Churn n) h,
+  )
   churn_by n false f false h k g = (t.p, is_on false h, (let l = ltb-false s.directs n g in let c = t.directs in omega arith))
 
-  auto_by : (b f d : Bool) → s.installed ≡ b → s.sixteen ≡ f → s.reached ≡ d → IsDue Auto j (if b then (if f then due.Remove else due.Nothing) else (if d then due.Install else due.Nothing))
+  auto_by : (b f d : Bool) → s.installed ≡ b → s.sixteen ≡ f → s.reached ≡ d
+      → IsDue Auto j (if b then (if f then due.Remove else due.Nothing) else (if d then due.Install else due.Nothing))
   auto_by true true d h f g = (t.p, is_on true h, t.idled f)
-  auto_by true false d h f g = (not_off Auto h, λ r. t.busy f (subst HasIdled (sym (one_period j true true t.p r.0 (is_on true h) r.1).1) r.2))
+  auto_by true false d h f g = (
+    not_off Auto h,
+    λ r. t.busy f
+        (subst HasIdled (sym (one_period j true true t.p r.0 (is_on true h) r.1).1) r.2),
+  )
   auto_by false f true h k g = (t.p, is_on false h, t.reached g)
-  auto_by false f false h k g = ((λ r. t.unreached g (subst HasReached (sym (one_period j false false t.p r.0 (is_on false h) r.1).1) r.2)), not_on Auto h)
+  auto_by false f false h k g = (
+    (λ r. t.unreached g
+        (subst HasReached (sym (one_period j false false t.p r.0 (is_on false h) r.1).1) r.2)),
+    not_on Auto h,
+  )
 
   due_by : (policy : Policy) → IsDue policy j (due_of policy s)
   due_by Never = ((λ d. d.2), (λ d. d.2))
@@ -374,29 +450,80 @@ pub period_of : (j : List Entry) → (p : List Entry) × IsPeriod j (summed j).i
 period_of j = let t = tells j in (t.p, t.is)
 
 -- what follows a part of a journal that is allowed
-allowed_rest : (policy : Policy) (s : Summary) (front rest : Entries) → Allowed policy s (front ++ rest) → Allowed policy (summary s front) rest
+allowed_rest : (policy : Policy) (s : Summary) (front rest : Entries) → Allowed policy s (front ++ rest)
+    → Allowed policy (summary s front) rest
 allowed_rest policy s [] rest h = h
 allowed_rest policy s (x ∷ xs) rest h = allowed_rest policy (after s x) xs rest h.1
 
-installs_next : (policy : Policy) (s : Summary) (rest : Entries) → due_of policy s ≡ due.Install → Allowed policy s rest → (more : Entries) × (rest ≡ Install ∷ more)
+installs_next : (policy : Policy) (s : Summary) (rest : Entries) → due_of policy s ≡ due.Install → Allowed policy s rest
+    → (more : Entries) × (rest ≡ Install ∷ more)
 installs_next policy s [] d h = absurd (h d)
 installs_next policy s (Direct r ∷ es) d h = absurd (h.0 d)
 installs_next policy s (Fetch m ∷ es) d h = let e : due.Install ≡ due.Nothing = sym d ∙ h.0 in absurd cc
 installs_next policy s (Install ∷ es) d h = (es, refl)
 installs_next policy s (Remove ∷ es) d h = let e : due.Install ≡ due.Remove = sym d ∙ h.0 in absurd cc
 
-removes_next : (policy : Policy) (s : Summary) (rest : Entries) → due_of policy s ≡ due.Remove → Allowed policy s rest → RemovesNext rest
+removes_next : (policy : Policy) (s : Summary) (rest : Entries) → due_of policy s ≡ due.Remove → Allowed policy s rest
+    → RemovesNext rest
 removes_next policy s [] d h = record { directs = []; rest = []; is = refl; direct = All-nil IsDirect; next = inl refl }
 removes_next policy s (Direct r ∷ es) d h = let n = removes_next policy (after s (Direct r)) es (put_keeps policy s r d) h.1 in
-    record { directs = Direct r ∷ n.directs; rest = n.rest; is = ap (λ (z : Entries). Direct r ∷ z) n.is; direct = All-cons IsDirect (Direct r) n.directs tt n.direct; next = n.next }
+    record {
+      directs = Direct r ∷ n.directs;
+      rest = n.rest;
+      is = ap (λ (z : Entries). Direct r ∷ z) n.is;
+      direct = All-cons IsDirect (Direct r) n.directs tt n.direct;
+      next = n.next;
+    }
 removes_next policy s (Fetch m ∷ es) d h = let e : due.Remove ≡ due.Nothing = sym d ∙ h.0 in absurd cc
 removes_next policy s (Install ∷ es) d h = let e : due.Remove ≡ due.Install = sym d ∙ h.0 in absurd cc
-removes_next policy s (Remove ∷ es) d h = record { directs = []; rest = Remove ∷ es; is = refl; direct = All-nil IsDirect; next = inr (es, refl) }
+removes_next policy s (Remove ∷ es) d h = record {
+  directs = [];
+  rest = Remove ∷ es;
+  is = refl;
+  direct = All-nil IsDirect;
+  next = inr (es, refl);
+}
 
 pub lawful_of : (policy : Policy) (j : List Entry) → IsAllowed policy j → IsLawful policy j
-lawful_of policy j h = let behind : (front rest : Entries) → j ≡ front ++ rest → Allowed policy (summed front) rest = (λ front rest is. allowed_rest policy (fresh false) front rest (subst (IsAllowed policy) is h)) in record {
-  installs = λ front rest is d. installs_next policy (summed front) rest (is_due policy front due.Install d) (behind front rest is);
-  install_due = λ front rest is. due_so policy front due.Install (behind front (Install ∷ rest) is).0;
-  removes = λ front rest is d. removes_next policy (summed front) rest (is_due policy front due.Remove d) (behind front rest is);
-  remove_due = λ front rest is. due_so policy front due.Remove (behind front (Remove ∷ rest) is).0;
-}
+lawful_of policy j h = let behind : (front rest : Entries) → j ≡ front ++ rest
+    → Allowed policy (summed front) rest = (λ front rest is. allowed_rest policy (fresh false) front rest
+    (subst (IsAllowed policy) is h)) in record {
+      installs = λ front rest is d. installs_next policy (summed front) rest (is_due policy front due.Install d)
+          (behind front rest is);
+      install_due = λ front rest is. due_so policy front due.Install (behind front (Install ∷ rest) is).0;
+      removes = λ front rest is d. removes_next policy (summed front) rest (is_due policy front due.Remove d) (behind front rest is);
+      remove_due = λ front rest is. due_so policy front due.Remove (behind front (Remove ∷ rest) is).0;
+    }
+
+-- a journal that is lawful was allowed, entry by entry
+fetch_first : (m : ℕ) (es directs rest : Entries) → Fetch m ∷ es ≡ directs ++ rest → All IsDirect directs
+    → (rest ≡ []) ⊎ ((more : Entries) × (rest ≡ Remove ∷ more)) → ⊥
+fetch_first m es [] rest is all (inl e) = let k : Fetch m ∷ es ≡ [] = is ∙ e in absurd cc
+fetch_first m es [] rest is all (inr t) = let k : Fetch m ≡ Remove = ap (head_or Install) (is ∙ t.1) in absurd cc
+fetch_first m es (x ∷ xs) rest is all next = let same : Fetch m ≡ x = ap (head_or Install) is in
+    absurd (subst IsDirect (sym same) (All-head IsDirect x xs all))
+
+module _ (policy : Policy) (j : Entries) (law : IsLawful policy j) where
+  not_install : (front rest : Entries) (e : Entry) → j ≡ front ++ e ∷ rest → (e ≡ Install → ⊥) → due_at policy front ≢ due.Install
+  not_install front rest e is never d = let m = law.installs front (e ∷ rest) is (due_so policy front due.Install d) in
+      never (ap (head_or Install) m.1)
+
+  may_be : (front rest : Entries) (e : Entry) → j ≡ front ++ e ∷ rest → May policy (summed front) e
+  may_be front rest (Direct r) is = not_install front rest (Direct r) is (λ e. absurd cc)
+  may_be front rest (Fetch m) is = neither (due_at policy front) (not_install front rest (Fetch m) is (λ e. absurd cc))
+      (λ d. let n = law.removes front (Fetch m ∷ rest) is (due_so policy front due.Remove d) in
+      fetch_first m rest n.directs n.rest n.is n.direct n.next)
+  may_be front rest Install is = is_due policy front due.Install (law.install_due front rest is)
+  may_be front rest Remove is = is_due policy front due.Remove (law.remove_due front rest is)
+
+  allowed_from : (front rest : Entries) → j ≡ front ++ rest → Allowed policy (summed front) rest
+  allowed_from front [] is = λ d. let m = law.installs front [] is (due_so policy front due.Install d) in
+      let k : [] ≡ Install ∷ m.0 = m.1 in absurd cc
+  allowed_from front (e ∷ es) is = (
+    may_be front es e is,
+    subst (λ (s : Summary). Allowed policy s es) (summed_more front e)
+        (allowed_from (front ++ e ∷ []) es (is ∙ sym (append_assoc front (e ∷ []) es))),
+  )
+
+pub allowed_of : (policy : Policy) (j : List Entry) → IsLawful policy j → IsAllowed policy j
+allowed_of policy j law = allowed_from policy j law [] j refl

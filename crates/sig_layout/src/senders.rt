@@ -6,7 +6,7 @@ use std::marker::Model;
 
 /// A set of pids below 256. Contracts see its four words of bits: those of pids 0 to 63, of 64 to
 /// 127, and so on.
-#[derive(Clone, Copy, Debug)]
+#[derive(Clone, Copy, Debug, PartialEq, Eq)]
 pub struct Senders([u64; 4]);
 
 impl Model for Senders {

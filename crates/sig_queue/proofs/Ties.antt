@@ -139,7 +139,7 @@ module _ (z : Setup) where
   pub same_setup : (q : QState) → Reached z q → q.setup ≡ z
   same_setup _ opened = refl
   same_setup _ (by_take_outer q i v can r) = same_setup q r
-  same_setup _ (by_refuse_outer q i v at r) = same_setup q r
+  same_setup _ (by_refuse_outer q i v can r) = same_setup q r
   same_setup _ (by_put q i v o x can r) = same_setup q r
   same_setup _ (by_leave q i v o can r) = same_setup q r
   same_setup _ (by_take_bits q i v o can r) = same_setup q r
@@ -150,7 +150,7 @@ module _ (z : Setup) where
   same_setup _ (by_load_mode q i v can r) = same_setup q r
   same_setup _ (by_load_filled q i v at r) = same_setup q r
   same_setup _ (by_take_buffer q i v c can r) = same_setup q r
-  same_setup _ (by_refuse_buffer q i v c at r) = same_setup q r
+  same_setup _ (by_refuse_buffer q i v c can r) = same_setup q r
   same_setup _ (by_set_back q i v c o can r) = same_setup q r
   same_setup _ (by_load_under q i v p can r) = same_setup q r
   same_setup _ (by_set_bit q i v p can r) = same_setup q r
@@ -203,7 +203,7 @@ module _ (z : Setup) where
         tt,
         record {
           core = q';
-          reached = by_refuse_outer q id v at st.reached;
+          reached = by_refuse_outer q id v (record { at = at; busy = n }) st.reached;
           is = λ k. record { words = T (word k) (mode_word q.mode) q.filled (table_from 0 64 (λ c. (q.cells c).word)); homes = homes_of q'; views = q'.seats };
           proper = st.proper;
         },
@@ -419,7 +419,7 @@ module _ (z : Setup) where
         tt,
         record {
           core = q';
-          reached = by_refuse_buffer q id v b at st.reached;
+          reached = by_refuse_buffer q id v b (record { at = at; low = low; busy = λ e. n (found ∙ e) }) st.reached;
           is = λ k. record { words = (ap (λ (m : ℕ). set (words_of q) i m) new ∙ set_found (words_of q) i) k; homes = homes_of q; views = q'.seats };
           proper = st.proper;
         },

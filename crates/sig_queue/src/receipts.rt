@@ -67,11 +67,9 @@ impl Receipts {
         requires { EachMayFollow self.old later }
         ensures { self.new ≡ all_followed self.old later }
     {
-        let Receipts { items } = later;
-        let mut place = 0usize;
-        for receipt in items {
-            self.items[place].follow(receipt);
-            place += 1;
+        let Receipts { mut items } = later;
+        while let Some(receipt) = items.pop() {
+            self.items[items.len()].follow(receipt);
         }
     }
 }

@@ -1,5 +1,4 @@
-use Rattle.std.proofs.Common.{◌≡◌, rules, sym}
-use Rattle.sig_layout.specs.Summaries.{due_at}
+use Rattle.std.proofs.Common.{sym}
 use Rattle.sig_layout.proofs.Wording.{due_so}
 use Rattle.sig_layout.proofs.policy.due.Goals as goal
 

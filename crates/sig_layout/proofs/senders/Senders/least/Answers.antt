@@ -1,5 +1,5 @@
-use Rattle.std.proofs.Common.{◌≡◌, ℕ, ◌<◌, ◌+◌, rules, sym, ap, ◌∙◌, Bool, true, false, if◌then◌else◌, suc, arith}
-use Rattle.sig_layout.specs.Sets.{has, least_from, least}
+use Rattle.std.proofs.Common.{◌≡◌, ℕ, ◌<◌, ◌+◌, sym, ap, ◌∙◌, Bool, true, false, if◌then◌else◌, suc, arith}
+use Rattle.sig_layout.specs.Sets.{has, least_from}
 use Rattle.sig_layout.proofs.Members.{least_step, least_end}
 use Rattle.sig_layout.proofs.senders.Senders.least.Goals as goal
 

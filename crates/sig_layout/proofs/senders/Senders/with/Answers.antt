@@ -1,4 +1,4 @@
-use Rattle.std.proofs.Common.{◌≡◌, rules, sym, ap, ◌∙◌, ◌||◌, ◌==◌, List, ℕ, length, Bool}
+use Rattle.std.proofs.Common.{◌≡◌, rules, ap, ◌∙◌, ◌||◌, ◌==◌, List, ℕ, length}
 use Rattle.sig_layout.specs.Sets.{has}
 use Rattle.sig_layout.proofs.Members.{has_with}
 use Rattle.sig_layout.proofs.senders.Senders.with.Goals as goal
