@@ -1,1 +1,2 @@
 mod Sendings
+mod PidSets

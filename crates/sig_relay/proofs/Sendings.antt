@@ -35,6 +35,18 @@ signals_length : (xs : List Item) → length (signals xs) ≡ length xs
 signals_length [] = refl
 signals_length (x ∷ xs) = ap suc (signals_length xs)
 
+-- a message with the next number may be put
+pub next_of : (z : Setup) (l : Line) (put : List Item) → Sender z l → (n x : ℕ) → n ≡ l.first + length (of putter l.from.0 put) → IsNext z put (message l.from l.to n x)
+next_of z l put sending n x is = record {
+  carried = record {
+    from = sending.known;
+    to = sending.receiver;
+    early = omega arith;
+    below = record { from = sending.below; to = sending.receiver_below; kind = ref_names (IsNameBelow z.opening.count) (record { owner = l.from; serial = x }) tt sending.below };
+  };
+  number = let f = sending.first_is in omega arith;
+}
+
 module _ (z : Setup) (l : Line) (xs : List ℕ) (x : ℕ) (v : Knows) (sending : Sender z l) (sends : Sends z l.from xs v) where
   count : length (of putter l.from.0 v.put) ≡ length xs
   count = sym (signals_length (of putter l.from.0 v.put)) ∙ (sym (ap length (of_signals l.from.0 v.put)) ∙ (ap (λ (ys : List Signal). length (of sender l.from.0 ys)) sends.put_is
@@ -42,15 +54,7 @@ module _ (z : Setup) (l : Line) (xs : List ℕ) (x : ℕ) (v : Knows) (sending :
 
   -- the next message may be put
   pub next_message : (n : ℕ) → n ≡ l.first + length xs → IsNext z v.put (message l.from l.to n x)
-  next_message n is = record {
-    carried = record {
-      from = sending.known;
-      to = sending.receiver;
-      early = omega arith;
-      below = record { from = sending.below; to = sending.receiver_below; kind = ref_names (IsNameBelow z.opening.count) (record { owner = l.from; serial = x }) tt sending.below };
-    };
-    number = let c = count in let f = sending.first_is in omega arith;
-  }
+  next_message n is = next_of z l v.put sending n x (let c = count in omega arith)
 
   put_more : (n : ℕ) (way : Via) (w : Knows) → n ≡ l.first + length xs → w.put ≡ v.put ++ item way (message l.from l.to n x) ∷ [] → signals w.put ≡ messages l.from z.opening.receiver (first_of z l.from.0) (xs ++ x ∷ [])
   put_more n way w is e = ap signals e ∙ (signals-append v.put (item way (message l.from l.to n x) ∷ []) ∙ ((λ i. sends.put_is i ++ message l.from (sending.receiver i) ((is ∙ ap (λ (k : ℕ). k + length xs) sending.first_is) i) x ∷ [])

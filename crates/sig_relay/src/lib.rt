@@ -2,9 +2,13 @@
 #![tactic(auto)]
 
 mod messages;
+mod offering;
+mod pids;
 mod relaying;
 #[cfg(test)]
 mod tests;
 
 pub use messages::message;
-pub use relaying::{Relayed, relay};
+pub use offering::offer_message;
+pub use pids::{only, pair};
+pub use relaying::{Line, Relayed, relay};
