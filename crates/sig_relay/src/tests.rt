@@ -57,7 +57,10 @@ fn two_threads_under_each_policy(rt: HostRuntime) -> Result<(), Fail> {
         Policy::Auto,
     ] {
         let relayed = relay(&rt, alloc, policy, senders, &opening, Pid(3), &serials, 100)?;
-        assert!(rt; relayed.sent == 100 && relayed.taken.len() == 100, "{policy:?}");
+        assert!(rt;
+            relayed.sent == 100 && relayed.taken.len() == 100,
+            "{policy:?}"
+        );
         assert!(rt; is_in_order(&relayed.taken, 0), "{policy:?}");
     }
     Ok(())
