@@ -1,0 +1,94 @@
+-- A seat that puts one more.
+use Rattle.std.proofs.Common.{◌≡◌, ℕ, suc, ◌+◌, List, [], ◌∷◌, ◌++◌, length, map, sym, refl, ap, ◌∙◌, subst, arith, Bool, true, false, ◌||◌, ⊎_elim}
+use Rattle.sig_terms.specs.Names.{IsNameBelow}
+use Rattle.sig_terms.proofs.NameLemmas.{ref_names}
+use Rattle.sig_terms.specs.declared.pid.Pid.{Pid}
+use Rattle.sig_kinds.specs.declared.signal.Signal.{Signal}
+use Rattle.sig_layout.specs.declared.setup.Setup.{Setup}
+use Rattle.sig_layout.specs.declared.item.Item.{Item}
+use Rattle.sig_layout.specs.declared.via.Via.{Via}
+use Rattle.sig_layout.specs.declared.via.Via.TheVariants as via
+use Rattle.sig_layout.specs.declared.knows.Knows.{Knows}
+use Rattle.sig_layout.specs.Sets.{has}
+use Rattle.sig_layout.specs.Sent.{sender, putter, of, signals}
+use Rattle.sig_layout.specs.Openings.{first_of, IsNext}
+use Rattle.sig_layout.proofs.Sending.{of_own, of_signals, signals-append}
+use Rattle.sig_queue.specs.Parts.{item}
+use Rattle.sig_queue.specs.Calls.{PutBy, RefusedOne}
+use Rattle.sig_relay.specs.declared.relaying.Line.{Line}
+use Rattle.sig_relay.specs.Relays.{message, messages, Sender, Sends}
+
+pub messages_more : (from to : Pid) (n : ℕ) (xs : List ℕ) (x : ℕ) → messages from to n xs ++ message from to (n + length xs) x ∷ [] ≡ messages from to n (xs ++ x ∷ [])
+messages_more from to n [] x = let e : n + 0 ≡ n = omega arith in ap (λ (k : ℕ). message from to k x ∷ []) e
+messages_more from to n (y ∷ ys) x = let e : n + suc (length ys) ≡ suc n + length ys = omega arith in
+    ap (λ (l : List Signal). message from to n y ∷ l) (ap (λ (k : ℕ). messages from to (suc n) ys ++ message from to k x ∷ []) e ∙ messages_more from to (suc n) ys x)
+
+pub own_messages : (from to : Pid) (n : ℕ) (xs : List ℕ) → of sender from.0 (messages from to n xs) ≡ messages from to n xs
+own_messages from to n [] = refl
+own_messages from to n (x ∷ xs) = of_own sender from.0 (message from to n x) (messages from to (suc n) xs) refl ∙ ap (λ (l : List Signal). message from to n x ∷ l) (own_messages from to (suc n) xs)
+
+messages_length : (from to : Pid) (n : ℕ) (xs : List ℕ) → length (messages from to n xs) ≡ length xs
+messages_length from to n [] = refl
+messages_length from to n (x ∷ xs) = ap suc (messages_length from to (suc n) xs)
+
+signals_length : (xs : List Item) → length (signals xs) ≡ length xs
+signals_length [] = refl
+signals_length (x ∷ xs) = ap suc (signals_length xs)
+
+-- a message with the next number may be put
+pub next_of : (z : Setup) (l : Line) (put : List Item) → Sender z l → (n x : ℕ) → n ≡ l.first + length (of putter l.from.0 put) → IsNext z put (message l.from l.to n x)
+next_of z l put sending n x is = record {
+  carried = record {
+    from = sending.known;
+    to = sending.receiver;
+    early = omega arith;
+    below = record { from = sending.below; to = sending.receiver_below; kind = ref_names (IsNameBelow z.opening.count) (record { owner = l.from; serial = x }) tt sending.below };
+  };
+  number = let f = sending.first_is in omega arith;
+}
+
+module _ (z : Setup) (l : Line) (xs : List ℕ) (x : ℕ) (v : Knows) (sending : Sender z l) (sends : Sends z l.from xs v) where
+  count : length (of putter l.from.0 v.put) ≡ length xs
+  count = sym (signals_length (of putter l.from.0 v.put)) ∙ (sym (ap length (of_signals l.from.0 v.put)) ∙ (ap (λ (ys : List Signal). length (of sender l.from.0 ys)) sends.put_is
+      ∙ (ap length (own_messages l.from z.opening.receiver (first_of z l.from.0) xs) ∙ messages_length l.from z.opening.receiver (first_of z l.from.0) xs)))
+
+  -- the next message may be put
+  pub next_message : (n : ℕ) → n ≡ l.first + length xs → IsNext z v.put (message l.from l.to n x)
+  next_message n is = next_of z l v.put sending n x (let c = count in omega arith)
+
+  put_more : (n : ℕ) (way : Via) (w : Knows) → n ≡ l.first + length xs → w.put ≡ v.put ++ item way (message l.from l.to n x) ∷ [] → signals w.put ≡ messages l.from z.opening.receiver (first_of z l.from.0) (xs ++ x ∷ [])
+  put_more n way w is e = ap signals e ∙ (signals-append v.put (item way (message l.from l.to n x) ∷ []) ∙ ((λ i. sends.put_is i ++ message l.from (sending.receiver i) ((is ∙ ap (λ (k : ℕ). k + length xs) sending.first_is) i) x ∷ [])
+      ∙ messages_more l.from z.opening.receiver (first_of z l.from.0) xs x))
+
+  pub sends_more : (n : ℕ) (ys : List ℕ) (way : Via) (w : Knows) → n ≡ l.first + length xs → ys ≡ xs ++ x ∷ [] → PutBy (message l.from l.to n x) v way w → Sends z l.from ys w
+  sends_more n ys via.Outer w is more p = let e = p.1 in record {
+    senders = ap (λ (k : Knows). k.senders) e ∙ sends.senders;
+    can = ap (λ (k : Knows). has k.senders l.from.0) e ∙ sends.can;
+    put_is = put_more n via.Outer w is (ap (λ (k : Knows). k.put) e) ∙ ap (messages l.from z.opening.receiver (first_of z l.from.0)) (sym more);
+    no_role = ap (λ (k : Knows). k.role) e ∙ sends.no_role;
+    none_taken = ap (λ (k : Knows). k.taken) e ∙ sends.none_taken;
+  }
+  sends_more n ys (via.Buffer b) w is more p = let e = p.1.1 in record {
+    senders = ap (λ (k : Knows). k.senders) e ∙ sends.senders;
+    can = ap (λ (k : Knows). has k.senders l.from.0) e ∙ sends.can;
+    put_is = put_more n (via.Buffer b) w is (ap (λ (k : Knows). k.put) e) ∙ ap (messages l.from z.opening.receiver (first_of z l.from.0)) (sym more);
+    no_role = ap (λ (k : Knows). k.role) e ∙ sends.no_role;
+    none_taken = ap (λ (k : Knows). k.taken) e ∙ sends.none_taken;
+  }
+
+-- a refused offer changes nothing of this
+pub sends_still : (z : Setup) (from : Pid) (xs : List ℕ) (v w : Knows) → Sends z from xs v → (x : Signal) (n : ℕ) → RefusedOne x v n w → Sends z from xs w
+sends_still z from xs v w s x n k = let put : w.put ≡ v.put = ⊎_elim (λ e. ap (λ (y : Knows). y.put) e) (λ e. ap (λ (y : Knows). y.put) e) k.1 in
+    let senders : w.senders ≡ v.senders = ⊎_elim (λ e. ap (λ (y : Knows). y.senders) e) (λ e. ap (λ (y : Knows). y.senders) e) k.1 in
+    let role : w.role ≡ v.role = ⊎_elim (λ e. ap (λ (y : Knows). y.role) e) (λ e. ap (λ (y : Knows). y.role) e) k.1 in
+    let taken : w.taken ≡ v.taken = ⊎_elim (λ e. ap (λ (y : Knows). y.taken) e) (λ e. ap (λ (y : Knows). y.taken) e) k.1 in record {
+      senders = senders ∙ s.senders;
+      can = ap (λ (l : List ℕ). has l from.0) senders ∙ s.can;
+      put_is = ap signals put ∙ s.put_is;
+      no_role = role ∙ s.no_role;
+      none_taken = taken ∙ s.none_taken;
+    }
+
+pub or_yes : (b : Bool) → (b || true) ≡ true
+or_yes true = refl
+or_yes false = refl

@@ -1,0 +1,14 @@
+//! Two threads over one shared queue: what was fetched, and then what is left, is what was sent.
+#![tactic(auto)]
+
+mod messages;
+mod offering;
+mod pids;
+mod relaying;
+#[cfg(test)]
+mod tests;
+
+pub use messages::message;
+pub use offering::offer_message;
+pub use pids::{only, pair};
+pub use relaying::{Line, Relayed, relay};

@@ -1,0 +1,27 @@
+ghost use Rattle.std.specs.Prelude.{◌≡◌, ◌+◌, length, true};
+ghost use Rattle.sig_layout.specs.Sets.{has};
+ghost use Rattle.sig_layout.specs.Sent.{putter, of};
+ghost use Rattle.sig_queue.specs.Calls.{Offered};
+ghost use Rattle.sig_relay.specs.Relays.{Sender, message as said};
+
+use crate::messages::message;
+use crate::relaying::Line;
+use sig_queue::{Offer, QSeat, SigQueue};
+
+/// Offers the message with this number, which is the next of its sender.
+pub fn offer_message(
+    queue: &SigQueue,
+    seat: &mut QSeat,
+    line: Line,
+    number: u64,
+    serial: u64,
+) -> Offer
+    requires own { seat.old.queue ≡ queue.now.id }
+    requires sender { Sender queue.now.setup line }
+    requires can { has seat.old.knows.senders line.from.0 ≡ true }
+    requires next { number ≡ line.first + length (of putter line.from.0 seat.old.knows.put) }
+    ensures own { seat.new.queue ≡ seat.old.queue }
+    ensures offered { Offered (said line.from line.to number serial) seat.old.knows result seat.new.knows }
+{
+    queue.offer(seat, message(line.from, line.to, number, serial))
+}
