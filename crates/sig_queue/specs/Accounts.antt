@@ -21,7 +21,7 @@ next_number a s = slice_index_or a.first s 0 + length (of putter s a.put)
 -- b is of the same receiver, senders and policy, and the numbers go on there
 pub record MayFollow (a b : Account) : Type 0 where
   pub receiver : b.receiver ≡ a.receiver
-  pub senders : b.senders ≡ a.senders
+  pub senders : (s : ℕ) → has b.senders s ≡ has a.senders s
   pub policy : b.policy ≡ a.policy
   pub numbers : (s : ℕ) → has a.senders s ≡ true → slice_index_or b.first s 0 ≡ next_number a s
 
