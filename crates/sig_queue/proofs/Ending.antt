@@ -132,7 +132,7 @@ ends z id v ws xs final idle role every = let tied = final.1.0 in let q : QState
     let free : q.turn ≡ 0 = free_for_one q ls id v at role whole q.turn q.holder HasOuter ag.turn (not_outer v idle.held) in
     let cell_free : (c : ℕ) → (q.cells c).word ≡ 0 = (λ c. free_for_one q ls id v at role whole (q.cells c).word (q.cells c).holder (HasBuffer c) (ag.cells c) (λ a. subst (Among c) idle.parts a)) in
     let put_is : (s : ℕ) → of putter s v.put ≡ of putter s q.log = (λ s. ⊎_elim (λ (h : has v.senders s ≡ true). ok.own s h)
-        (λ (h : has v.senders s ≡ false). ok.only s h ∙ sym (ls.strange s (⊎_elim (λ (k : has q.setup.senders s ≡ true). not_both (has v.senders s) (whole s k) h) (λ (k : has q.setup.senders s ≡ false). k) (bool_cases (has q.setup.senders s))))) (bool_cases (has v.senders s))) in
+    (λ (h : has v.senders s ≡ false). ok.only s h ∙ sym (ls.strange s (⊎_elim (λ (k : has q.setup.senders s ≡ true). not_both (has v.senders s) (whole s k) h) (λ (k : has q.setup.senders s ≡ false). k) (bool_cases (has q.setup.senders s))))) (bool_cases (has v.senders s))) in
     let sent_is : (s : ℕ) → of sender s (signals v.put) ≡ of sender s (signals q.log) = (λ s. of_signals s v.put ∙ (ap signals (put_is s) ∙ sym (of_signals s q.log))) in
     let c : CarriedAs z q.log = subst (λ (y : Setup). CarriedAs y q.log) same (carried z q r) in record {
       outer = q.outer;

@@ -252,7 +252,7 @@ module _ (z : Setup) where
       let same_due : core.makes_due q id v o ≡ due = ap (λ (y : Setup). is_remove (due_at y.policy o'.journal)) (same_setup q st.reached) ∙ sym due_is in
       let all_taken : q.taken ++ q.outer.signals ≡ v.taken ++ signals_of v.held = ap (λ (l : List Signal). l ++ q.outer.signals) (sym (ok.took role)) ∙ ap (λ (l : List Signal). v.taken ++ l) (ap (λ (y : Outer). y.signals) doing.value ∙ sym (ap signals_of held)) in
       let base_taken : (s : ℕ) → filled_at v.back (buffer_of s) ≡ false → HasTaken (after_fetch v due) s q.base = (λ s clear. subst (λ (l : List Signal). Prefix (of sender s (signals q.base)) (of sender s l)) all_taken
-          (fetched_all mod_small q st.law (doing.fetch ∙ f) (λ d low. doing.masks (doing.fetch ∙ f) d low ∙ unmasked d low) s (ap (λ (n : ℕ). filled_at n (buffer_of s)) (doing.given (doing.fetch ∙ f)) ∙ clear))) in
+      (fetched_all mod_small q st.law (doing.fetch ∙ f) (λ d low. doing.masks (doing.fetch ∙ f) d low ∙ unmasked d low) s (ap (λ (n : ℕ). filled_at n (buffer_of s)) (doing.given (doing.fetch ∙ f)) ∙ clear))) in
       let based = ok.based f in (
         after_fetch v due,
         gives,
@@ -451,7 +451,7 @@ module _ (z : Setup) where
               homes = homes_put (home q.turn (slot.Outer q.outer)) q.cells p.number low (p.number + 1) y (some (slot.List p.list)) refl (ap (λ (l : List Signal). some (slot.List l)) (sym h.list)) k;
               views = q'.seats;
             };
-              proper = st.proper;
+            proper = st.proper;
           },
           refl,
         ))
@@ -477,7 +477,7 @@ module _ (z : Setup) where
               homes = (homes_put (home q.turn (slot.Outer q.outer)) q.cells p.number low (p.number + 1) y (some (slot.List [])) refl refl ∙ ap (λ (h : maybe.Option Slot). h ∷ table_from 0 64 (λ c. cell_home (put q.cells p.number y c))) (outer_moves q st o held at (behind o p.list))) k;
               views = q'.seats;
             };
-              proper = st.proper;
+            proper = st.proper;
           },
           (λ p' ps' o' first' held'. let same = same_first p' ps' o o' held first' held' in λ k. (took_part v (same.1 k) (same.0 k), xs)),
         ))
@@ -496,7 +496,7 @@ module _ (z : Setup) where
               homes = (homes_put (home q.turn (slot.Outer q.outer)) q.cells p.number low (p.number + 1) y (some (slot.List [])) refl refl ∙ ap (λ (h : maybe.Option Slot). h ∷ table_from 0 64 (λ c. cell_home (put q.cells p.number y c))) (outer_moves q st o held at (behind o p.list))) k;
               views = q'.seats;
             };
-              proper = st.proper;
+            proper = st.proper;
           },
           (λ p' ps' o' first' held'. let same = same_first p' ps' o o' held first' held' in λ k. (passed v (same.1 k) (same.0 k), xs)),
         ))

@@ -42,8 +42,8 @@ others_kept s t [] n = refl
 others_kept s t (y ∷ ys) n = dite (ℕ_discrete (putter y) s)
     (λ h. ap (of putter t) (dropped_here s y ys h) ∙ sym (of_other putter t y ys (λ e. n (sym e ∙ h))))
     (λ m. ap (of putter t) (dropped_else s y ys m) ∙ dite (ℕ_discrete (putter y) t)
-        (λ h. of_own putter t y (drop_first s ys) h ∙ (ap (λ (l : List Item). y ∷ l) (others_kept s t ys n) ∙ sym (of_own putter t y ys h)))
-        (λ k. of_other putter t y (drop_first s ys) k ∙ (others_kept s t ys n ∙ sym (of_other putter t y ys k))))
+    (λ h. of_own putter t y (drop_first s ys) h ∙ (ap (λ (l : List Item). y ∷ l) (others_kept s t ys n) ∙ sym (of_own putter t y ys h)))
+    (λ k. of_other putter t y (drop_first s ys) k ∙ (others_kept s t ys n ∙ sym (of_other putter t y ys k))))
 
 own_dropped : (s : ℕ) (b : List Item) → of putter s (drop_first s b) ≡ tail (of putter s b)
 own_dropped s [] = refl
@@ -56,6 +56,6 @@ outer_by_sender [] [] h = refl
 outer_by_sender [] (y ∷ ys) h = let e : [] ≡ y ∷ of putter (putter y) ys = h (putter y) ∙ of_own putter (putter y) y ys refl in absurd cc
 outer_by_sender (x ∷ xs) b h = let s : ℕ = putter x in let e : of putter s b ≡ x ∷ of putter s xs = sym (h s) ∙ of_own putter s x xs refl in
     let rest : (t : ℕ) → of putter t xs ≡ of putter t (drop_first s b) = (λ t. dite (ℕ_discrete t s)
-        (λ q. ap (λ (k : ℕ). of putter k xs) q ∙ (ap tail (sym e) ∙ (sym (own_dropped s b) ∙ ap (λ (k : ℕ). of putter k (drop_first s b)) (sym q))))
-        (λ n. sym (of_other putter t x xs (λ k. n (sym k))) ∙ (h t ∙ sym (others_kept s t b n)))) in
+    (λ q. ap (λ (k : ℕ). of putter k xs) q ∙ (ap tail (sym e) ∙ (sym (own_dropped s b) ∙ ap (λ (k : ℕ). of putter k (drop_first s b)) (sym q))))
+    (λ n. sym (of_other putter t x xs (λ k. n (sym k))) ∙ (h t ∙ sym (others_kept s t b n)))) in
     ap (one_outer x.via) (outer_by_sender xs (drop_first s b) rest) ∙ sym (counted_first s x (of putter s xs) b e)

@@ -28,7 +28,13 @@ pub enum Fetch {
 }
 
 // Under the outer turn: the bits are taken, each buffer of theirs is tried, and what was found is taken.
-fn fetch_held(words: &Words, place: &mut Place, mine: u64, into: &mut Signals, policy: Policy) -> Fetch
+fn fetch_held(
+    words: &Words,
+    place: &mut Place,
+    mine: u64,
+    into: &mut Signals,
+    policy: Policy,
+) -> Fetch
     requires table { (place.old.table_id ≡ words.now.table_id) × (words.now.table_id.words ≡ 536) × (words.now.key.policy ≡ policy) }
     requires begins { (o : Outer) × Begins place.old.me.0 o × (place.old.me.1 ≡ (0, Slot.Outer o) ∷ []) }
     requires idle { (place.old.me.0.parts ≡ []) × (place.old.me.0.saw_off ≡ false) × (place.old.me.0.mask ≡ []) × (place.old.me.0.back ≡ 0) × (place.old.me.0.moved ≡ 0) }

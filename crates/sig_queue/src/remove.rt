@@ -143,7 +143,13 @@ fn remove_with_room<R: Wait>(
 }
 
 // The outer value as it was found comes back, and the outer turn is left.
-fn leave_found(words: &Words, place: &mut Place, mut outer: OuterBox, signals: Pieces, journal: Journal)
+fn leave_found(
+    words: &Words,
+    place: &mut Place,
+    mut outer: OuterBox,
+    signals: Pieces,
+    journal: Journal,
+)
     requires table { (place.old.table_id ≡ words.now.table_id) × (words.now.table_id.words ≡ 536) }
     requires begins { Begins place.old.me.0 (record { signals = signals; journal = journal }) }
     requires slots { place.old.me.1 ≡ outer_out ∷ [] }

@@ -14,16 +14,17 @@ ghost use Rattle.sig_layout.specs.Outers.{added, emptied, removed};
 ghost use Rattle.sig_queue.specs.Tied.{Foreign, FreshBut, TookCarried, outer_in};
 ghost use Rattle.sig_queue.specs.Parts.{first_part, IsOne};
 
+use crate::outer_box::OuterBox;
 use crate::plays::{
     LeaveFetch, LeavePut, LeaveRemove, LeaveSame, Leaves, LoadFilled, LoadMode, LoadUnder,
     LookOnly, SetBack, SetBit, StoreOff, StoreOn, TakeBits, TryOuter, Which,
 };
-use crate::outer_box::OuterBox;
 use crate::rule::{Place, Words};
 use crate::slot::Slot;
 
 // The words stand 8 apart, so that no two lie in one line of a cache.
 const MODE: usize = 8;
+
 const FILLED: usize = 16;
 
 // Tries the outer turn once.

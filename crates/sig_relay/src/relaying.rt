@@ -35,12 +35,7 @@ pub struct Relayed {
 }
 
 // Puts a message for each serial, or as many as memory allows. It tells how many.
-fn send(
-    queue: &SigQueue,
-    mut seat: QSeat,
-    line: Line,
-    serials: &[u64],
-) -> (QSeat, usize)
+fn send(queue: &SigQueue, mut seat: QSeat, line: Line, serials: &[u64]) -> (QSeat, usize)
     requires own { seat.queue ≡ queue.now.id }
     requires sender { Sender queue.now.setup line }
     requires sends { Sends queue.now.setup line.from [] seat.knows }
@@ -166,14 +161,7 @@ pub fn relay<R: Threads + Wait + Sync>(
     let sender = queue.split(&mut seat, senders, false);
     let taken = Signals::new(alloc);
     let ((sender, sent), (mut seat, taken)) = send_and_receive(
-        rt,
-        &queue,
-        sender,
-        seat,
-        line,
-        serials,
-        taken,
-        enough,
+        rt, &queue, sender, seat, line, serials, taken, enough,
     );
     queue.join(&mut seat, sender);
     let closed = queue.close(seat);
