@@ -6,7 +6,7 @@ use crate::offering::offer_message;
 use crate::pids::{only, pair};
 use crate::relaying::{Line, relay};
 use sig_kinds::{Kind, Signals};
-use sig_layout::{Entry, Numbers, Opening, Policy, Via};
+use sig_layout::{Entry, Journal, Numbers, Opening, Policy, Via};
 use sig_queue::{Fetch, Hold, Offer, SigQueue, laws};
 use sig_terms::{Pid, Term};
 use std::alloc::{AllocError, Global};
@@ -98,4 +98,70 @@ pub fn a_held_turn(alloc: Global) -> Result<bool, AllocError> {
     let journal = queue.close(seat).journal;
     let direct = matches!(journal.get(0), Some(Entry::Direct { refused: true }));
     Ok(journal.len() == 1 && direct)
+}
+
+// The serial of the signal that comes first, which is taken out.
+fn first_serial(signals: &mut Signals) -> Option<u64> {
+    let signal = signals.pop_front()?;
+    match &signal.kind {
+        Kind::Message {
+            term: Term::Ref(reference),
+        } => Some(reference.serial),
+        _ => None,
+    }
+}
+
+// Whether the journal has the entries of one switch on, one fetch, one switch off and one on.
+fn has_switched(journal: &Journal) -> bool {
+    let direct = matches!(journal.get(0), Some(Entry::Direct { refused: false }));
+    let on = matches!(journal.get(1), Some(Entry::Install));
+    let fetch = matches!(journal.get(2), Some(Entry::Fetch { moved: 2 }));
+    let off = matches!(journal.get(3), Some(Entry::Remove));
+    let again = matches!(journal.get(4), Some(Entry::Direct { refused: false }));
+    let last = matches!(journal.get(5), Some(Entry::Install));
+    journal.len() == 6 && direct && on && fetch && off && again && last
+}
+
+/// Buffers are installed by a put, emptied by a fetch, and removed, by one seat.
+pub fn a_switch<R: Wait>(rt: &R, alloc: Global) -> Result<bool, AllocError> {
+    let opening = opening(alloc)?;
+    let senders = pair(Pid(1), Pid(2));
+    let (queue, mut seat) = SigQueue::open(alloc, Policy::Churn(1), senders, &opening)?;
+    let Offer::Put { via: Via::Outer } = offer_message(&queue, &mut seat, line(1), 1, 11) else {
+        return Ok(false);
+    };
+    let Offer::Put {
+        via: Via::Buffer(2),
+    } = offer_message(&queue, &mut seat, line(2), 1, 12)
+    else {
+        return Ok(false);
+    };
+    let Offer::Put {
+        via: Via::Buffer(1),
+    } = offer_message(&queue, &mut seat, line(1), 2, 13)
+    else {
+        return Ok(false);
+    };
+    let filled = queue.filled(&mut seat);
+    let mut into = Signals::new(alloc);
+    let fetch = queue.try_fetch(&mut seat, &mut into);
+    let Fetch::Took {
+        count: 3,
+        due: true,
+        skipped: 0,
+    } = fetch
+    else {
+        return Ok(false);
+    };
+    queue.remove(rt, &mut seat)?;
+    let Offer::Put { via: Via::Outer } = offer_message(&queue, &mut seat, line(2), 2, 14) else {
+        return Ok(false);
+    };
+    let mut closed = queue.close(seat);
+    let one = first_serial(&mut into);
+    let two = first_serial(&mut into);
+    let three = first_serial(&mut into);
+    let taken = one == Some(11) && two == Some(13) && three == Some(12);
+    let left = closed.rest.next().is_some() && closed.rest.next().is_none();
+    Ok(filled == 6 && taken && left && has_switched(&closed.journal))
 }

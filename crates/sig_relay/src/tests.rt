@@ -17,3 +17,9 @@ fn another_seat_holds_the_outer_turn(rt: HostRuntime) -> Result<(), Fail> {
     assert!(rt; a_held_turn(rt.alloc())?);
     Ok(())
 }
+
+#[test]
+fn one_seat_installs_and_removes(rt: HostRuntime) -> Result<(), Fail> {
+    assert!(rt; a_switch(&rt, rt.alloc())?);
+    Ok(())
+}

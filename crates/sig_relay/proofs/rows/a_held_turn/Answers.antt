@@ -32,6 +32,6 @@ close-requires-clause-all c s h = let p : List ℕ = c.pair-senders.result in le
     let its = ap (λ (k : Knows). k.senders) c.release-holder.ensures.left ∙ (ap (λ (k : Knows). k.senders) c.in-Held.ensures.1.1 ∙ ap (λ (k : Knows). k.senders) c.split-holder.ensures.right) in
     let all : has p s ≡ true = ap (λ (z : Setup). has z.senders s) (sym c.in_ok-queue.ensures.own.1) ∙ h in
     ap (λ (k : Knows). has k.senders s) c.join.ensures.both ∙ joined_in c.offer_message-2.new.seat.knows.senders c.release-holder.result.knows.senders s (⊎_elim
-        (λ (t : has o s ≡ true). inr (ap (λ (l : List ℕ). has l s) its ∙ t))
-        (λ (f : has o s ≡ false). inl (ap (λ (l : List ℕ). has l s) mine ∙ kept_in p o s all (λ t. not_both (has o s) t f)))
-        (bool_cases (has o s)))
+    (λ (t : has o s ≡ true). inr (ap (λ (l : List ℕ). has l s) its ∙ t))
+    (λ (f : has o s ≡ false). inl (ap (λ (l : List ℕ). has l s) mine ∙ kept_in p o s all (λ t. not_both (has o s) t f)))
+    (bool_cases (has o s)))
