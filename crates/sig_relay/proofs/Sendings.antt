@@ -92,3 +92,11 @@ sends_still z from xs v w s x n k = let put : w.put ≡ v.put = ⊎_elim (λ e. 
 pub or_yes : (b : Bool) → (b || true) ≡ true
 or_yes true = refl
 or_yes false = refl
+
+-- neither a put nor a refused offer changes who puts
+pub refused_senders : (x : Signal) (v w : Knows) (n : ℕ) → RefusedOne x v n w → w.senders ≡ v.senders
+refused_senders x v w n k = ⊎_elim (λ e. ap (λ (y : Knows). y.senders) e) (λ e. ap (λ (y : Knows). y.senders) e) k.1
+
+pub put_senders : (x : Signal) (v w : Knows) (way : Via) → PutBy x v way w → w.senders ≡ v.senders
+put_senders x v w via.Outer p = ap (λ (y : Knows). y.senders) p.1
+put_senders x v w (via.Buffer b) p = ap (λ (y : Knows). y.senders) p.1.1

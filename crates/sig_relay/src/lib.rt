@@ -5,6 +5,7 @@ mod messages;
 mod offering;
 mod pids;
 mod relaying;
+mod rows;
 #[cfg(test)]
 mod tests;
 
@@ -12,3 +13,4 @@ pub use messages::message;
 pub use offering::offer_message;
 pub use pids::{only, pair};
 pub use relaying::{Line, Relayed, relay};
+pub use rows::{a_held_turn, a_hundred, a_switch};

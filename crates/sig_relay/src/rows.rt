@@ -1,0 +1,167 @@
+//! Small runs whose outcome is known beforehand. Each tells whether it came out so.
+ghost use Rattle.std.specs.Prelude.{◌≡◌, [], ◌∷◌, IfOk};
+ghost use Rattle.sig_layout.specs.Policies.{IsPolicy};
+
+use crate::offering::offer_message;
+use crate::pids::{only, pair};
+use crate::relaying::{Line, relay};
+use sig_kinds::{Kind, Signals};
+use sig_layout::{Entry, Journal, Numbers, Opening, Policy, Via};
+use sig_queue::{Fetch, Hold, Offer, SigQueue, laws};
+use sig_terms::{Pid, Term};
+use std::alloc::{AllocError, Global};
+use std::sync::Wait;
+use std::thread::Threads;
+
+// Four processes, the first of which receives, and each sender's numbers are from 1 on.
+fn opening(alloc: Global) -> Result<Opening, AllocError>
+    ensures { IfOk result (λ o. (o.receiver.0 ≡ 0) × (o.count ≡ 4) × (o.first ≡ 1 ∷ 1 ∷ 1 ∷ 1 ∷ [])) }
+{
+    let first = vec![in alloc; 1u64, 1, 1, 1]?;
+    Ok(Opening {
+        receiver: Pid(0),
+        count: 4,
+        first: Numbers::from_vec(first),
+    })
+}
+
+// A line from this sender to the receiver of `opening`.
+fn line(from: u32) -> Line
+    ensures { (result.from.0 ≡ from) × (result.to.0 ≡ 0) × (result.first ≡ 1) }
+{
+    Line {
+        from: Pid(from),
+        to: Pid(0),
+        first: 1,
+    }
+}
+
+// The serials of the signals are from this one on, in order.
+fn is_in_order(signals: &Signals, mut serial: u64) -> bool {
+    for place in 0..signals.len() {
+        let Some(signal) = signals.get(place) else {
+            return false;
+        };
+        let Kind::Message {
+            term: Term::Ref(reference),
+        } = &signal.kind
+        else {
+            return false;
+        };
+        if reference.serial != serial {
+            return false;
+        }
+        serial = serial.wrapping_add(1);
+    }
+    true
+}
+
+/// One thread sends a hundred messages of the sender 3, and another fetches them, in order.
+pub fn a_hundred<R: Threads + Wait + Sync>(
+    rt: &R,
+    alloc: Global,
+    policy: Policy,
+) -> Result<bool, AllocError>
+    requires { IsPolicy policy }
+{
+    let opening = opening(alloc)?;
+    let mut serials = Vec::new(alloc);
+    for serial in 0..100u64 {
+        serials.push(serial)?;
+    }
+    let senders = only(Pid(3));
+    let relayed = relay(rt, alloc, policy, senders, &opening, Pid(3), &serials, 100)?;
+    Ok(relayed.sent == 100 && relayed.taken.len() == 100 && is_in_order(&relayed.taken, 0))
+}
+
+/// A seat holds the outer turn while another offers and fetches: both are refused with its number.
+pub fn a_held_turn(alloc: Global) -> Result<bool, AllocError> {
+    let opening = opening(alloc)?;
+    let senders = pair(Pid(1), Pid(2));
+    let (queue, mut seat) = SigQueue::open(alloc, Policy::Never, senders, &opening)?;
+    let holder = queue.split(&mut seat, only(Pid(2)), false);
+    let Hold::Held(held) = laws::hold(&queue, holder) else {
+        return Ok(false);
+    };
+    let Offer::Busy { found: 3, .. } = offer_message(&queue, &mut seat, line(1), 1, 7) else {
+        return Ok(false);
+    };
+    let mut into = Signals::new(alloc);
+    let Fetch::Busy { found: 3 } = queue.try_fetch(&mut seat, &mut into) else {
+        return Ok(false);
+    };
+    let holder = laws::release(&queue, held);
+    let Offer::Put { via: Via::Outer } = offer_message(&queue, &mut seat, line(1), 1, 7) else {
+        return Ok(false);
+    };
+    queue.join(&mut seat, holder);
+    let journal = queue.close(seat).journal;
+    let direct = matches!(journal.get(0), Some(Entry::Direct { refused: true }));
+    Ok(journal.len() == 1 && direct)
+}
+
+// The serial of the signal that comes first, which is taken out.
+fn first_serial(signals: &mut Signals) -> Option<u64> {
+    let signal = signals.pop_front()?;
+    match &signal.kind {
+        Kind::Message {
+            term: Term::Ref(reference),
+        } => Some(reference.serial),
+        _ => None,
+    }
+}
+
+// Whether the journal has the entries of one switch on, one fetch, one switch off and one on.
+fn has_switched(journal: &Journal) -> bool {
+    let direct = matches!(journal.get(0), Some(Entry::Direct { refused: false }));
+    let on = matches!(journal.get(1), Some(Entry::Install));
+    let fetch = matches!(journal.get(2), Some(Entry::Fetch { moved: 2 }));
+    let off = matches!(journal.get(3), Some(Entry::Remove));
+    let again = matches!(journal.get(4), Some(Entry::Direct { refused: false }));
+    let last = matches!(journal.get(5), Some(Entry::Install));
+    journal.len() == 6 && direct && on && fetch && off && again && last
+}
+
+/// Buffers are installed by a put, emptied by a fetch, and removed, by one seat.
+pub fn a_switch<R: Wait>(rt: &R, alloc: Global) -> Result<bool, AllocError> {
+    let opening = opening(alloc)?;
+    let senders = pair(Pid(1), Pid(2));
+    let (queue, mut seat) = SigQueue::open(alloc, Policy::Churn(1), senders, &opening)?;
+    let Offer::Put { via: Via::Outer } = offer_message(&queue, &mut seat, line(1), 1, 11) else {
+        return Ok(false);
+    };
+    let Offer::Put {
+        via: Via::Buffer(2),
+    } = offer_message(&queue, &mut seat, line(2), 1, 12)
+    else {
+        return Ok(false);
+    };
+    let Offer::Put {
+        via: Via::Buffer(1),
+    } = offer_message(&queue, &mut seat, line(1), 2, 13)
+    else {
+        return Ok(false);
+    };
+    let filled = queue.filled(&mut seat);
+    let mut into = Signals::new(alloc);
+    let fetch = queue.try_fetch(&mut seat, &mut into);
+    let Fetch::Took {
+        count: 3,
+        due: true,
+        skipped: 0,
+    } = fetch
+    else {
+        return Ok(false);
+    };
+    queue.remove(rt, &mut seat)?;
+    let Offer::Put { via: Via::Outer } = offer_message(&queue, &mut seat, line(2), 2, 14) else {
+        return Ok(false);
+    };
+    let mut closed = queue.close(seat);
+    let one = first_serial(&mut into);
+    let two = first_serial(&mut into);
+    let three = first_serial(&mut into);
+    let taken = one == Some(11) && two == Some(13) && three == Some(12);
+    let left = closed.rest.next().is_some() && closed.rest.next().is_none();
+    Ok(filled == 6 && taken && left && has_switched(&closed.journal))
+}
