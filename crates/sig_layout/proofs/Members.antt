@@ -1,0 +1,123 @@
+-- Sets of pids, bit by bit.
+use Rattle.std.proofs.Common.{◌≡◌, ◌≢◌, ℕ, zero, suc, ◌+◌, ◌-◌, ◌/◌, ◌%◌, ◌<◌, ◌≤◌, ◌==◌, ◌&&◌, ◌||◌, ◌⊎◌, ltb, max, min, bit_or, bit_and, bit_xor, Bool, true, false, not, if◌then◌else◌, List, [], ◌∷◌, length, get_or, sym, refl, ap, ◌∙◌, arith, inl, inr, ⊎_elim, subst}
+use Rattle.std.specs.Int.{bit_at}
+use Rattle.std.proofs.lemmas.Nat.Bits.{bit_at_or, bit_at_and, bit_at_xor, bit_at-lt, bit_at-zero}
+use Rattle.std.proofs.lemmas.Bool.{ltb-true}
+use Rattle.sig_layout.specs.Sets.{has, no_senders, minus, plus, first_from, least}
+use Rattle.sig_layout.proofs.Sending.{and_left, not_both, bool_cases}
+
+small : (x : ℕ) → x < 2 → (x ≡ 0) ⊎ (x ≡ 1)
+small zero h = inl refl
+small (suc zero) h = inr refl
+small (suc (suc x)) h = absurd (omega arith)
+
+max_test : (x y : ℕ) → x < 2 → y < 2 → (max x y == 1) ≡ ((x == 1) || (y == 1))
+max_test zero zero h k = refl
+max_test zero (suc zero) h k = refl
+max_test (suc zero) zero h k = refl
+max_test (suc zero) (suc zero) h k = refl
+max_test x (suc (suc y)) h k = absurd (omega arith)
+max_test (suc (suc x)) y h k = absurd (omega arith)
+
+xor_test : (x y : ℕ) → x < 2 → y < 2 → ((x + min x y) % 2 == 1) ≡ ((x == 1) && not (y == 1))
+xor_test zero zero h k = refl
+xor_test zero (suc zero) h k = refl
+xor_test (suc zero) zero h k = refl
+xor_test (suc zero) (suc zero) h k = refl
+xor_test x (suc (suc y)) h k = absurd (omega arith)
+xor_test (suc (suc x)) y h k = absurd (omega arith)
+
+or_bit : (a b k : ℕ) → (bit_at (bit_or a b) k == 1) ≡ ((bit_at a k == 1) || (bit_at b k == 1))
+or_bit a b k = ap (λ (z : ℕ). z == 1) (bit_at_or a b k) ∙ max_test (bit_at a k) (bit_at b k) (bit_at-lt a k) (bit_at-lt b k)
+
+minus_bit : (a b k : ℕ) → (bit_at (bit_xor a (bit_and a b)) k == 1) ≡ ((bit_at a k == 1) && not (bit_at b k == 1))
+minus_bit a b k = ap (λ (z : ℕ). z == 1) (bit_at_xor a (bit_and a b) k ∙ ap (λ (z : ℕ). (bit_at a k + z) % 2) (bit_at_and a b k)) ∙ xor_test (bit_at a k) (bit_at b k) (bit_at-lt a k) (bit_at-lt b k)
+
+-- whether bit k of word w is set
+abbrev at : List ℕ → ℕ → ℕ → Bool
+at set w k = bit_at (get_or set w 0) k == 1
+
+no_bit : (k : ℕ) → (bit_at 0 k == 1) ≡ false
+no_bit k = ap (λ (z : ℕ). z == 1) (bit_at-zero k)
+
+and_yes : (a : Bool) → a ≡ (a && true)
+and_yes true = refl
+and_yes false = refl
+
+or_no : (a : Bool) → a ≡ (a || false)
+or_no true = refl
+or_no false = refl
+
+minus_at : (xs ys : List ℕ) (w k : ℕ) → at (minus xs ys) w k ≡ (at xs w k && not (at ys w k))
+minus_at [] ys w k = no_bit k ∙ sym (ap (λ (z : Bool). z && not (at ys w k)) (no_bit k))
+minus_at (x ∷ xs) [] w k = and_yes (at (x ∷ xs) w k) ∙ sym (ap (λ (z : Bool). at (x ∷ xs) w k && not z) (no_bit k))
+minus_at (x ∷ xs) (y ∷ ys) zero k = minus_bit x y k
+minus_at (x ∷ xs) (y ∷ ys) (suc w) k = minus_at xs ys w k
+
+plus_at : (xs ys : List ℕ) (w k : ℕ) → at (plus xs ys) w k ≡ (at xs w k || at ys w k)
+plus_at [] ys w k = sym (ap (λ (z : Bool). z || at ys w k) (no_bit k))
+plus_at (x ∷ xs) [] w k = or_no (at (x ∷ xs) w k) ∙ sym (ap (λ (z : Bool). at (x ∷ xs) w k || z) (no_bit k))
+plus_at (x ∷ xs) (y ∷ ys) zero k = or_bit x y k
+plus_at (x ∷ xs) (y ∷ ys) (suc w) k = plus_at xs ys w k
+
+and_minus : (l a b : Bool) → (l && (a && not b)) ≡ ((l && a) && not (l && b))
+and_minus true a b = refl
+and_minus false a b = refl
+
+and_plus : (l a b : Bool) → (l && (a || b)) ≡ ((l && a) || (l && b))
+and_plus true a b = refl
+and_plus false a b = refl
+
+pub has_minus : (a b : List ℕ) (s : ℕ) → has (minus a b) s ≡ (has a s && not (has b s))
+has_minus a b s = ap (λ (z : Bool). ltb s 256 && z) (minus_at a b (s / 64) (s % 64)) ∙ and_minus (ltb s 256) (at a (s / 64) (s % 64)) (at b (s / 64) (s % 64))
+
+pub has_plus : (a b : List ℕ) (s : ℕ) → has (plus a b) s ≡ (has a s || has b s)
+has_plus a b s = ap (λ (z : Bool). ltb s 256 && z) (plus_at a b (s / 64) (s % 64)) ∙ and_plus (ltb s 256) (at a (s / 64) (s % 64)) (at b (s / 64) (s % 64))
+
+pub has_below : (set : List ℕ) (s : ℕ) → has set s ≡ true → s < 256
+has_below set s h = ltb-true s 256 (and_left (ltb s 256) (at set (s / 64) (s % 64)) h)
+
+no_word : (w : ℕ) → get_or no_senders w 0 ≡ 0
+no_word zero = refl
+no_word (suc zero) = refl
+no_word (suc (suc zero)) = refl
+no_word (suc (suc (suc zero))) = refl
+no_word (suc (suc (suc (suc w)))) = refl
+
+and_none : (a : Bool) → (a && false) ≡ false
+and_none true = refl
+and_none false = refl
+
+pub no_one : (s : ℕ) → has no_senders s ≡ false
+no_one s = ap (λ (z : ℕ). ltb s 256 && (bit_at z (s % 64) == 1)) (no_word (s / 64)) ∙ (ap (λ (z : Bool). ltb s 256 && z) (no_bit (s % 64)) ∙ and_none (ltb s 256))
+
+pub not_none : (s : ℕ) → has no_senders s ≡ true → ⊥
+not_none s h = not_both (has no_senders s) h (no_one s)
+
+-- the first place from k on that is in the set
+first_le : (set : List ℕ) (n k s : ℕ) → k ≤ s → s < k + n → has set s ≡ true → first_from k n set ≤ s
+first_le set zero k s a b h = absurd (omega arith)
+first_le set (suc n) k s a b h = ⊎_elim
+    (λ (t : has set k ≡ true). let e : first_from k (suc n) set ≡ k = ap (λ (z : Bool). if z then k else first_from (suc k) n set) t in omega arith)
+    (λ (f : has set k ≡ false). let e : first_from k (suc n) set ≡ first_from (suc k) n set = ap (λ (z : Bool). if z then k else first_from (suc k) n set) f in
+    let apart : s ≢ k = (λ (d : s ≡ k). not_both (has set k) (ap (has set) (sym d) ∙ h) f) in let r = first_le set n (suc k) s (omega arith) (omega arith) h in omega arith)
+    (bool_cases (has set k))
+
+first_has : (set : List ℕ) (n k : ℕ) → first_from k n set ≢ 256 → has set (first_from k n set) ≡ true
+first_has set zero k d = absurd (d refl)
+first_has set (suc n) k d = ⊎_elim
+    (λ (t : has set k ≡ true). let e : first_from k (suc n) set ≡ k = ap (λ (z : Bool). if z then k else first_from (suc k) n set) t in ap (has set) e ∙ t)
+    (λ (f : has set k ≡ false). let e : first_from k (suc n) set ≡ first_from (suc k) n set = ap (λ (z : Bool). if z then k else first_from (suc k) n set) f in ap (has set) e ∙ first_has set n (suc k) (λ c. d (e ∙ c)))
+    (bool_cases (has set k))
+
+-- the least pid of a set is in it, and no greater than any that is
+pub least_le : (set : List ℕ) (s : ℕ) → has set s ≡ true → least set ≤ s
+unfolding least
+least_le set s h = let b = has_below set s h in first_le set 256 0 s (omega arith) (omega arith) h
+
+pub least_of : (set : List ℕ) (s : ℕ) → has set s ≡ true → least set < 256
+least_of set s h = let b = has_below set s h in let r = least_le set s h in omega arith
+
+pub least_has : (set : List ℕ) → least set ≢ 256 → has set (least set) ≡ true
+unfolding least
+least_has set d = first_has set 256 0 d

@@ -1,0 +1,15 @@
+pub mod Sets
+pub mod Rooms
+pub mod Sent
+pub mod Summaries
+pub mod Policies
+pub mod Outers
+pub mod Openings
+pub mod Views
+pub mod Core
+pub mod Agree
+pub mod Lists
+pub mod Law
+pub mod Journals
+pub mod Carried
+pub mod Rule

@@ -1,0 +1,30 @@
+ghost use Rattle.std.specs.Prelude.{◌≡◌};
+ghost use Rattle.sig_layout.specs.Policies.{IsDue};
+ghost use Rattle.sig_layout.specs.Summaries.{due_at};
+
+use crate::decision::Due;
+use crate::journal::Journal;
+
+/// When buffers are installed and when they are removed. (This project's own. Erlang's runtime
+/// installs them for receivers with the process flag `{message_queue_data, off_heap}`: its notes on
+/// parallel signal sending.)
+#[derive(Clone, Copy, Debug, PartialEq, Eq)]
+pub enum Policy {
+    /// There are no buffers.
+    Never,
+    /// From the start on, for ever.
+    Always,
+    /// Installed after so many direct puts, removed after so many fetches, and so on. It is at
+    /// least 1.
+    Churn(u32),
+    /// Installed where more direct puts than not find the queue held, removed where buffers have
+    /// little use.
+    Auto,
+}
+
+/// What the policy makes due after this journal, in constant time.
+pub fn due(policy: Policy, journal: &Journal) -> Due
+    ensures same { result ≡ due_at policy journal.now }
+{
+    journal.due(policy)
+}

@@ -1,0 +1,82 @@
+ghost use Rattle.std.specs.Prelude.{◌≡◌, ◌≤◌, ◌<◌, ◌==◌, ◌||◌, ◌↔◌, ℕ, IsTrue};
+ghost use Rattle.sig_layout.specs.Sets.{has, least, no_senders, minus, plus};
+
+use sig_terms::Pid;
+use std::marker::Model;
+
+/// A set of pids below 256. Contracts see its four words of bits: those of pids 0 to 63, of 64 to
+/// 127, and so on.
+#[derive(Clone, Copy, Debug)]
+pub struct Senders([u64; 4]);
+
+impl Model for Senders {
+    ghost use Rattle.std.specs.Prelude.{List, ℕ};
+
+    ghost Value = { List ℕ };
+
+    ghost view = { λ s. s.0 };
+
+    ghost inverse = { λ words. record { 0 = words } };
+}
+
+impl Senders {
+    /// The empty set.
+    pub fn none() -> Senders
+        ensures { result ≡ no_senders }
+    {
+        Senders([0; 4])
+    }
+
+    /// The set with this pid too.
+    pub fn with(self, pid: Pid) -> Senders
+        requires { pid.0 < 256 }
+    {
+        let mut words = self.0;
+        words[(pid.0 / 64) as usize] |= 1 << (pid.0 % 64);
+        Senders(words)
+    }
+
+    /// Whether the pid is in the set.
+    pub fn has(self, pid: Pid) -> bool
+        ensures { result ≡ has self pid.0 }
+    {
+        pid.0 < 256 && self.0[(pid.0 / 64) as usize] >> (pid.0 % 64) & 1 == 1
+    }
+
+    /// The pids that the other set has not.
+    pub fn minus(self, other: Senders) -> Senders
+        ensures { result ≡ minus self other }
+    {
+        Senders([
+            self.0[0] ^ (self.0[0] & other.0[0]),
+            self.0[1] ^ (self.0[1] & other.0[1]),
+            self.0[2] ^ (self.0[2] & other.0[2]),
+            self.0[3] ^ (self.0[3] & other.0[3]),
+        ])
+    }
+
+    /// The pids of both sets.
+    pub fn plus(self, other: Senders) -> Senders
+        ensures { result ≡ plus self other }
+    {
+        Senders([
+            self.0[0] | other.0[0],
+            self.0[1] | other.0[1],
+            self.0[2] | other.0[2],
+            self.0[3] | other.0[3],
+        ])
+    }
+
+    /// The least pid of the set, or 256 where it has none.
+    pub fn least(self) -> u64
+        ensures most { result ≤ 256 }
+    {
+        for pid in 0..256u32 {
+            if self.has(Pid(pid)) {
+                return pid as u64;
+            }
+        }
+        256
+    }
+
+}

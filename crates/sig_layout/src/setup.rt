@@ -1,0 +1,12 @@
+use crate::opening::Opening;
+use crate::policy::Policy;
+use crate::senders::Senders;
+
+/// All that a queue is opened with. It stays the same for as long as the queue is there.
+#[derive(Debug, Drop)]
+pub struct Setup {
+    pub policy: Policy,
+    /// Those whose signals it takes.
+    pub senders: Senders,
+    pub opening: Opening,
+}

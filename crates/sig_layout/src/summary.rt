@@ -1,0 +1,120 @@
+ghost use Rattle.std.specs.Prelude.{◌≡◌, ◌<◌, ◌^◌};
+ghost use Rattle.sig_layout.specs.Summaries.{fresh, after, due_of};
+ghost use Rattle.sig_layout.specs.declared.entry.Entry.TheVariants.{Direct, Fetch};
+ghost use Rattle.sig_layout.specs.declared.policy.Policy.TheVariants.{Churn, Auto};
+
+use crate::decision::Due;
+use crate::entry::Entry;
+use crate::policy::Policy;
+
+// What the policies read of the part of a journal behind the last switch.
+#[derive(Clone, Copy, Debug)]
+pub(crate) struct Summary {
+    pub(crate) installed: bool,
+    pub(crate) directs: u64,
+    pub(crate) fetches: u64,
+    pub(crate) score: u64,
+    // The score has been 64 or more.
+    pub(crate) reached: bool,
+    // The fetches in a row that moved less than 4, up to here.
+    pub(crate) run: u64,
+    // There were 16 of them in a row.
+    pub(crate) sixteen: bool,
+}
+
+impl Summary {
+    // Of a period that begins.
+    pub(crate) fn fresh(installed: bool) -> Summary
+        ensures { result ≡ fresh installed }
+    {
+        Summary {
+            installed,
+            directs: 0,
+            fetches: 0,
+            score: 0,
+            reached: false,
+            run: 0,
+            sixteen: false,
+        }
+    }
+
+    fn after_direct(self, refused: bool) -> Summary
+        requires { (self.directs < 2 ^ 63) × (self.score < 2 ^ 63) }
+        ensures { result ≡ after self (Direct refused) }
+    {
+        let score = if refused {
+            self.score + 1
+        } else {
+            self.score.saturating_sub(1)
+        };
+        Summary {
+            installed: self.installed,
+            directs: self.directs + 1,
+            fetches: self.fetches,
+            score,
+            reached: self.reached || score > 63,
+            run: self.run,
+            sixteen: self.sixteen,
+        }
+    }
+
+    fn after_fetch(self, moved: u64) -> Summary
+        requires { (self.fetches < 2 ^ 63) × (self.run < 2 ^ 63) }
+        ensures { result ≡ after self (Fetch moved) }
+    {
+        let run = if moved < 4 { self.run + 1 } else { 0 };
+        Summary {
+            installed: self.installed,
+            directs: self.directs,
+            fetches: self.fetches + 1,
+            score: self.score,
+            reached: self.reached,
+            run,
+            sixteen: self.sixteen || run > 15,
+        }
+    }
+
+    pub(crate) fn after(self, entry: Entry) -> Summary
+        requires { (self.directs < 2 ^ 63) × (self.score < 2 ^ 63) × (self.fetches < 2 ^ 63) × (self.run < 2 ^ 63) }
+        ensures { result ≡ after self entry }
+    {
+        match entry {
+            Entry::Direct { refused } => self.after_direct(refused),
+            Entry::Fetch { moved } => self.after_fetch(moved),
+            Entry::Install => Summary::fresh(true),
+            Entry::Remove => Summary::fresh(false),
+        }
+    }
+
+    pub(crate) fn due(self, policy: Policy) -> Due
+        ensures { result ≡ due_of policy self }
+    {
+        match policy {
+            Policy::Never => Due::Nothing,
+            Policy::Always if self.installed => Due::Nothing,
+            Policy::Always => Due::Install,
+            Policy::Churn(n) => self.churned(n),
+            Policy::Auto => self.judged(),
+        }
+    }
+
+    fn churned(self, n: u32) -> Due
+        ensures { result ≡ due_of (Churn n) self }
+    {
+        match (self.installed, self.fetches < n as u64, self.directs < n as u64) {
+            (true, true, _) | (false, _, true) => Due::Nothing,
+            (true, false, _) => Due::Remove,
+            (false, _, false) => Due::Install,
+        }
+    }
+
+    fn judged(self) -> Due
+        ensures { result ≡ due_of Auto self }
+    {
+        match (self.installed, self.sixteen, self.reached) {
+            (true, true, _) => Due::Remove,
+            (false, _, true) => Due::Install,
+            _ => Due::Nothing,
+        }
+    }
+}
