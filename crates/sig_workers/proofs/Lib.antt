@@ -1,3 +1,7 @@
 pub mod RunLemmas
 pub mod RoomLemmas
 pub mod PlaceLemmas
+pub mod OneEvent
+pub mod SeatLists
+pub mod Going
+pub mod PutLemmas
