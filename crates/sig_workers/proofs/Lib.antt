@@ -5,3 +5,5 @@ pub mod OneEvent
 pub mod SeatLists
 pub mod Going
 pub mod PutLemmas
+pub mod FetchLemmas
+pub mod VisitLemmas

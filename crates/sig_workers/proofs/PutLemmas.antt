@@ -121,23 +121,6 @@ may_put_at queues q v x there m =
       next = subst (λ (z : Queue). IsNext z.setup v.knows.put x) same m.next;
     }
 
--- what `send` says of a put
-pub sent_put : (x : Signal) (v w : Seated) (way : Via) → w.queue ≡ v.queue → SentAs x v.knows (sent.Put way) w.knows → HasPut v x way w
-sent_put x v w via.Outer own h = record {
-  queue = own;
-  senders = ap (λ (z : Knows). z.senders) h.1;
-  role = ap (λ (z : Knows). z.role) h.1;
-  put = ap (λ (z : Knows). z.put) h.1;
-  taken = ap (λ (z : Knows). z.taken) h.1;
-}
-sent_put x v w (via.Buffer b) own h = record {
-  queue = own;
-  senders = ap (λ (z : Knows). z.senders) h.1.1;
-  role = ap (λ (z : Knows). z.role) h.1.1;
-  put = ap (λ (z : Knows). z.put) h.1.1;
-  taken = ap (λ (z : Knows). z.taken) h.1.1;
-}
-
 pub was_put : (seats : List Seated) (x : Signal) (v w : Seated) (o : Result Via AllocError) → slice_get seats x.to.0 ≡ Some v → IfOk o (λ way. HasPut v x way w) → IfOk o (λ way. WasPut seats x way (slice_set seats x.to.0 w))
 was_put seats x v w (Ok way) there e = record { old = v; there = there; new = w; set = refl; put = e }
 was_put seats x v w (Err f) there e = tt

@@ -27,7 +27,7 @@ fn handle_one<R: Wait, G: Gate>(
     requires can { can_handle process.old.running ≡ true }
     ensures goes { OnOk result (Goes queues.now me.pid process.old.running seats.old.items process.new.running seats.new.items) }
     ensures more { OnOk result (length process.old.running.events < length process.new.running.events) }
-    ensures stamp { OnOk result (process.old.running.state.stamp < process.new.running.state.stamp) }
+    ensures stamp { OnOk result (process.old.running.state.counts.stamp < process.new.running.state.counts.stamp) }
     ensures empty { OnOk result (process.new.running.outbox ≡ []) }
 {
     process.handle()?;
