@@ -1,9 +1,11 @@
 -- Sets of pids, bit by bit.
-use Rattle.std.proofs.Common.{◌≡◌, ◌≢◌, ℕ, zero, suc, ◌+◌, ◌-◌, ◌/◌, ◌%◌, ◌<◌, ◌≤◌, ◌==◌, ◌&&◌, ◌||◌, ◌⊎◌, ltb, max, min, bit_or, bit_and, bit_xor, Bool, true, false, not, if◌then◌else◌, List, [], ◌∷◌, length, get_or, sym, refl, ap, ◌∙◌, arith, inl, inr, ⊎_elim, subst}
+use Rattle.std.proofs.Common.{◌≡◌, ◌≢◌, ℕ, zero, suc, ◌+◌, ◌-◌, ◌/◌, ◌%◌, ◌<◌, ◌≤◌, ◌==◌, ◌&&◌, ◌||◌, ◌⊎◌, ltb, max, min, bit_or, bit_and, bit_xor, Bool, true, false, not, if◌then◌else◌, List, [], ◌∷◌, length, get_or, set, get_or-set_same, get_or-set_other, ◌*◌, ◌^◌, w64, eq-eqb, ne_eqb, ◌∙◌, sym, refl, ap, arith, inl, inr, ⊎_elim}
 use Rattle.std.specs.Int.{bit_at}
-use Rattle.std.proofs.lemmas.Nat.Bits.{bit_at_or, bit_at_and, bit_at_xor, bit_at-lt, bit_at-zero}
-use Rattle.std.proofs.lemmas.Bool.{ltb-true}
-use Rattle.sig_layout.specs.Sets.{has, no_senders, minus, plus, first_from, least}
+use mathlib.Core.Logic.{dite}
+use native.Mathlib.Decide.{ℕ_discrete}
+use Rattle.std.proofs.lemmas.Nat.Bits.{bit_at_set_same, bit_at_set_other, bit_at_or, bit_at_and, bit_at_xor, bit_at-lt, bit_at-zero}
+use Rattle.std.proofs.lemmas.Bool.{ltb-true, lt-ltb}
+use Rattle.sig_layout.specs.Sets.{has, no_senders, minus, plus, first_from, least_from, least}
 use Rattle.sig_layout.proofs.Sending.{and_left, not_both, bool_cases}
 
 small : (x : ℕ) → x < 2 → (x ≡ 0) ⊎ (x ≡ 1)
@@ -31,7 +33,8 @@ or_bit : (a b k : ℕ) → (bit_at (bit_or a b) k == 1) ≡ ((bit_at a k == 1) |
 or_bit a b k = ap (λ (z : ℕ). z == 1) (bit_at_or a b k) ∙ max_test (bit_at a k) (bit_at b k) (bit_at-lt a k) (bit_at-lt b k)
 
 minus_bit : (a b k : ℕ) → (bit_at (bit_xor a (bit_and a b)) k == 1) ≡ ((bit_at a k == 1) && not (bit_at b k == 1))
-minus_bit a b k = ap (λ (z : ℕ). z == 1) (bit_at_xor a (bit_and a b) k ∙ ap (λ (z : ℕ). (bit_at a k + z) % 2) (bit_at_and a b k)) ∙ xor_test (bit_at a k) (bit_at b k) (bit_at-lt a k) (bit_at-lt b k)
+minus_bit a b k = ap (λ (z : ℕ). z == 1) (bit_at_xor a (bit_and a b) k ∙ ap (λ (z : ℕ). (bit_at a k + z) % 2) (bit_at_and a b k))
+    ∙ xor_test (bit_at a k) (bit_at b k) (bit_at-lt a k) (bit_at-lt b k)
 
 -- whether bit k of word w is set
 abbrev at : List ℕ → ℕ → ℕ → Bool
@@ -47,6 +50,10 @@ and_yes false = refl
 or_no : (a : Bool) → a ≡ (a || false)
 or_no true = refl
 or_no false = refl
+
+or_yes : (a : Bool) → (a || true) ≡ true
+or_yes true = refl
+or_yes false = refl
 
 minus_at : (xs ys : List ℕ) (w k : ℕ) → at (minus xs ys) w k ≡ (at xs w k && not (at ys w k))
 minus_at [] ys w k = no_bit k ∙ sym (ap (λ (z : Bool). z && not (at ys w k)) (no_bit k))
@@ -69,10 +76,12 @@ and_plus true a b = refl
 and_plus false a b = refl
 
 pub has_minus : (a b : List ℕ) (s : ℕ) → has (minus a b) s ≡ (has a s && not (has b s))
-has_minus a b s = ap (λ (z : Bool). ltb s 256 && z) (minus_at a b (s / 64) (s % 64)) ∙ and_minus (ltb s 256) (at a (s / 64) (s % 64)) (at b (s / 64) (s % 64))
+has_minus a b s = ap (λ (z : Bool). ltb s 256 && z) (minus_at a b (s / 64) (s % 64))
+    ∙ and_minus (ltb s 256) (at a (s / 64) (s % 64)) (at b (s / 64) (s % 64))
 
 pub has_plus : (a b : List ℕ) (s : ℕ) → has (plus a b) s ≡ (has a s || has b s)
-has_plus a b s = ap (λ (z : Bool). ltb s 256 && z) (plus_at a b (s / 64) (s % 64)) ∙ and_plus (ltb s 256) (at a (s / 64) (s % 64)) (at b (s / 64) (s % 64))
+has_plus a b s = ap (λ (z : Bool). ltb s 256 && z) (plus_at a b (s / 64) (s % 64))
+    ∙ and_plus (ltb s 256) (at a (s / 64) (s % 64)) (at b (s / 64) (s % 64))
 
 pub has_below : (set : List ℕ) (s : ℕ) → has set s ≡ true → s < 256
 has_below set s h = ltb-true s 256 (and_left (ltb s 256) (at set (s / 64) (s % 64)) h)
@@ -89,7 +98,8 @@ and_none true = refl
 and_none false = refl
 
 pub no_one : (s : ℕ) → has no_senders s ≡ false
-no_one s = ap (λ (z : ℕ). ltb s 256 && (bit_at z (s % 64) == 1)) (no_word (s / 64)) ∙ (ap (λ (z : Bool). ltb s 256 && z) (no_bit (s % 64)) ∙ and_none (ltb s 256))
+no_one s = ap (λ (z : ℕ). ltb s 256 && (bit_at z (s % 64) == 1)) (no_word (s / 64))
+    ∙ (ap (λ (z : Bool). ltb s 256 && z) (no_bit (s % 64)) ∙ and_none (ltb s 256))
 
 pub not_none : (s : ℕ) → has no_senders s ≡ true → ⊥
 not_none s h = not_both (has no_senders s) h (no_one s)
@@ -98,26 +108,57 @@ not_none s h = not_both (has no_senders s) h (no_one s)
 first_le : (set : List ℕ) (n k s : ℕ) → k ≤ s → s < k + n → has set s ≡ true → first_from k n set ≤ s
 first_le set zero k s a b h = absurd (omega arith)
 first_le set (suc n) k s a b h = ⊎_elim
-    (λ (t : has set k ≡ true). let e : first_from k (suc n) set ≡ k = ap (λ (z : Bool). if z then k else first_from (suc k) n set) t in omega arith)
-    (λ (f : has set k ≡ false). let e : first_from k (suc n) set ≡ first_from (suc k) n set = ap (λ (z : Bool). if z then k else first_from (suc k) n set) f in
-    let apart : s ≢ k = (λ (d : s ≡ k). not_both (has set k) (ap (has set) (sym d) ∙ h) f) in let r = first_le set n (suc k) s (omega arith) (omega arith) h in omega arith)
+    (λ (t : has set k ≡ true). let e : first_from k (suc n) set ≡ k = ap
+    (λ (z : Bool). if z then k else first_from (suc k) n set) t in omega arith)
+    (λ (f : has set k ≡ false). let e : first_from k (suc n) set ≡ first_from (suc k) n set = ap
+    (λ (z : Bool). if z then k else first_from (suc k) n set) f in
+    let apart : s ≢ k = (λ (d : s ≡ k). not_both (has set k) (ap (has set) (sym d) ∙ h) f) in
+    let r = first_le set n (suc k) s (omega arith) (omega arith) h in omega arith)
     (bool_cases (has set k))
 
 first_has : (set : List ℕ) (n k : ℕ) → first_from k n set ≢ 256 → has set (first_from k n set) ≡ true
 first_has set zero k d = absurd (d refl)
 first_has set (suc n) k d = ⊎_elim
-    (λ (t : has set k ≡ true). let e : first_from k (suc n) set ≡ k = ap (λ (z : Bool). if z then k else first_from (suc k) n set) t in ap (has set) e ∙ t)
-    (λ (f : has set k ≡ false). let e : first_from k (suc n) set ≡ first_from (suc k) n set = ap (λ (z : Bool). if z then k else first_from (suc k) n set) f in ap (has set) e ∙ first_has set n (suc k) (λ c. d (e ∙ c)))
+    (λ (t : has set k ≡ true). let e : first_from k (suc n) set ≡ k = ap
+    (λ (z : Bool). if z then k else first_from (suc k) n set) t in ap (has set) e ∙ t)
+    (λ (f : has set k ≡ false). let e : first_from k (suc n) set ≡ first_from (suc k) n set = ap
+    (λ (z : Bool). if z then k else first_from (suc k) n set) f in ap (has set) e ∙ first_has set n (suc k) (λ c. d (e ∙ c)))
     (bool_cases (has set k))
 
 -- the least pid of a set is in it, and no greater than any that is
 pub least_le : (set : List ℕ) (s : ℕ) → has set s ≡ true → least set ≤ s
-unfolding least
+unfolding least_from
 least_le set s h = let b = has_below set s h in first_le set 256 0 s (omega arith) (omega arith) h
 
 pub least_of : (set : List ℕ) (s : ℕ) → has set s ≡ true → least set < 256
 least_of set s h = let b = has_below set s h in let r = least_le set s h in omega arith
 
 pub least_has : (set : List ℕ) → least set ≢ 256 → has set (least set) ≡ true
-unfolding least
+unfolding least_from
 least_has set d = first_has set 256 0 d
+
+pub least_step : (k : ℕ) (set : List ℕ) → k < 256 → least_from k set ≡ (if has set k then k else least_from (suc k) set)
+unfolding least_from
+least_step k set h = let e : 256 - k ≡ suc (256 - suc k) = omega arith in ap (λ (n : ℕ). first_from k n set) e
+
+pub least_end : (set : List ℕ) → least_from 256 set ≡ 256
+unfolding least_from
+least_end set = refl
+
+-- one pid more
+pub has_with : (words : List ℕ) (pid s : ℕ) → length words ≡ 4 → pid < 256
+    → has (set words (pid / 64) (bit_or (get_or words (pid / 64) 0) (1 * 2 ^ (pid % 64) % 2 ^ 64))) s ≡ (has words s || (s == pid))
+has_with words pid s len small = let w : ℕ = pid / 64 in let word : ℕ = get_or words w 0 in
+    let new : ℕ = bit_or word (1 * 2 ^ (pid % 64) % 2 ^ 64) in dite (ℕ_discrete s pid)
+    (λ e. let here : has (set words w new) pid ≡ true = ap (λ (z : ℕ). ltb pid 256 && (bit_at z (pid % 64) == 1))
+    (get_or-set_same words w new 0 (omega arith))
+    ∙ (ap (λ (z : ℕ). ltb pid 256 && (z == 1)) (bit_at_set_same w64 word (pid % 64) (omega arith))
+    ∙ ap (λ (z : Bool). z && true) (lt-ltb pid 256 small)) in
+    ap (has (set words w new)) e ∙ (here ∙ sym (ap (λ (z : Bool). has words s || z) (eq-eqb s pid e) ∙ or_yes (has words s))))
+    (λ n. (dite (ℕ_discrete (s / 64) w)
+    (λ e. ap (λ (z : ℕ). ltb s 256 && (bit_at z (s % 64) == 1)) (ap (λ (z : ℕ). get_or (set words w new) z 0) e
+    ∙ get_or-set_same words w new 0 (omega arith))
+    ∙ (ap (λ (z : ℕ). ltb s 256 && (z == 1)) (bit_at_set_other w64 word (pid % 64) (omega arith) (s % 64) (λ k. n (omega arith)))
+    ∙ ap (λ (z : ℕ). ltb s 256 && (bit_at z (s % 64) == 1)) (ap (λ (z : ℕ). get_or words z 0) (sym e))))
+    (λ d. ap (λ (z : ℕ). ltb s 256 && (bit_at z (s % 64) == 1)) (get_or-set_other words w (s / 64) new 0 d)))
+    ∙ (or_no (has words s) ∙ sym (ap (λ (z : Bool). has words s || z) (ne_eqb s pid n))))

@@ -1,5 +1,5 @@
 -- Functions that change at one place.
-use Rattle.std.proofs.Common.{◌≡◌, ◌≢◌, ℕ, zero, suc, ◌+◌, ◌<◌, ◌≤◌, subst, Bool, true, false, if◌then◌else◌, List, ◌∷◌, length, get_or, set, sym, refl, ap, ◌∙◌, arith, eq-eqb, ne_eqb}
+use Rattle.std.proofs.Common.{◌≡◌, ◌≢◌, ℕ, zero, suc, ◌+◌, ◌<◌, ◌≤◌, subst, Bool, if◌then◌else◌, List, ◌∷◌, length, get_or, set, sym, refl, ap, ◌∙◌, arith, eq-eqb, ne_eqb}
 use mathlib.Core.Logic.{dite}
 use mathlib.Core.Option.{some}
 use native.Mathlib.Decide.{ℕ_discrete}
@@ -41,14 +41,16 @@ module _ {X : Type 0} where
   pub same_table : (k n : ℕ) (f g : ℕ → X) → ((c : ℕ) → k ≤ c → f c ≡ g c) → table_from k n f ≡ table_from k n g
   unfolding table_from
   same_table k zero f g e = refl
-  same_table k (suc n) f g e = ap (λ (x : X). x ∷ table_from (suc k) n f) (e k (omega arith)) ∙ ap (λ (xs : List X). g k ∷ xs) (same_table (suc k) n f g (λ c h. e c (omega arith)))
+  same_table k (suc n) f g e = ap (λ (x : X). x ∷ table_from (suc k) n f) (e k (omega arith))
+      ∙ ap (λ (xs : List X). g k ∷ xs) (same_table (suc k) n f g (λ c h. e c (omega arith)))
 
   pub set_table : (k n b : ℕ) (f : ℕ → X) (x : X) → b < n → set (table_from k n f) b x ≡ table_from k n (put f (k + b) x)
   unfolding table_from
   set_table k zero b f x h = absurd (omega arith)
   set_table k (suc n) zero f x h = (let e : k + 0 ≡ k = omega arith in
       ap (λ (y : X). y ∷ table_from (suc k) n f) (sym (put_here f k x) ∙ ap (λ (z : ℕ). put f z x k) (sym e))
-      ∙ ap (λ (xs : List X). put f (k + 0) x k ∷ xs) (same_table (suc k) n f (put f (k + 0) x) (λ c h. sym (put_else f (k + 0) c x (λ e. omega arith)))))
+      ∙ ap (λ (xs : List X). put f (k + 0) x k ∷ xs)
+      (same_table (suc k) n f (put f (k + 0) x) (λ c h. sym (put_else f (k + 0) c x (λ e. omega arith)))))
   set_table k (suc n) (suc b) f x h = let e : suc k + b ≡ k + suc b = omega arith in
       ap (λ (xs : List X). f k ∷ xs) (set_table (suc k) n b f x (omega arith) ∙ ap (λ (z : ℕ). table_from (suc k) n (put f z x)) e)
       ∙ ap (λ (y : X). y ∷ table_from (suc k) n (put f (k + suc b) x)) (sym (put_else f (k + suc b) k x (λ e. omega arith)))
@@ -56,8 +58,12 @@ module _ {X : Type 0} where
 -- what a function makes of the place that changes changes there
 pub mapped_put : {X Y : Type 0} (g : X → Y) (f : ℕ → X) (b : ℕ) (x : X) (c : ℕ) → put (λ d. g (f d)) b (g x) c ≡ g (put f b x c)
 mapped_put g f b x c = dite (ℕ_discrete c b)
-    (λ e. ap (λ (z : ℕ). put (λ d. g (f d)) b (g x) z) e ∙ (put_here (λ d. g (f d)) b (g x) ∙ (sym (ap g (put_here f b x)) ∙ ap (λ (z : ℕ). g (put f b x z)) (sym e))))
+    (λ e. ap (λ (z : ℕ). put (λ d. g (f d)) b (g x) z) e
+    ∙ (put_here (λ d. g (f d)) b (g x) ∙ (sym (ap g (put_here f b x)) ∙ ap (λ (z : ℕ). g (put f b x z)) (sym e))))
     (λ n. put_else (λ d. g (f d)) b c (g x) n ∙ sym (ap g (put_else f b c x n)))
 
-pub mapped_table : {X Y : Type 0} (g : X → Y) (f : ℕ → X) (b : ℕ) (x : X) → b < 64 → set (table_from 0 64 (λ d. g (f d))) b (g x) ≡ table_from 0 64 (λ d. g (put f b x d))
-mapped_table g f b x h = let e : 0 + b ≡ b = omega arith in set_table 0 64 b (λ d. g (f d)) (g x) h ∙ (ap (λ (z : ℕ). table_from 0 64 (put (λ d. g (f d)) z (g x))) e ∙ same_table 0 64 (put (λ d. g (f d)) b (g x)) (λ d. g (put f b x d)) (λ c _. mapped_put g f b x c))
+pub mapped_table : {X Y : Type 0} (g : X → Y) (f : ℕ → X) (b : ℕ) (x : X) → b < 64
+    → set (table_from 0 64 (λ d. g (f d))) b (g x) ≡ table_from 0 64 (λ d. g (put f b x d))
+mapped_table g f b x h = let e : 0 + b ≡ b = omega arith in
+    set_table 0 64 b (λ d. g (f d)) (g x) h ∙ (ap (λ (z : ℕ). table_from 0 64 (put (λ d. g (f d)) z (g x))) e
+    ∙ same_table 0 64 (put (λ d. g (f d)) b (g x)) (λ d. g (put f b x d)) (λ c _. mapped_put g f b x c))

@@ -1,11 +1,11 @@
 -- Lists of signals and of items, seen sender by sender.
 use Rattle.std.proofs.lemmas.Bool.{ltb-true, ltb-false, lt-ltb, le-ltb}
-use Rattle.std.proofs.Common.{ltb, ◌≡◌, ◌≢◌, ℕ, zero, suc, ◌+◌, ◌<◌, ◌≤◌, ◌==◌, ◌&&◌, ◌||◌, subst, Bool, true, false, not, if◌then◌else◌, List, [], ◌∷◌, ◌++◌, length, map, drop, sym, refl, ap, ◌∙◌, arith, eq-eqb, ne_eqb, append_assoc, append-nil, inl, inr, ◌⊎◌}
+use Rattle.std.proofs.Common.{ltb, ◌≡◌, ◌≢◌, ℕ, ◌==◌, ◌&&◌, ◌||◌, Bool, true, false, not, if◌then◌else◌, List, [], ◌∷◌, ◌++◌, length, drop, sym, refl, ap, ◌∙◌, arith, eq-eqb, ne_eqb, append_assoc, append-nil, inl, inr, ◌⊎◌}
 use mathlib.Core.Logic.{dite}
 use native.Mathlib.Decide.{ℕ_discrete}
 use Rattle.sig_kinds.specs.declared.signal.Signal.{Signal}
 use Rattle.sig_layout.specs.declared.item.Item.{Item}
-use Rattle.sig_layout.specs.Sent.{sender, putter, signals, of, keep, Prefix, Within, AllWithin, longer, longest}
+use Rattle.sig_layout.specs.Sent.{sender, putter, signals, of, keep, Prefix, AllWithin, longer, longest}
 
 pub bool_cases : (b : Bool) → (b ≡ true) ⊎ (b ≡ false)
 bool_cases true = inl refl
@@ -41,7 +41,8 @@ drop_front (x ∷ xs) ys = drop_front xs ys
 module _ {X : Type 0} (key : X → ℕ) where
   pub of-append : (s : ℕ) (xs ys : List X) → of key s (xs ++ ys) ≡ of key s xs ++ of key s ys
   of-append s [] ys = refl
-  of-append s (x ∷ xs) ys = elim (key x == s) as (λ b. (if b then x ∷ of key s (xs ++ ys) else of key s (xs ++ ys)) ≡ (if b then x ∷ of key s xs else of key s xs) ++ of key s ys)
+  of-append s (x ∷ xs) ys = elim (key x == s) as (λ b. (if b then x ∷ of key s (xs ++ ys) else of key s (xs ++ ys)) ≡
+      (if b then x ∷ of key s xs else of key s xs) ++ of key s ys)
       [ true ↦ ap (λ (zs : List X). x ∷ zs) (of-append s xs ys) | false ↦ of-append s xs ys ]
 
   pub of_own : (s : ℕ) (x : X) (xs : List X) → key x ≡ s → of key s (x ∷ xs) ≡ x ∷ of key s xs
@@ -55,9 +56,13 @@ module _ {X : Type 0} (key : X → ℕ) where
   keep_all p s [] h = refl
   keep_all p s (x ∷ xs) h = dite (ℕ_discrete (key x) s)
       (λ e. let t : p (key x) ≡ true = ap p e ∙ h in
-      ap (λ (b : Bool). of key s (if b then x ∷ keep key p xs else keep key p xs)) t ∙ ap (λ (zs : List X). if key x == s then x ∷ zs else zs) (keep_all p s xs h))
-      (λ n. elim (p (key x)) as (λ b. of key s (if b then x ∷ keep key p xs else keep key p xs) ≡ of key s (x ∷ xs))
-      [ true ↦ of_other s x (keep key p xs) n ∙ (keep_all p s xs h ∙ sym (of_other s x xs n)) | false ↦ keep_all p s xs h ∙ sym (of_other s x xs n) ])
+      ap (λ (b : Bool). of key s (if b then x ∷ keep key p xs else keep key p xs)) t
+      ∙ ap (λ (zs : List X). if key x == s then x ∷ zs else zs) (keep_all p s xs h))
+      (λ n. elim (p (key x)) as (λ b. of key s (if b then x ∷ keep key p xs else keep key p xs) ≡ of key s (x ∷ xs)) [
+        | true ↦ of_other s x (keep key p xs) n ∙ (keep_all p s xs h ∙ sym (of_other s x xs n))
+        | false ↦ keep_all p s xs h
+            ∙ sym (of_other s x xs n)
+      ])
 
   pub keep_none : (p : ℕ → Bool) (s : ℕ) (xs : List X) → p s ≡ false → of key s (keep key p xs) ≡ []
   keep_none p s [] h = refl
@@ -68,7 +73,11 @@ module _ {X : Type 0} (key : X → ℕ) where
       [ true ↦ of_other s x (keep key p xs) n ∙ keep_none p s xs h | false ↦ keep_none p s xs h ])
 
   pub prefix_longer : (s : ℕ) (xs ys zs : List X) → Prefix (of key s xs) (of key s ys) → Prefix (of key s xs) (of key s (ys ++ zs))
-  prefix_longer s xs ys zs p = (p.0 ++ of key s zs, sym (append_assoc (of key s xs) p.0 (of key s zs)) ∙ (ap (λ (l : List X). l ++ of key s zs) p.1 ∙ sym (of-append s ys zs)))
+  prefix_longer s xs ys zs p = (
+    p.0 ++ of key s zs,
+    sym (append_assoc (of key s xs) p.0 (of key s zs))
+        ∙ (ap (λ (l : List X). l ++ of key s zs) p.1 ∙ sym (of-append s ys zs)),
+  )
 
 pub prefix_of_same : {X : Type 0} (xs ys : List X) → xs ≡ ys → Prefix xs ys
 prefix_of_same xs ys e = ([], append-nil xs ∙ e)
@@ -94,21 +103,37 @@ signals-append (x ∷ xs) ys = ap (λ (l : List Signal). x.signal ∷ l) (signal
 
 pub of_signals : (s : ℕ) (xs : List Item) → of sender s (signals xs) ≡ signals (of putter s xs)
 of_signals s [] = refl
-of_signals s (x ∷ xs) = elim (putter x == s) as (λ b. (if b then x.signal ∷ of sender s (signals xs) else of sender s (signals xs)) ≡ signals (if b then x ∷ of putter s xs else of putter s xs))
+of_signals s (x ∷ xs) = elim (putter x == s) as (λ b. (if b then x.signal ∷ of sender s (signals xs) else of sender s
+    (signals xs)) ≡ signals (if b then x ∷ of putter s xs else of putter s xs))
     [ true ↦ ap (λ (l : List Signal). x.signal ∷ l) (of_signals s xs) | false ↦ of_signals s xs ]
 
-pub prefix_signals : (s : ℕ) (xs ys : List Item) → Prefix (of putter s xs) (of putter s ys) → Prefix (of sender s (signals xs)) (of sender s (signals ys))
-prefix_signals s xs ys p = (signals p.0, ap (λ (l : List Signal). l ++ signals p.0) (of_signals s xs) ∙ (sym (signals-append (of putter s xs) p.0) ∙ (ap signals p.1 ∙ sym (of_signals s ys))))
+pub prefix_signals : (s : ℕ) (xs ys : List Item) → Prefix (of putter s xs) (of putter s ys)
+    → Prefix (of sender s (signals xs)) (of sender s (signals ys))
+prefix_signals s xs ys p = (
+  signals p.0,
+  ap (λ (l : List Signal). l ++ signals p.0) (of_signals s xs)
+      ∙ (sym (signals-append (of putter s xs) p.0) ∙ (ap signals p.1 ∙ sym (of_signals s ys))),
+)
 
 -- of parts together, the longer
 abbrev longer_by : Bool → List Item → List Item → List Item
 longer_by c a b = if c then b else a
 
-longer_assoc_by : (a b c : List Item) (x y : Bool) → ltb (length a) (length b) ≡ x → ltb (length b) (length c) ≡ y → longer (longer a b) c ≡ longer a (longer b c)
-longer_assoc_by a b c true true p q = ap (λ (z : Bool). longer (longer_by z a b) c) p ∙ (ap (λ (z : Bool). longer_by z b c) q ∙ (sym (ap (λ (z : Bool). longer_by z a c) (lt-ltb (length a) (length c) (let h = ltb-true (length a) (length b) p in let k = ltb-true (length b) (length c) q in omega arith))) ∙ sym (ap (λ (z : Bool). longer a (longer_by z b c)) q)))
-longer_assoc_by a b c true false p q = ap (λ (z : Bool). longer (longer_by z a b) c) p ∙ (ap (λ (z : Bool). longer_by z b c) q ∙ (sym (ap (λ (z : Bool). longer_by z a b) p) ∙ sym (ap (λ (z : Bool). longer a (longer_by z b c)) q)))
-longer_assoc_by a b c false true p q = ap (λ (z : Bool). longer (longer_by z a b) c) p ∙ sym (ap (λ (z : Bool). longer a (longer_by z b c)) q)
-longer_assoc_by a b c false false p q = ap (λ (z : Bool). longer (longer_by z a b) c) p ∙ (ap (λ (z : Bool). longer_by z a c) (le-ltb (length a) (length c) (let h = ltb-false (length a) (length b) p in let k = ltb-false (length b) (length c) q in omega arith)) ∙ (sym (ap (λ (z : Bool). longer_by z a b) p) ∙ sym (ap (λ (z : Bool). longer a (longer_by z b c)) q)))
+longer_assoc_by : (a b c : List Item) (x y : Bool) → ltb (length a) (length b) ≡ x → ltb (length b) (length c) ≡ y
+    → longer (longer a b) c ≡ longer a (longer b c)
+longer_assoc_by a b c true true p q = ap (λ (z : Bool). longer (longer_by z a b) c) p
+    ∙ (ap (λ (z : Bool). longer_by z b c) q ∙ (sym (ap (λ (z : Bool). longer_by z a c)
+    (lt-ltb (length a) (length c) (let h = ltb-true (length a) (length b) p in let k = ltb-true (length b) (length c) q in
+    omega arith))) ∙ sym (ap (λ (z : Bool). longer a (longer_by z b c)) q)))
+longer_assoc_by a b c true false p q = ap (λ (z : Bool). longer (longer_by z a b) c) p
+    ∙ (ap (λ (z : Bool). longer_by z b c) q ∙ (sym (ap (λ (z : Bool). longer_by z a b) p)
+    ∙ sym (ap (λ (z : Bool). longer a (longer_by z b c)) q)))
+longer_assoc_by a b c false true p q = ap (λ (z : Bool). longer (longer_by z a b) c) p
+    ∙ sym (ap (λ (z : Bool). longer a (longer_by z b c)) q)
+longer_assoc_by a b c false false p q = ap (λ (z : Bool). longer (longer_by z a b) c) p
+    ∙ (ap (λ (z : Bool). longer_by z a c) (le-ltb (length a) (length c) (let h = ltb-false (length a) (length b) p in
+    let k = ltb-false (length b) (length c) q in omega arith))
+    ∙ (sym (ap (λ (z : Bool). longer_by z a b) p) ∙ sym (ap (λ (z : Bool). longer a (longer_by z b c)) q)))
 
 longer_assoc : (a b c : List Item) → longer (longer a b) c ≡ longer a (longer b c)
 longer_assoc a b c = longer_assoc_by a b c (ltb (length a) (length b)) (ltb (length b) (length c)) refl refl
@@ -120,4 +145,5 @@ none_longer (x ∷ xs) = ap (λ (z : Bool). longer_by z [] (x ∷ xs)) (lt-ltb 0
 -- of what two seats were told, the longer for each sender
 pub longest-append : (s : ℕ) (a b : List (List Item)) → longest s (a ++ b) ≡ longer (longest s a) (longest s b)
 longest-append s [] b = sym (none_longer (longest s b))
-longest-append s (x ∷ xs) b = ap (λ (z : List Item). longer (of putter s x) z) (longest-append s xs b) ∙ sym (longer_assoc (of putter s x) (longest s xs) (longest s b))
+longest-append s (x ∷ xs) b = ap (λ (z : List Item). longer (of putter s x) z) (longest-append s xs b)
+    ∙ sym (longer_assoc (of putter s x) (longest s xs) (longest s b))

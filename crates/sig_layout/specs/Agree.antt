@@ -8,6 +8,7 @@ use Rattle.sig_layout.specs.declared.knows.Knows.{Knows}
 use Rattle.sig_layout.specs.Views.{number, IsSomebody, flag}
 use Rattle.sig_layout.specs.Core.{Cell, QState}
 
+-- the buffer c is none of these, or one of them
 abbrev pub Apart : ℕ → List Part → Type 0
 Apart c [] = Unit {0}
 Apart c (p ∷ ps) = (p.number ≢ c) × Apart c ps
@@ -16,6 +17,7 @@ abbrev pub Among : ℕ → List Part → Type 0
 Among c [] = ⊥
 Among c (p ∷ ps) = (p.number ≡ c) ⊎ Among c ps
 
+-- the seat i has the turn of this buffer, and knows what lies there and what it did under the turn
 pub record HeldBy (i : ℕ) (p : Part) (x : Cell) : Type 0 where
   pub holder : x.holder ≡ Some i
   pub list : x.list ≡ p.list
@@ -27,9 +29,12 @@ abbrev pub HoldsAll : (ℕ → Cell) → ℕ → List Part → Type 0
 HoldsAll cells i [] = Unit {0}
 HoldsAll cells i (p ∷ ps) = HeldBy i p (cells p.number) × Apart p.number ps × HoldsAll cells i ps
 
--- The seat i has the outer turn with the value o, and knows what it does with it: first what the machine says, then what the seat knows.
--- It is a record of what it speaks of, and not of the state and the view, so that a step that changes nothing of this needs no proof
-pub record DoingAs (holder : Option ℕ) (outer : Outer) (fetching : Bool) (cells : ℕ → Cell) (back : ℕ) (removing : Bool) (progress : ℕ) (switched : Bool) (i : ℕ) (o : Outer) (v_fetching : Bool) (v_mask : List Bool) (v_back : ℕ) (v_removing : Bool) (v_progress : ℕ) (v_switched : Bool) : Type 0 where
+-- The seat i has the outer turn with the value o, and knows what it does with it: first what the machine says, then what the
+-- seat knows. It is a record of what it speaks of, and not of the state and the view, so that a step that changes nothing of this
+-- needs no proof.
+pub record DoingAs (holder : Option ℕ) (outer : Outer) (fetching : Bool) (cells : ℕ → Cell) (back : ℕ) (removing : Bool)
+    (progress : ℕ) (switched : Bool) (i : ℕ) (o : Outer) (v_fetching : Bool) (v_mask : List Bool) (v_back : ℕ) (v_removing : Bool)
+    (v_progress : ℕ) (v_switched : Bool) : Type 0 where
   pub mine : holder ≡ Some i
   pub value : outer ≡ o
   pub fetch : fetching ≡ v_fetching
@@ -40,11 +45,14 @@ pub record DoingAs (holder : Option ℕ) (outer : Outer) (fetching : Bool) (cell
   pub switch : switched ≡ v_switched
 
 abbrev pub Doing : QState → ℕ → Knows → Outer → Type 0
-Doing q i v o = DoingAs q.holder q.outer q.fetching q.cells q.back q.removing q.progress q.switched i o v.fetching v.mask v.back v.removing v.progress v.switched
+Doing q i v o = DoingAs q.holder q.outer q.fetching q.cells q.back q.removing q.progress q.switched i o v.fetching v.mask v.back
+    v.removing v.progress v.switched
 
+-- nothing is under way
 abbrev pub Nothing : Bool → Bool → Bool → Type 0
 Nothing fetching removing switched = (fetching ≡ false) × (removing ≡ false) × (switched ≡ false)
 
+-- what the seat i knows is so
 pub record SeatAgrees (q : QState) (i : ℕ) (v : Knows) : Type 0 where
   pub outer : (o : Outer) → v.held ≡ Some o → Doing q i v o
   pub rest : v.held ≡ None → Nothing v.fetching v.removing v.switched
@@ -68,6 +76,7 @@ pub record HeldTurn (seats : List Knows) (word : ℕ) (holder : Option ℕ) (Has
 abbrev pub Turn : List Knows → ℕ → Option ℕ → (Knows → Type 0) → Type 0
 Turn seats word holder Has = FreeTurn word holder ⊎ HeldTurn seats word holder Has
 
+-- what a holder knows: that it has the outer turn, or the turn of the buffer c
 abbrev pub HasOuter : Knows → Type 0
 HasOuter v = (o : Outer) × (v.held ≡ Some o)
 
@@ -79,4 +88,5 @@ pub record Agrees (q : QState) : Type 0 where
   pub turn : Turn q.seats q.turn q.holder HasOuter
   pub cells : (c : ℕ) → Turn q.seats (q.cells c).word (q.cells c).holder (HasBuffer c)
   pub idle : q.holder ≡ None → Nothing q.fetching q.removing q.switched
+  -- a seat that isn't there yet saw nothing
   pub unseen : (i : ℕ) → length q.seats ≤ i → q.saw_off i ≡ false

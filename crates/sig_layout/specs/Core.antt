@@ -19,6 +19,7 @@ use Rattle.sig_layout.specs.Openings.{IsNext}
 use Rattle.sig_layout.specs.Outers.{added, emptied, removed, behind}
 use Rattle.sig_layout.specs.Views.{number, IsSomebody, filled_at, with_bit, flag, holding, turned_away, after_put, after_same, with_bits, after_fetch, switched_on, switched_off, after_remove, saw, counted, gains, turned_away_at, saw_under, marked, given_back, loses, put_aside, took_part, passed, left_of, right_of, note_of, joined, spent, first_seat}
 
+-- one of the 64 buffers
 pub record Cell : Type 0 where
   pub list : List Signal
   -- the word of the turn: 0, or 1 more than the holder's number
@@ -37,14 +38,17 @@ pub record QState : Type 0 where
   -- all that was put, and all that was fetched, in order
   pub log : List Item
   pub taken : List Signal
+  -- the outer list and the journal
   pub outer : Outer
   -- the word of the outer turn, and the seat that holds it
   pub turn : ℕ
   pub holder : Option ℕ
+  -- the words of the mode and of the bits
   pub mode : Bool
   pub filled : ℕ
   pub cells : ℕ → Cell
-  -- what the holder of the outer turn does: a fetch that took the bits, with all that had been put by then and the bits that it set again; or a removal that passed so many buffers; or a put that stored the mode on
+  -- what the holder of the outer turn does: a fetch that took the bits, with all that had been put by then and the bits that it
+  -- set again; or a removal that passed so many buffers; or a put that stored the mode on
   pub fetching : Bool
   pub base : List Item
   pub back : ℕ
@@ -56,6 +60,7 @@ pub record QState : Type 0 where
   -- the seat that has each sender, and the one that has the role
   pub owner : ℕ → ℕ
   pub reader : ℕ
+  -- what each seat knows
   pub seats : List Knows
 
 -- f with x at b
@@ -119,6 +124,7 @@ pub record Begins (v : Knows) (o : Outer) : Type 0 where
 abbrev pub Unmasked : Knows → Type 0
 Unmasked v = (c : ℕ) → c < 64 → flag v.mask c ≡ false
 
+-- The kinds of step of the seat i with the view v: what each asks, and the state after it.
 module _ (q : QState) (i : ℕ) (v : Knows) where
   abbrev pub At : Type 0
   At = get_elem? q.seats i ≡ some v
@@ -129,7 +135,7 @@ module _ (q : QState) (i : ℕ) (v : Knows) where
   abbrev pub refused : Bool
   refused = some_refused v.refused
 
-  -- the outer turn
+  -- the outer turn is taken, or refused
   pub record CanTakeOuter : Type 0 where
     pub at : At
     pub free : q.turn ≡ 0
@@ -139,10 +145,14 @@ module _ (q : QState) (i : ℕ) (v : Knows) where
   abbrev pub take_outer : QState
   take_outer = record q { turn = suc (number v); holder = Some i; seats = seats_with (holding v q.outer) }
 
+  pub record CanRefuseOuter : Type 0 where
+    pub at : At
+    pub busy : q.turn ≢ 0
+
   abbrev pub refuse_outer : QState
   refuse_outer = record q { saw_off = put q.saw_off i false; seats = seats_with (turned_away v q.turn) }
 
-  -- whether a put behind o makes an install due
+  -- It is left in one of four ways, here with one more signal. That installs where the put makes an install due.
   abbrev pub Installs : Outer → Type 0
   Installs o = v.switched ≡ is_install (due_at q.setup.policy (o.journal ++ Direct refused ∷ []))
 
@@ -167,6 +177,7 @@ module _ (q : QState) (i : ℕ) (v : Knows) where
     seats = seats_with (after_put v (added o x refused v.switched));
   }
 
+  -- it is left unchanged
   pub record CanLeave (o : Outer) : Type 0 where
     pub at : At
     pub held : v.held ≡ Some o
@@ -175,8 +186,15 @@ module _ (q : QState) (i : ℕ) (v : Knows) where
     pub unmasked : v.fetching ≡ true → Unmasked v
 
   abbrev pub leave_same : QState
-  leave_same = record q { turn = 0; holder = None; fetching = false; saw_off = put q.saw_off i false; seats = seats_with (after_same v) }
+  leave_same = record q {
+    turn = 0;
+    holder = None;
+    fetching = false;
+    saw_off = put q.saw_off i false;
+    seats = seats_with (after_same v);
+  }
 
+  -- a fetch takes the bits, or a put that installs stores the mode on
   pub record CanBegin (o : Outer) : Type 0 where
     pub at : At
     pub begins : Begins v o
@@ -191,6 +209,10 @@ module _ (q : QState) (i : ℕ) (v : Knows) where
     seats = seats_with (with_bits v q.filled);
   }
 
+  abbrev pub mode_on : QState
+  mode_on = record q { mode = true; switched = true; seats = seats_with (switched_on v) }
+
+  -- the outer turn is left with all taken
   pub record CanFetch (o : Outer) : Type 0 where
     pub at : At
     pub held : v.held ≡ Some o
@@ -215,9 +237,7 @@ module _ (q : QState) (i : ℕ) (v : Knows) where
     seats = seats_with (after_fetch v (makes_due o));
   }
 
-  abbrev pub mode_on : QState
-  mode_on = record q { mode = true; switched = true; seats = seats_with (switched_on v) }
-
+  -- a removal stores the mode off
   pub record CanSwitchOff (o : Outer) : Type 0 where
     pub at : At
     pub begins : Begins v o
@@ -228,6 +248,7 @@ module _ (q : QState) (i : ℕ) (v : Knows) where
   abbrev pub mode_off : QState
   mode_off = record q { mode = false; removing = true; progress = 0; seats = seats_with (switched_off v) }
 
+  -- the outer turn is left by a removal that has passed all buffers
   pub record CanRemove (o : Outer) : Type 0 where
     pub at : At
     pub held : v.held ≡ Some o
@@ -241,7 +262,7 @@ module _ (q : QState) (i : ℕ) (v : Knows) where
   abbrev pub leave_remove : Outer → QState
   leave_remove o = record q { outer = removed o; turn = 0; holder = None; removing = false; seats = seats_with (after_remove v) }
 
-  -- loads
+  -- loads of the mode and of the bits
   pub record CanLoad : Type 0 where
     pub at : At
     pub idle : v.held ≡ None
@@ -252,7 +273,7 @@ module _ (q : QState) (i : ℕ) (v : Knows) where
   abbrev pub load_filled : QState
   load_filled = record q { seats = seats_with (counted v q.filled) }
 
-  -- the buffer c
+  -- the turn of the buffer c is taken, or refused
   module _ (c : ℕ) where
     pub record CanTakeBuffer : Type 0 where
       pub at : At
@@ -261,11 +282,25 @@ module _ (q : QState) (i : ℕ) (v : Knows) where
       pub somebody : IsSomebody v
 
     abbrev pub take_buffer : QState
-    take_buffer = record q { cells = put q.cells c (record (q.cells c) { word = suc (number v); holder = Some i; set = false; sure = false }); seats = seats_with (gains v c (q.cells c).list) }
+    take_buffer = record q {
+      cells = put q.cells c (record (q.cells c) {
+        word = suc (number v);
+        holder = Some i;
+        set = false;
+        sure = false;
+      });
+      seats = seats_with (gains v c (q.cells c).list);
+    }
+
+    pub record CanRefuseBuffer : Type 0 where
+      pub at : At
+      pub low : c < 64
+      pub busy : (q.cells c).word ≢ 0
 
     abbrev pub refuse_buffer : QState
     refuse_buffer = record q { saw_off = put q.saw_off i false; seats = seats_with (turned_away_at v (c + 3) (q.cells c).word) }
 
+    -- a fetch sets the bit of c again, which it had taken
     pub record CanSetBack (o : Outer) : Type 0 where
       pub at : At
       pub low : c < 64
@@ -274,9 +309,14 @@ module _ (q : QState) (i : ℕ) (v : Knows) where
       pub masked : flag v.mask c ≡ true
 
     abbrev pub set_back : QState
-    set_back = record q { filled = with_bit q.filled c; back = with_bit q.back c; cells = put q.cells c (record (q.cells c) { mask = false }); seats = seats_with (given_back v c) }
+    set_back = record q {
+      filled = with_bit q.filled c;
+      back = with_bit q.back c;
+      cells = put q.cells c (record (q.cells c) { mask = false });
+      seats = seats_with (given_back v c);
+    }
 
-  -- the buffer that the seat took first
+  -- the buffer that the seat took first: the mode is loaded under its turn, and its bit is set
   module _ (p : Part) where
     abbrev pub cell : Cell
     cell = q.cells p.number
@@ -288,7 +328,11 @@ module _ (q : QState) (i : ℕ) (v : Knows) where
       pub idle : v.held ≡ None
 
     abbrev pub load_under : QState
-    load_under = record q { saw_off = put q.saw_off i (not q.mode); cells = put q.cells p.number (record cell { sure = q.mode }); seats = seats_with (saw_under v p q.mode) }
+    load_under = record q {
+      saw_off = put q.saw_off i (not q.mode);
+      cells = put q.cells p.number (record cell { sure = q.mode });
+      seats = seats_with (saw_under v p q.mode);
+    }
 
     pub record CanSetBit : Type 0 where
       pub at : At
@@ -297,8 +341,13 @@ module _ (q : QState) (i : ℕ) (v : Knows) where
       pub sure : p.sure ≡ true
 
     abbrev pub set_bit : QState
-    set_bit = record q { filled = with_bit q.filled p.number; cells = put q.cells p.number (record cell { set = true }); seats = seats_with (marked v p) }
+    set_bit = record q {
+      filled = with_bit q.filled p.number;
+      cells = put q.cells p.number (record cell { set = true });
+      seats = seats_with (marked v p);
+    }
 
+    -- its turn is left in one of three ways, here with one more signal
     pub record CanPutAside (x : Signal) : Type 0 where
       pub at : At
       pub one : v.parts ≡ p ∷ []
@@ -318,13 +367,18 @@ module _ (q : QState) (i : ℕ) (v : Knows) where
     }
 
     module _ (ps : List Part) where
+      -- unchanged
       pub record CanLeaveBuffer : Type 0 where
         pub at : At
         pub first : v.parts ≡ p ∷ ps
 
       abbrev pub buffer_same : QState
-      buffer_same = record q { cells = put q.cells p.number (record cell { word = 0; holder = None; set = false; sure = false }); seats = seats_with (loses v) }
+      buffer_same = record q {
+        cells = put q.cells p.number (record cell { word = 0; holder = None; set = false; sure = false });
+        seats = seats_with (loses v);
+      }
 
+      -- emptied by a fetch
       pub record CanTakePart (o : Outer) : Type 0 where
         pub at : At
         pub first : v.parts ≡ p ∷ ps
@@ -339,6 +393,7 @@ module _ (q : QState) (i : ℕ) (v : Knows) where
         seats = seats_with (took_part v o p);
       }
 
+      -- emptied by a removal
       pub record CanPass (o : Outer) : Type 0 where
         pub at : At
         pub first : v.parts ≡ p ∷ ps
@@ -355,7 +410,7 @@ module _ (q : QState) (i : ℕ) (v : Knows) where
         seats = seats_with (passed v o p);
       }
 
-  -- seats
+  -- a seat is cut in two
   pub record CanSplit (given : List ℕ) (role : Bool) : Type 0 where
     pub at : At
     pub idle : Idle v
@@ -369,9 +424,11 @@ module _ (q : QState) (i : ℕ) (v : Knows) where
     seats = seats_with (left_of v given role) ++ right_of v given role ∷ [];
   }
 
+  -- a note is a seat with no sender and no role, which was told what this one put and was told
   abbrev pub note : QState
   note = record q { seats = q.seats ++ note_of v ∷ [] }
 
+  -- two seats become one, and the other is spent
   pub record CanJoin (j : ℕ) (w : Knows) : Type 0 where
     pub at : At
     pub apart : j ≢ i
@@ -390,7 +447,7 @@ module _ (q : QState) (i : ℕ) (v : Knows) where
 pub data Reached (z : Setup) : QState → Type 0 where
   opened : Reached z (opened_with z)
   by_take_outer : (q : QState) (i : ℕ) (v : Knows) → CanTakeOuter q i v → Reached z q → Reached z (take_outer q i v)
-  by_refuse_outer : (q : QState) (i : ℕ) (v : Knows) → At q i v → Reached z q → Reached z (refuse_outer q i v)
+  by_refuse_outer : (q : QState) (i : ℕ) (v : Knows) → CanRefuseOuter q i v → Reached z q → Reached z (refuse_outer q i v)
   by_put : (q : QState) (i : ℕ) (v : Knows) (o : Outer) (x : Signal) → CanPut q i v o x → Reached z q → Reached z (leave_put q i v o x)
   by_leave : (q : QState) (i : ℕ) (v : Knows) (o : Outer) → CanLeave q i v o → Reached z q → Reached z (leave_same q i v)
   by_take_bits : (q : QState) (i : ℕ) (v : Knows) (o : Outer) → CanBegin q i v o → Reached z q → Reached z (take_bits q i v)
@@ -401,14 +458,21 @@ pub data Reached (z : Setup) : QState → Type 0 where
   by_load_mode : (q : QState) (i : ℕ) (v : Knows) → CanLoad q i v → Reached z q → Reached z (load_mode q i v)
   by_load_filled : (q : QState) (i : ℕ) (v : Knows) → At q i v → Reached z q → Reached z (load_filled q i v)
   by_take_buffer : (q : QState) (i : ℕ) (v : Knows) (c : ℕ) → CanTakeBuffer q i v c → Reached z q → Reached z (take_buffer q i v c)
-  by_refuse_buffer : (q : QState) (i : ℕ) (v : Knows) (c : ℕ) → At q i v → Reached z q → Reached z (refuse_buffer q i v c)
-  by_set_back : (q : QState) (i : ℕ) (v : Knows) (c : ℕ) (o : Outer) → CanSetBack q i v c o → Reached z q → Reached z (set_back q i v c)
+  by_refuse_buffer : (q : QState) (i : ℕ) (v : Knows) (c : ℕ) → CanRefuseBuffer q i v c → Reached z q
+      → Reached z (refuse_buffer q i v c)
+  by_set_back : (q : QState) (i : ℕ) (v : Knows) (c : ℕ) (o : Outer) → CanSetBack q i v c o → Reached z q
+      → Reached z (set_back q i v c)
   by_load_under : (q : QState) (i : ℕ) (v : Knows) (p : Part) → CanLoadUnder q i v p → Reached z q → Reached z (load_under q i v p)
   by_set_bit : (q : QState) (i : ℕ) (v : Knows) (p : Part) → CanSetBit q i v p → Reached z q → Reached z (set_bit q i v p)
-  by_put_aside : (q : QState) (i : ℕ) (v : Knows) (p : Part) (x : Signal) → CanPutAside q i v p x → Reached z q → Reached z (buffer_put q i v p x)
-  by_leave_buffer : (q : QState) (i : ℕ) (v : Knows) (p : Part) (ps : List Part) → CanLeaveBuffer q i v p ps → Reached z q → Reached z (buffer_same q i v p ps)
-  by_take_part : (q : QState) (i : ℕ) (v : Knows) (p : Part) (ps : List Part) (o : Outer) → CanTakePart q i v p ps o → Reached z q → Reached z (buffer_fetched q i v p ps o)
-  by_pass : (q : QState) (i : ℕ) (v : Knows) (p : Part) (ps : List Part) (o : Outer) → CanPass q i v p ps o → Reached z q → Reached z (buffer_passed q i v p ps o)
-  by_split : (q : QState) (i : ℕ) (v : Knows) (given : List ℕ) (role : Bool) → CanSplit q i v given role → Reached z q → Reached z (split q i v given role)
+  by_put_aside : (q : QState) (i : ℕ) (v : Knows) (p : Part) (x : Signal) → CanPutAside q i v p x → Reached z q
+      → Reached z (buffer_put q i v p x)
+  by_leave_buffer : (q : QState) (i : ℕ) (v : Knows) (p : Part) (ps : List Part) → CanLeaveBuffer q i v p ps → Reached z q
+      → Reached z (buffer_same q i v p ps)
+  by_take_part : (q : QState) (i : ℕ) (v : Knows) (p : Part) (ps : List Part) (o : Outer) → CanTakePart q i v p ps o → Reached z q
+      → Reached z (buffer_fetched q i v p ps o)
+  by_pass : (q : QState) (i : ℕ) (v : Knows) (p : Part) (ps : List Part) (o : Outer) → CanPass q i v p ps o → Reached z q
+      → Reached z (buffer_passed q i v p ps o)
+  by_split : (q : QState) (i : ℕ) (v : Knows) (given : List ℕ) (role : Bool) → CanSplit q i v given role → Reached z q
+      → Reached z (split q i v given role)
   by_note : (q : QState) (i : ℕ) (v : Knows) → At q i v → Reached z q → Reached z (note q i v)
   by_join : (q : QState) (i : ℕ) (v : Knows) (j : ℕ) (w : Knows) → CanJoin q i v j w → Reached z q → Reached z (join q i v j w)

@@ -1,13 +1,12 @@
 -- What a queue is opened with, and what it therefore carries. (The numbers, the stamps and the count are this project's own.)
-use Rattle.std.specs.Prelude.{◌≡◌, ℕ, ◌+◌, ◌^◌, ◌<◌, ◌≤◌, Bool, true, List, length, slice_index_or, All}
+use Rattle.std.specs.Prelude.{◌≡◌, ℕ, ◌+◌, ◌^◌, ◌<◌, ◌≤◌, true, List, length, slice_index_or, All}
 use Rattle.sig_kinds.specs.declared.signal.Signal.{Signal}
 use Rattle.sig_kinds.specs.SignalNames.{IsSignalBelow}
 use Rattle.sig_kinds.specs.Counting.{IsCounting}
 use Rattle.sig_layout.specs.declared.item.Item.{Item}
-use Rattle.sig_layout.specs.declared.opening.Opening.{Opening}
 use Rattle.sig_layout.specs.declared.setup.Setup.{Setup}
 use Rattle.sig_layout.specs.Sets.{has}
-use Rattle.sig_layout.specs.Sent.{sender, putter, of, signals}
+use Rattle.sig_layout.specs.Sent.{sender, putter, of}
 use Rattle.sig_layout.specs.Policies.{IsPolicy}
 
 -- the number of the first signal of the sender s

@@ -1,5 +1,5 @@
--- When buffers are to be installed and removed, and which journals are lawful. (This project's own; the runtime's notes on
--- parallel signal sending tell of such a policy, with a score for refused tries.)
+-- When buffers are to be installed and removed, and which journals are lawful. (This project's own. The runtime's notes on parallel
+-- signal sending tell of a policy of that kind.)
 use Rattle.std.specs.Prelude.{◌≡◌, ◌⊎◌, ℕ, suc, ◌+◌, ◌-◌, ◌<◌, ◌≤◌, Bool, true, false, List, [], ◌∷◌, ◌++◌, All}
 use Rattle.sig_layout.specs.declared.entry.Entry.{Entry}
 use Rattle.sig_layout.specs.declared.entry.Entry.TheVariants.{Direct, Fetch, Install, Remove}
@@ -130,7 +130,8 @@ pub record RemovesNext (j : List Entry) : Type 0 where
 -- a lawful journal: the switches stand where they are due, and there alone
 pub record IsLawful (policy : Policy) (j : List Entry) : Type 0 where
   -- an Install stands directly behind each part after which it is due
-  pub installs : (front rest : List Entry) → j ≡ front ++ rest → InstallDue policy front → (more : List Entry) × (rest ≡ Install ∷ more)
+  pub installs : (front rest : List Entry) → j ≡ front ++ rest → InstallDue policy front
+      → (more : List Entry) × (rest ≡ Install ∷ more)
   -- and only there
   pub install_due : (front rest : List Entry) → j ≡ front ++ Install ∷ rest → InstallDue policy front
   -- behind a part after which a Remove is due, the next entry that isn't Direct is a Remove, or there is none

@@ -1,5 +1,5 @@
 -- Sets of pids below 256, as four words of bits.
-use Rattle.std.specs.Prelude.{ℕ, zero, suc, ◌/◌, ◌%◌, ◌==◌, ◌&&◌, ltb, Bool, if◌then◌else◌, List, [], ◌∷◌, slice_index_or, bit_and, bit_or, bit_xor}
+use Rattle.std.specs.Prelude.{ℕ, zero, suc, ◌-◌, ◌/◌, ◌%◌, ◌==◌, ◌&&◌, ltb, Bool, if◌then◌else◌, List, [], ◌∷◌, slice_index_or, bit_and, bit_or, bit_xor}
 use Rattle.std.specs.Int.{bit_at}
 
 abbrev pub has : List ℕ → ℕ → Bool
@@ -25,6 +25,9 @@ abbrev pub first_from : ℕ → ℕ → List ℕ → ℕ
 first_from k zero set = 256
 first_from k (suc n) set = if has set k then k else first_from (suc k) n set
 
--- the least pid of the set, or 256 where it has none
-unfoldable pub least : List ℕ → ℕ
-least set = first_from 0 256 set
+-- the least pid of the set from k on, or 256 where it has none there
+unfoldable pub least_from : ℕ → List ℕ → ℕ
+least_from k set = first_from k (256 - k) set
+
+abbrev pub least : List ℕ → ℕ
+least set = least_from 0 set

@@ -1,4 +1,4 @@
--- The running summary of a journal, entry by entry. Policies.antt says what it is for, on whole journals.
+-- The running summary of a journal, entry by entry. What it is for is said on whole journals beside the policies.
 use Rattle.std.specs.Prelude.{◌≡◌, ◌≢◌, ℕ, ◌+◌, ◌-◌, ◌||◌, ltb, Bool, true, false, if◌then◌else◌, List, [], ◌∷◌}
 use Rattle.sig_layout.specs.declared.entry.Entry.{Entry}
 use Rattle.sig_layout.specs.declared.entry.Entry.TheVariants.{Direct, Fetch, Install, Remove}
@@ -34,8 +34,10 @@ summed j = summary (fresh false) j
 abbrev pub due_of : Policy → Summary → Due
 due_of Never s = due.Nothing
 due_of Always s = if s.installed then due.Nothing else due.Install
-due_of (Churn n) s = if s.installed then (if ltb s.fetches n then due.Nothing else due.Remove) else (if ltb s.directs n then due.Nothing else due.Install)
-due_of Auto s = if s.installed then (if s.sixteen then due.Remove else due.Nothing) else (if s.reached then due.Install else due.Nothing)
+due_of (Churn n) s = if s.installed then (if ltb s.fetches n then due.Nothing else due.Remove) else
+    (if ltb s.directs n then due.Nothing else due.Install)
+due_of Auto s = if s.installed then (if s.sixteen then due.Remove else due.Nothing) else
+    (if s.reached then due.Install else due.Nothing)
 
 -- what is due after a journal
 abbrev pub due_at : Policy → List Entry → Due

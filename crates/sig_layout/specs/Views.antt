@@ -41,6 +41,7 @@ flags_of n = table_from 0 64 (filled_at n)
 abbrev pub with_bit : ℕ → ℕ → ℕ
 with_bit n c = bit_or n (1 * 2 ^ c % 2 ^ 64)
 
+-- the flag of buffer c
 abbrev pub flag : List Bool → ℕ → Bool
 flag fs c = slice_index_or fs c false
 
@@ -48,7 +49,7 @@ abbrev pub mode_word : Bool → ℕ
 mode_word true = 1
 mode_word false = 0
 
--- signals that were put by the same way
+-- these signals, put by this way
 abbrev pub put_by : Via → List Signal → List Item
 put_by way [] = []
 put_by way (x ∷ xs) = record { signal = x; via = way } ∷ put_by way xs
@@ -57,6 +58,7 @@ abbrev pub tail : {X : Type 0} → List X → List X
 tail [] = []
 tail (x ∷ xs) = xs
 
+-- the list and the number of the buffer that was taken first
 abbrev pub first_list : List Part → List Signal
 first_list [] = []
 first_list (p ∷ ps) = p.list
@@ -65,10 +67,11 @@ abbrev pub buffer_in : List Part → ℕ
 buffer_in [] = 0
 buffer_in (p ∷ ps) = p.number
 
+-- a buffer that was just taken
 abbrev pub part : ℕ → List Signal → Part
 part c l = record { number = c; list = l; set = false; sure = false }
 
--- the outer turn
+-- the outer turn is taken, refused with the value n found, and left; between these the bits are taken and the mode is stored
 abbrev pub holding : Knows → Outer → Knows
 holding v o = record v { held = Some o }
 
@@ -76,7 +79,13 @@ abbrev pub turned_away : Knows → ℕ → Knows
 turned_away v n = record v { refused = v.refused + 1; refusals = v.refusals ++ (0, n) ∷ []; saw_off = false }
 
 abbrev pub after_put : Knows → Outer → Knows
-after_put v o = record v { held = None; switched = false; saw_off = false; put = v.put ++ put_by via.Outer (drop (length (signals_of v.held)) o.signals); refused = 0 }
+after_put v o = record v {
+  held = None;
+  switched = false;
+  saw_off = false;
+  put = v.put ++ put_by via.Outer (drop (length (signals_of v.held)) o.signals);
+  refused = 0;
+}
 
 abbrev pub after_same : Knows → Knows
 after_same v = record v { held = None; fetching = false; saw_off = false; mask = []; back = 0; moved = 0 }
@@ -85,7 +94,16 @@ abbrev pub with_bits : Knows → ℕ → Knows
 with_bits v n = record v { fetching = true; mask = flags_of n; back = 0; moved = 0 }
 
 abbrev pub after_fetch : Knows → Bool → Knows
-after_fetch v due = record v { held = None; fetching = false; mask = []; back = 0; moved = 0; taken = v.taken ++ signals_of v.held; fetches = v.fetches + 1; due = due }
+after_fetch v due = record v {
+  held = None;
+  fetching = false;
+  mask = [];
+  back = 0;
+  moved = 0;
+  taken = v.taken ++ signals_of v.held;
+  fetches = v.fetches + 1;
+  due = due;
+}
 
 abbrev pub switched_on : Knows → Knows
 switched_on v = record v { switched = true }
@@ -96,20 +114,21 @@ switched_off v = record v { removing = true; progress = 0 }
 abbrev pub after_remove : Knows → Knows
 after_remove v = record v { held = None; removing = false; progress = 0; due = false }
 
--- loads
+-- a load of the mode, and one of the bits
 abbrev pub saw : Knows → Bool → Knows
 saw v on = record v { saw_off = not on; loads = v.loads ++ (1, mode_word on) ∷ [] }
 
 abbrev pub counted : Knows → ℕ → Knows
 counted v n = record v { loads = v.loads ++ (2, n) ∷ [] }
 
--- buffers
+-- a buffer's turn is taken, or refused with the value n found in its word
 abbrev pub gains : Knows → ℕ → List Signal → Knows
 gains v c l = record v { parts = v.parts ++ part c l ∷ [] }
 
 abbrev pub turned_away_at : Knows → ℕ → ℕ → Knows
 turned_away_at v word n = record v { refusals = v.refusals ++ (word, n) ∷ []; saw_off = false }
 
+-- under the turn of a buffer the mode is loaded and the bit is set; a fetch gives a bit back
 abbrev pub saw_under : Knows → Part → Bool → Knows
 saw_under v p on = record v { saw_off = not on; loads = v.loads ++ (1, mode_word on) ∷ []; parts = record p { sure = on } ∷ [] }
 
@@ -119,19 +138,29 @@ marked v p = record v { parts = record p { set = true } ∷ [] }
 abbrev pub given_back : Knows → ℕ → Knows
 given_back v c = record v { mask = slice_set v.mask c false; back = with_bit v.back c }
 
+-- the turn of a buffer is left: unchanged, with more in it, or emptied by a fetch or by a removal
 abbrev pub loses : Knows → Knows
 loses v = record v { parts = tail v.parts }
 
 abbrev pub put_aside : Knows → List Signal → Knows
-put_aside v l = record v { parts = tail v.parts; put = v.put ++ put_by (via.Buffer (buffer_in v.parts)) (drop (length (first_list v.parts)) l) }
+put_aside v l = record v {
+  parts = tail v.parts;
+  put = v.put ++ put_by (via.Buffer (buffer_in v.parts))
+      (drop (length (first_list v.parts)) l);
+}
 
 abbrev pub took_part : Knows → Outer → Part → Knows
-took_part v o p = record v { parts = tail v.parts; mask = slice_set v.mask p.number false; held = Some (behind o p.list); moved = v.moved + length p.list }
+took_part v o p = record v {
+  parts = tail v.parts;
+  mask = slice_set v.mask p.number false;
+  held = Some (behind o p.list);
+  moved = v.moved + length p.list;
+}
 
 abbrev pub passed : Knows → Outer → Part → Knows
 passed v o p = record v { parts = tail v.parts; progress = suc v.progress; held = Some (behind o p.list) }
 
--- a seat with these senders and maybe the role is cut off
+-- a seat with these senders and maybe the role is cut off: what is left, and the new one
 abbrev pub left_of : Knows → List ℕ → Bool → Knows
 left_of v set role = record v {
   senders = minus v.senders set;
@@ -195,9 +224,11 @@ spent = record {
 abbrev pub note_of : Knows → Knows
 note_of v = record spent { told = v.put ∷ v.told }
 
+-- the seat that a queue is opened with
 abbrev pub first_seat : List ℕ → Knows
 first_seat set = record spent { senders = set; role = true }
 
+-- the first seat has what both had
 abbrev pub joined : Knows → Knows → Knows
 joined v w = record v {
   senders = plus v.senders w.senders;

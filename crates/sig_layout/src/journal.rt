@@ -63,7 +63,8 @@ impl Journal {
         self.summary.due(policy)
     }
 
-    /// One more entry at the end.
+    /// Adds an entry at the end. Where there is no memory for it, or the journal has 2^62 entries, it
+    /// comes back, and the journal is as before.
     pub fn push(&mut self, entry: Entry) -> Pushed<Entry>
         ensures { IsPushed self.old self.new entry result }
     {

@@ -9,7 +9,7 @@ mod growing;
 mod item;
 mod journal;
 mod knows;
-
+mod laws;
 mod opening;
 mod outer;
 mod part;
@@ -17,7 +17,6 @@ mod pieces;
 mod policy;
 mod senders;
 mod setup;
-mod slot;
 mod summary;
 mod via;
 
@@ -28,7 +27,7 @@ pub use growing::Growing;
 pub use item::Item;
 pub use journal::Journal;
 pub use knows::Knows;
-
+pub use laws::{due_is_one, lawful_is_allowed, rule};
 pub use opening::{Numbers, Opening};
 pub use outer::Outer;
 pub use part::Part;
@@ -36,5 +35,4 @@ pub use pieces::Pieces;
 pub use policy::{Policy, due};
 pub use senders::Senders;
 pub use setup::Setup;
-pub use slot::Slot;
 pub use via::Via;

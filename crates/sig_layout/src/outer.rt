@@ -34,7 +34,12 @@ impl Outer {
     /// Moves all signals to the end of `into`, which has room for so many more then, and adds the
     /// entry of a fetch. It tells how many there are together. Where there is no memory, all is as
     /// before.
-    pub fn fetch(&mut self, into: &mut Signals, moved: u64, more: usize) -> Result<usize, AllocError>
+    pub fn fetch(
+        &mut self,
+        into: &mut Signals,
+        moved: u64,
+        more: usize,
+    ) -> Result<usize, AllocError>
         ensures ok { OnOk result ((self.new ≡ emptied self.old moved) × (into.new.items ≡ into.old.items ++ self.old.signals) × (more ≤ into.new.spare)) }
         ensures count { IfOk result (λ n. n ≡ length self.old.signals + more) }
         ensures err { OnErr result ((self.new ≡ self.old) × (into.new.items ≡ into.old.items)) }

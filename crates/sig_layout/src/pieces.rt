@@ -68,8 +68,8 @@ impl Pieces {
         Ok(switched)
     }
 
-    /// How many signals there are, and so many more; `None` where that is no `usize`.
-    pub fn count(&self, more: usize) -> Option<usize>
+    // How many signals there are, and so many more.
+    pub(crate) fn count(&self, more: usize) -> Option<usize>
         ensures { IfSome result (λ n. n ≡ length self.now + more) }
     {
         let mut total = self.last.len().checked_add(more)?;
@@ -79,8 +79,8 @@ impl Pieces {
         Some(total)
     }
 
-    /// Moves all signals to the end of `into`, where room was made for them.
-    pub fn pour_into(&mut self, into: &mut Signals)
+    // Moves all signals to the end of `into`, where room was made for them.
+    pub(crate) fn pour_into(&mut self, into: &mut Signals)
         requires { length self.old ≤ into.old.spare }
         ensures list { into.new.items ≡ into.old.items ++ self.old }
         ensures rest { self.new ≡ [] }
@@ -105,7 +105,7 @@ impl Pieces {
         }
     }
 
-    /// Its batches, the last one apart.
+    /// Its batches, the oldest first, and the last one apart.
     pub fn into_batches(self) -> (Vec<Batch>, Batch)
         ensures { self ≡ all_pieces result.0.items ++ result.1 }
     {

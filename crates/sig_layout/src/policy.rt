@@ -5,9 +5,9 @@ ghost use Rattle.sig_layout.specs.Summaries.{due_at};
 use crate::decision::Due;
 use crate::journal::Journal;
 
-/// When buffers are installed and when they are removed. (This project's own. Erlang's runtime
-/// installs them for receivers with the process flag `{message_queue_data, off_heap}`: its notes on
-/// parallel signal sending.)
+/// When buffers are installed and when they are removed. (The policies are this project's own.
+/// Erlang's runtime too installs buffers where senders contend, and removes them where they have
+/// little use: its notes on parallel signal sending.)
 #[derive(Clone, Copy, Debug, PartialEq, Eq)]
 pub enum Policy {
     /// There are no buffers.
@@ -24,6 +24,7 @@ pub enum Policy {
 
 /// What the policy makes due after this journal, in constant time.
 pub fn due(policy: Policy, journal: &Journal) -> Due
+    ensures table { IsDue policy journal.now result }
     ensures same { result ≡ due_at policy journal.now }
 {
     journal.due(policy)

@@ -6,7 +6,7 @@ use std::marker::Model;
 
 /// A set of pids below 256. Contracts see its four words of bits: those of pids 0 to 63, of 64 to
 /// 127, and so on.
-#[derive(Clone, Copy, Debug)]
+#[derive(Clone, Copy, Debug, PartialEq, Eq)]
 pub struct Senders([u64; 4]);
 
 impl Model for Senders {
@@ -30,6 +30,7 @@ impl Senders {
     /// The set with this pid too.
     pub fn with(self, pid: Pid) -> Senders
         requires { pid.0 < 256 }
+        ensures { (s : ℕ) → has result s ≡ (has self s || (s == pid.0)) }
     {
         let mut words = self.0;
         words[(pid.0 / 64) as usize] |= 1 << (pid.0 % 64);
@@ -69,6 +70,7 @@ impl Senders {
 
     /// The least pid of the set, or 256 where it has none.
     pub fn least(self) -> u64
+        ensures least { result ≡ least self }
         ensures most { result ≤ 256 }
     {
         for pid in 0..256u32 {
@@ -79,4 +81,10 @@ impl Senders {
         256
     }
 
+    /// Whether the set has no pid.
+    pub fn is_empty(self) -> bool
+        ensures { IsTrue result ↔ (least self ≡ 256) }
+    {
+        self.least() == 256
+    }
 }

@@ -101,7 +101,11 @@ impl Summary {
     fn churned(self, n: u32) -> Due
         ensures { result ≡ due_of (Churn n) self }
     {
-        match (self.installed, self.fetches < n as u64, self.directs < n as u64) {
+        match (
+            self.installed,
+            self.fetches < n as u64,
+            self.directs < n as u64,
+        ) {
             (true, true, _) | (false, _, true) => Due::Nothing,
             (true, false, _) => Due::Remove,
             (false, _, false) => Due::Install,

@@ -7,3 +7,11 @@ pub mod Going
 pub mod PutLemmas
 pub mod FetchLemmas
 pub mod VisitLemmas
+pub mod PartLemmas
+pub mod PassLemmas
+pub mod JoinLemmas
+pub mod PoppedLemmas
+pub mod OpenLemmas
+pub mod CutLemmas
+pub mod FreshLemmas
+pub mod RowLemmas

@@ -1,0 +1,207 @@
+-- Each step keeps what the queue carries, how it is numbered, and the count of direct puts.
+use Rattle.std.proofs.Common.{◌≡◌, ℕ, suc, ◌+◌, subst, Bool, true, false, List, [], ◌∷◌, ◌++◌, length, sym, refl, ap, ◌∙◌, arith, append-nil, append_assoc, Some}
+use Rattle.std.specs.List.{All}
+use Rattle.std.proofs.lemmas.List.Elements.{All-append, All-nil, All-cons, All-head, All-tail}
+use mathlib.Core.Logic.{dite}
+use native.Mathlib.Decide.{ℕ_discrete}
+use mathlib.Core.Option.{some}
+use lib.ListN.{get_elem?}
+use Rattle.sig_kinds.specs.declared.signal.Signal.{Signal}
+use Rattle.sig_kinds.specs.Counting.{IsCounting}
+use Rattle.sig_layout.specs.declared.entry.Entry.{Entry}
+use Rattle.sig_layout.specs.declared.entry.Entry.TheVariants.{Direct, Fetch, Install, Remove}
+use Rattle.sig_layout.specs.declared.policy.Policy.{Policy}
+use Rattle.sig_layout.specs.declared.policy.Policy.TheVariants.{Never, Always, Churn, Auto}
+use Rattle.sig_layout.specs.declared.via.Via.{Via}
+use Rattle.sig_layout.specs.declared.via.Via.TheVariants as via
+use Rattle.sig_layout.specs.declared.item.Item.{Item}
+use Rattle.sig_layout.specs.declared.setup.Setup.{Setup}
+use Rattle.sig_layout.specs.declared.outer.Outer.{Outer}
+use Rattle.sig_layout.specs.declared.knows.Knows.{Knows}
+use Rattle.sig_layout.specs.Sent.{sender, putter, of, signals}
+use Rattle.sig_layout.specs.Policies.{first_journal, direct_count}
+use Rattle.sig_layout.specs.Outers.{put_entries}
+use Rattle.sig_layout.specs.Openings.{first_of, IsCarried, IsCounted, IsNext}
+use Rattle.sig_layout.specs.Core.{QState, Reached, opened, by_take_outer, by_refuse_outer, by_put, by_leave, by_take_bits, by_fetch, by_mode_on, by_mode_off, by_remove, by_load_mode, by_load_filled, by_take_buffer, by_refuse_buffer, by_set_back, by_load_under, by_set_bit, by_put_aside, by_leave_buffer, by_take_part, by_pass, by_split, by_note, by_join, buffer_of, refused}
+use Rattle.sig_layout.specs.Carried.{CarriedAs, Carried, one_outer, outer_count, Ways}
+use Rattle.sig_layout.proofs.Sending.{of-append, of_own, of_other, of_signals, signals-append}
+use Rattle.sig_layout.proofs.Agreeing.{agrees}
+use Rattle.sig_layout.proofs.Listing.{lists}
+use Rattle.sig_layout.proofs.Lawful.{lawful}
+
+-- what holds of all, and of each sender's
+module _ (P : Signal → Type 0) where
+  pub all_front : (xs ys : List Signal) → All P (xs ++ ys) → All P xs
+  all_front [] ys h = All-nil P
+  all_front (x ∷ xs) ys h = All-cons P x xs (All-head P x (xs ++ ys) h) (all_front xs ys (All-tail P x (xs ++ ys) h))
+
+  pub all_rest : (xs ys : List Signal) → All P (xs ++ ys) → All P ys
+  all_rest [] ys h = h
+  all_rest (x ∷ xs) ys h = all_rest xs ys (All-tail P x (xs ++ ys) h)
+
+  pub all_of : (s : ℕ) (xs : List Signal) → All P xs → All P (of sender s xs)
+  all_of s [] h = All-nil P
+  all_of s (x ∷ xs) h = dite (ℕ_discrete (sender x) s)
+      (λ e. subst (All P) (sym (of_own sender s x xs e))
+      (All-cons P x (of sender s xs) (All-head P x xs h) (all_of s xs (All-tail P x xs h))))
+      (λ n. subst (All P) (sym (of_other sender s x xs n)) (all_of s xs (All-tail P x xs h)))
+
+  pub all_each : (xs : List Signal) → ((s : ℕ) → All P (of sender s xs)) → All P xs
+  all_each [] h = All-nil P
+  all_each (x ∷ xs) h = All-cons P x xs (All-head P x (of sender (sender x) xs)
+      (subst (All P) (of_own sender (sender x) x xs refl) (h (sender x))))
+      (all_each xs (λ s. dite (ℕ_discrete (sender x) s)
+      (λ e. All-tail P x (of sender s xs) (subst (All P) (of_own sender s x xs e) (h s)))
+      (λ n. subst (All P) (of_other sender s x xs n) (h s))))
+
+-- numbers that count up
+pub counting_front : (n : ℕ) (xs ys : List Signal) → IsCounting n (xs ++ ys) → IsCounting n xs
+counting_front n [] ys h = tt
+counting_front n (x ∷ xs) ys h = (h.0, counting_front (n + 1) xs ys h.1)
+
+counting_more : (n : ℕ) (xs : List Signal) (x : Signal) → IsCounting n xs → x.number ≡ n + length xs → IsCounting n (xs ++ x ∷ [])
+counting_more n [] x h e = (e ∙ omega arith, tt)
+counting_more n (y ∷ ys) x h e = (h.0, counting_more (n + 1) ys x h.1 (e ∙ omega arith))
+
+length-signals : (xs : List Item) → length (signals xs) ≡ length xs
+length-signals [] = refl
+length-signals (x ∷ xs) = ap suc (length-signals xs)
+
+-- one item more, which is the next of its sender
+carried_put : (z : Setup) (log put : List Item) (i : Item) → CarriedAs z log → IsNext z put i.signal
+    → of putter (putter i) put ≡ of putter (putter i) log → CarriedAs z (log ++ i ∷ [])
+carried_put z log put i c next same = let x : Signal = i.signal in
+    let more : signals (log ++ i ∷ []) ≡ signals log ++ x ∷ [] = signals-append log (i ∷ []) in record {
+      all = subst (All (IsCarried z)) (sym more) (All-append (IsCarried z) (signals log) (x ∷ []) c.all
+          (All-cons (IsCarried z) x [] next.carried (All-nil (IsCarried z))));
+      counted = λ s h. let apart : of sender s (signals (log ++ i ∷ [])) ≡ of sender s (signals log) ++ of sender s (x ∷ []) =
+          ap (of sender s) more ∙ of-append sender s (signals log) (x ∷ []) in dite (ℕ_discrete (sender x) s)
+          (λ e. let many : length (of putter (sender x) put) ≡ length (of sender s (signals log)) = ap length same
+          ∙ (ap (λ (k : ℕ). length (of putter k log)) e ∙ sym (ap length (of_signals s log) ∙ length-signals (of putter s log))) in
+          subst (IsCounting (first_of z s)) (sym (apart ∙ ap (λ (l : List Signal). of sender s (signals log) ++ l)
+          (of_own sender s x [] e)))
+          (counting_more (first_of z s) (of sender s (signals log)) x (c.counted s h) (next.number
+          ∙ (ap (λ (k : ℕ). first_of z k + length (of putter (sender x) put)) e ∙ ap (λ (k : ℕ). first_of z s + k) many))))
+          (λ n. subst (IsCounting (first_of z s)) (sym (apart ∙ (ap (λ (l : List Signal). of sender s (signals log) ++ l)
+          (of_other sender s x [] n) ∙ append-nil (of sender s (signals log))))) (c.counted s h));
+    }
+
+-- counts of what grows
+directs-append : (a b : List Entry) → direct_count (a ++ b) ≡ direct_count a + direct_count b
+directs-append [] b = omega arith
+directs-append (Direct r ∷ es) b = let h = directs-append es b in omega arith
+directs-append (Fetch m ∷ es) b = directs-append es b
+directs-append (Install ∷ es) b = directs-append es b
+directs-append (Remove ∷ es) b = directs-append es b
+
+one_direct : (r switched : Bool) → direct_count (put_entries r switched) ≡ 1
+one_direct r true = refl
+one_direct r false = refl
+
+no_direct : (p : Policy) → direct_count (first_journal p) ≡ 0
+no_direct Never = refl
+no_direct Always = refl
+no_direct (Churn n) = refl
+no_direct Auto = refl
+
+one_suc : (w : Via) (n : ℕ) → one_outer w (suc n) ≡ suc (one_outer w n)
+one_suc via.Outer n = refl
+one_suc (via.Buffer b) n = refl
+
+outer_more : (log : List Item) (x : Signal) → outer_count (log ++ record { signal = x; via = via.Outer } ∷ []) ≡ suc (outer_count log)
+outer_more [] x = refl
+outer_more (i ∷ is) x = ap (one_outer i.via) (outer_more is x) ∙ one_suc i.via (outer_count is)
+
+outer_same : (log : List Item) (x : Signal) (c : ℕ)
+    → outer_count (log ++ record { signal = x; via = via.Buffer c } ∷ []) ≡ outer_count log
+outer_same [] x c = refl
+outer_same (i ∷ is) x c = ap (one_outer i.via) (outer_same is x c)
+
+module _ (z : Setup) where
+  pub carried : (q : QState) → Reached z q → Carried q
+  carried _ opened = record { all = All-nil (IsCarried z); counted = λ s h. tt }
+  carried _ (by_take_outer q i v can r) = carried q r
+  carried _ (by_refuse_outer q i v can r) = carried q r
+  carried _ (by_put q i v o x can r) = carried_put q.setup q.log v.put record {
+    signal = x;
+    via = via.Outer;
+  } (carried q r) can.next (((lists z q r).each i v can.at).own x.from.0 can.from)
+  carried _ (by_leave q i v o can r) = carried q r
+  carried _ (by_take_bits q i v o can r) = carried q r
+  carried _ (by_fetch q i v o can r) = carried q r
+  carried _ (by_mode_on q i v o can r) = carried q r
+  carried _ (by_mode_off q i v o can r) = carried q r
+  carried _ (by_remove q i v o can r) = carried q r
+  carried _ (by_load_mode q i v can r) = carried q r
+  carried _ (by_load_filled q i v at r) = carried q r
+  carried _ (by_take_buffer q i v c can r) = carried q r
+  carried _ (by_refuse_buffer q i v c can r) = carried q r
+  carried _ (by_set_back q i v c o can r) = carried q r
+  carried _ (by_load_under q i v p can r) = carried q r
+  carried _ (by_set_bit q i v p can r) = carried q r
+  carried _ (by_put_aside q i v p x can r) = carried_put q.setup q.log v.put record {
+    signal = x;
+    via = via.Buffer p.number;
+  } (carried q r) can.next (((lists z q r).each i v can.at).own x.from.0 can.from)
+  carried _ (by_leave_buffer q i v p ps can r) = carried q r
+  carried _ (by_take_part q i v p ps o can r) = carried q r
+  carried _ (by_pass q i v p ps o can r) = carried q r
+  carried _ (by_split q i v given role can r) = carried q r
+  carried _ (by_note q i v at r) = carried q r
+  carried _ (by_join q i v j w can r) = carried q r
+
+  held_is : (q : QState) (r : Reached z q) (i : ℕ) (v : Knows) (o : Outer) → get_elem? q.seats i ≡ some v → v.held ≡ Some o
+      → q.outer ≡ o
+  held_is q r i v o at held = (((agrees z q r).each i v at).outer o held).value
+
+  pub ways : (q : QState) → Reached z q → Ways q
+  ways _ opened = no_direct z.policy
+  ways _ (by_take_outer q i v can r) = ways q r
+  ways _ (by_refuse_outer q i v can r) = ways q r
+  ways _ (by_put q i v o x can r) = let w = ways q r in
+      let h = ap (λ (y : Outer). direct_count y.journal) (held_is q r i v o can.at can.held) in
+      let a = directs-append o.journal (put_entries (refused q i v) v.switched) in let b = one_direct (refused q i v) v.switched in
+      let c = outer_more q.log x in omega arith
+  ways _ (by_leave q i v o can r) = ways q r
+  ways _ (by_take_bits q i v o can r) = ways q r
+  ways _ (by_fetch q i v o can r) = let w = ways q r in
+      let h = ap (λ (y : Outer). direct_count y.journal) (held_is q r i v o can.at can.held) in
+      let a = directs-append o.journal (Fetch v.moved ∷ []) in omega arith
+  ways _ (by_mode_on q i v o can r) = ways q r
+  ways _ (by_mode_off q i v o can r) = ways q r
+  ways _ (by_remove q i v o can r) = let w = ways q r in
+      let h = ap (λ (y : Outer). direct_count y.journal) (held_is q r i v o can.at can.held) in
+      let a = directs-append o.journal (Remove ∷ []) in omega arith
+  ways _ (by_load_mode q i v can r) = ways q r
+  ways _ (by_load_filled q i v at r) = ways q r
+  ways _ (by_take_buffer q i v c can r) = ways q r
+  ways _ (by_refuse_buffer q i v c can r) = ways q r
+  ways _ (by_set_back q i v c o can r) = ways q r
+  ways _ (by_load_under q i v p can r) = ways q r
+  ways _ (by_set_bit q i v p can r) = ways q r
+  ways _ (by_put_aside q i v p x can r) = ways q r ∙ sym (outer_same q.log x p.number)
+  ways _ (by_leave_buffer q i v p ps can r) = ways q r
+  ways _ (by_take_part q i v p ps o can r) = sym (ap (λ (y : Outer). direct_count y.journal) (held_is q r i v o can.at can.held))
+      ∙ ways q r
+  ways _ (by_pass q i v p ps o can r) = sym (ap (λ (y : Outer). direct_count y.journal) (held_is q r i v o can.at can.held)) ∙ ways q r
+  ways _ (by_split q i v given role can r) = ways q r
+  ways _ (by_note q i v at r) = ways q r
+  ways _ (by_join q i v j w can r) = ways q r
+
+  -- what was taken is carried and counted too
+  front_of : (q : QState) (r : Reached z q) (s : ℕ)
+      → of sender s (signals q.log) ≡ of sender s q.taken ++ (of sender s q.outer.signals ++ of sender s (q.cells (buffer_of s)).list)
+  front_of q r s = (lawful z q r).flows s ∙ (ap (λ (l : List Signal). l ++ of sender s (q.cells (buffer_of s)).list)
+      (of-append sender s q.taken q.outer.signals)
+      ∙ append_assoc (of sender s q.taken) (of sender s q.outer.signals) (of sender s (q.cells (buffer_of s)).list))
+
+  pub taken_carried : (q : QState) → Reached z q → All (IsCarried q.setup) q.taken
+  taken_carried q r = let P : Signal → Type 0 = IsCarried q.setup in
+      all_each P q.taken (λ s. all_front P (of sender s q.taken)
+      (of sender s q.outer.signals ++ of sender s (q.cells (buffer_of s)).list)
+      (subst (All P) (front_of q r s) (all_of P s (signals q.log) (carried q r).all)))
+
+  pub taken_counted : (q : QState) → Reached z q → IsCounted q.setup q.taken
+  taken_counted q r s h = counting_front (first_of q.setup s) (of sender s q.taken)
+      (of sender s q.outer.signals ++ of sender s (q.cells (buffer_of s)).list)
+      (subst (IsCounting (first_of q.setup s)) (front_of q r s) ((carried q r).counted s h))
