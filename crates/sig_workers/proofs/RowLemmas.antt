@@ -17,6 +17,9 @@ use Rattle.sig_workers.specs.Opening.{IsQueueOf, AreFresh}
 use Rattle.sig_workers.specs.Rows.{SliceOf, FreshRow, HasGrownBy, DoneRow, IsWhole}
 use Rattle.sig_workers.specs.declared.part.Part.{Part}
 use Rattle.sig_workers.specs.declared.part.Worked.{Worked}
+use Rattle.std.proofs.lemmas.List.{length-take-le, take-take}
+use Rattle.sig_process.specs.Standing.{Standing, runnings_of}
+use Rattle.sig_workers.proofs.PartLemmas.{many_running}
 use Rattle.sig_workers.proofs.JoinLemmas.{get_append}
 use Rattle.sig_workers.proofs.FreshLemmas.{fresh_seats, fresh_place}
 
@@ -144,7 +147,7 @@ module _ (queues : List Queue) (crew ps : List Running) (left : ps ≡ take (len
   long : length (drop f ps) ≡ length ps - f
   long = Rattle.std.proofs.Common.length-drop f ps
 
-  pub push_row : (end : ℕ) (p : Part) (parts : List Part) → p.first ≡ f → (base_of p) ≡ crew → (procs_of p) ≡ drop f ps → AreFresh queues f (length ps - f) p.seats.items → FreshRow queues crew (length ps) end parts → FreshRow queues crew f end (p ∷ parts)
+  push_row : (end : ℕ) (p : Part) (parts : List Part) → p.first ≡ f → (base_of p) ≡ crew → (procs_of p) ≡ drop f ps → AreFresh queues f (length ps - f) p.seats.items → FreshRow queues crew (length ps) end parts → FreshRow queues crew f end (p ∷ parts)
   push_row end p parts first base procs fresh row =
       let n : length (procs_of p) ≡ length ps - f = ap (λ (z : List Running). length z) procs ∙ long in (
         first,
@@ -154,16 +157,8 @@ module _ (queues : List Queue) (crew ps : List Running) (left : ps ≡ take (len
         subst (λ z. FreshRow queues crew z end parts) (let e : length ps ≡ f + length (procs_of p) = omega (arith, n, le) in e) row,
       )
 
-  pub left_length : (new : List Running) → new ≡ take f ps → length new ≡ f
-  left_length new e = ap (λ (z : List Running). length z) e ∙ Rattle.std.proofs.lemmas.List.length-take-le f ps le
-
-  pub left_again : (new : List Running) → new ≡ take f ps → new ≡ take (length new) crew
-  left_again new e =
-      let n : length new ≡ f = left_length new e in
-      e ∙ ap (λ z. take f z) left ∙ Rattle.std.proofs.lemmas.List.take-take f (length ps) crew le ∙ ap (λ z. take z crew) (sym n)
-
 -- the first part
-pub last_row : (queues : List Queue) (crew ps : List Running) (end : ℕ) (p : Part) (parts : List Part) → ps ≡ take (length ps) crew → p.first ≡ 0 → (base_of p) ≡ crew → (procs_of p) ≡ ps → AreFresh queues 0 (length ps) p.seats.items → FreshRow queues crew (length ps) end parts → FreshRow queues crew 0 end (p ∷ parts)
+last_row : (queues : List Queue) (crew ps : List Running) (end : ℕ) (p : Part) (parts : List Part) → ps ≡ take (length ps) crew → p.first ≡ 0 → (base_of p) ≡ crew → (procs_of p) ≡ ps → AreFresh queues 0 (length ps) p.seats.items → FreshRow queues crew (length ps) end parts → FreshRow queues crew 0 end (p ∷ parts)
 last_row queues crew ps end p parts left first base procs fresh row = (
   first,
   base,
@@ -179,3 +174,40 @@ all_left P (y ∷ ys) x h = All-cons P y ys (All-head P y (ys ++ x ∷ []) h) (a
 pub all_last : {X : Type 0} (P : X → Type 0) (xs : List X) (x : X) → All P (xs ++ x ∷ []) → P x
 all_last P [] x h = All-head P x [] h
 all_last P (y ∷ ys) x h = all_last P ys x (All-tail P y (ys ++ x ∷ []) h)
+
+-- the same of the processes themselves
+pub left_length : {X : Type 0} (ps new : List X) (f : ℕ) → f ≤ length ps → new ≡ take f ps → length new ≡ f
+left_length ps new f le e = ap (λ (z : List _). length z) e ∙ length-take-le f ps le
+
+pub left_again : {X : Type 0} (crew ps new : List X) (f : ℕ) → ps ≡ take (length ps) crew → f ≤ length ps → new ≡ take f ps → new ≡ take (length new) crew
+left_again crew ps new f left le e = e ∙ ap (λ z. take f z) left ∙ take-take f (length ps) crew le ∙ ap (λ z. take z crew) (sym (left_length ps new f le e))
+
+take_running : (n : ℕ) (ps : List Standing) → runnings_of (take n ps) ≡ take n (runnings_of ps)
+take_running zero ps = none ps
+  where
+    none : (ps : List Standing) → runnings_of (take zero ps) ≡ take zero (runnings_of ps)
+    none [] = refl
+    none (p ∷ ps) = refl
+take_running (suc n) [] = refl
+take_running (suc n) (p ∷ ps) = ap (λ z. p.running ∷ z) (take_running n ps)
+
+drop_running : (n : ℕ) (ps : List Standing) → runnings_of (drop n ps) ≡ drop n (runnings_of ps)
+drop_running zero ps = refl
+drop_running (suc n) [] = refl
+drop_running (suc n) (p ∷ ps) = drop_running n ps
+
+module _ (queues : List Queue) (crew ps : List Standing) (left : ps ≡ take (length ps) crew) where
+  left_running : runnings_of ps ≡ take (length (runnings_of ps)) (runnings_of crew)
+  left_running = ap (λ z. runnings_of z) left ∙ take_running (length ps) crew ∙ ap (λ n. take n (runnings_of crew)) (sym (many_running ps))
+
+  pub push_part : (f end : ℕ) (p : Part) (parts : List Part) → f ≤ length ps → p.first ≡ f → p.base.crew.value.items ≡ crew → p.procs.items ≡ drop f ps → AreFresh queues f (length ps - f) p.seats.items
+      → FreshRow queues (runnings_of crew) (length ps) end parts → FreshRow queues (runnings_of crew) f end (p ∷ parts)
+  push_part f end p parts le first base procs fresh row =
+      push_row queues (runnings_of crew) (runnings_of ps) left_running f (subst (λ n. f ≤ n) (sym (many_running ps)) le) end p parts first (ap (λ z. runnings_of z) base) (ap (λ z. runnings_of z) procs ∙ drop_running f ps)
+      (subst (λ n. AreFresh queues f (n - f) p.seats.items) (sym (many_running ps)) fresh) (subst (λ n. FreshRow queues (runnings_of crew) n end parts) (sym (many_running ps)) row)
+
+  pub last_part : (end : ℕ) (p : Part) (parts : List Part) → p.first ≡ 0 → p.base.crew.value.items ≡ crew → p.procs.items ≡ ps → AreFresh queues 0 (length ps) p.seats.items
+      → FreshRow queues (runnings_of crew) (length ps) end parts → FreshRow queues (runnings_of crew) 0 end (p ∷ parts)
+  last_part end p parts first base procs fresh row =
+      last_row queues (runnings_of crew) (runnings_of ps) end p parts left_running first (ap (λ z. runnings_of z) base) (ap (λ z. runnings_of z) procs)
+      (subst (λ n. AreFresh queues 0 n p.seats.items) (sym (many_running ps)) fresh) (subst (λ n. FreshRow queues (runnings_of crew) n end parts) (sym (many_running ps)) row)

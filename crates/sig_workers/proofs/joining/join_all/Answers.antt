@@ -12,8 +12,8 @@ loop-done-preserved c =
     let rest = c.remove-in-loop-done.new.self.items in
     let lt : 0 < length c.loop-done.done.items = grind (arith, common_steps) in
     let is = first_removed c.loop-done.done.items rest (Ok c.in_ok-part.field-0) lt c.in_ok-part.ensures.value c.in_ok-part.ensures.items in
-    let row = row_first queues crew (length crew) c.in_ok-part.field-0 (Ok c.in_ok-part.field-0) c.loop-done.done.items rest is refl (length (procs_of c.loop-done.whole.part)) c.loop-done.invariant.row in
+    let row = row_first queues crew (length c.args.base.now.crew.value.items) c.in_ok-part.field-0 (Ok c.in_ok-part.field-0) c.loop-done.done.items rest is refl (length (procs_of c.loop-done.whole.part)) c.loop-done.invariant.row in
     record {
-      whole = joined_whole queues crew (length crew) c.loop-done.whole c.in_ok-part.field-0 (record { part = c.join_parts.new.part; moved = c.loop-done.whole.moved || c.in_ok-part.field-0.moved }) c.loop-done.invariant.whole row.1 row.3 c.in_ok-join_parts.ensures.part c.in_ok-join_parts.ensures.joined refl;
-      row = joined_row queues crew (length crew) c.loop-done.whole c.in_ok-part.field-0 (record { part = c.join_parts.new.part; moved = c.loop-done.whole.moved || c.in_ok-part.field-0.moved }) c.loop-done.invariant.whole row.1 row.3 c.in_ok-join_parts.ensures.part c.in_ok-join_parts.ensures.joined refl rest row.4;
+      whole = joined_whole queues crew (length c.args.base.now.crew.value.items) c.loop-done.whole c.in_ok-part.field-0 (record { part = c.join_parts.new.part; moved = c.loop-done.whole.moved || c.in_ok-part.field-0.moved }) c.loop-done.invariant.whole row.1 row.3 c.in_ok-join_parts.ensures.part c.in_ok-join_parts.ensures.joined refl;
+      row = joined_row queues crew (length c.args.base.now.crew.value.items) c.loop-done.whole c.in_ok-part.field-0 (record { part = c.join_parts.new.part; moved = c.loop-done.whole.moved || c.in_ok-part.field-0.moved }) c.loop-done.invariant.whole row.1 row.3 c.in_ok-join_parts.ensures.part c.in_ok-join_parts.ensures.joined refl rest row.4;
     }
