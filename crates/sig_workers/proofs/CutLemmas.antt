@@ -12,7 +12,7 @@ use Rattle.sig_workers.specs.Opening.{first_seated, IsFreshSeat, AreFresh, IsQue
 abbrev pub FreshTo : List Queue → ℕ → ℕ → ℕ → List Seated → Type 0
 FreshTo queues first count at seats = (p : ℕ) (v : Seated) → p < at → slice_get seats p ≡ Some v → (q : Queue) × (slice_get queues p ≡ Some q) × IsFreshSeat q first count p v
 
-get_push : {X : Type 0} (xs : List X) (x : X) (p : ℕ) (v : X) → slice_get (xs ++ x ∷ []) p ≡ Some v → (slice_get xs p ≡ Some v) ⊎ ((p ≡ length xs) × (x ≡ v))
+pub get_push : {X : Type 0} (xs : List X) (x : X) (p : ℕ) (v : X) → slice_get (xs ++ x ∷ []) p ≡ Some v → (slice_get xs p ≡ Some v) ⊎ ((p ≡ length xs) × (x ≡ v))
 get_push [] x zero v h = inr (refl, same_Some x v h)
 get_push [] x (suc p) v h = cc
 get_push (y ∷ xs) x zero v h = inl h

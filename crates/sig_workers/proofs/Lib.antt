@@ -15,3 +15,9 @@ pub mod OpenLemmas
 pub mod CutLemmas
 pub mod FreshLemmas
 pub mod RowLemmas
+pub mod RoundLaw
+pub mod EndLemmas
+pub mod RoundLemmas
+pub mod RoundsLemmas
+pub mod CloseLemmas
+pub mod Sends
