@@ -2,7 +2,7 @@
 use Rattle.std.proofs.Common.{◌≡◌, ℕ, ◌+◌, ◌<◌, ◌≤◌, ◌^◌, List, length, Bool, true, false, Some, refl, sym, ap, ◌∙◌, subst, arith}
 use Rattle.std.specs.Prelude.{slice_get, All, slice_index}
 use Rattle.std.proofs.lemmas.Option.{same_Some, slice_get_within}
-use Rattle.sig_script.specs.Scripts.{Program}
+use Rattle.sig_script.specs.Scripts.{Program, IsSound}
 use Rattle.sig_model.specs.Running.{Running}
 use Rattle.sig_model.specs.OneWorker.{IsClear}
 use Rattle.sig_model.specs.Still.{IsStill}
@@ -24,6 +24,10 @@ use Rattle.sig_workers.proofs.OpenLemmas.{some_at}
 use Rattle.sig_workers.proofs.RowLemmas.{row_parts}
 use Rattle.sig_workers.proofs.RoundLaw.{all_clear, round_lawful, round_begins, round_stamp}
 use Rattle.sig_workers.proofs.EndLemmas.{may_close, as_many, seats_many, ends, strange_none, end_receipt, end_flag}
+
+-- a sound script has few processes
+pub crew_few : (script : Program) (crew : List Running) → IsSound script → IsLawfulCrew script crew → length crew ≤ 256
+crew_few script crew sound law = omega (arith, sound.few, law.many)
 
 -- the next numbers of a lawful crew
 pub crew_numbered : (script : Program) (crew : List Running) → IsLawfulCrew script crew → AreNumbered crew
