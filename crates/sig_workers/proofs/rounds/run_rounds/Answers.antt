@@ -12,13 +12,13 @@ loop-moved-init g c = record {
   settled = λ script law. (c.in_ok-now.ensures script law).settled;
 }
 
-pub round-later-requires-clause-lawful : goal.round-later-requires-clause-lawful
-round-later-requires-clause-lawful g c κs within =
+pub round-requires-in-loop-moved-clause-lawful : goal.round-requires-in-loop-moved-clause-lawful
+round-requires-in-loop-moved-clause-lawful g c κs within =
     let law = c.requires.lawful in
     (law.0, law.1, (c.loop-moved.invariant.rounds law.0 law.2).lawful)
 
-pub round-later-requires-clause-clear : goal.round-later-requires-clause-clear
-round-later-requires-clause-clear g c κs within =
+pub round-requires-in-loop-moved-clause-clear : goal.round-requires-in-loop-moved-clause-clear
+round-requires-in-loop-moved-clause-clear g c κs within =
     let law = c.requires.lawful in
     (c.loop-moved.invariant.rounds law.0 law.2).clear
 
