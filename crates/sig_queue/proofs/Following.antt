@@ -1,77 +1,89 @@
--- Receipts that follow others, from the last to the first.
-use Rattle.std.proofs.Common.{◌≡◌, ◌≢◌, ℕ, zero, suc, ◌+◌, ◌<◌, ◌≤◌, List, [], ◌∷◌, ◌++◌, length, take, Some, None, refl, sym, ap, ◌∙◌, subst, inl, inr, ◌⊎◌, arith, length-set}
-use Rattle.std.specs.Prelude.{slice_get, slice_set}
-use Rattle.std.proofs.lemmas.Option.{same_Some}
+-- Lists of receipts that are followed from the last one on.
+use Rattle.std.proofs.Common.{◌≡◌, ℕ, suc, ◌<◌, ◌+◌, List, [], ◌∷◌, ◌++◌, length, get_or, set, subst, sym, refl, ap, ◌∙◌, arith, append_assoc, append-nil}
+use Rattle.std.proofs.lemmas.List.{length-append}
 use Rattle.sig_queue.specs.declared.account.Account.{Account}
-use Rattle.sig_queue.specs.Accounts.{followed, MayFollow, EachMayFollow, all_followed}
+use Rattle.sig_queue.specs.Accounts.{MayFollow, followed, EachMayFollow, all_followed}
 
--- the last of the first n
-pub popped : {X : Type 0} (n : ℕ) (xs ys : List X) (x : X) → ys ++ x ∷ [] ≡ take n xs → (ys ≡ take (length ys) xs) × (slice_get xs (length ys) ≡ Some x)
-popped {X} zero xs [] x h = cc
-popped {X} zero xs (y ∷ ys) x h = cc
-popped {X} (suc n) [] [] x h = cc
-popped {X} (suc n) [] (y ∷ ys) x h = cc
-popped {X} (suc n) (z ∷ zs) [] x h = (refl, sym (ap (λ l. slice_get l 0) h))
-popped {X} (suc n) (z ∷ zs) (y ∷ ys) x h =
-    let more : (ys ≡ take (length ys) zs) × (slice_get zs (length ys) ≡ Some x) = popped n zs ys x (ap (λ l. behind l) h) in
-    (ap (λ l. y ∷ l) more.0 ∙ ap (λ a. a ∷ take (length ys) zs) (same_Some y z (ap (λ l. slice_get l 0) h)), more.1)
-  where
-    behind : List X → List X
-    behind [] = []
-    behind (a ∷ more) = more
+-- The receipts of the first list from some place on are followed by those of the second, and those of the second before that place
+-- are left.
+pub record Following (firsts laters now left : List Account) : Type 0 where
+  pub xs : List Account
+  pub ys : List Account
+  pub ws : List Account
+  pub all : firsts ≡ xs ++ ys
+  pub every : laters ≡ left ++ ws
+  pub is : now ≡ xs ++ all_followed ys ws
+  pub may : EachMayFollow xs left
 
-pub take_whole : {X : Type 0} (xs : List X) → take (length xs) xs ≡ xs
-take_whole [] = refl
-take_whole (x ∷ xs) = ap (λ l. x ∷ l) (take_whole xs)
+pub same_length : (xs ys : List Account) → EachMayFollow xs ys → length xs ≡ length ys
+same_length [] [] h = refl
+same_length [] (y ∷ ys) h = absurd h
+same_length (x ∷ xs) [] h = absurd h
+same_length (x ∷ xs) (y ∷ ys) h = ap suc (same_length xs ys h.1)
 
--- so many of the first are as they were, and the others are followed
-abbrev pub followed_from : ℕ → List Account → List Account → List Account
-followed_from n [] bs = []
-followed_from n (a ∷ xs) [] = a ∷ xs
-followed_from zero (a ∷ xs) (b ∷ bs) = followed a b ∷ followed_from zero xs bs
-followed_from (suc n) (a ∷ xs) (b ∷ bs) = a ∷ followed_from n xs bs
+split_last : (xs zs : List Account) (r : Account) → EachMayFollow xs (zs ++ r ∷ []) → (ys : List Account) × (x : Account) × (xs ≡ ys ++ x ∷ []) × MayFollow x r × EachMayFollow ys zs
+split_last [] [] r h = absurd h
+split_last [] (z ∷ zs) r h = absurd h
+split_last (x ∷ []) [] r h = ([], x, refl, h.0, tt)
+split_last (x ∷ y ∷ xs) [] r h = absurd h.1
+split_last (x ∷ xs) (z ∷ zs) r h = let k = split_last xs zs r h.1 in (x ∷ k.0, k.1, ap (λ (l : List Account). x ∷ l) k.2, k.3, (h.0, k.4))
 
-pub may_at : (xs bs : List Account) (n : ℕ) (a b : Account) → EachMayFollow xs bs → slice_get xs n ≡ Some a → slice_get bs n ≡ Some b → MayFollow a b
-may_at [] [] n a b h p q = cc
-may_at [] (y ∷ ys) n a b h p q = absurd h
-may_at (x ∷ xs) [] n a b h p q = absurd h
-may_at (x ∷ xs) (y ∷ ys) zero a b h p q = subst (λ z. MayFollow z b) (same_Some x a p) (subst (MayFollow x) (same_Some y b q) h.0)
-may_at (x ∷ xs) (y ∷ ys) (suc n) a b h p q = may_at xs ys n a b h.1 p q
+pub none_left : (xs : List Account) → length xs ≡ 0 → xs ≡ []
+none_left [] e = refl
+none_left (x ∷ xs) e = absurd cc
 
-pub from_all : (n : ℕ) (xs bs : List Account) → length bs ≤ n → followed_from n xs bs ≡ xs
-from_all n [] bs h = refl
-from_all n (a ∷ xs) [] h = refl
-from_all zero (a ∷ xs) (b ∷ bs) h = absurd (omega (arith, h))
-from_all (suc n) (a ∷ xs) (b ∷ bs) h = ap (λ l. a ∷ l) (from_all n xs bs (omega (arith, h)))
+pub starts : (firsts laters : List Account) → EachMayFollow firsts laters → Following firsts laters firsts laters
+starts firsts laters may = record {
+  xs = firsts;
+  ys = [];
+  ws = [];
+  all = sym (append-nil firsts);
+  every = sym (append-nil laters);
+  is = sym (append-nil firsts);
+  may = may;
+}
 
-pub from_none : (xs bs : List Account) → followed_from 0 xs bs ≡ all_followed xs bs
-from_none [] bs = refl
-from_none (a ∷ xs) [] = refl
-from_none (a ∷ xs) (b ∷ bs) = ap (λ l. followed a b ∷ l) (from_none xs bs)
+pub ends : (firsts laters now : List Account) → Following firsts laters now [] → now ≡ all_followed firsts laters
+ends firsts laters now f = none f.xs f.ys f.ws firsts laters now f.may f.all f.every f.is where
+  none : (xs ys ws firsts laters now : List Account) → EachMayFollow xs [] → firsts ≡ xs ++ ys → laters ≡ ws → now ≡ xs ++ all_followed ys ws → now ≡ all_followed firsts laters
+  none [] ys ws firsts laters now h a e i = i ∙ (λ j. all_followed (sym a j) (sym e j))
+  none (x ∷ xs) ys ws firsts laters now h a e i = absurd h
 
-pub as_long : (xs bs : List Account) → EachMayFollow xs bs → length bs ≡ length xs
-as_long [] [] h = refl
-as_long [] (b ∷ bs) h = absurd h
-as_long (a ∷ xs) [] h = absurd h
-as_long (a ∷ xs) (b ∷ bs) h = ap suc (as_long xs bs h.1)
+at_end : (xs ys : List Account) (x d : Account) → get_or (xs ++ x ∷ ys) (length xs) d ≡ x
+at_end [] ys x d = refl
+at_end (y ∷ xs) ys x d = at_end xs ys x d
 
-pub from_length : (n : ℕ) (xs bs : List Account) → length (followed_from n xs bs) ≡ length xs
-from_length n [] bs = refl
-from_length n (a ∷ xs) [] = refl
-from_length zero (a ∷ xs) (b ∷ bs) = ap suc (from_length zero xs bs)
-from_length (suc n) (a ∷ xs) (b ∷ bs) = ap suc (from_length n xs bs)
+set_end : (xs ys : List Account) (x y : Account) → set (xs ++ x ∷ ys) (length xs) y ≡ xs ++ y ∷ ys
+set_end [] ys x y = refl
+set_end (z ∷ xs) ys x y = ap (λ (l : List Account). z ∷ l) (set_end xs ys x y)
 
--- the last of those that are as they were
-pub from_at : (n : ℕ) (xs bs : List Account) (a : Account) → n < length xs → slice_get (followed_from (suc n) xs bs) n ≡ Some a → slice_get xs n ≡ Some a
-from_at n [] bs a lt h = h
-from_at zero (x ∷ xs) [] a lt h = h
-from_at (suc n) (x ∷ xs) [] a lt h = h
-from_at zero (x ∷ xs) (b ∷ bs) a lt h = h
-from_at (suc n) (x ∷ xs) (b ∷ bs) a lt h = from_at n xs bs a (omega (arith, lt)) h
+-- the last of those that are left is taken
+module _ (firsts laters now left rest : List Account) (r : Account) (f : Following firsts laters now left) (taken : left ≡ rest ++ r ∷ []) where
+  last : (ys : List Account) × (x : Account) × (f.xs ≡ ys ++ x ∷ []) × MayFollow x r × EachMayFollow ys rest
+  last = split_last f.xs rest r (subst (EachMayFollow f.xs) taken f.may)
 
--- it is followed
-pub from_step : (n : ℕ) (xs bs : List Account) (a b : Account) → slice_get xs n ≡ Some a → slice_get bs n ≡ Some b → slice_set (followed_from (suc n) xs bs) n (followed a b) ≡ followed_from n xs bs
-from_step n [] bs a b p q = cc
-from_step n (x ∷ xs) [] a b p q = cc
-from_step zero (x ∷ xs) (y ∷ ys) a b p q = ap (λ (z : Account). followed z b ∷ followed_from zero xs ys) (sym (same_Some x a p)) ∙ ap (λ (z : Account). followed x z ∷ followed_from zero xs ys) (sym (same_Some y b q))
-from_step (suc n) (x ∷ xs) (y ∷ ys) a b p q = ap (λ l. x ∷ l) (from_step n xs ys a b p q)
+  now_is : now ≡ last.0 ++ last.1 ∷ all_followed f.ys f.ws
+  now_is = f.is ∙ (ap (λ (l : List Account). l ++ all_followed f.ys f.ws) last.2 ∙ append_assoc last.0 (last.1 ∷ []) (all_followed f.ys f.ws))
+
+  place : length rest ≡ length last.0
+  place = sym (same_length last.0 rest last.4)
+
+  pub within : length rest < length now
+  within = let e = ap length now_is ∙ length-append last.0 (last.1 ∷ all_followed f.ys f.ws) in let p = place in omega arith
+
+  found : (d : Account) → get_or now (length rest) d ≡ last.1
+  found d = (λ i. get_or (now_is i) (place i) d) ∙ at_end last.0 (all_followed f.ys f.ws) last.1 d
+
+  pub may_follow : (d : Account) → MayFollow (get_or now (length rest) d) r
+  may_follow d = subst (λ (x : Account). MayFollow x r) (sym (found d)) last.3
+
+  pub goes_on : (d : Account) → Following firsts laters (set now (length rest) (followed (get_or now (length rest) d) r)) rest
+  goes_on d = record {
+    xs = last.0;
+    ys = last.1 ∷ f.ys;
+    ws = r ∷ f.ws;
+    all = f.all ∙ (ap (λ (l : List Account). l ++ f.ys) last.2 ∙ append_assoc last.0 (last.1 ∷ []) f.ys);
+    every = f.every ∙ (ap (λ (l : List Account). l ++ f.ws) taken ∙ append_assoc rest (r ∷ []) f.ws);
+    is = (λ i. set (now_is i) (place i) (followed (found d i) r)) ∙ set_end last.0 (all_followed f.ys f.ws) last.1 (followed last.1 r);
+    may = last.4;
+  }

@@ -30,15 +30,11 @@ followed a b = record a { put = a.put ++ b.put }
 
 abbrev pub EachMayFollow : List Account → List Account → Type 0
 EachMayFollow [] [] = Unit {0}
-EachMayFollow [] (b ∷ bs) = ⊥
-EachMayFollow (a ∷ rest) [] = ⊥
-EachMayFollow (a ∷ rest) (b ∷ bs) = MayFollow a b × EachMayFollow rest bs
+EachMayFollow [] (y ∷ ys) = ⊥
+EachMayFollow (x ∷ xs) [] = ⊥
+EachMayFollow (x ∷ xs) (y ∷ ys) = MayFollow x y × EachMayFollow xs ys
 
 abbrev pub all_followed : List Account → List Account → List Account
-all_followed [] bs = []
-all_followed (a ∷ rest) [] = a ∷ rest
-all_followed (a ∷ rest) (b ∷ bs) = followed a b ∷ all_followed rest bs
-
--- the receipt of a queue into which nothing was put
-unfoldable pub HiddenAccount : Setup → Account
-HiddenAccount z = account_of z []
+all_followed [] ys = []
+all_followed (x ∷ xs) [] = x ∷ xs
+all_followed (x ∷ xs) (y ∷ ys) = followed x y ∷ all_followed xs ys

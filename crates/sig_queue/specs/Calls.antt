@@ -1,20 +1,81 @@
 -- What the calls of the queue say.
-use Rattle.std.specs.Prelude.{◌≡◌, ℕ, ◌+◌, Bool, true, false, List, [], ◌∷◌, ◌++◌, length, None}
+use Rattle.std.specs.Prelude.{◌≡◌, ◌⊎◌, ℕ, ◌+◌, Bool, true, false, List, [], ◌∷◌, ◌++◌, length, Option, Some, None}
+use Rattle.atomic_table.specs.Seated.{TableId}
 use Rattle.sig_kinds.specs.declared.signal.Signal.{Signal}
 use Rattle.sig_layout.specs.declared.setup.Setup.{Setup}
 use Rattle.sig_layout.specs.declared.knows.Knows.{Knows}
-use Rattle.sig_layout.specs.declared.part.Part.{Part}
 use Rattle.sig_layout.specs.declared.via.Via.{Via}
 use Rattle.sig_layout.specs.declared.via.Via.TheVariants as via
-use Rattle.sig_layout.specs.Views.{filled_at}
-use Rattle.sig_layout.specs.Core.{buffer_of}
+use Rattle.sig_queue.specs.declared.offer.Offer.{Offer}
+use Rattle.sig_queue.specs.declared.offer.Offer.TheVariants as offer
+use Rattle.sig_queue.specs.declared.aside.Aside.{Aside}
+use Rattle.sig_queue.specs.declared.aside.Aside.TheVariants as aside
+use Rattle.sig_queue.specs.declared.outward.Outward.{Outward}
+use Rattle.sig_queue.specs.declared.outward.Outward.TheVariants as outward
 use Rattle.sig_queue.specs.declared.sent.Sent.{Sent}
 use Rattle.sig_queue.specs.declared.sent.Sent.TheVariants as sent
+use Rattle.sig_queue.specs.declared.hold.Hold.{Hold}
+use Rattle.sig_queue.specs.declared.hold.Hold.TheVariants as hold
+use Rattle.sig_layout.specs.Views.{holding, turned_away}
+use Rattle.sig_layout.specs.declared.outer.Outer.{Outer}
 use Rattle.sig_queue.specs.declared.fetch.Fetch.{Fetch}
 use Rattle.sig_queue.specs.declared.fetch.Fetch.TheVariants as fetch
+use Rattle.sig_queue.specs.declared.taken.Taken.{Taken}
+use Rattle.sig_layout.specs.Views.{filled_at, signals_of, buffer_in}
+use Rattle.sig_layout.specs.Core.{buffer_of}
+use Rattle.sig_layout.specs.declared.part.Part.{Part}
 use Rattle.sig_queue.specs.Fetching.{skips, all_of, numbers, picked, same_number}
 use Rattle.sig_queue.specs.Tied.{Foreign, FreshBut, TookCarried}
 use Rattle.sig_queue.specs.Parts.{item, looked}
+
+-- under the turn of a buffer
+abbrev pub Under : Signal → Knows → Aside → Knows → Type 0
+Under x v (aside.Off y) w = (y ≡ x) × (w ≡ record (looked v (false ∷ [])) { saw_off = true; parts = [] })
+Under x v aside.Put w = w ≡ record (looked v (true ∷ [])) { saw_off = false; parts = []; put = v.put ++ item (via.Buffer (buffer_in v.parts)) x ∷ [] }
+Under x v (aside.Busy y n) w = ⊥
+Under x v (aside.Memory y) w = (y ≡ x) × (w ≡ record (looked v (true ∷ [])) { saw_off = false; parts = [] })
+
+-- an offer to buffer b. It was off only where the last load of the mode gave 0, and put only where it gave 1
+abbrev pub OfferedAside : ℕ → Signal → Knows → Aside → Knows → Type 0
+OfferedAside b x v (aside.Off y) w = (y ≡ x) × ((bs : List Bool) × (w ≡ record (looked v (bs ++ false ∷ [])) { saw_off = true }))
+OfferedAside b x v aside.Put w = (bs : List Bool) × (w ≡ record (looked v (bs ++ true ∷ [])) { put = v.put ++ item (via.Buffer b) x ∷ [] })
+OfferedAside b x v (aside.Busy y n) w = (y ≡ x) × ((bs : List Bool) × (w ≡ record (looked v bs) { refusals = v.refusals ++ (b + 3, n) ∷ [] })) × Foreign v n
+OfferedAside b x v (aside.Memory y) w = (y ≡ x) × ((bs : List Bool) × (w ≡ looked v bs))
+
+-- an offer to the outer list
+abbrev pub OfferedOut : Signal → Knows → Outward → Knows → Type 0
+OfferedOut x v outward.Put w = w ≡ record v { saw_off = false; put = v.put ++ item via.Outer x ∷ []; refused = 0 }
+OfferedOut x v (outward.Busy y n) w = (y ≡ x) × (w ≡ record v { saw_off = false; refused = v.refused + 1; refusals = v.refusals ++ (0, n) ∷ [] }) × Foreign v n
+OfferedOut x v (outward.Memory y) w = (y ≡ x) × (w ≡ record v { saw_off = false })
+
+-- the way of a put: to the outer list only where the last load of the mode in this call gave 0, and to the sender's buffer only where it gave 1
+abbrev pub PutBy : Signal → Knows → Via → Knows → Type 0
+PutBy x v via.Outer w = (bs : List Bool) × (w ≡ record (looked v (bs ++ false ∷ [])) { put = v.put ++ item via.Outer x ∷ []; refused = 0 })
+PutBy x v (via.Buffer b) w = (b ≡ buffer_of x.from.0) × ((bs : List Bool) × (w ≡ record (looked v (bs ++ true ∷ [])) { put = v.put ++ item (via.Buffer b) x ∷ [] }))
+
+-- the one exchange that was refused: on the outer turn, or on the turn of the sender's buffer
+abbrev pub RefusedOne : Signal → Knows → ℕ → Knows → Type 0
+RefusedOne x v n w = (bs : List Bool) × ((w ≡ record (looked v bs) { refused = v.refused + 1; refusals = v.refusals ++ (0, n) ∷ [] }) ⊎ (w ≡ record (looked v bs) { refusals = v.refusals ++ (buffer_of x.from.0 + 3, n) ∷ [] }))
+
+abbrev pub Offered : Signal → Knows → Offer → Knows → Type 0
+Offered x v (offer.Put way) w = PutBy x v way w
+Offered x v (offer.Busy y n) w = (y ≡ x) × Foreign v n × RefusedOne x v n w
+Offered x v (offer.Memory y) w = (y ≡ x) × ((bs : List Bool) × (w ≡ looked v bs))
+
+-- all that the seat u, which fetches, leaves with
+abbrev pub taken_by : Knows → List Signal
+taken_by u = signals_of u.held ++ all_of u.parts
+
+abbrev pub bare : Knows → Knows
+bare u = record u { held = None; fetching = false; mask = []; back = 0; moved = 0; parts = [] }
+
+abbrev pub Finished : Setup → Knows → Taken → Knows → Type 0
+Finished z u t w = (w ≡ record (bare u) { taken = u.taken ++ taken_by u; fetches = u.fetches + 1; due = t.due }) × FreshBut u.back w × TookCarried z w
+
+-- a fetch that found its buffers takes all, or leaves all as it was
+abbrev pub Settled : Setup → List Signal → List Signal → Knows → Option Taken → Knows → Type 0
+Settled z before now u (Some t) w = (now ≡ before ++ taken_by u) × (t.count ≡ length (taken_by u)) × Finished z u t w
+Settled z before now u None w = (now ≡ before) × (w ≡ record (bare u) { saw_off = false })
 
 -- first the outer list, and then the lists of some buffers, by ascending number
 pub record InOrder (new : List Signal) : Type 0 where
@@ -32,11 +93,21 @@ FetchedAs z before now v count due skipped w = (new : List Signal) × (values : 
 abbrev pub Left : List Signal → List Signal → Knows → Knows → Type 0
 Left before now v w = (now ≡ before) × ((more : List (ℕ × ℕ)) × (w ≡ record v { held = None; refusals = v.refusals ++ more }))
 
+-- under the outer turn
+abbrev pub FetchedHeld : Setup → List Signal → List Signal → Knows → Fetch → Knows → Type 0
+FetchedHeld z before now v (fetch.Took count due skipped) w = FetchedAs z before now v count due skipped w
+FetchedHeld z before now v (fetch.Busy n) w = ⊥
+FetchedHeld z before now v fetch.Memory w = Left before now v w
+
 -- The signals that came into the caller's list are those that the seat took. The refusals are as before, and then one for each bit of `skipped`, by ascending number. All that the seat put and was told of was taken, but of senders whose buffers are in `skipped`
 abbrev pub Fetched : Setup → List Signal → List Signal → Knows → Fetch → Knows → Type 0
 Fetched z before now v (fetch.Took count due skipped) w = FetchedAs z before now v count due skipped w
 Fetched z before now v (fetch.Busy n) w = (now ≡ before) × (w ≡ record v { refused = v.refused + 1; refusals = v.refusals ++ (0, n) ∷ [] }) × Foreign v n
 Fetched z before now v fetch.Memory w = Left before now v w
+
+abbrev pub Holds : Knows → TableId → Hold → Type 0
+Holds v z (hold.Held h) = (h.queue ≡ z) × ((o : Outer) × (h.knows ≡ holding v o))
+Holds v z (hold.Busy seat n) = (seat.queue ≡ z) × (seat.knows ≡ turned_away v n) × Foreign v n
 
 -- the seat was refused some times, and loaded the mode some times
 abbrev pub refused_as : Knows → List Bool → Knows → Knows

@@ -1,8 +1,15 @@
 -- What a seat has while it fetches many buffers at once.
-use Rattle.std.specs.Prelude.{ℕ, zero, suc, ◌+◌, Bool, if◌then◌else◌, List, [], ◌∷◌, ◌++◌}
+use Rattle.std.specs.Prelude.{◌≡◌, ℕ, zero, suc, ◌+◌, ◌<◌, ◌≤◌, Bool, true, false, if◌then◌else◌, List, [], ◌∷◌, ◌++◌, length, Option, Some, None, IfSome}
 use Rattle.sig_kinds.specs.declared.signal.Signal.{Signal}
+use Rattle.sig_layout.specs.declared.entry.Entry.{Entry}
+use Rattle.sig_layout.specs.declared.outer.Outer.{Outer}
+use Rattle.sig_queue.specs.declared.slot.Slot.{Slot}
+use Rattle.sig_queue.specs.declared.slot.Slot.TheVariants as slot
 use Rattle.sig_layout.specs.declared.part.Part.{Part}
-use Rattle.sig_layout.specs.Views.{filled_at}
+use Rattle.sig_layout.specs.declared.knows.Knows.{Knows}
+use Rattle.sig_layout.specs.Views.{filled_at, flag, signals_of}
+use Rattle.sig_queue.specs.declared.found.Found.{Found}
+use Rattle.sig_queue.specs.Tied.{Held, Foreign}
 
 -- f c for each c from k on, n of them, that p holds of
 unfoldable pub picked : {X : Type 0} → (ℕ → X) → (ℕ → Bool) → ℕ → ℕ → List X
@@ -20,6 +27,59 @@ abbrev pub all_of : List Part → List Signal
 all_of [] = []
 all_of (p ∷ ps) = p.list ++ all_of ps
 
+-- the slots that are out with the seat: the one that it took last stands first
+abbrev pub slots_of : List Part → List (ℕ × Slot)
+slots_of [] = []
+slots_of (p ∷ ps) = slots_of ps ++ (p.number + 1, slot.List p.list) ∷ []
+
+abbrev pub outer_out : ℕ × Slot
+outer_out = (0, slot.Out)
+
+abbrev pub journal_of : Option Outer → List Entry
+journal_of (Some o) = o.journal
+journal_of None = []
+
 -- each refused try of a buffer that is skipped, by ascending number
 abbrev pub skips : (ℕ → ℕ) → ℕ → ℕ → List (ℕ × ℕ)
 skips f skipped n = picked (λ c. (c + 3, f c)) (filled_at skipped) 0 n
+
+-- the view v, but for the buffers
+abbrev pub fetching_as : Knows → Knows → Knows
+fetching_as v w = record v { parts = w.parts; mask = w.mask; back = w.back; refusals = w.refusals }
+
+-- A fetch that took the bits n has tried the buffers below k. The seat had the view v before the first
+pub record Finding (v : Knows) (n k : ℕ) (me : Held) (z : Found) : Type 0 where
+  pub view : me.0 ≡ fetching_as v me.0
+  pub slots : me.1 ≡ slots_of me.0.parts ++ outer_out ∷ []
+  pub numbers_are : numbers me.0.parts ≡ picked same_number (filled_at z.held) 0 k
+  pub count : z.count ≡ length me.0.parts
+  pub to_come : (c : ℕ) → c < 64 → k ≤ c → flag me.0.mask c ≡ filled_at n c
+  pub kept : (c : ℕ) → c < k → flag me.0.mask c ≡ filled_at z.held c
+  pub back : me.0.back ≡ z.skipped
+  pub values : ℕ → ℕ
+  pub refusals : me.0.refusals ≡ v.refusals ++ skips values z.skipped k
+  pub others : (c : ℕ) → filled_at z.skipped c ≡ true → Foreign v (values c)
+  pub none_held : (c : ℕ) → k ≤ c → filled_at z.held c ≡ false
+  pub none_skipped : (c : ℕ) → k ≤ c → filled_at z.skipped c ≡ false
+  pub total : IfSome z.total (λ t. t ≡ length (all_of me.0.parts))
+
+-- the buffers of `held` from k on are still held, with their slots, and are in the mask. No other buffer is
+pub record Standing (held k : ℕ) (me : Held) (count : ℕ) : Type 0 where
+  pub slots : me.1 ≡ outer_out ∷ slots_of me.0.parts
+  pub numbers_are : (m : ℕ) → k + m ≡ 64 → numbers me.0.parts ≡ picked same_number (filled_at held) k m
+  pub counted : count ≡ length me.0.parts
+  pub masks : (c : ℕ) → c < 64 → k ≤ c → flag me.0.mask c ≡ filled_at held c
+  pub dropped : (c : ℕ) → c < k → flag me.0.mask c ≡ false
+
+-- the lists of buffers below k came behind the outer list. The seat had the view u before the first
+pub record Emptying (u : Knows) (me : Held) : Type 0 where
+  pub view : me.0 ≡ record u { parts = me.0.parts; mask = me.0.mask; held = me.0.held; moved = me.0.moved }
+  pub outer : Outer
+  pub holds : me.0.held ≡ Some outer
+  pub signals : outer.signals ++ all_of me.0.parts ≡ signals_of u.held ++ all_of u.parts
+  pub journal : outer.journal ≡ journal_of u.held
+  pub moved : me.0.moved + length (all_of me.0.parts) ≡ u.moved + length (all_of u.parts)
+
+-- the buffers below k were left as they were, and their bits are set again
+pub record Leaving (u : Knows) (me : Held) : Type 0 where
+  pub view : me.0 ≡ record u { parts = me.0.parts; mask = me.0.mask; back = me.0.back }

@@ -1,10 +1,27 @@
--- What a seat puts and loads.
-use Rattle.std.specs.Prelude.{ℕ, Bool, List, [], ◌∷◌, ◌++◌}
+-- The buffer that a seat took first, and the outer value that it holds.
+use Rattle.std.specs.Prelude.{◌≡◌, ℕ, Bool, List, [], ◌∷◌, ◌++◌, Option, Some, None}
 use Rattle.sig_kinds.specs.declared.signal.Signal.{Signal}
 use Rattle.sig_layout.specs.declared.via.Via.{Via}
 use Rattle.sig_layout.specs.declared.item.Item.{Item}
+use Rattle.sig_layout.specs.declared.outer.Outer.{Outer}
+use Rattle.sig_layout.specs.declared.part.Part.{Part}
 use Rattle.sig_layout.specs.declared.knows.Knows.{Knows}
-use Rattle.sig_layout.specs.Views.{mode_word}
+use Rattle.sig_layout.specs.Views.{part, tail, mode_word}
+
+abbrev pub first_part : List Part → Part
+first_part [] = part 0 []
+first_part (p ∷ ps) = p
+
+abbrev pub held_or : Option Outer → Outer
+held_or (Some o) = o
+held_or None = record { signals = []; journal = [] }
+
+-- the first of these is buffer b, and there are no others
+abbrev pub IsOne : List Part → ℕ → Type 0
+IsOne ps b = (ps ≡ first_part ps ∷ []) × ((first_part ps).number ≡ b)
+
+abbrev pub IsFirst : List Part → ℕ → Type 0
+IsFirst ps b = (ps ≡ first_part ps ∷ tail ps) × ((first_part ps).number ≡ b)
 
 -- a signal with the way by which it was put
 abbrev pub item : Via → Signal → Item

@@ -1,6 +1,27 @@
 -- What a seat has while it removes the buffers.
+use Rattle.std.specs.Prelude.{◌≡◌, ℕ, ◌+◌, ◌≤◌, List, [], ◌∷◌, Some}
+use Rattle.sig_kinds.specs.declared.signal.Signal.{Signal}
+use Rattle.sig_layout.specs.Rooms.{Roomy}
 use Rattle.sig_layout.specs.declared.knows.Knows.{Knows}
+use Rattle.sig_queue.specs.Tied.{Held}
+use Rattle.sig_queue.specs.Parts.{held_or}
+use Rattle.sig_queue.specs.Fetching.{outer_out}
 
 -- the view v, with the refusals of w
 abbrev pub waited : Knows → Knows → Knows
 waited v w = record v { refused = w.refused; refusals = w.refusals }
+
+abbrev pub waits : Knows → Knows → Knows
+waits v w = record v { refusals = w.refusals }
+
+-- The removal of a seat that had the view u has passed the buffers below k. What came behind the outer list is in `out`
+pub record Passing (u : Knows) (k : ℕ) (me : Held) (out : List Signal) : Type 0 where
+  pub view : me.0 ≡ record u { held = me.0.held; progress = k; refusals = me.0.refusals }
+  pub slots : me.1 ≡ outer_out ∷ []
+  pub holds : me.0.held ≡ Some (held_or me.0.held)
+  pub signals : (held_or me.0.held).signals ≡ out
+  pub journal : (held_or me.0.held).journal ≡ (held_or u.held).journal
+
+-- room for the lists of buffers from k on
+abbrev pub WithRoom : ℕ → Roomy → Type 0
+WithRoom k g = 64 ≤ g.spare + k

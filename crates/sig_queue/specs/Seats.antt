@@ -1,9 +1,15 @@
--- What contracts see of queues and of the tokens of one queue.
-use Rattle.std.specs.Prelude.{ℕ, Bool, List, []}
+-- What contracts see of queues and of the tokens of one queue, and what is true of each.
+use Rattle.std.specs.Prelude.{◌≡◌, ℕ, ◌≤◌, Bool, true, false, List, [], ◌∷◌, None}
 use Rattle.atomic_table.specs.Seated.{TableId}
 use Rattle.sig_layout.specs.declared.setup.Setup.{Setup}
+use Rattle.sig_layout.specs.declared.policy.Policy.{Policy}
+use Rattle.sig_queue.specs.declared.slot.Slot.TheVariants as slot
 use Rattle.sig_layout.specs.declared.knows.Knows.{Knows}
-use Rattle.sig_layout.specs.Views.{spent}
+use Rattle.sig_layout.specs.Sets.{no_senders}
+use Rattle.sig_layout.specs.Views.{number}
+use Rattle.sig_layout.specs.Core.{some_refused, Idle, Begins}
+use Rattle.sig_queue.specs.Tied.{Held}
+use Rattle.sig_queue.specs.Parts.{held_or}
 
 -- a queue: which it is, and what it was opened with
 pub record Queue : Type 0 where
@@ -15,10 +21,38 @@ pub record Seated : Type 0 where
   pub queue : TableId
   pub knows : Knows
 
--- what a seat knows with which nothing was put or taken
-unfoldable pub Hidden : List ℕ → Bool → Bool → Knows
-Hidden senders role due = record spent { senders = senders; role = role; due = due }
+-- what the running seat keeps is what contracts see
+pub record Keeps (v : Knows) (senders : List ℕ) (least : ℕ) (role due refused : Bool) : Type 0 where
+  pub senders_are : v.senders ≡ senders
+  pub number_is : number v ≡ least
+  pub low : least ≤ 256
+  pub role_is : v.role ≡ role
+  pub due_is : v.due ≡ due
+  pub refused_is : refused ≡ some_refused v.refused
 
--- the queue with this number
-abbrev pub id_of : ℕ → TableId
-id_of n = record { words = 536; slots = 65; views_name = n; atom = 0; block = 0; offset = 0; slot_names = [] }
+-- a seat between two calls
+pub record IsSeat (me : Held) (senders : List ℕ) (least : ℕ) (role due refused : Bool) : Type 0 where
+  pub idle : Idle me.0
+  pub bare : me.1 ≡ []
+  pub keeps : Keeps me.0 senders least role due refused
+
+-- a note: it has no sender and no role
+pub record IsNote (me : Held) : Type 0 where
+  pub idle : Idle me.0
+  pub bare : me.1 ≡ []
+  pub nobody : me.0.senders ≡ no_senders
+  pub no_role : me.0.role ≡ false
+  pub not_due : me.0.due ≡ false
+  pub unrefused : me.0.refused ≡ 0
+
+-- a seat that holds the outer turn between two calls, for tests
+pub record IsHolder (me : Held) (senders : List ℕ) (least : ℕ) (role due refused : Bool) : Type 0 where
+  pub begins : Begins me.0 (held_or me.0.held)
+  pub slots : me.1 ≡ (0, slot.Outer (held_or me.0.held)) ∷ []
+  pub parts : me.0.parts ≡ []
+  pub saw : me.0.saw_off ≡ false
+  pub mask : me.0.mask ≡ []
+  pub back : me.0.back ≡ 0
+  pub moved : me.0.moved ≡ 0
+  pub progress : me.0.progress ≡ 0
+  pub keeps : Keeps me.0 senders least role due refused

@@ -1,17 +1,21 @@
-//! Calls that put and take nothing: seats are cut in two and joined.
+//! Calls that put and take nothing: seats are cut in two and joined, notes go from seat to seat, and
+//! the word of bits is read.
 ghost use Rattle.std.specs.Prelude.{◌≡◌, ℕ, true};
 ghost use Rattle.sig_layout.specs.Sets.{has};
-ghost use Rattle.sig_layout.specs.Views.{left_of, right_of, joined};
+ghost use Rattle.sig_layout.specs.Views.{left_of, right_of, note_of, joined, counted};
 
+use crate::note::Note;
 use crate::qseat::QSeat;
+use crate::seats::{cut, merge, tell};
 use crate::sig_queue::SigQueue;
+use crate::steps::{load_filled, look_only};
 use sig_layout::Senders;
+use std::marker::Brand;
 
 impl SigQueue {
     /// Gives away some of the seat's senders, and maybe its role. What was put for them goes along,
     /// and with the role what was taken, the fetches and a removal that is due. Both seats have what
     /// was told.
-    #[tactic(auto, unfolding(crate::specs::Seats::Hidden))]
     pub fn split(&self, seat: &mut QSeat, senders: Senders, receiver: bool) -> QSeat
         requires own { seat.old.queue ≡ self.now.id }
         requires some { (s : ℕ) → has senders s ≡ true → has seat.old.knows.senders s ≡ true }
@@ -20,34 +24,75 @@ impl SigQueue {
         ensures left { seat.new.knows ≡ left_of seat.old.knows senders receiver }
         ensures right { result.knows ≡ right_of seat.old.knows senders receiver }
     {
-        let number = seat.number;
+        let place = cut::<Brand>(&self.table.shared, &mut seat.place, senders, receiver);
         let due = seat.due && receiver;
         seat.senders = seat.senders.minus(senders);
+        seat.least = seat.senders.least();
         seat.role = seat.role && !receiver;
         seat.due = seat.due && !receiver;
         QSeat {
-            number,
+            place,
             senders,
+            least: senders.least(),
             role: receiver,
             due,
+            refused: false,
         }
     }
 
     /// Gives all that the other seat has to this one.
-    #[tactic(auto, unfolding(crate::specs::Seats::Hidden))]
     pub fn join(&self, seat: &mut QSeat, other: QSeat)
         requires own { (seat.old.queue ≡ self.now.id) × (other.queue ≡ self.now.id) }
         ensures own { seat.new.queue ≡ seat.old.queue }
         ensures both { seat.new.knows ≡ joined seat.old.knows other.knows }
     {
         let QSeat {
-            number: _,
+            place,
             senders,
+            least: _,
             role,
             due,
+            refused,
         } = other;
+        merge(&self.table.shared, &mut seat.place, place);
         seat.senders = seat.senders.plus(senders);
-        seat.role = if seat.role { true } else { role };
+        seat.least = seat.senders.least();
+        seat.role = seat.role || role;
         seat.due = seat.due || due;
+        seat.refused = seat.refused || refused;
+    }
+
+    /// Tells what this seat knows to have been put.
+    pub fn note(&self, seat: &mut QSeat) -> Note
+        requires own { seat.old.queue ≡ self.now.id }
+        ensures own { (seat.new.queue ≡ seat.old.queue) × (result.queue ≡ seat.old.queue) }
+        ensures same { seat.new.knows ≡ seat.old.knows }
+        ensures note { result.knows ≡ note_of seat.old.knows }
+    {
+        let place = tell(&self.table.shared, &mut seat.place);
+        Note { place }
+    }
+
+    /// Adds what the note tells to what this seat was told.
+    pub fn learn(&self, seat: &mut QSeat, note: Note)
+        requires own { (seat.old.queue ≡ self.now.id) × (note.queue ≡ self.now.id) }
+        ensures own { seat.new.queue ≡ seat.old.queue }
+        ensures both { seat.new.knows ≡ joined seat.old.knows note.knows }
+    {
+        let Note { place } = note;
+        let words = &self.table.shared;
+        merge(words, &mut seat.place, place);
+        look_only(words, &mut seat.place);
+        seat.senders = seat.senders.plus(Senders::none());
+        seat.least = seat.senders.least();
+    }
+
+    /// What one load of the word of bits gives.
+    pub fn filled(&self, seat: &mut QSeat) -> u64
+        requires own { seat.old.queue ≡ self.now.id }
+        ensures own { seat.new.queue ≡ seat.old.queue }
+        ensures counted { seat.new.knows ≡ counted seat.old.knows result }
+    {
+        load_filled(&self.table.shared, &mut seat.place)
     }
 }

@@ -1,9 +1,18 @@
-ghost use Rattle.std.specs.Prelude.{◌≡◌, true, false};
-ghost use Rattle.sig_queue.specs.Calls.{Fetched};
+ghost use Rattle.std.specs.Prelude.{◌≡◌, ℕ, ◌+◌, [], ◌∷◌, true, false};
+ghost use Rattle.sig_layout.specs.declared.outer.Outer.{Outer};
+ghost use Rattle.sig_layout.specs.Views.{number, IsSomebody};
+ghost use Rattle.sig_layout.specs.Core.{Begins};
+ghost use Rattle.sig_queue.specs.Calls.{FetchedHeld, Fetched};
 
+use crate::found::{bring_front, find_all};
 use crate::qseat::QSeat;
+use crate::rule::{Place, Words};
 use crate::sig_queue::SigQueue;
+use crate::slot::Slot;
+use crate::steps::{take_bits, take_value, try_outer};
+use crate::taken::settle;
 use sig_kinds::Signals;
+use sig_layout::Policy;
 
 /// What a fetch gives.
 #[derive(Drop)]
@@ -18,11 +27,34 @@ pub enum Fetch {
     Memory,
 }
 
+// Under the outer turn: the bits are taken, each buffer of theirs is tried, and what was found is taken.
+fn fetch_held(words: &Words, place: &mut Place, mine: u64, into: &mut Signals, policy: Policy) -> Fetch
+    requires table { (place.old.table_id ≡ words.now.table_id) × (words.now.table_id.words ≡ 536) × (words.now.key.policy ≡ policy) }
+    requires begins { (o : Outer) × Begins place.old.me.0 o × (place.old.me.1 ≡ (0, Slot.Outer o) ∷ []) }
+    requires idle { (place.old.me.0.parts ≡ []) × (place.old.me.0.saw_off ≡ false) × (place.old.me.0.mask ≡ []) × (place.old.me.0.back ≡ 0) × (place.old.me.0.moved ≡ 0) }
+    requires role { (place.old.me.0.role ≡ true) × (place.old.me.0.due ≡ false) }
+    requires somebody { IsSomebody place.old.me.0 × (mine ≡ number place.old.me.0 + 1) }
+    ensures same { (place.new.table_id ≡ place.old.table_id) × (place.new.id ≡ place.old.id) × (place.new.me.1 ≡ []) }
+    ensures fetched { FetchedHeld words.now.key into.old.items into.new.items place.old.me.0 result place.new.me.0 }
+{
+    let outer = take_value(words, place);
+    let bits = take_bits(words, place);
+    let found = find_all(words, place, bits, mine);
+    bring_front(place, found.count);
+    match settle(words, place, &found, outer, into, policy) {
+        Some(taken) => Fetch::Took {
+            count: taken.count,
+            due: taken.due,
+            skipped: found.skipped,
+        },
+        None => Fetch::Memory,
+    }
+}
+
 impl SigQueue {
     /// Takes the outer list, and then the lists of the buffers whose bits were set and whose turns
     /// were free, by ascending number. They come behind what is in `into`. It tries each turn once,
     /// and never waits. The seat has the receiver's role, and no removal is due.
-    #[tactic(auto, unfolding(crate::specs::Seats::Hidden))]
     pub fn try_fetch(&self, seat: &mut QSeat, into: &mut Signals) -> Fetch
         requires own { seat.old.queue ≡ self.now.id }
         requires role { seat.old.knows.role ≡ true }
@@ -30,8 +62,17 @@ impl SigQueue {
         ensures own { seat.new.queue ≡ seat.old.queue }
         ensures fetched { Fetched self.now.setup into.old.items into.new.items seat.old.knows result seat.new.knows }
     {
-        let _ = &seat.number;
-        let _ = into.len();
-        Fetch::Memory
+        let words = &self.table.shared;
+        let mine = seat.least + 1;
+        let found = try_outer(words, &mut seat.place, mine);
+        if found != 0 {
+            seat.refused = true;
+            return Fetch::Busy { found };
+        }
+        let fetch = fetch_held(words, &mut seat.place, mine, into, self.policy);
+        if let Fetch::Took { due, .. } = fetch {
+            seat.due = due;
+        }
+        fetch
     }
 }

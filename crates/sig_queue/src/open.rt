@@ -1,19 +1,83 @@
 //! How a queue begins.
-ghost use Rattle.std.specs.Prelude.{◌≡◌, IfOk};
+ghost use Rattle.std.specs.Prelude.{◌≡◌, ◌≤◌, [], ◌∷◌, IfOk, vec_capacity};
+ghost use Rattle.sig_layout.specs.Policies.{begins_on, first_journal as first_entries};
 ghost use Rattle.sig_layout.specs.Openings.{IsSetup};
-ghost use Rattle.sig_layout.specs.Views.{first_seat};
-ghost use Rattle.sig_queue.specs.Ends.{setup_of};
+ghost use Rattle.sig_layout.specs.Views.{first_seat, mode_word};
+ghost use Rattle.sig_queue.specs.Ends.{first_words as words_at_first, first_outer, all_buffers, setup_of};
 
+use crate::outer_box::OuterBox;
 use crate::qseat::QSeat;
 use crate::sig_queue::SigQueue;
-use sig_layout::{Opening, Policy, Senders, Setup};
+use crate::slot::Slot;
+use atomic_table::Table;
+use sig_layout::{Batch, Entry, Journal, Opening, Outer, Pieces, Policy, Senders, Setup};
+use sig_lists::Pushed;
 use std::alloc::{AllocError, Global};
+
+// The word of the mode.
+fn first_mode(policy: Policy) -> u64
+    ensures { result ≡ mode_word (begins_on policy) }
+{
+    match policy {
+        Policy::Always => 1,
+        Policy::Never | Policy::Churn(_) | Policy::Auto => 0,
+    }
+}
+
+fn first_words(policy: Policy) -> [u64; 536]
+    ensures { result ≡ words_at_first policy }
+{
+    let mut words = [0u64; 536];
+    words[8] = first_mode(policy);
+    words
+}
+
+fn first_journal(alloc: Global, policy: Policy) -> Result<Journal, AllocError>
+    ensures { IfOk result (λ j. j ≡ first_entries policy) }
+{
+    let mut journal = Journal::new(alloc);
+    if let Policy::Always = policy {
+        if let Pushed::Memory { .. } = journal.push(Entry::Install) {
+            return Err(AllocError);
+        }
+    }
+    Ok(journal)
+}
+
+fn first_slots(alloc: Global, policy: Policy) -> Result<Vec<Slot>, AllocError>
+    ensures { IfOk result (λ v. v.items ≡ Slot.Outer (first_outer policy) ∷ all_buffers) }
+{
+    let journal = first_journal(alloc, policy)?;
+    let outer = Outer {
+        signals: Pieces::new(alloc),
+        journal,
+    };
+    let outer = OuterBox::new(alloc, outer)?;
+    let mut slots = Vec::new(alloc);
+    if slots.push(Slot::Outer(outer)).is_err() {
+        return Err(AllocError);
+    }
+    for _ in 0..64usize {
+        if slots.push(Slot::List(Batch::new(alloc))).is_err() {
+            return Err(AllocError);
+        }
+    }
+    Ok(slots)
+}
+
+// Room for 64 lists.
+fn room_for_lists(alloc: Global) -> Result<Vec<Batch>, AllocError>
+    ensures { IfOk result (λ v. (v.items ≡ []) × (64 ≤ vec_capacity v)) }
+{
+    let mut lists = Vec::new(alloc);
+    lists.reserve(64)?;
+    Ok(lists)
+}
 
 impl SigQueue {
     /// An empty queue, and the seat that has all senders and the receiver's role. Each sender is below
     /// the opening's count, and the opening has a first number for each pid below it. Fails only for
     /// want of memory.
-    #[tactic(auto, unfolding(crate::specs::Seats::Hidden))]
     pub fn open(
         alloc: Global,
         policy: Policy,
@@ -24,21 +88,30 @@ impl SigQueue {
         ensures own { IfOk result (λ r. (r.1.queue ≡ r.0.id) × (r.0.setup ≡ setup_of policy senders opening.now)) }
         ensures first { IfOk result (λ r. r.1.knows ≡ first_seat senders) }
     {
+        let lists = room_for_lists(alloc)?;
+        let slots = first_slots(alloc, policy)?;
+        let words = first_words(policy);
         let setup = Setup {
             policy,
             senders,
             opening: opening.copy(alloc)?,
         };
+        let Ok((table, place)) = Table::new(alloc, &words, slots, &setup) else {
+            return Err(AllocError);
+        };
         let queue = SigQueue {
-            number: 0,
-            setup,
+            table,
+            policy,
             alloc,
+            lists,
         };
         let seat = QSeat {
-            number: 0,
+            place,
             senders,
+            least: senders.least(),
             role: true,
             due: false,
+            refused: false,
         };
         Ok((queue, seat))
     }

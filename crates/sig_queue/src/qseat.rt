@@ -1,26 +1,32 @@
+use crate::rule::Place;
 use sig_layout::Senders;
 use std::marker::Model;
 
 /// A caller's token of one queue, which holds no turn. Contracts see of which queue it is, and what it knows.
 #[derive(Drop)]
 pub struct QSeat {
-    pub(crate) number: u64,
+    pub(crate) place: Place,
     pub(crate) senders: Senders,
+    // The least sender, or 256.
+    pub(crate) least: u64,
     pub(crate) role: bool,
     pub(crate) due: bool,
+    pub(crate) refused: bool,
 }
 
 impl Model for QSeat {
     ghost use Rattle.std.specs.Coded.{codes};
     ghost use Rattle.sig_terms.specs.contracts.term.Term as term;
-    ghost use Rattle.sig_queue.specs.Seats.{Seated, Hidden, id_of};
+    ghost use Rattle.sig_queue.specs.Seats.{Seated, IsSeat};
 
     ghost Value = { Seated };
 
     ghost coded = { Prim.hlevel (codes, term.the_row.coded) };
 
     ghost view = { λ s. record {
-      queue = id_of s.number;
-      knows = Hidden s.senders s.role s.due;
+      queue = s.place.table_id;
+      knows = s.place.me.0;
     } };
+
+    ghost invariant = { λ s. IsSeat s.place.me s.senders s.least s.role s.due s.refused };
 }

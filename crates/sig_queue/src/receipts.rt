@@ -15,9 +15,9 @@ pub struct Receipts {
 }
 
 impl Model for Receipts {
+    ghost use Rattle.std.specs.Prelude.{List};
     ghost use Rattle.std.specs.Coded.{codes};
     ghost use Rattle.sig_terms.specs.contracts.term.Term as term;
-    ghost use Rattle.std.specs.Prelude.{List};
     ghost use Rattle.sig_queue.specs.declared.account.Account.{Account};
 
     ghost Value = { List Account };
@@ -25,17 +25,6 @@ impl Model for Receipts {
     ghost coded = { Prim.hlevel (codes, term.the_row.coded) };
 
     ghost view = { λ r. r.items.items };
-}
-
-// Each receipt is followed by the one at its place.
-fn follow_all(receipts: &mut Vec<Receipt>, mut more: Vec<Receipt>)
-    requires { EachMayFollow receipts.old.items more.items }
-    ensures { receipts.new.items ≡ all_followed receipts.old.items more.items }
-{
-    while let Some(next) = more.pop() {
-        let at = more.len();
-        receipts[at].follow(next);
-    }
 }
 
 impl Receipts {
@@ -78,7 +67,9 @@ impl Receipts {
         requires { EachMayFollow self.old later }
         ensures { self.new ≡ all_followed self.old later }
     {
-        let Receipts { items } = later;
-        follow_all(&mut self.items, items);
+        let Receipts { mut items } = later;
+        while let Some(receipt) = items.pop() {
+            self.items[items.len()].follow(receipt);
+        }
     }
 }

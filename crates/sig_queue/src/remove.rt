@@ -1,14 +1,203 @@
-ghost use Rattle.std.specs.Prelude.{◌≡◌, true, false, OnOk, OnErr};
-ghost use Rattle.sig_queue.specs.Removing.{waited};
+//! A removal: the mode goes off, and all buffers are emptied into the outer list, under one outer turn.
+ghost use Rattle.std.specs.Prelude.{◌≡◌, ◌≢◌, ℕ, ◌+◌, ◌<◌, ◌≤◌, ◌++◌, [], ◌∷◌, List, length, true, false, Some, None, OnOk, OnErr};
+ghost use Rattle.sig_layout.specs.Outers.{behind, removed};
+ghost use Rattle.sig_kinds.specs.declared.signal.Signal.{Signal};
+ghost use Rattle.sig_layout.specs.declared.outer.Outer.{Outer};
+ghost use Rattle.sig_layout.specs.Core.{Begins, some_refused};
+ghost use Rattle.sig_layout.specs.declared.knows.Knows.{Knows};
+ghost use Rattle.sig_layout.specs.Views.{number, IsSomebody, gains, after_same};
+ghost use Rattle.sig_queue.specs.Parts.{held_or};
+ghost use Rattle.sig_queue.specs.Fetching.{outer_out};
+ghost use Rattle.sig_queue.specs.Removing.{waited, waits, Passing, WithRoom};
 
+use crate::outer_box::OuterBox;
 use crate::qseat::QSeat;
+use crate::rule::{Place, Words};
 use crate::sig_queue::SigQueue;
-use std::alloc::AllocError;
+use crate::slot::Slot;
+use crate::steps::{leave_remove, leave_same, mode_off, put_value, take_value, try_outer};
+use crate::turns::{leave_passed, put_list, take_list, try_buffer};
+use sig_layout::{Batch, Entry, Growing, Journal, Outer, Pieces};
+use sig_lists::Pushed;
+use std::alloc::{AllocError, Global};
 use std::sync::Wait;
+use std::thread;
+
+// Takes the outer turn, however long that takes. It tells whether there was a refusal since the last put to the outer list.
+fn wait_outer<R: Wait>(
+    rt: &R,
+    words: &Words,
+    place: &mut Place,
+    mine: u64,
+    mut refused: bool,
+) -> bool
+    requires table { (place.old.table_id ≡ words.now.table_id) × (words.now.table_id.words ≡ 536) }
+    requires idle { (place.old.me.0.held ≡ None) × (place.old.me.0.saw_off ≡ false) }
+    requires somebody { IsSomebody place.old.me.0 × (mine ≡ number place.old.me.0 + 1) }
+    requires refused { refused ≡ some_refused place.old.me.0.refused }
+    ensures same { (place.new.table_id ≡ place.old.table_id) × (place.new.id ≡ place.old.id) }
+    ensures took { (o : Outer) × (place.new.me ≡ (record (waited place.old.me.0 place.new.me.0) { held = Some o }, (0, Slot.Outer o) ∷ place.old.me.1)) }
+    ensures refused { result ≡ some_refused place.new.me.0.refused }
+{
+    for _ in rt.forever() {
+        if try_outer(words, place, mine) == 0 {
+            return refused;
+        }
+        refused = true;
+        thread::yield_now();
+    }
+    unreachable!()
+}
+
+// Takes the turn of a buffer, however long that takes.
+fn wait_buffer<R: Wait>(rt: &R, words: &Words, place: &mut Place, buffer: usize, mine: u64)
+    requires table { (place.old.table_id ≡ words.now.table_id) × (words.now.table_id.words ≡ 536) × (buffer < 64) }
+    requires bare { (place.old.me.0.parts ≡ []) × (place.old.me.0.saw_off ≡ false) }
+    requires somebody { IsSomebody place.old.me.0 × (mine ≡ number place.old.me.0 + 1) }
+    ensures same { (place.new.table_id ≡ place.old.table_id) × (place.new.id ≡ place.old.id) }
+    ensures took { (l : List Signal) × (place.new.me ≡ (gains (waits place.old.me.0 place.new.me.0) buffer l, (buffer + 1, Slot.List l) ∷ place.old.me.1)) }
+{
+    for _ in rt.forever() {
+        if try_buffer(words, place, buffer, mine) == 0 {
+            return;
+        }
+        thread::yield_now();
+    }
+    unreachable!()
+}
+
+// Passes a buffer: its list comes behind what there is.
+fn pass_one<R: Wait>(
+    rt: &R,
+    alloc: Global,
+    words: &Words,
+    place: &mut Place,
+    buffer: usize,
+    mine: u64,
+    growing: &mut Growing,
+)
+    requires table { (place.old.table_id ≡ words.now.table_id) × (words.now.table_id.words ≡ 536) × (buffer < 64) }
+    requires passing { (u : Knows) × Passing u buffer place.old.me growing.old.list × (u.parts ≡ []) × (u.saw_off ≡ false) × (u.fetching ≡ false) × (u.removing ≡ true) }
+    requires somebody { IsSomebody place.old.me.0 × (mine ≡ number place.old.me.0 + 1) }
+    requires room { WithRoom buffer growing.old }
+    ensures same { (place.new.table_id ≡ place.old.table_id) × (place.new.id ≡ place.old.id) }
+    ensures passing { (u : Knows) → Passing u buffer place.old.me growing.old.list → u.parts ≡ [] → Passing u (buffer + 1) place.new.me growing.new.list }
+    ensures room { WithRoom (buffer + 1) growing.new }
+{
+    wait_buffer(rt, words, place, buffer, mine);
+    let list = take_list(words, place, buffer);
+    growing.take(list);
+    put_list(words, place, buffer, Batch::new(alloc));
+    leave_passed(words, place, buffer);
+}
+
+// Passes all buffers by ascending number.
+fn pass_all<R: Wait>(
+    rt: &R,
+    alloc: Global,
+    words: &Words,
+    place: &mut Place,
+    mine: u64,
+    growing: &mut Growing,
+)
+    requires table { (place.old.table_id ≡ words.now.table_id) × (words.now.table_id.words ≡ 536) }
+    requires passing { Passing place.old.me.0 0 place.old.me growing.old.list }
+    requires begins { (place.old.me.0.parts ≡ []) × (place.old.me.0.saw_off ≡ false) × (place.old.me.0.fetching ≡ false) × (place.old.me.0.removing ≡ true) }
+    requires somebody { IsSomebody place.old.me.0 × (mine ≡ number place.old.me.0 + 1) }
+    requires room { WithRoom 0 growing.old }
+    ensures same { (place.new.table_id ≡ place.old.table_id) × (place.new.id ≡ place.old.id) }
+    ensures passing { Passing place.old.me.0 64 place.new.me growing.new.list }
+{
+    for buffer in 0..64usize {
+        pass_one(rt, alloc, words, place, buffer, mine, growing);
+    }
+}
+
+// There is room for all that comes, and the entry stands in the journal that is out.
+fn remove_with_room<R: Wait>(
+    rt: &R,
+    alloc: Global,
+    words: &Words,
+    place: &mut Place,
+    mine: u64,
+    mut outer: OuterBox,
+    mut growing: Growing,
+    journal: Journal,
+)
+    requires table { (place.old.table_id ≡ words.now.table_id) × (words.now.table_id.words ≡ 536) }
+    requires begins { (o : Outer) × Begins place.old.me.0 o × (growing.list ≡ o.signals) × (journal ≡ (removed o).journal) }
+    requires slots { place.old.me.1 ≡ outer_out ∷ [] }
+    requires bare { (place.old.me.0.parts ≡ []) × (place.old.me.0.saw_off ≡ false) }
+    requires due { (place.old.me.0.role ≡ true) × (place.old.me.0.due ≡ true) }
+    requires somebody { IsSomebody place.old.me.0 × (mine ≡ number place.old.me.0 + 1) }
+    requires room { 64 ≤ growing.spare }
+    ensures same { (place.new.table_id ≡ place.old.table_id) × (place.new.id ≡ place.old.id) × (place.new.me.1 ≡ []) }
+    ensures removed { place.new.me.0 ≡ record (waits place.old.me.0 place.new.me.0) { held = None; removing = false; progress = 0; due = false } }
+{
+    mode_off(words, place);
+    pass_all(rt, alloc, words, place, mine, &mut growing);
+    let signals = growing.into_pieces();
+    outer.swap(Outer { signals, journal });
+    put_value(words, place, outer);
+    leave_remove(words, place);
+}
+
+// The outer value as it was found comes back, and the outer turn is left.
+fn leave_found(words: &Words, place: &mut Place, mut outer: OuterBox, signals: Pieces, journal: Journal)
+    requires table { (place.old.table_id ≡ words.now.table_id) × (words.now.table_id.words ≡ 536) }
+    requires begins { Begins place.old.me.0 (record { signals = signals; journal = journal }) }
+    requires slots { place.old.me.1 ≡ outer_out ∷ [] }
+    ensures same { (place.new.table_id ≡ place.old.table_id) × (place.new.id ≡ place.old.id) × (place.new.me.1 ≡ []) }
+    ensures left { place.new.me.0 ≡ after_same place.old.me.0 }
+{
+    outer.swap(Outer { signals, journal });
+    put_value(words, place, outer);
+    leave_same(words, place);
+}
+
+// Under the outer turn. The memory is taken first.
+fn remove_held<R: Wait>(
+    rt: &R,
+    alloc: Global,
+    words: &Words,
+    place: &mut Place,
+    mine: u64,
+) -> Result<(), AllocError>
+    requires table { (place.old.table_id ≡ words.now.table_id) × (words.now.table_id.words ≡ 536) }
+    requires begins { (o : Outer) × Begins place.old.me.0 o × (place.old.me.1 ≡ (0, Slot.Outer o) ∷ []) }
+    requires bare { (place.old.me.0.parts ≡ []) × (place.old.me.0.saw_off ≡ false) }
+    requires due { (place.old.me.0.role ≡ true) × (place.old.me.0.due ≡ true) }
+    requires somebody { IsSomebody place.old.me.0 × (mine ≡ number place.old.me.0 + 1) }
+    ensures same { (place.new.table_id ≡ place.old.table_id) × (place.new.id ≡ place.old.id) × (place.new.me.1 ≡ []) }
+    ensures ok { OnOk result (place.new.me.0 ≡ record (waits place.old.me.0 place.new.me.0) { held = None; removing = false; progress = 0; due = false }) }
+    ensures err { OnErr result (place.new.me.0 ≡ after_same place.old.me.0) }
+{
+    let mut outer = take_value(words, place);
+    let Outer {
+        signals,
+        mut journal,
+    } = outer.swap(Outer {
+        signals: Pieces::new(alloc),
+        journal: Journal::new(alloc),
+    });
+    match signals.grow(64) {
+        Ok(growing) => {
+            if let Pushed::Memory { .. } = journal.push(Entry::Remove) {
+                leave_found(words, place, outer, growing.into_pieces(), journal);
+                return Err(AllocError);
+            }
+            remove_with_room(rt, alloc, words, place, mine, outer, growing, journal);
+            Ok(())
+        }
+        Err(signals) => {
+            leave_found(words, place, outer, signals, journal);
+            Err(AllocError)
+        }
+    }
+}
 
 impl SigQueue {
     /// Whether the last fetch of the seat made a removal due that wasn't made yet.
-    #[tactic(auto, unfolding(crate::specs::Seats::Hidden))]
     pub fn removal_due(seat: &QSeat) -> bool
         ensures { result ≡ seat.now.knows.due }
     {
@@ -18,15 +207,18 @@ impl SigQueue {
     /// Takes the mode off and moves what lies in the buffers behind the outer list. It may wait for
     /// other seats. The seat has the receiver's role, and a removal is due. Fails only for want of
     /// memory; all is as before then, and the removal still due.
-    #[tactic(auto, unfolding(crate::specs::Seats::Hidden))]
-    pub fn remove<R: Wait>(&self, _rt: &R, seat: &mut QSeat) -> Result<(), AllocError>
+    pub fn remove<R: Wait>(&self, rt: &R, seat: &mut QSeat) -> Result<(), AllocError>
         requires own { seat.old.queue ≡ self.now.id }
         requires due { (seat.old.knows.role ≡ true) × (seat.old.knows.due ≡ true) }
         ensures own { seat.new.queue ≡ seat.old.queue }
         ensures ok { OnOk result (seat.new.knows ≡ record (waited seat.old.knows seat.new.knows) { due = false }) }
         ensures err { OnErr result (seat.new.knows ≡ waited seat.old.knows seat.new.knows) }
     {
-        let _ = &seat.number;
-        Err(AllocError)
+        let words = &self.table.shared;
+        let mine = seat.least + 1;
+        seat.refused = wait_outer(rt, words, &mut seat.place, mine, seat.refused);
+        remove_held(rt, self.alloc, words, &mut seat.place, mine)?;
+        seat.due = false;
+        Ok(())
     }
 }

@@ -1,18 +1,23 @@
-ghost use Rattle.std.specs.Prelude.{◌≡◌, [], ◌∷◌, MatchOption};
+ghost use Rattle.std.specs.Prelude.{◌≡◌, [], ◌∷◌, ◌++◌, MatchOption};
+ghost use Rattle.sig_layout.specs.Rooms.{all_pieces};
 
+use crate::batches::Batches;
 use sig_kinds::Signal;
-use sig_layout::Batch;
+use sig_layout::{Batch, Pieces};
 use std::alloc::Global;
 use std::marker::Model;
 
-/// What is left of a queue. Contracts see the signals that are left, in order.
+/// What is left of a queue: the outer list, and then the lists of buffers 0 to 63. Contracts see
+/// the signals that are left, in this order.
 #[derive(Drop)]
 pub struct Rest {
-    list: Batch,
+    first: Batches,
+    last: Batch,
+    lists: Batches,
 }
 
 impl Model for Rest {
-    ghost use Rattle.std.specs.Prelude.{List};
+    ghost use Rattle.std.specs.Prelude.{List, ◌++◌};
     ghost use Rattle.std.specs.Coded.{codes};
     ghost use Rattle.sig_terms.specs.contracts.term.Term as term;
     ghost use Rattle.sig_kinds.specs.declared.signal.Signal.{Signal};
@@ -21,15 +26,18 @@ impl Model for Rest {
 
     ghost coded = { Prim.hlevel (codes, term.the_row.coded) };
 
-    ghost view = { λ r. r.list };
+    ghost view = { λ r. (r.first ++ r.last) ++ r.lists };
 }
 
 impl Rest {
-    pub(crate) fn none(alloc: Global) -> Rest
-        ensures { result ≡ [] }
+    pub(crate) fn new(alloc: Global, outer: Pieces, lists: Vec<Batch>) -> Rest
+        ensures { result ≡ outer ++ all_pieces lists.items }
     {
+        let (first, last) = outer.into_batches();
         Rest {
-            list: Batch::new(alloc),
+            first: Batches::new(alloc, first),
+            last,
+            lists: Batches::new(alloc, lists),
         }
     }
 
@@ -39,6 +47,12 @@ impl Rest {
             ((self.old ≡ []) × (self.new ≡ []))
             (λ first. self.old ≡ first ∷ self.new) }
     {
-        self.list.pop_front()
+        if let Some(signal) = self.first.next() {
+            return Some(signal);
+        }
+        if let Some(signal) = self.last.pop_front() {
+            return Some(signal);
+        }
+        self.lists.next()
     }
 }

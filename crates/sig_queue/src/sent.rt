@@ -3,11 +3,13 @@ ghost use Rattle.sig_layout.specs.Sets.{has};
 ghost use Rattle.sig_layout.specs.Openings.{IsNext};
 ghost use Rattle.sig_queue.specs.Calls.{SentAs};
 
+use crate::offer::Offer;
 use crate::qseat::QSeat;
 use crate::sig_queue::SigQueue;
 use sig_kinds::Signal;
 use sig_layout::Via;
 use std::sync::Wait;
+use std::thread;
 
 /// What `send` gives.
 #[derive(Drop)]
@@ -22,15 +24,24 @@ impl SigQueue {
     /// Offers a signal until it was put, or memory is wanting. It may wait for other seats. The
     /// signal is of a sender of the seat, goes to the queue's receiver, and continues the numbers of
     /// its sender.
-    #[tactic(auto, unfolding(crate::specs::Seats::Hidden))]
-    pub fn send<R: Wait>(&self, _rt: &R, seat: &mut QSeat, signal: Signal) -> Sent
+    pub fn send<R: Wait>(&self, rt: &R, seat: &mut QSeat, mut signal: Signal) -> Sent
         requires own { seat.old.queue ≡ self.now.id }
         requires from { has seat.old.knows.senders signal.from.0 ≡ true }
         requires next { IsNext self.now.setup seat.old.knows.put signal }
         ensures own { seat.new.queue ≡ seat.old.queue }
         ensures sent { SentAs signal seat.old.knows result seat.new.knows }
     {
-        let _ = &seat.number;
-        Sent::Memory { signal }
+        for _ in rt.forever() {
+            match self.offer(seat, signal) {
+                Offer::Put { via } => return Sent::Put { via },
+                Offer::Memory { signal } => return Sent::Memory { signal },
+                Offer::Busy {
+                    signal: back,
+                    found: _,
+                } => signal = back,
+            }
+            thread::yield_now();
+        }
+        unreachable!()
     }
 }

@@ -1,0 +1,21 @@
+use Rattle.std.proofs.Common.{sym, ◌∙◌, subst}
+use Rattle.sig_kinds.specs.declared.signal.Signal.{Signal}
+use Rattle.sig_queue.specs.Calls.{PutBy}
+use Rattle.sig_queue.proofs.Sendings.{tried_more, tried_looked, sent_by, same_next}
+use Rattle.sig_queue.proofs.sig_queue.SigQueue.send.Goals as goal
+
+pub offer-requires-clause-next : goal.offer-requires-clause-next
+offer-requires-clause-next g c = let inv = c.loop.invariant in same_next c.args.self.now.setup c.args.signal c.loop.signal c.args.seat.now.knows c.loop.seat.knows inv.tried inv.signal c.requires.next
+
+pub returns-in-Put-clause-sent : goal.returns-in-Put-clause-sent
+returns-in-Put-clause-sent g c = let inv = c.loop.invariant in sent_by c.args.signal c.args.seat.now.knows c.loop.seat.knows c.offer.new.seat.knows inv.tried c.in-Put.via (subst (λ (s : Signal). PutBy s c.loop.seat.knows c.in-Put.via c.offer.new.seat.knows) inv.signal c.in-Put.ensures.offered)
+
+pub returns-in-Memory-clause-sent : goal.returns-in-Memory-clause-sent
+returns-in-Memory-clause-sent g c = let inv = c.loop.invariant in let o = c.in-Memory.ensures.offered in (o.0 ∙ inv.signal, tried_looked c.args.signal c.args.seat.now.knows c.loop.seat.knows c.offer.new.seat.knows inv.tried o.1.0 o.1.1)
+
+pub loop-preserved : goal.loop-preserved
+loop-preserved g c = let inv = c.loop.invariant in let o = c.in-Busy.ensures.offered in record {
+  own = c.offer.ensures.own ∙ inv.own;
+  signal = o.0 ∙ inv.signal;
+  tried = tried_more c.loop.signal c.args.seat.now.knows c.loop.seat.knows c.offer.new.seat.knows inv.tried c.in-Busy.found o.2;
+}

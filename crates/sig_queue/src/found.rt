@@ -1,0 +1,106 @@
+//! How a fetch finds its buffers.
+ghost use Rattle.std.specs.Prelude.{take, drop, ◌≡◌, ℕ, ◌+◌, ◌<◌, ◌++◌, [], ◌∷◌, List, length, true, false, Some, IfSome};
+ghost use Rattle.atomic_table.specs.Table.{rest};
+ghost use Rattle.sig_kinds.specs.declared.signal.Signal.{Signal};
+ghost use Rattle.sig_layout.specs.declared.outer.Outer.{Outer};
+ghost use Rattle.sig_layout.specs.declared.knows.Knows.{Knows};
+ghost use Rattle.sig_layout.specs.Views.{number, IsSomebody, filled_at, with_bits};
+ghost use Rattle.sig_queue.specs.Fetching.{Finding, outer_out};
+
+use crate::rule::{Place, Words};
+use crate::slot::Slot;
+use crate::steps::set_back;
+use crate::turns::{put_list, take_list, try_buffer};
+use std::marker::Brand;
+
+/// What a fetch found: the buffers whose turns it holds, as bits and as a count, those that it skipped, and how many signals it holds, where that can be counted.
+#[derive(Drop)]
+pub(crate) struct Found {
+    pub(crate) held: u64,
+    pub(crate) skipped: u64,
+    pub(crate) count: usize,
+    pub(crate) total: Option<usize>,
+}
+
+// Whether the bit of a buffer is set.
+pub(crate) fn has_bit(bits: u64, buffer: usize) -> bool
+    requires { buffer < 64 }
+    ensures { result ≡ filled_at bits buffer }
+{
+    bits >> buffer & 1 == 1
+}
+
+// The slot that was taken so many before the last comes to the front.
+pub(crate) fn bring_front(place: &mut Place, count: usize)
+    requires { count < length place.old.me.1 }
+    ensures same { (place.new.table_id ≡ place.old.table_id) × (place.new.id ≡ place.old.id) }
+    ensures round { place.new.me ≡ (place.old.me.0, drop count place.old.me.1 ++ take count place.old.me.1) }
+{
+    for _ in 0..count {
+        place.turn();
+    }
+}
+
+// The length of the list of the slot that stands in front.
+fn measure(words: &Words, place: &mut Place, buffer: usize) -> usize
+    requires table { (place.old.table_id ≡ words.now.table_id) × (buffer < 64) }
+    requires out { (l : List Signal) × (place.old.me.1 ≡ (buffer + 1, Slot.List l) ∷ rest place.old.me.1) }
+    ensures same { (place.new.table_id ≡ place.old.table_id) × (place.new.id ≡ place.old.id) × (place.new.me ≡ place.old.me) }
+    ensures length { (l : List Signal) × (place.old.me.1 ≡ (buffer + 1, Slot.List l) ∷ rest place.old.me.1) × (result ≡ length l) }
+{
+    let list = take_list(words, place, buffer);
+    let found = list.len();
+    put_list(words, place, buffer, list);
+    found
+}
+
+fn plus(total: Option<usize>, found: usize) -> Option<usize>
+    ensures { IfSome result (λ t. (u : ℕ) × (total ≡ Some u) × (t ≡ u + found)) }
+{
+    match total {
+        Some(total) => total.checked_add(found),
+        None => None,
+    }
+}
+
+// Tries the turn of a buffer of the mask. It is held from now on where it was free, and else its bit is set again.
+fn find_one(words: &Words, place: &mut Place, found: &mut Found, buffer: usize, mine: u64)
+    requires table { (place.old.table_id ≡ words.now.table_id) × (words.now.table_id.words ≡ 536) × (buffer < 64) }
+    requires finding { (v : Knows) × (n : ℕ) × Finding v n buffer place.old.me found.old × (filled_at n buffer ≡ true) × (v.saw_off ≡ false) }
+    requires fetching { ((o : Outer) × (place.old.me.0.held ≡ Some o)) × (place.old.me.0.fetching ≡ true) }
+    requires somebody { IsSomebody place.old.me.0 × (mine ≡ number place.old.me.0 + 1) }
+    ensures same { (place.new.table_id ≡ place.old.table_id) × (place.new.id ≡ place.old.id) }
+    ensures finding { (v : Knows) (n : ℕ) → Finding v n buffer place.old.me found.old → filled_at n buffer ≡ true → v.saw_off ≡ false → Finding v n (buffer + 1) place.new.me found.new }
+{
+    if try_buffer(words, place, buffer, mine) != 0 {
+        set_back::<Brand>(words, place, buffer);
+        found.skipped |= 1u64 << buffer;
+        return;
+    }
+    found.held |= 1u64 << buffer;
+    found.count += 1;
+    let length = measure(words, place, buffer);
+    found.total = plus(found.total, length);
+}
+
+// Tries each buffer of the mask once.
+pub(crate) fn find_all(words: &Words, place: &mut Place, bits: u64, mine: u64) -> Found
+    requires table { (place.old.table_id ≡ words.now.table_id) × (words.now.table_id.words ≡ 536) }
+    requires begins { (v : Knows) × (place.old.me ≡ (with_bits v bits, outer_out ∷ [])) × (v.parts ≡ []) × (v.saw_off ≡ false) × ((o : Outer) × (v.held ≡ Some o)) }
+    requires somebody { IsSomebody place.old.me.0 × (mine ≡ number place.old.me.0 + 1) }
+    ensures same { (place.new.table_id ≡ place.old.table_id) × (place.new.id ≡ place.old.id) }
+    ensures found { Finding place.old.me.0 bits 64 place.new.me result }
+{
+    let mut found = Found {
+        held: 0,
+        skipped: 0,
+        count: 0,
+        total: Some(0),
+    };
+    for buffer in 0..64usize {
+        if has_bit(bits, buffer) {
+            find_one(words, place, &mut found, buffer, mine);
+        }
+    }
+    found
+}

@@ -1,0 +1,32 @@
+use crate::rule::Place;
+use sig_layout::Senders;
+use std::marker::Model;
+
+/// A seat that holds the outer turn, for tests. Contracts see of which queue it is, and what it knows.
+#[derive(Drop)]
+pub struct HeldSeat {
+    pub(crate) place: Place,
+    pub(crate) senders: Senders,
+    // The least sender, or 256.
+    pub(crate) least: u64,
+    pub(crate) role: bool,
+    pub(crate) due: bool,
+    pub(crate) refused: bool,
+}
+
+impl Model for HeldSeat {
+    ghost use Rattle.std.specs.Coded.{codes};
+    ghost use Rattle.sig_terms.specs.contracts.term.Term as term;
+    ghost use Rattle.sig_queue.specs.Seats.{Seated, IsHolder};
+
+    ghost Value = { Seated };
+
+    ghost coded = { Prim.hlevel (codes, term.the_row.coded) };
+
+    ghost view = { λ s. record {
+      queue = s.place.table_id;
+      knows = s.place.me.0;
+    } };
+
+    ghost invariant = { λ s. IsHolder s.place.me s.senders s.least s.role s.due s.refused };
+}

@@ -1,0 +1,71 @@
+//! A seat that holds the outer turn between two calls, for tests.
+ghost use Rattle.std.specs.Prelude.{◌≡◌, None};
+ghost use Rattle.sig_layout.specs.Views.{IsSomebody};
+ghost use Rattle.sig_queue.specs.Calls.{Holds};
+
+use crate::held_seat::HeldSeat;
+use crate::hold::Hold;
+use crate::qseat::QSeat;
+use crate::sig_queue::SigQueue;
+use crate::steps::{leave_same, try_outer};
+
+/// Takes the outer turn, at one try. The seat has a sender or the role.
+pub fn hold(queue: &SigQueue, seat: QSeat) -> Hold
+    requires own { seat.queue ≡ queue.now.id }
+    requires somebody { IsSomebody seat.knows }
+    ensures { Holds seat.knows queue.now.id result }
+{
+    let QSeat {
+        mut place,
+        senders,
+        least,
+        role,
+        due,
+        refused,
+    } = seat;
+    let found = try_outer(&queue.table.shared, &mut place, least + 1);
+    if found != 0 {
+        let seat = QSeat {
+            place,
+            senders,
+            least,
+            role,
+            due,
+            refused: true,
+        };
+        return Hold::Busy { seat, found };
+    }
+    Hold::Held(HeldSeat {
+        place,
+        senders,
+        least,
+        role,
+        due,
+        refused,
+    })
+}
+
+/// Leaves the outer turn, with all as it was.
+pub fn release(queue: &SigQueue, held: HeldSeat) -> QSeat
+    requires own { held.queue ≡ queue.now.id }
+    ensures own { result.queue ≡ queue.now.id }
+    ensures left { result.knows ≡ record (held.knows) { held = None } }
+{
+    let HeldSeat {
+        mut place,
+        senders,
+        least,
+        role,
+        due,
+        refused,
+    } = held;
+    leave_same(&queue.table.shared, &mut place);
+    QSeat {
+        place,
+        senders,
+        least,
+        role,
+        due,
+        refused,
+    }
+}

@@ -1,0 +1,73 @@
+//! The second half of an offer: to the outer list.
+ghost use Rattle.std.specs.Prelude.{◌≡◌, ◌≢◌, ℕ, ◌+◌, ◌<◌, [], ◌∷◌, true, false, Some, None};
+ghost use Rattle.sig_layout.specs.Sets.{has};
+ghost use Rattle.sig_layout.specs.Openings.{IsNext};
+ghost use Rattle.sig_layout.specs.declared.outer.Outer.{Outer};
+ghost use Rattle.sig_layout.specs.Core.{Begins, some_refused};
+ghost use Rattle.sig_layout.specs.Views.{number, IsSomebody};
+ghost use Rattle.sig_queue.specs.Calls.{OfferedOut};
+
+use crate::rule::{Place, Words};
+use crate::steps::{leave_put, leave_same, mode_on, put_value, take_value, try_outer};
+use sig_kinds::Signal;
+use sig_layout::Policy;
+
+/// What an offer to the outer list gave.
+#[derive(Drop)]
+pub(crate) enum Outward {
+    Put,
+    Busy(Signal, u64),
+    Memory(Signal),
+}
+
+// Stores the mode on where the put makes an install due.
+fn install_if(words: &Words, place: &mut Place, switched: bool)
+    requires table { (place.old.table_id ≡ words.now.table_id) × (words.now.table_id.words ≡ 536) }
+    requires begins { (o : Outer) × Begins place.old.me.0 o }
+    ensures same { (place.new.table_id ≡ place.old.table_id) × (place.new.id ≡ place.old.id) }
+    ensures switched { place.new.me ≡ (record place.old.me.0 { switched = switched }, place.old.me.1) }
+{
+    if switched {
+        mode_on(words, place);
+    }
+}
+
+// Offers to the outer list, where the outer turn is free.
+pub(crate) fn offer_outer(
+    words: &Words,
+    place: &mut Place,
+    mine: u64,
+    signal: Signal,
+    refused: bool,
+    policy: Policy,
+) -> Outward
+    requires table { (place.old.table_id ≡ words.now.table_id) × (words.now.table_id.words ≡ 536) × (words.now.key.policy ≡ policy) }
+    requires idle { (place.old.me.0.held ≡ None) × (place.old.me.0.fetching ≡ false) × (place.old.me.0.removing ≡ false) × (place.old.me.0.switched ≡ false) × (place.old.me.1 ≡ []) }
+    requires off { place.old.me.0.saw_off ≡ true }
+    requires blank { (place.old.me.0.mask ≡ []) × (place.old.me.0.back ≡ 0) × (place.old.me.0.moved ≡ 0) }
+    requires somebody { IsSomebody place.old.me.0 × (mine ≡ number place.old.me.0 + 1) }
+    requires from { has place.old.me.0.senders signal.from.0 ≡ true }
+    requires next { IsNext words.now.key place.old.me.0.put signal }
+    requires refused { refused ≡ some_refused place.old.me.0.refused }
+    ensures same { (place.new.table_id ≡ place.old.table_id) × (place.new.id ≡ place.old.id) × (place.new.me.1 ≡ []) }
+    ensures offered { OfferedOut signal place.old.me.0 result place.new.me.0 }
+{
+    let found = try_outer(words, place, mine);
+    if found != 0 {
+        return Outward::Busy(signal, found);
+    }
+    let mut outer = take_value(words, place);
+    match outer.put(signal, refused, policy) {
+        Ok(switched) => {
+            install_if(words, place, switched);
+            put_value(words, place, outer);
+            leave_put(words, place);
+            Outward::Put
+        }
+        Err(signal) => {
+            put_value(words, place, outer);
+            leave_same(words, place);
+            Outward::Memory(signal)
+        }
+    }
+}
