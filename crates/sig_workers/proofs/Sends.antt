@@ -17,6 +17,7 @@ use Rattle.sig_script.specs.contracts.process.Proc as proc
 use Rattle.sig_script.specs.contracts.instruction.Instr as instr
 use Rattle.sig_model.specs.contracts.event.Event as event
 use Rattle.sig_process.specs.contracts.process.Process as process
+use Rattle.sig_queue.proofs.Sendable.{seat_send}
 use Rattle.sig_workers.specs.contracts.part.Part as part
 use Rattle.sig_workers.specs.contracts.part.Worked as worked
 
@@ -57,7 +58,7 @@ process_send : IsSend process.the_row
 process_send = search (proc_send, env_send, inner_send, watch_send, event_send, links_send, signals_send, term_send, term_knot.send-Term, crosses, maps.crosses, sendable) depth 60 fits 40000
 
 pub part_send : IsSend part.the_row
-part_send = search (process_send, crosses, maps.crosses, sendable) depth 40
+part_send = search (process_send, seat_send, crosses, maps.crosses, sendable) depth 60 fits 20000
 
 pub worked_send : IsSend worked.the_row
-worked_send = search (process_send, crosses, maps.crosses, sendable) depth 60 fits 20000
+worked_send = search (process_send, seat_send, crosses, maps.crosses, sendable) depth 60 fits 20000
