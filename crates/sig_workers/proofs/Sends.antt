@@ -1,5 +1,10 @@
 -- A worker's part may go to another thread: each type that it has in it may.
-use denote.Param.Send.{IsSend, sendable}
+use denote.Param.Send.{IsSend, IsSync, sendable, shr_slice_sync}
+use denote.Slice.{ShrSlice}
+use base.Shift.{Keyless}
+use Rattle.std.proofs.Common.{ℕ}
+use mir.Syntax.{Lifetime}
+use base.Fml.{Lft}
 use Rattle.std.proofs.Crossing.{crosses}
 use Rattle.std.proofs.MapsCrossing as maps
 use Rattle.sig_terms.proofs.term.Term.TheLaws.TheKnot as term_knot
@@ -17,7 +22,8 @@ use Rattle.sig_script.specs.contracts.process.Proc as proc
 use Rattle.sig_script.specs.contracts.instruction.Instr as instr
 use Rattle.sig_model.specs.contracts.event.Event as event
 use Rattle.sig_process.specs.contracts.process.Process as process
-use Rattle.sig_queue.proofs.Sendable.{seat_send}
+use Rattle.sig_queue.proofs.Sendable.{seat_send, queue_sync}
+use Rattle.sig_queue.specs.contracts.sig_queue.SigQueue as queue
 use Rattle.sig_workers.specs.contracts.part.Part as part
 use Rattle.sig_workers.specs.contracts.part.Worked as worked
 
@@ -62,3 +68,10 @@ part_send = search (process_send, seat_send, crosses, maps.crosses, sendable) de
 
 pub worked_send : IsSend worked.the_row
 worked_send = search (process_send, seat_send, crosses, maps.crosses, sendable) depth 60 fits 20000
+
+-- a list of queues may be shared
+pub queues_sync : (ℓ : Lifetime) (κ : Lft) → IsSync (ShrSlice ℓ κ queue.the_row)
+queues_sync ℓ κ = shr_slice_sync ℓ κ queue.the_row queue_sync
+
+pub queues_shared : (ℓ : Lifetime) (κ : Lft) (x : (ShrSlice ℓ κ queue.the_row).Denot) (b o : ℕ) (ν : Lft) → Keyless ((ShrSlice ℓ κ queue.the_row).shr_at x b o ν)
+queues_shared ℓ κ x b o ν = (queues_sync ℓ κ).shared x b o ν
