@@ -1,1 +1,9 @@
 pub mod Room
+pub mod SeatAccounts
+pub mod Gone
+pub mod Visits
+pub mod Parts
+pub mod Opening
+pub mod Rows
+pub mod Closing
+pub mod Rounds

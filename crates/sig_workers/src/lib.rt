@@ -1,10 +1,22 @@
 //! Workers, which run the processes of a crew.
 #![tactic(auto)]
 
+mod closing;
+mod cutting;
+mod fetching;
+mod joining;
 mod one_worker;
+mod opening;
+mod part;
+mod putting;
+mod rounds;
+mod side_by_side;
+mod stepping;
 mod visiting;
+mod working;
 
 pub use one_worker::run_one;
+pub use rounds::{round, run_rounds};
 
 #[cfg(test)]
 mod tests;

@@ -1,0 +1,104 @@
+-- Passes over a part.
+use Rattle.std.proofs.Common.{◌≡◌, ◌≢◌, ℕ, suc, ◌+◌, ◌-◌, ◌<◌, ◌≤◌, List, [], ◌∷◌, length, Bool, true, false, not, ◌||◌, Option, Some, None, refl, sym, ap, ◌∙◌, subst, inl, inr, ◌⊎◌, arith, length-set, get_or}
+use Rattle.std.specs.Prelude.{slice_get, slice_set}
+use Rattle.std.specs.Bool.{MatchBool}
+use Rattle.std.proofs.lemmas.Bool.Decides.{eqb_tells}
+use Rattle.std.proofs.lemmas.Option.{same_Some, slice_get_within, slice_get-get_or}
+use Rattle.sig_runs.proofs.Lists.{slice_get-set_same, slice_get-set_other}
+use Rattle.sig_model.specs.Running.{Running}
+use Rattle.sig_model.specs.Still.{IsStill}
+use Rattle.sig_workers.specs.Visits.{HasMoved}
+use Rattle.sig_workers.specs.Parts.{procs_of, HasVisited, Grow, AnyMore, StillBelow, HavePassed, IsSamePart}
+use Rattle.sig_workers.specs.declared.part.Part.{Part}
+
+pub same_part : (a b c : Part) → IsSamePart a b → IsSamePart b c → IsSamePart a c
+same_part a b c h k = record { first = k.first ∙ h.first; count = k.count ∙ h.count; base = k.base ∙ h.base }
+
+pub grow_refl : (xs : List Running) → Grow xs xs
+grow_refl xs i t here = (t, here, omega arith)
+
+pub grow_trans : (xs ys zs : List Running) → Grow xs ys → Grow ys zs → Grow xs zs
+grow_trans xs ys zs h k i t here =
+    let m : (r : Running) × (slice_get ys i ≡ Some r) × (length r.events ≤ length t.events) = k i t here in
+    let n : (r : Running) × (slice_get xs i ≡ Some r) × (length r.events ≤ length m.0.events) = h i m.0 m.1 in
+    (n.0, n.1, omega (arith, m.2, n.2))
+
+-- more stays more
+pub any_grows : (xs ys zs : List Running) → length zs ≡ length ys → AnyMore xs ys → Grow ys zs → AnyMore xs zs
+any_grows xs ys zs same a g =
+    let lt : a.at < length zs = (let w : a.at < length ys = slice_get_within ys a.at a.new a.here in omega (arith, w, same)) in
+    let t : Running = get_or zs a.at a.new in
+    let here : slice_get zs a.at ≡ Some t = slice_get-get_or zs a.at a.new lt in
+    let m : (r : Running) × (slice_get ys a.at ≡ Some r) × (length r.events ≤ length t.events) = g a.at t here in
+    let same_r : a.new ≡ m.0 = same_Some a.new m.0 (sym a.here ∙ m.1) in
+    let le : length a.new.events ≤ length t.events = subst (λ (z : Running). length z.events ≤ length t.events) (sym same_r) m.2 in
+    record { at = a.at; old = a.old; there = a.there; new = t; here = here; more = omega (arith, a.more, le) }
+
+module _ (start procs later : List Running) (at : ℕ) (here : Bool) (v : HasVisited at procs later here) where
+  at_new : slice_get later at ≡ Some v.new
+  at_new = ap (λ z. slice_get z at) v.set ∙ slice_get-set_same procs at v.new v.old v.there
+
+  at_other : (i : ℕ) → at ≢ i → slice_get later i ≡ slice_get procs i
+  at_other i ne = ap (λ z. slice_get z i) v.set ∙ slice_get-set_other procs at i v.new ne
+
+  pub visit_length : length later ≡ length procs
+  visit_length = ap (λ (z : List Running). length z) v.set ∙ length-set procs at v.new
+
+  pub visit_grow : Grow procs later
+  visit_grow i t is = elim (eqb_tells at i) [
+    | inl e ↦ (v.old, subst (λ z. slice_get procs z ≡ Some v.old) e.1 v.there, subst (λ (z : Running). length v.old.events ≤ length z.events) (same_Some v.new t (sym at_new ∙ ap (λ z. slice_get later z) e.1 ∙ is)) v.events)
+    | inr e ↦ (t, sym (at_other i e.1) ∙ is, omega arith)
+  ]
+
+  pub visit_rest : ((i : ℕ) → at ≤ i → slice_get procs i ≡ slice_get start i) → (i : ℕ) → at + 1 ≤ i → slice_get later i ≡ slice_get start i
+  visit_rest rest i le = at_other i (λ e. (let f : ⊥ = omega (arith, le, e) in f)) ∙ rest i (omega (arith, le))
+
+  -- the first at + 1
+  StartOf : Type 0
+  StartOf = slice_get start at ≡ Some v.old
+
+  more_now : slice_get start at ≡ Some v.old → length v.old.events < length v.new.events → AnyMore start later
+  more_now s m = record { at = at; old = v.old; there = s; new = v.new; here = at_new; more = m }
+
+  still_now : slice_get start at ≡ Some v.old → StillBelow at start procs → (length v.new.events ≡ length v.old.events) × IsStill v.new → StillBelow (at + 1) start later
+  still_now s h m i t lt is = elim (eqb_tells at i) [
+    | inl e ↦ (
+      let same : v.new ≡ t = same_Some v.new t (sym at_new ∙ ap (λ z. slice_get later z) e.1 ∙ is) in
+      (v.old, subst (λ z. slice_get start z ≡ Some v.old) e.1 s, subst (λ (z : Running). length z.events ≡ length v.old.events) same m.0, subst IsStill same m.1)
+    )
+    | inr e ↦ h i t (let f : i < at = omega (arith, lt, e.1) in f) (sym (at_other i e.1) ∙ is)
+  ]
+
+  visit_case : (a b : Bool) → slice_get start at ≡ Some v.old → MatchBool a (AnyMore start procs) (StillBelow at start procs) → HasMoved v.old v.new b → MatchBool (a || b) (AnyMore start later) (StillBelow (at + 1) start later)
+  visit_case true b s h m = any_grows start procs later visit_length h visit_grow
+  visit_case false true s h m = more_now s m
+  visit_case false false s h m = still_now s h m
+
+  pub visit_passed : (a : Bool) → ((i : ℕ) → at ≤ i → slice_get procs i ≡ slice_get start i) → MatchBool a (AnyMore start procs) (StillBelow at start procs) → MatchBool (a || here) (AnyMore start later) (StillBelow (at + 1) start later)
+  visit_passed a rest h = visit_case a here (sym (rest at (omega arith)) ∙ v.there) h v.moved_is
+
+-- several passes
+pub more_passes : (start mid end : Part) (a : Bool) → IsSamePart mid end → MatchBool a (AnyMore (procs_of start) (procs_of mid)) (mid ≡ start) → Grow (procs_of mid) (procs_of end) → AnyMore (procs_of mid) (procs_of end) → AnyMore (procs_of start) (procs_of end)
+more_passes start mid end true same h g m = any_grows (procs_of start) (procs_of mid) (procs_of end) same.count h g
+more_passes start mid end false same h g m = subst (λ (z : Part). AnyMore (procs_of z) (procs_of end)) h m
+
+pub last_pass : (start mid end : Part) (a : Bool) → IsSamePart mid end → MatchBool a (AnyMore (procs_of start) (procs_of mid)) (mid ≡ start) → Grow (procs_of mid) (procs_of end) → StillBelow (length (procs_of end)) (procs_of mid) (procs_of end) → HavePassed (procs_of start) (procs_of end) a
+last_pass start mid end true same h g m = any_grows (procs_of start) (procs_of mid) (procs_of end) same.count h g
+last_pass start mid end false same h g m = subst (λ (z : Part). StillBelow (length (procs_of end)) (procs_of z) (procs_of end)) h m
+
+pub all_passed : (a : Bool) (n : ℕ) (start later : List Running) → length later ≤ n → MatchBool a (AnyMore start later) (StillBelow n start later) → HavePassed start later a
+all_passed true n start later le h = h
+all_passed false n start later le h = λ i t lt is. h i t (omega (arith, lt, le)) is
+
+pub pass_true : (b : Bool) (xs ys : List Running) → b ≡ true → HavePassed xs ys b → AnyMore xs ys
+pass_true true xs ys e h = h
+pass_true false xs ys e h = cc
+
+pub pass_false : (b : Bool) (xs ys : List Running) → b ≡ false → HavePassed xs ys b → StillBelow (length ys) xs ys
+pass_false true xs ys e h = cc
+pass_false false xs ys e h = h
+
+-- after all turns
+pub turns_passed : (a : Bool) (start end : Part) → a ≡ true → MatchBool a (AnyMore (procs_of start) (procs_of end)) (end ≡ start) → HavePassed (procs_of start) (procs_of end) a
+turns_passed true start end e h = h
+turns_passed false start end e h = cc

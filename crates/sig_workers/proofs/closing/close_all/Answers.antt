@@ -1,0 +1,42 @@
+use Rattle.std.proofs.lemmas.Grind.{common_steps}
+use Rattle.std.proofs.Common.{◌≡◌, ◌<◌, ◌≤◌, ◌+◌, ◌++◌, [], ◌∷◌, List, length, sym, ap, ◌∙◌, subst, arith, length-append, length-set}
+use Rattle.std.specs.Prelude.{slice_get, Some}
+use Rattle.sig_queue.specs.declared.account.Account.{Account}
+use Rattle.sig_workers.proofs.PartLemmas.{running_at}
+use Rattle.sig_workers.proofs.CloseLemmas.{first_left, closed_rest, closed_more}
+use Rattle.sig_workers.proofs.closing.close_all.Goals as goal
+
+pub close_one-requires : goal.close_one-requires
+close_one-requires c =
+    let inv = c.loop-at.invariant in
+    let n = c.loop-at.at in
+    let end : c.loop-at.at < length c.args.procs.now.items = grind (arith, common_steps) in
+    let many : length c.args.queues.items ≡ length c.args.procs.now.items = grind (arith, common_steps, c.requires.many) in
+    let as_many : length c.args.seats.items ≡ length c.args.procs.now.items = grind (arith, common_steps, c.requires.many) in
+    let queue = first_left n c.args.queues.items c.loop-at.queues.items c.remove-queue.new.self.items c.remove-queue.result inv.queues (omega (arith, end, many)) c.remove-queue.ensures.value c.remove-queue.ensures.items in
+    let seat = first_left n c.args.seats.items c.loop-at.seats.items c.remove-seat.new.self.items c.remove-seat.result inv.seats (omega (arith, end, as_many)) c.remove-seat.ensures.value c.remove-seat.ensures.items in
+    let lt : n < length c.loop-at.procs.items = omega (arith, end, inv.procs) in
+    let there = running_at c.loop-at.procs.items n c.index_mut.result.now lt c.index_mut.ensures.value in
+    c.requires.can n c.remove-queue.result c.remove-seat.result c.index_mut.result.now.running queue.0 seat.0 (sym (inv.rest n (omega arith)) ∙ there)
+
+pub loop-at-preserved : goal.loop-at-preserved
+loop-at-preserved c =
+    let inv = c.loop-at.invariant in
+    let n = c.loop-at.at in
+    let end : c.loop-at.at < length c.args.procs.now.items = grind (arith, common_steps) in
+    let many : length c.args.queues.items ≡ length c.args.procs.now.items = grind (arith, common_steps, c.requires.many) in
+    let as_many : length c.args.seats.items ≡ length c.args.procs.now.items = grind (arith, common_steps, c.requires.many) in
+    let queue = first_left n c.args.queues.items c.loop-at.queues.items c.remove-queue.new.self.items c.remove-queue.result inv.queues (omega (arith, end, many)) c.remove-queue.ensures.value c.remove-queue.ensures.items in
+    let seat = first_left n c.args.seats.items c.loop-at.seats.items c.remove-seat.new.self.items c.remove-seat.result inv.seats (omega (arith, end, as_many)) c.remove-seat.ensures.value c.remove-seat.ensures.items in
+    let lt : n < length c.loop-at.procs.items = omega (arith, end, inv.procs) in
+    let there = running_at c.loop-at.procs.items n c.index_mut.result.now lt c.index_mut.ensures.value in
+    let procs = c.loop-at.procs.items in
+    let pushed : c.push.new.self ≡ c.loop-at.receipts ++ c.in_ok-receipt.receipt ∷ [] = c.in_default.ensures in
+    record {
+      queues = queue.1;
+      seats = seat.1;
+      count = ap (λ (z : List Account). length z) pushed ∙ length-append c.loop-at.receipts (c.in_ok-receipt.receipt ∷ []) ∙ ap (λ z. z + 1) inv.count;
+      procs = length-set procs n c.close_one.new.process ∙ inv.procs;
+      rest = closed_rest c.args.queues.items c.args.seats.items c.args.procs.now.items procs n c.remove-queue.result c.remove-seat.result c.index_mut.result.now c.close_one.new.process c.in_ok-receipt.receipt c.loop-at.receipts c.push.new.self queue.0 seat.0 there inv.count inv.rest c.in_ok-receipt.ensures pushed;
+      closed = closed_more c.args.queues.items c.args.seats.items c.args.procs.now.items procs n c.remove-queue.result c.remove-seat.result c.index_mut.result.now c.close_one.new.process c.in_ok-receipt.receipt c.loop-at.receipts c.push.new.self queue.0 seat.0 there inv.count inv.rest c.in_ok-receipt.ensures pushed inv.closed;
+    }

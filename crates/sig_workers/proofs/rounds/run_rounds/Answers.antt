@@ -1,0 +1,51 @@
+use Rattle.std.proofs.Common.{◌≡◌, ◌<◌, ◌∙◌, sym, subst, true, false, Some, slice_get}
+use Rattle.sig_script.specs.Scripts.{Program}
+use Rattle.sig_model.specs.CrewLaw.{IsLawfulCrew}
+use Rattle.sig_queue.specs.Accounts.{all_followed}
+use Rattle.sig_workers.specs.Rounds.{IsRound, IsRounds, room_left}
+use Rattle.sig_workers.proofs.RoundsLemmas.{first_round, less_room, may_follow, one_more_round}
+use Rattle.sig_workers.proofs.rounds.run_rounds.Goals as goal
+
+pub loop-moved-init : goal.loop-moved-init
+loop-moved-init g c = record {
+  rounds = λ script law. first_round script c.args.policy c.args.crew c.in_ok-now.now c.in_ok-now.receipts c.in_ok-now.moved (c.in_ok-now.ensures script law);
+  settled = λ script law. (c.in_ok-now.ensures script law).settled;
+}
+
+pub round-requires-in-loop-moved-clause-lawful : goal.round-requires-in-loop-moved-clause-lawful
+round-requires-in-loop-moved-clause-lawful g c κs within =
+    let law = c.requires.lawful in
+    (law.0, law.1, (c.loop-moved.invariant.rounds law.0 law.2).lawful)
+
+pub round-requires-in-loop-moved-clause-clear : goal.round-requires-in-loop-moved-clause-clear
+round-requires-in-loop-moved-clause-clear g c κs within =
+    let law = c.requires.lawful in
+    (c.loop-moved.invariant.rounds law.0 law.2).clear
+
+pub follow-requires : goal.follow-requires
+follow-requires g c =
+    let law = c.requires.lawful in
+    let rounds = c.loop-moved.invariant.rounds law.0 law.2 in
+    may_follow law.0 c.args.policy c.args.crew c.loop-moved.now c.in_ok-later.later c.loop-moved.receipts c.in_ok-later.more c.in_ok-later.again law.2 rounds (c.in_ok-later.ensures law.0 rounds.lawful)
+
+pub loop-moved-smaller : goal.loop-moved-smaller
+loop-moved-smaller g c =
+    let law = c.requires.lawful in
+    let rounds = c.loop-moved.invariant.rounds law.0 law.2 in
+    subst (λ z. room_left c.in_ok-later.later c.in_ok-later.again < room_left c.loop-moved.now z) (sym c.loop-moved-test.true)
+    (less_room law.0 c.args.policy c.loop-moved.now c.in_ok-later.later c.in_ok-later.more c.in_ok-later.again rounds.lawful (c.in_ok-later.ensures law.0 rounds.lawful))
+
+pub loop-moved-preserved : goal.loop-moved-preserved
+loop-moved-preserved g c = record {
+  rounds = λ script law.
+      let rounds = c.loop-moved.invariant.rounds script law in
+      subst (IsRounds script c.args.policy c.args.crew c.in_ok-later.later) (sym c.follow.ensures)
+      (one_more_round script c.args.policy c.args.crew c.loop-moved.now c.in_ok-later.later c.loop-moved.receipts c.in_ok-later.more c.in_ok-later.again law rounds (c.in_ok-later.ensures script rounds.lawful));
+  settled = λ script law. (c.in_ok-later.ensures script (c.loop-moved.invariant.rounds script law).lawful).settled;
+}
+
+pub returns-clause-rounds : goal.returns-clause-rounds
+returns-clause-rounds g c = c.loop-moved.invariant.rounds
+
+pub returns-clause-settled : goal.returns-clause-settled
+returns-clause-settled g c script law = c.loop-moved.invariant.settled script law c.loop-moved-test.false

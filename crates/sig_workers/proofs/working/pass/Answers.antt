@@ -1,0 +1,34 @@
+use Rattle.sig_workers.specs.Parts.{procs_of}
+use Rattle.std.proofs.Common.{◌≡◌, ◌<◌, ◌≤◌, ◌+◌, length, refl, arith}
+use Rattle.std.proofs.lemmas.Grind.{common_steps}
+use Rattle.sig_workers.proofs.PassLemmas.{same_part, grow_refl, grow_trans, visit_grow, visit_rest, visit_passed, all_passed}
+use Rattle.sig_workers.proofs.working.pass.Goals as goal
+
+pub loop-at-init : goal.loop-at-init
+loop-at-init g c = record {
+  part = c.requires;
+  same = record { first = refl; count = refl; base = refl };
+  grow = grow_refl (procs_of c.args.part.now);
+  rest = λ i le. refl;
+  passed = λ i t lt. absurd (let f : ⊥ = omega (arith, lt) in f);
+}
+
+pub loop-at-preserved : goal.loop-at-preserved
+loop-at-preserved g c =
+    let start = procs_of c.args.part.now in
+    let procs = procs_of c.loop-at.part in
+    let later = procs_of c.visit_at.new.part in
+    let inv = c.loop-at.invariant in
+    let v = c.in_ok-here.ensures.visited in
+    record {
+      part = c.in_ok-here.ensures.part;
+      same = same_part c.args.part.now c.loop-at.part c.visit_at.new.part inv.same c.in_ok-here.ensures.same;
+      grow = grow_trans start procs later inv.grow (visit_grow start procs later c.loop-at.at c.in_ok-here.here v);
+      rest = visit_rest start procs later c.loop-at.at c.in_ok-here.here v inv.rest;
+      passed = visit_passed start procs later c.loop-at.at c.in_ok-here.here v c.loop-at.moved inv.rest inv.passed;
+    }
+
+pub returns-clause-passed : goal.returns-clause-passed
+returns-clause-passed g c =
+    let le : length (procs_of c.loop-at.part) ≤ c.loop-at.at = grind (arith, common_steps, c.loop-at.invariant.same.count) in
+    all_passed c.loop-at.moved c.loop-at.at (procs_of c.args.part.now) (procs_of c.loop-at.part) le c.loop-at.invariant.passed

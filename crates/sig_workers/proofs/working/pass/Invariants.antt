@@ -1,0 +1,14 @@
+use Rattle.std.proofs.Common.{◌≡◌, ℕ, ◌<◌, ◌≤◌, length, slice_get, Some}
+use Rattle.std.specs.Bool.{MatchBool}
+use Rattle.sig_model.specs.Running.{Running}
+use Rattle.sig_workers.specs.Parts.{procs_of, IsPart, IsSamePart, Grow, AnyMore, StillBelow}
+use Rattle.sig_workers.proofs.working.pass.Given as goal
+
+abbrev pub invariant-loop-at : goal.invariant-loop-at
+invariant-loop-at g l = record {
+  part : IsPart l.queues l.part;
+  same : IsSamePart l.fn.part l.part;
+  grow : Grow (procs_of l.fn.part) (procs_of l.part);
+  rest : (i : ℕ) → l.at ≤ i → slice_get (procs_of l.part) i ≡ slice_get (procs_of l.fn.part) i;
+  passed : MatchBool l.moved (AnyMore (procs_of l.fn.part) (procs_of l.part)) (StillBelow l.at (procs_of l.fn.part) (procs_of l.part));
+}

@@ -1,0 +1,12 @@
+use Rattle.std.proofs.Common.{◌≡◌, ℕ, ◌<◌, true, false}
+use Rattle.std.specs.Bool.{MatchBool}
+use Rattle.sig_workers.specs.Parts.{procs_of, IsPart, IsSamePart, AnyMore}
+use Rattle.sig_workers.proofs.working.work_with.Given as goal
+
+abbrev pub invariant-loop-turn : goal.invariant-loop-turn
+invariant-loop-turn g l = record {
+  part : IsPart l.queues l.part;
+  same : IsSamePart l.fn.part l.part;
+  first : 0 < l._turn → l.moved ≡ true;
+  passed : MatchBool l.moved (AnyMore (procs_of l.fn.part) (procs_of l.part)) (l.part ≡ l.fn.part);
+}

@@ -1,0 +1,71 @@
+//! The queues of a round are closed, and what they have left is handed over.
+ghost use Rattle.std.specs.Prelude.{◌≡◌, ◌<◌, ℕ, length, vec_len, slice_get, Some, IfOk, OnOk};
+ghost use Rattle.sig_model.specs.Running.{Running};
+ghost use Rattle.sig_process.specs.Standing.{runnings_of};
+ghost use Rattle.sig_queue.specs.Seats.{Queue, Seated};
+ghost use Rattle.sig_queue.specs.declared.account.Account.{Account};
+ghost use Rattle.sig_workers.specs.Closing.{CanClose, HasClosed, IsClosedAt};
+
+use sig_kinds::{Push, Signals};
+use sig_lists::Pushed;
+use sig_process::Process;
+use sig_queue::{Closed, QSeat, Receipt, Receipts, Rest, SigQueue};
+use std::alloc::{AllocError, Global};
+
+/// The signals that are left, as a list. The error is want of memory.
+fn list_rest(alloc: Global, mut rest: Rest) -> Result<Signals, AllocError>
+    ensures { IfOk result (λ xs. xs.items ≡ rest) }
+{
+    let mut signals = Signals::new(alloc);
+    while let Some(signal) = rest.next() {
+        if let Push::Memory { signal: _ } = signals.push(signal) {
+            return Err(AllocError);
+        }
+    }
+    Ok(signals)
+}
+
+/// Closes a queue, and hands what it has left to its receiver, behind what that has taken in. The
+/// error is want of memory.
+fn close_one(
+    alloc: Global,
+    queue: SigQueue,
+    seat: QSeat,
+    process: &mut Process,
+) -> Result<Receipt, AllocError>
+    requires { CanClose queue seat process.old.running }
+    ensures { IfOk result (λ a. HasClosed queue seat process.old.running a process.new.running) }
+{
+    let Closed { rest, receipt, .. } = queue.close(seat);
+    let mut signals = list_rest(alloc, rest)?;
+    process.take_in(&mut signals)?;
+    Ok(receipt)
+}
+
+/// Closes all queues, and hands what each has left to its receiver. The receipts stand by pid. The
+/// error is want of memory.
+pub(crate) fn close_all(
+    alloc: Global,
+    mut queues: Vec<SigQueue>,
+    mut seats: Vec<QSeat>,
+    procs: &mut Vec<Process>,
+) -> Result<Receipts, AllocError>
+    requires many { (vec_len seats ≡ vec_len queues) × (vec_len procs.old ≡ vec_len queues) }
+    requires can { (p : ℕ) (q : Queue) (v : Seated) (r : Running) →
+        slice_get queues.items p ≡ Some q → slice_get seats.items p ≡ Some v → slice_get (runnings_of procs.old.items) p ≡ Some r → CanClose q v r }
+    ensures count { IfOk result (λ receipts. length receipts ≡ vec_len queues) }
+    ensures procs { OnOk result (vec_len procs.new ≡ vec_len procs.old) }
+    ensures closed { IfOk result (λ receipts. (p : ℕ) (a : Account) (t : Running) →
+        slice_get receipts p ≡ Some a → slice_get (runnings_of procs.new.items) p ≡ Some t → IsClosedAt queues.items seats.items (runnings_of procs.old.items) p a t) }
+{
+    let mut receipts = Receipts::new(alloc);
+    for at in 0..procs.len() {
+        let queue = queues.remove(0);
+        let seat = seats.remove(0);
+        let receipt = close_one(alloc, queue, seat, &mut procs[at])?;
+        if let Pushed::Memory { item: _ } = receipts.push(receipt) {
+            return Err(AllocError);
+        }
+    }
+    Ok(receipts)
+}

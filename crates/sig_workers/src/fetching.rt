@@ -1,0 +1,64 @@
+//! What was put for a process is taken in.
+ghost use Rattle.std.specs.Prelude.{◌≡◌, ◌<◌, [], true, OnOk, vec_len};
+ghost use Rattle.sig_workers.specs.Gone.{IsReady, Goes};
+ghost use Rattle.sig_workers.specs.Visits.{IsRemoved, IsFetched};
+
+use crate::putting::Me;
+use sig_kinds::Signals;
+use sig_process::Process;
+use sig_queue::{Fetch, QSeat, SigQueue};
+use std::alloc::{AllocError, Global};
+use std::sync::Wait;
+
+/// Makes a removal where one is due. The error is want of memory.
+fn remove_due<R: Wait>(rt: &R, queue: &SigQueue, seat: &mut QSeat) -> Result<(), AllocError>
+    requires own { seat.old.queue ≡ queue.now.id }
+    requires role { seat.old.knows.role ≡ true }
+    ensures { OnOk result (IsRemoved seat.old seat.new) }
+{
+    if SigQueue::removal_due(seat) {
+        queue.remove(rt, seat)?;
+    }
+    Ok(())
+}
+
+/// Makes a removal where one is due, and tries a fetch. The error is want of memory.
+fn fetch_at<R: Wait>(
+    rt: &R,
+    queue: &SigQueue,
+    seat: &mut QSeat,
+    into: &mut Signals,
+) -> Result<(), AllocError>
+    requires own { seat.old.queue ≡ queue.now.id }
+    requires role { seat.old.knows.role ≡ true }
+    requires empty { into.old.items ≡ [] }
+    ensures { OnOk result (IsFetched queue.now seat.old into.new.items seat.new) }
+{
+    remove_due(rt, queue, seat)?;
+    match queue.try_fetch(seat, into) {
+        Fetch::Took { .. } | Fetch::Busy { .. } => Ok(()),
+        Fetch::Memory => Err(AllocError),
+    }
+}
+
+/// Takes in what was put for the process, if another worker doesn't hold its queue. The error is
+/// want of memory.
+pub(crate) fn fetch<R: Wait>(
+    rt: &R,
+    alloc: Global,
+    queues: &[SigQueue],
+    me: Me,
+    process: &mut Process,
+    seats: &mut Vec<QSeat>,
+) -> Result<(), AllocError>
+    requires ready { IsReady queues.now me.pid process.old.running seats.old.items }
+    requires within { me.pid < vec_len seats.old }
+    ensures goes { OnOk result (Goes queues.now me.pid process.old.running seats.old.items process.new.running seats.new.items) }
+    ensures outbox { OnOk result (process.new.running.outbox ≡ process.old.running.outbox) }
+    ensures events { OnOk result (process.new.running.events ≡ process.old.running.events) }
+{
+    let at = me.pid as usize;
+    let mut signals = Signals::new(alloc);
+    fetch_at(rt, &queues[at], &mut seats[at], &mut signals)?;
+    process.take_in(&mut signals)
+}

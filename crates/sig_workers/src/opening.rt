@@ -1,0 +1,92 @@
+//! The queues of a round are opened.
+ghost use Rattle.std.specs.Prelude.{◌≡◌, ◌≤◌, ◌<◌, ◌+◌, ◌==◌, ◌&&◌, not, ℕ, length, IfOk, vec_len};
+ghost use Rattle.sig_model.specs.Keeping.{IsPlaced};
+ghost use Rattle.sig_process.specs.Standing.{runnings_of};
+ghost use Rattle.sig_layout.specs.Policies.{IsPolicy};
+ghost use Rattle.sig_layout.specs.Sets.{has};
+ghost use Rattle.sig_workers.specs.Parts.{is_in};
+ghost use Rattle.sig_workers.specs.Opening.{numbers_to, AreNumbered, first_seated, IsQueueOf, AreOpened};
+
+use sig_layout::{Numbers, Opening, Policy, Senders};
+use sig_lists::Pushed;
+use sig_process::Process;
+use sig_queue::{QSeat, SigQueue};
+use sig_terms::Pid;
+use std::alloc::{AllocError, Global};
+
+/// These processes but for one, as a set of senders: so many from the first one on.
+pub(crate) fn senders_but(first: u32, count: u32, but: u32) -> Senders
+    requires { first + count ≤ 256 }
+    ensures { (s : ℕ) → has result s ≡ (is_in first count s && not (s == but)) }
+{
+    let mut senders = Senders::none();
+    for at in 0..count {
+        let pid = first + at;
+        if pid != but {
+            senders = senders.with(Pid(pid));
+        }
+    }
+    senders
+}
+
+/// The number of the next signal of each process to this one. The error is want of memory.
+fn first_numbers(alloc: Global, procs: &[Process], to: Pid) -> Result<Numbers, AllocError>
+    ensures { IfOk result (λ ns. ns ≡ numbers_to to.0 (runnings_of procs.now)) }
+{
+    let mut numbers = Numbers::new(alloc);
+    for process in procs {
+        if let Pushed::Memory { item: _ } = numbers.push(process.next_number(to)) {
+            return Err(AllocError);
+        }
+    }
+    Ok(numbers)
+}
+
+/// Opens the queue of one process, with the seat that has all senders and the role. The error is
+/// want of memory.
+fn open_one(
+    alloc: Global,
+    policy: Policy,
+    procs: &[Process],
+    at: u32,
+) -> Result<(SigQueue, QSeat), AllocError>
+    requires policy { IsPolicy policy }
+    requires few { length procs.now ≤ 256 }
+    requires placed { IsPlaced (runnings_of procs.now) }
+    requires numbered { AreNumbered (runnings_of procs.now) }
+    requires within { at < length procs.now }
+    ensures { IfOk result (λ r. IsQueueOf policy (runnings_of procs.now) at r.0 × (r.1 ≡ first_seated r.0)) }
+{
+    let count = procs.len() as u32;
+    let first = first_numbers(alloc, procs, Pid(at))?;
+    let senders = senders_but(0, count, at);
+    let opening = Opening {
+        receiver: Pid(at),
+        count,
+        first,
+    };
+    SigQueue::open(alloc, policy, senders, &opening)
+}
+
+/// Opens the queue of each process, by pid. The error is want of memory.
+pub(crate) fn open_all(
+    alloc: Global,
+    policy: Policy,
+    procs: &[Process],
+) -> Result<(Vec<SigQueue>, Vec<QSeat>), AllocError>
+    requires policy { IsPolicy policy }
+    requires few { length procs.now ≤ 256 }
+    requires placed { IsPlaced (runnings_of procs.now) }
+    requires numbered { AreNumbered (runnings_of procs.now) }
+    ensures many { IfOk result (λ r. vec_len r.0 ≡ length procs.now) }
+    ensures opened { IfOk result (λ r. AreOpened policy (runnings_of procs.now) r.0.items r.1.items) }
+{
+    let mut queues = Vec::new(alloc);
+    let mut seats = Vec::new(alloc);
+    for at in 0..procs.len() {
+        let (queue, seat) = open_one(alloc, policy, procs, at as u32)?;
+        queues.push(queue)?;
+        seats.push(seat)?;
+    }
+    Ok((queues, seats))
+}

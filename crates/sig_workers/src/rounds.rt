@@ -1,0 +1,89 @@
+ghost use Rattle.std.specs.Prelude.{◌≡◌, ◌≤◌, IfOk, map};
+ghost use Rattle.sig_script.specs.Scripts.{Program, IsSound};
+ghost use Rattle.sig_model.specs.CrewLaw.{IsLawfulCrew};
+ghost use Rattle.sig_model.specs.OneWorker.{IsClear};
+ghost use Rattle.sig_layout.specs.Policies.{IsPolicy};
+ghost use Rattle.sig_workers.specs.Rounds.{IsRound, IsRounds, HasSettled};
+
+use crate::closing::close_all;
+use crate::cutting::{keep_base, make_parts};
+use crate::joining::join_all;
+use crate::opening::open_all;
+use crate::part::{Part, Worked};
+use crate::side_by_side::work_all;
+use sig_base::Gate;
+use sig_layout::Policy;
+use sig_process::Crew;
+use sig_queue::Receipts;
+use std::alloc::{AllocError, Global};
+use std::sync::Wait;
+use std::thread::Threads;
+
+/// A round of a crew by several workers, over shared queues: one queue for each process, opened with
+/// this policy and the crew's next numbers. The workers run side by side, each over its part of the
+/// processes, until it has passed over them without an event or has made at least `quota` events.
+/// Then the queues are closed, and what each has left waits for its receiver. Gives the crew, the
+/// receipt of each queue, by pid, and whether there was an event. The error is want of memory.
+pub fn round<R: Threads + Wait + Sync, G: Gate>(
+    rt: &R,
+    alloc: Global,
+    crew: Crew,
+    workers: u32,
+    quota: u32,
+    policy: Policy,
+    gate: &G,
+) -> Result<(Crew, Receipts, bool), AllocError>
+    requires lawful { (script : Program) × IsSound script × IsLawfulCrew script crew }
+    requires clear { IsClear crew }
+    requires workers { (1 ≤ workers) × (workers ≤ 16) }
+    requires quota { 1 ≤ quota }
+    requires policy { IsPolicy policy }
+    ensures { (script : Program) → IsLawfulCrew script crew → IfOk result (λ r. IsRound script policy crew r.0 r.1 r.2) }
+{
+    let procs = crew.procs;
+    let (queues, seats) = open_all(alloc, policy, procs.as_slice())?;
+    let base = keep_base(&procs);
+    let parts = make_parts(alloc, queues.as_slice(), seats, procs, workers)?;
+    let done = work_all(rt, alloc, queues.as_slice(), gate, quota, parts)?;
+    let Worked { part, moved } = join_all(queues.as_slice(), &base, done)?;
+    let Part {
+        worker: _,
+        first: _,
+        mut procs,
+        seats,
+        base: _,
+    } = part;
+    let receipts = close_all(alloc, queues, seats, &mut procs)?;
+    Ok((Crew { procs }, receipts, moved))
+}
+
+/// Rounds until one has no event. Gives the crew, which has settled, and for each process the receipt
+/// of all that was put for it, by pid. It ends, since each round but the last raises the sum of the
+/// processes' stamps, and no stamp is above 2^62. The error is want of memory.
+pub fn run_rounds<R: Threads + Wait + Sync, G: Gate>(
+    rt: &R,
+    alloc: Global,
+    crew: Crew,
+    workers: u32,
+    quota: u32,
+    policy: Policy,
+    gate: &G,
+) -> Result<(Crew, Receipts), AllocError>
+    requires lawful { (script : Program) × IsSound script × IsLawfulCrew script crew }
+    requires clear { IsClear crew }
+    requires workers { (1 ≤ workers) × (workers ≤ 16) }
+    requires quota { 1 ≤ quota }
+    requires policy { IsPolicy policy }
+    ensures rounds { (script : Program) → IsLawfulCrew script crew → IfOk result (λ r. IsRounds script policy crew r.0 r.1) }
+    ensures settled { (script : Program) → IsLawfulCrew script crew → IfOk result (λ r. HasSettled script r.0) }
+{
+    let (mut now, mut receipts, mut moved) =
+        round(rt, alloc, crew, workers, quota, policy, gate)?;
+    while moved {
+        let (later, more, again) = round(rt, alloc, now, workers, quota, policy, gate)?;
+        receipts.follow(more);
+        now = later;
+        moved = again;
+    }
+    Ok((now, receipts))
+}

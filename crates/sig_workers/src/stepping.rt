@@ -1,0 +1,119 @@
+//! A visit of one process by a worker.
+ghost use Rattle.std.specs.Prelude.{◌≡◌, ◌<◌, [], length, true, false, IfOk, OnOk, vec_len, None};
+ghost use Rattle.std.specs.Bool.{MatchBool};
+ghost use Rattle.sig_model.specs.Running.{can_handle, exec_next};
+ghost use Rattle.sig_workers.specs.Gone.{IsReady, Goes};
+ghost use Rattle.sig_workers.specs.Visits.{HasMoved};
+
+use crate::fetching::fetch;
+use crate::putting::{Me, put_all};
+use sig_base::{Gate, Point, Steps};
+use sig_process::{Exec, Process};
+use sig_queue::{QSeat, SigQueue};
+use std::alloc::{AllocError, Global};
+use std::sync::Wait;
+use std::sync::ledger::Ledger;
+
+/// Handles the next signal, and puts what that sends. The error is want of memory.
+fn handle_one<R: Wait, G: Gate>(
+    rt: &R,
+    queues: &[SigQueue],
+    gate: &G,
+    me: Me,
+    process: &mut Process,
+    seats: &mut Vec<QSeat>,
+) -> Result<(), AllocError>
+    requires ready { IsReady queues.now me.pid process.old.running seats.old.items }
+    requires can { can_handle process.old.running ≡ true }
+    ensures goes { OnOk result (Goes queues.now me.pid process.old.running seats.old.items process.new.running seats.new.items) }
+    ensures more { OnOk result (length process.old.running.events < length process.new.running.events) }
+    ensures stamp { OnOk result (process.old.running.state.counts.stamp < process.new.running.state.counts.stamp) }
+    ensures empty { OnOk result (process.new.running.outbox ≡ []) }
+{
+    process.handle()?;
+    put_all(rt, queues, gate, me, process, seats)?;
+    gate.at(me.worker, me.pid, Point::Handled);
+    Ok(())
+}
+
+/// Handles signals as long as one may be handled, and puts what each handling sends before the
+/// next. Tells whether there was one. It ends, since each raises the process's stamp, which is at
+/// most 2^62. The error is want of memory.
+fn handle_all<R: Wait, G: Gate>(
+    rt: &R,
+    queues: &[SigQueue],
+    gate: &G,
+    me: Me,
+    process: &mut Process,
+    seats: &mut Vec<QSeat>,
+) -> Result<bool, AllocError>
+    requires ready { IsReady queues.now me.pid process.old.running seats.old.items }
+    requires clear { process.old.running.outbox ≡ [] }
+    ensures goes { OnOk result (Goes queues.now me.pid process.old.running seats.old.items process.new.running seats.new.items) }
+    ensures empty { OnOk result (process.new.running.outbox ≡ []) }
+    ensures all { OnOk result (can_handle process.new.running ≡ false) }
+    ensures moved { IfOk result (λ moved. MatchBool moved (length process.old.running.events < length process.new.running.events) (process.new.running ≡ process.old.running)) }
+{
+    let mut moved = false;
+    while process.can_handle() {
+        handle_one(rt, queues, gate, me, process, seats)?;
+        moved = true;
+    }
+    Ok(moved)
+}
+
+/// Executes the next instruction, where one may be executed, and puts what that sends. Tells whether
+/// there was one. The error is want of memory.
+fn exec_one<R: Wait, G: Gate, L: Ledger>(
+    rt: &R,
+    queues: &[SigQueue],
+    gate: &G,
+    me: Me,
+    process: &mut Process,
+    seats: &mut Vec<QSeat>,
+    steps: &mut Steps<L>,
+) -> Result<bool, AllocError>
+    requires ready { IsReady queues.now me.pid process.old.running seats.old.items }
+    requires clear { process.old.running.outbox ≡ [] }
+    ensures goes { OnOk result (Goes queues.now me.pid process.old.running seats.old.items process.new.running seats.new.items) }
+    ensures empty { OnOk result (process.new.running.outbox ≡ []) }
+    ensures moved { IfOk result (λ moved. MatchBool moved (length process.old.running.events < length process.new.running.events) ((process.new.running ≡ process.old.running) × (exec_next process.old.running ≡ None))) }
+{
+    if !process.can_exec() {
+        return Ok(false);
+    }
+    match process.exec(steps)? {
+        Exec::Waiting => Ok(false),
+        Exec::Stepped => {
+            put_all(rt, queues, gate, me, process, seats)?;
+            gate.at(me.worker, me.pid, Point::Executed);
+            Ok(true)
+        }
+    }
+}
+
+/// Visits a process: takes in what was put for it, handles what waits, executes at most one
+/// instruction, and puts each event's signals before the next event. Tells whether there was an
+/// event. The error is want of memory.
+pub(crate) fn visit<R: Wait, G: Gate, L: Ledger>(
+    rt: &R,
+    alloc: Global,
+    queues: &[SigQueue],
+    gate: &G,
+    me: Me,
+    process: &mut Process,
+    seats: &mut Vec<QSeat>,
+    steps: &mut Steps<L>,
+) -> Result<bool, AllocError>
+    requires ready { IsReady queues.now me.pid process.old.running seats.old.items }
+    requires clear { process.old.running.outbox ≡ [] }
+    requires within { me.pid < vec_len seats.old }
+    ensures goes { OnOk result (Goes queues.now me.pid process.old.running seats.old.items process.new.running seats.new.items) }
+    ensures empty { OnOk result (process.new.running.outbox ≡ []) }
+    ensures moved { IfOk result (HasMoved process.old.running process.new.running) }
+{
+    fetch(rt, alloc, queues, me, process, seats)?;
+    let handled = handle_all(rt, queues, gate, me, process, seats)?;
+    let executed = exec_one(rt, queues, gate, me, process, seats, steps)?;
+    Ok(handled | executed)
+}
