@@ -33,7 +33,7 @@ use sig_base::{Gate, ReadAll, Sink, Source, Written, read_all, write_whole};
 use sig_model::lawful_crew_comes_to_rest;
 use sig_process::Crew;
 use sig_record::{Record, a_lawful_crew_tells_a_run, print_record, summarize};
-use sig_script::{FaultKind, MOST_BYTES, MOST_CALLS, Script, ScriptError, generate, read_script};
+use sig_script::{FaultKind, MOST_BYTES, MOST_CALLS, MOST_PROCESSES, Script, ScriptError, generate, read_script};
 use sig_workers::{run_one, run_rounds};
 use std::alloc::{AllocError, Global};
 use std::sync::Wait;
@@ -111,6 +111,7 @@ fn run_record<R: Threads + Wait + Sync, G: Gate>(
     requires { IsInRange settings }
     ensures { IfOk result (IsRecordOf settings.workers script.now) }
 {
+    prove!(script.count() as usize <= MOST_PROCESSES);
     let crew = Crew::open(alloc, script)?;
     let crew = run_crew(rt, alloc, settings, crew, gate)?;
     a_lawful_crew_tells_a_run();
