@@ -9,7 +9,7 @@ use Rattle.sig_base.specs.Flow.{Rose}
 use Rattle.sig_host.specs.declared.settings.Settings.{Settings}
 use Rattle.sig_host.specs.declared.status.Status.{Status}
 use Rattle.sig_host.specs.declared.status.Status.TheVariants.{Done, BadScript, Usage, ReadFault, WriteFault, Memory}
-use Rattle.sig_host.specs.Words.{AreSettings, settings_in}
+use Rattle.sig_host.specs.Words.{AreSettings}
 use Rattle.sig_host.specs.Answers.{AskForWork, HasScript, IsAnswer, IsFine, IsRefused, IsRun, IsUnread, IsUnwritten, IsWellGiven, Reading, Writing}
 use Rattle.sig_host.proofs.PlainLemmas.{plain_kept, plain_only}
 

@@ -1,5 +1,5 @@
 -- What is given by options that clap has walked over.
-use Rattle.std.proofs.Common.{◌≡◌, ◌∙◌, ℕ, ◌<◌, ◌≤◌, ◌==◌, Bool, true, false, List, [], ◌∷◌, length, Option, Some, None, refl, ap, sym, subst, arith, codes, lt-ltb}
+use Rattle.std.proofs.Common.{◌≡◌, ◌∙◌, ℕ, ◌==◌, Bool, true, false, [], ◌∷◌, length, Option, Some, None, refl, ap, sym, subst, arith, codes, lt-ltb}
 use Rattle.std.proofs.lemmas.Bool.Decides.{nat_tests}
 use Rattle.std.proofs.lemmas.Slice.Eq.{bytes_eq-Decides}
 use Rattle.std.specs.Prelude.{if◌then◌else◌, nat_lt, option_map, option_and_then, take, unwrap_or, ⊤}
@@ -11,7 +11,6 @@ use Rattle.sig_layout.specs.declared.policy.Policy.{Policy}
 use Rattle.sig_layout.specs.declared.policy.Policy.TheVariants.{Auto, Churn}
 use Rattle.sig_host.specs.Words.{Given, after_churn, calls_of, generate_of, nothing_given, number_within, once, policy_of, quota_of, setting_or, settings_by, settings_with, with_defaults, with_option, workers_of}
 use Rattle.sig_host.specs.declared.settings.TheConstants.{MOST_CHURN}
-use Rattle.sig_host.specs.declared.settings.Settings.{Settings}
 use Rattle.sig_host.proofs.PairLemmas.{Pairs, first_row, rows_for, value_added, value_kept, value_of, with_pair}
 use Rattle.sig_host.proofs.OptionLemmas.{IsNameOf, IsOption, IsPlainWord}
 

@@ -4,7 +4,7 @@ use Rattle.std.specs.Prelude.{if◌then◌else◌, nat_lt, option_map, ⊤}
 use Rattle.std.specs.Option.{option_map_or}
 use Rattle.std.specs.Str.{bytes_eq}
 use Rattle.clap.specs.Lexer.{long_of, short_of}
-use Rattle.clap.specs.Walk.{Held, Row, Rule, Step, Text, Waiting, Walk, after_flag, after_step, arg_by_id, arg_by_long, has_row, idle, long_met, long_or_other, next, option, option_word, plain_word, settled, short_or_plain, trailing, used_by_id, walked, word_met}
+use Rattle.clap.specs.Walk.{Held, Row, Rule, Step, Text, Walk, after_flag, after_step, arg_by_id, arg_by_long, has_row, idle, long_met, long_or_other, next, option, option_word, settled, short_or_plain, trailing, used_by_id, walked, word_met}
 use Rattle.clap.specs.Simple.{Shape, built}
 use Rattle.clap.specs.Takes.{bundle_passes, flag_word_passes, long_passes, settle_passes, step_passes, turn_passes, use_passes, word_passes}
 use Rattle.sig_host.specs.Words.{command}

@@ -2,17 +2,17 @@
 use Rattle.std.proofs.Common.{◌≡◌, ◌⊎◌, ◌∙◌, ◌&&◌, Bool, true, false, List, [], ◌∷◌, Option, Some, None, Result, Ok, Err, inl, inr, refl, ap, ap₂, sym, subst, true≢false, is_some, codes}
 use Rattle.std.specs.Prelude.{IfSome, fold, option_map, option_and_then}
 use Rattle.std.specs.List.{list_all}
-use Rattle.clap.specs.Words.{App, Rule, Row, Text, takes}
-use Rattle.clap.specs.Walk.{Held, Walk, finished, settled, walk, walk_from, walked, nothing_held, with_default}
+use Rattle.clap.specs.Words.{Row, Text, takes}
+use Rattle.clap.specs.Walk.{Held, Walk, finished, settled, walked, with_default}
 use Rattle.clap.specs.Simple.{built, entered}
-use Rattle.clap.specs.Takes.{default_passes, entered_passes, is_valid, settle_passes, turn_passes, walk_passes}
+use Rattle.clap.specs.Takes.{default_passes, entered_passes, is_valid, settle_passes, walk_passes}
 use Rattle.sig_host.specs.declared.settings.Settings.{Settings}
 use Rattle.sig_host.specs.declared.words_error.WordsError.{WordsError}
 use Rattle.sig_host.specs.declared.words_error.WordsError.TheVariants.{Usage, Memory}
 use Rattle.sig_host.specs.Words.{Given, IsWordsAnswer, AreRefused, AreSettings, command, given_from, nothing_given, plain_settings, settings_by, settings_in, with_defaults, with_option}
-use Rattle.sig_host.proofs.PairLemmas.{Pairs, built_option, no_default, rows_for}
+use Rattle.sig_host.proofs.PairLemmas.{Pairs, built_option, no_default}
 use Rattle.sig_host.proofs.OptionLemmas.{IsReady, all_of, first_turn, held_at, rules, second_turn, settle_at, settled_at, shape, walk_at, walked_pair}
-use Rattle.sig_host.proofs.GivenLemmas.{Agrees, IsNext, next_option, nothing_agrees, settings_told}
+use Rattle.sig_host.proofs.GivenLemmas.{Agrees, next_option, nothing_agrees, settings_told}
 use Rattle.sig_host.proofs.WordsLemmas.{simple}
 
 -- ---- the walk over all words

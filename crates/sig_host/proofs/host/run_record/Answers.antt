@@ -1,4 +1,4 @@
-use Rattle.std.proofs.Common.{rules, List, subst}
+use Rattle.std.proofs.Common.{List, subst}
 use Rattle.sig_model.specs.Running.{Running}
 use Rattle.sig_model.specs.OneWorker.{RunsTo}
 use Rattle.sig_host.proofs.host.run_record.Goals as goal
