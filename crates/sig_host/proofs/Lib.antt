@@ -1,6 +1,10 @@
 pub mod TooLong
 pub mod TellingLemmas
 pub mod NumberLemmas
+pub mod ChurnLemmas
+pub mod PairLemmas
+pub mod OptionLemmas
+pub mod GivenLemmas
 pub mod WordsLemmas
 pub mod PlainLemmas
 pub mod AnswerLemmas

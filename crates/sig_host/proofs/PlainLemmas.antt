@@ -1,118 +1,98 @@
 -- The command takes words in the plain form.
-use Rattle.std.proofs.Common.{◌≡◌, ◌⊎◌, ◌∙◌, ℕ, suc, ◌<◌, ◌≤◌, Bool, true, false, List, [], ◌∷◌, Option, Some, None, Result, Ok, Err, inl, inr, refl, ap, sym, subst, arith, codes, length, lt-ltb, true≢false}
-use Rattle.std.proofs.lemmas.Bool.{cases_lt}
-use Rattle.std.proofs.lemmas.Slice.Eq.{bytes_eq-Decides}
-use Rattle.std.proofs.lemmas.Bool.Decides.{nat_tests}
-use Rattle.std.specs.Prelude.{IfSome, nat_lt, option_map, option_and_then}
-use Rattle.std.specs.Char.{is_ascii_digit}
-use Rattle.std.specs.Str.{bytes_eq}
-use Rattle.clap.specs.Words.{Text, first_of, matches_of, takes}
-use Rattle.clap.proofs.OnLiterals.{clap_on_literals}
+use Rattle.std.proofs.Common.{◌≡◌, ◌⊎◌, ◌∙◌, ◌&&◌, Bool, true, false, List, [], ◌∷◌, Option, Some, None, Result, Ok, Err, inl, inr, refl, ap, ap₂, sym, subst, true≢false, is_some, codes}
+use Rattle.std.specs.Prelude.{IfSome, fold, option_map, option_and_then}
+use Rattle.std.specs.List.{list_all}
+use Rattle.clap.specs.Words.{Row, Text, takes}
+use Rattle.clap.specs.Walk.{Held, Walk, finished, settled, walked, with_default}
+use Rattle.clap.specs.Simple.{built, entered}
+use Rattle.clap.specs.Takes.{default_passes, entered_passes, is_valid, settle_passes, walk_passes}
 use Rattle.sig_host.specs.declared.settings.Settings.{Settings}
 use Rattle.sig_host.specs.declared.words_error.WordsError.{WordsError}
 use Rattle.sig_host.specs.declared.words_error.WordsError.TheVariants.{Usage, Memory}
-use Rattle.sig_host.proofs.WordsLemmas.{settings_from}
-use Rattle.sig_host.specs.Words.{IsWordsAnswer, AreRefused, AreSettings, calls_of, command, plain_from, plain_settings, settings_in}
+use Rattle.sig_host.specs.Words.{Given, IsWordsAnswer, AreRefused, AreSettings, command, given_from, nothing_given, plain_settings, settings_by, settings_in, with_defaults, with_option}
+use Rattle.sig_host.proofs.PairLemmas.{Pairs, built_option, no_default}
+use Rattle.sig_host.proofs.OptionLemmas.{IsReady, all_of, first_turn, held_at, rules, second_turn, settle_at, settled_at, shape, walk_at, walked_pair}
+use Rattle.sig_host.proofs.GivenLemmas.{Agrees, next_option, nothing_agrees, settings_told}
+use Rattle.sig_host.proofs.WordsLemmas.{simple}
 
--- what holds from `low` on, below `n`
-abbrev Below : (ℕ → Type 0) → ℕ → ℕ → Type 0
-Below P low n = (d : ℕ) → low ≤ d → d < n → P d
+-- ---- the walk over all words
 
-more : (P : ℕ → Type 0) (low n : ℕ) → Below P low n → P n → Below P low (suc n)
-more P low n rest here d l h = elim (cases_lt d n) [
-  | inl under ↦ rest d l under
-  | inr over ↦ let same : n ≡ d = omega arith in subst P same here
-]
+-- the walk passes, and has kept what is given in the end
+record Ends (last : Given) (words : List Text) (w : Walk) : Type 0 where
+  ps : Pairs
+  p : Option (Text × Text)
+  ready : IsReady ps p
+  agrees : Agrees last (all_of ps p)
+  passes : walk_passes shape [] w words ≡ true
+  is : fold (walked rules []) w words ≡ walk_at ps p
 
--- what computes at each digit holds of each
-each_digit : (P : ℕ → Type 0) → P 48 → P 49 → P 50 → P 51 → P 52 → P 53 → P 54 → P 55 → P 56 → P 57 → Below P 48 58
-each_digit P a b c d e f g h i j =
-    more P 48 57 (more P 48 56 (more P 48 55 (more P 48 54 (more P 48 53 (more P 48 52 (more P 48 51 (more P 48 50 (more P 48 49 (more P 48 48
-    (λ x low high. absurd (omega arith)) a) b) c) d) e) f) g) h) i) j
-
-none_taken : takes command [] ≡ true
-unfolding clap_on_literals
-none_taken = refl
-
-one_taken : (ds : List ℕ) → Below (λ d. takes command (codes "--generate" ∷ (d ∷ ds) ∷ []) ≡ true) 48 58
-unfolding clap_on_literals
-one_taken ds = each_digit _ refl refl refl refl refl refl refl refl refl refl
-
-none_found : first_of (codes "generate") (matches_of command []) ≡ None
-unfolding clap_on_literals
-none_found = refl
-
-one_found : (ds : List ℕ) → Below (λ d. first_of (codes "generate") (matches_of command (codes "--generate" ∷ (d ∷ ds) ∷ [])) ≡ Some (d ∷ ds)) 48 58
-unfolding clap_on_literals
-one_found ds = each_digit _ refl refl refl refl refl refl refl refl refl refl
-
--- a number begins with a digit
-digit_first : (value : Text) (calls : ℕ) → calls_of value ≡ Some calls → (d : ℕ) × (ds : List ℕ) × (value ≡ d ∷ ds) × (48 ≤ d) × (d < 58)
-digit_first [] calls e = cc
-digit_first (d ∷ ds) calls e = go (is_ascii_digit d) refl e
+ends : (words : List Text) (g last : Given) (ps : Pairs) (p : Option (Text × Text)) → IsReady ps p → Agrees g (all_of ps p) → given_from g words ≡ Some last
+    → Ends last words (walk_at ps p)
+unfolding walk_passes
+ends [] g last ps p ready agrees e =
+    let same : g ≡ last = cc in
+    record { ps = ps; p = p; ready = ready; agrees = subst (λ (h : Given). Agrees h (all_of ps p)) same agrees; passes = refl; is = refl }
+ends (word ∷ []) g last ps p ready agrees e = cc
+ends (word ∷ value ∷ rest) g last ps p ready agrees e = go (with_option g word value) refl e (ends rest)
   where
-    go : (b : Bool) → is_ascii_digit d ≡ b → calls_of (d ∷ ds) ≡ Some calls → (x : ℕ) × (xs : List ℕ) × (d ∷ ds ≡ x ∷ xs) × (48 ≤ x) × (x < 58)
-    go false t e =
-        let some : nat_lt 0 (length (d ∷ ds)) ≡ true = lt-ltb 0 (length (d ∷ ds)) (omega arith) in
-        let bad : None ≡ Some calls = rw (t, some) at e in
-        cc
-    go true t e = (d, ds, refl, grind (arith, nat_tests, t), grind (arith, nat_tests, t))
+    go : (o : Option Given) → with_option g word value ≡ o → option_and_then (λ next. given_from next rest) o ≡ Some last
+        → ((g last : Given) (ps : Pairs) (p : Option (Text × Text)) → IsReady ps p → Agrees g (all_of ps p) → given_from g rest ≡ Some last → Ends last rest (walk_at ps p))
+        → Ends last (word ∷ value ∷ rest) (walk_at ps p)
+    go None t h later = cc
+    go (Some next) t h later =
+        let n = next_option g (all_of ps p) agrees next word value t in
+        let here = walked_pair ps p ready n.name word value n.opt n.is n.plain in
+        let more = later next last (all_of ps p) (Some (n.name, value)) (n.opt, n.fresh) n.agrees h in
+        record {
+          ps = more.ps;
+          p = more.p;
+          ready = more.ready;
+          agrees = more.agrees;
+          passes = ap₂ (λ (a b : Bool). a && b) (first_turn ps p ready n.name word value n.opt n.is n.plain)
+              (ap₂ (λ (a b : Bool). a && b) (second_turn ps p ready n.name word value n.opt n.is n.plain)
+              (ap (λ (w : Walk). walk_passes shape [] w rest) here ∙ more.passes));
+          is = ap (λ (w : Walk). fold (walked rules []) w rest) here ∙ more.is;
+        }
 
-abbrev bare : Settings
-bare = record { generate = None }
+-- ---- what clap makes of it
 
-abbrev asking : ℕ → Settings
-asking calls = record { generate = Some calls }
+finished_is : (h : Held) → finished rules h ≡ (settled rules h).rows
+finished_is h =
+    ap (λ (rs : List Row). with_default (with_default (with_default rs (built_option (codes "quota"))) (built_option (codes "buffers"))) (built_option (codes "generate")))
+    (no_default (settled rules h).rows (codes "workers"))
+    ∙ ap (λ (rs : List Row). with_default (with_default rs (built_option (codes "buffers"))) (built_option (codes "generate"))) (no_default (settled rules h).rows (codes "quota"))
+    ∙ ap (λ (rs : List Row). with_default rs (built_option (codes "generate"))) (no_default (settled rules h).rows (codes "buffers"))
+    ∙ no_default (settled rules h).rows (codes "generate")
 
--- no option follows
-ends : (calls : ℕ) (rest : List Text) (s : Settings) → plain_from (asking calls) rest ≡ Some s → (rest ≡ []) × (asking calls ≡ s)
-ends calls [] s e = (refl, cc)
-ends calls (word ∷ []) s e = cc
-ends calls (name ∷ value ∷ rest) s e = go (bytes_eq name (codes "--generate")) refl e
-  where
-    go : (b : Bool) → bytes_eq name (codes "--generate") ≡ b → plain_from (asking calls) (name ∷ value ∷ rest) ≡ Some s
-        → (name ∷ value ∷ rest ≡ []) × (asking calls ≡ s)
-    go true t e = let bad : None ≡ Some s = rw t at e in cc
-    go false t e = let bad : None ≡ Some s = rw t at e in cc
-
--- the value asks for these settings, and no word follows
-abbrev IsPair : Text → List Text → Settings → Type 0
-IsPair value rest s = (calls : ℕ) × (calls_of value ≡ Some calls) × (rest ≡ []) × (asking calls ≡ s)
-
--- words in the plain form that aren't empty are the option and its value
-begins : (name value : Text) (rest : List Text) (s : Settings) → plain_from bare (name ∷ value ∷ rest) ≡ Some s
-    → (name ≡ codes "--generate") × IsPair value rest s
-begins name value rest s e = go (bytes_eq name (codes "--generate")) refl e
-  where
-    of : (o : Option ℕ) → calls_of value ≡ o → option_and_then (λ next. plain_from next rest) (option_map asking o) ≡ Some s → IsPair value rest s
-    of None t e = cc
-    of (Some calls) t e = (calls, t, (ends calls rest s e).0, (ends calls rest s e).1)
-
-    go : (b : Bool) → bytes_eq name (codes "--generate") ≡ b → plain_from bare (name ∷ value ∷ rest) ≡ Some s → (name ≡ codes "--generate") × IsPair value rest s
-    go true t e = ((bytes_eq-Decides _ _).0 t, of (calls_of value) refl (rw t at e))
-    go false t e = let bad : None ≡ Some s = rw t at e in cc
+-- whether clap takes words on which its walk ends so, and passes or not
+abbrev taken_by : Walk → Bool → Bool
+taken_by w passes =
+    entered_passes (built command) w.stopped
+    && (passes && (settle_passes rules false w.held && (list_all default_passes rules && is_valid shape (finished rules w.held) (is_some (entered (built command) w.stopped)))))
 
 -- clap takes the words, and these are the settings in its matches
 IsFound : List Text → Settings → Type 0
 IsFound words s = (takes command words ≡ true) × (settings_in words ≡ Some s)
 
-pair_found : (value : Text) (calls : ℕ) → calls_of value ≡ Some calls → IsFound (codes "--generate" ∷ value ∷ []) (asking calls)
+found : (words : List Text) (last : Given) → Ends last words (walk_at [] None) → IsFound words (with_defaults last)
 unfolding IsFound settings_in
-pair_found value calls e =
-    let p = digit_first value calls e in
-    let taken : takes command (codes "--generate" ∷ value ∷ []) ≡ true = subst (λ (v : Text). takes command (codes "--generate" ∷ v ∷ []) ≡ true) (sym p.2) (one_taken p.1 p.0 p.3 p.4) in
-    let found : first_of (codes "generate") (matches_of command (codes "--generate" ∷ value ∷ [])) ≡ Some value =
-    subst (λ (v : Text). first_of (codes "generate") (matches_of command (codes "--generate" ∷ v ∷ [])) ≡ Some v) (sym p.2) (one_found p.1 p.0 p.3 p.4) in
-    (taken, ap settings_from found ∙ ap (λ (n : Option ℕ). option_map (λ generate. record { generate = generate }) (option_map Some n)) e)
+found words last end = (
+  ap₂ (λ (a b : Bool). a && b) simple
+      (ap₂ taken_by end.is end.passes ∙ ap (λ (b : Bool). b && true) (settle_at end.ps end.p end.ready)),
+  ap (λ (w : Walk). settings_by (finished rules w.held)) end.is
+      ∙ ap settings_by (finished_is (held_at end.ps end.p) ∙ ap (λ (h : Held). h.rows) (settled_at end.ps end.p end.ready))
+      ∙ settings_told last (all_of end.ps end.p) end.agrees,
+)
 
 plain_found : (words : List Text) (s : Settings) → plain_settings words ≡ Some s → IsFound words s
-unfolding plain_settings IsFound settings_in
-plain_found [] s e = (none_taken, ap settings_from none_found ∙ e)
-plain_found (word ∷ []) s e = cc
-plain_found (name ∷ value ∷ rest) s e =
-    let p = begins name value rest s e in
-    let same : codes "--generate" ∷ value ∷ [] ≡ name ∷ value ∷ rest = rw (p.0, p.1.2) refl in
-    subst (λ (ws : List Text). IsFound ws s) same (subst (IsFound (codes "--generate" ∷ value ∷ [])) p.1.3 (pair_found value p.1.0 p.1.1))
+unfolding plain_settings
+plain_found words s e = go (given_from nothing_given words) refl e
+  where
+    go : (o : Option Given) → given_from nothing_given words ≡ o → option_map with_defaults o ≡ Some s → IsFound words s
+    go None t h = cc
+    go (Some last) t h =
+        let same : with_defaults last ≡ s = cc in
+        subst (IsFound words) same (found words last (ends words nothing_given last [] None tt nothing_agrees t))
 
 agrees : (words : List Text) (s : Settings) (r : Result Settings WordsError) → IsFound words s → IsWordsAnswer words r → (r ≡ Ok s) ⊎ (r ≡ Err Memory)
 unfolding IsFound AreSettings AreRefused

@@ -27,27 +27,29 @@ use Rattle.sig_host.specs.declared.status.Status.TheVariants.{Done, BadScript, U
 abbrev pub IsRefused : ℕ → FaultKind → List ℕ → Type 0
 IsRefused line kind bytes = script_of bytes ≡ Err (record { line = line; kind = kind })
 
+-- the reports are the record of the run of one worker on the script, of which it has one
+abbrev pub IsRecordAlone : Program → List Report → Type 0
+IsRecordAlone script reports = (last : List Running) × RunsTo (opened_crew script) last × (reports ≡ record_of last)
+
 -- The reports are the record of a run of the plain machine on the script: its events, in the order of their stamps, are possible
 -- one after another from the opening, each receive looks at all messages, each signal was handled once, in the order of its sender,
 -- or is reported as queued, and the machine has come to rest (Erlang Reference Manual, Processes, Delivery of Signals;
--- Expressions, Receive). With one worker it is the record of the run of one worker, of which a script has one.
-pub record IsRecordOf (script : Program) (reports : List Report) : Type 0 where
+-- Expressions, Receive). With one worker it is the record of the run of one worker.
+pub record IsRecordOf (workers : ℕ) (script : Program) (reports : List Report) : Type 0 where
   pub machine : Machine ProcessState Signal
   pub run : IsRecordOfRun script machine reports
   pub settled : IsSettled (whole_rules script) machine
-  pub last : List Running
-  pub alone : RunsTo (opened_crew script) last
-  pub told : reports ≡ record_of last
+  pub alone : workers ≡ 1 → IsRecordAlone script reports
 
 -- the text of the summary of these reports, where one is asked for
 abbrev pub summary_for : Bool → List Report → Option (List ℕ)
 summary_for true reports = Some (summary_text (summary_of reports))
 summary_for false reports = None
 
--- the texts of a record of a run of the script, and of its summary where one is asked for
-abbrev pub AreTexts : Program → Bool → Texts → Type 0
-AreTexts script asked t =
-    (reports : List Report) × IsRecordOf script reports × (t.record.items ≡ record_text reports) × (text_in t.summary ≡ summary_for asked reports)
+-- the texts of a record of a run of the script with so many workers, and of its summary where one is asked for
+abbrev pub AreTexts : ℕ → Program → Bool → Texts → Type 0
+AreTexts workers script asked t =
+    (reports : List Report) × IsRecordOf workers script reports × (t.record.items ≡ record_text reports) × (text_in t.summary ≡ summary_for asked reports)
 
 -- reading the script: what the source had left, its faults before and after, and the script or why there is none
 abbrev pub IsSourceRead : Option (List ℕ) → ℕ → ℕ → Result Program Status → Type 0
@@ -89,48 +91,49 @@ IsUnread r = (r.rest ≡ r.left) × IsFine r
 abbrev pub IsUnwritten : Writing → Type 0
 IsUnwritten w = w.new ≡ w.held
 
--- the whole text of the record of a run of the script was written; this text of its summary, if one is asked for, is to be told
-abbrev pub IsPrinted : Program → Bool → Writing → Option (List ℕ) → Type 0
-IsPrinted script asked w summary =
-    (reports : List Report) × IsRecordOf script reports × Adds w.held w.new (record_text reports) × (summary ≡ summary_for asked reports)
+-- the whole text of the record of a run of the script with so many workers was written; this text of its summary, if one is asked for,
+-- is to be told
+abbrev pub IsPrinted : ℕ → Program → Bool → Writing → Option (List ℕ) → Type 0
+IsPrinted workers script asked w summary =
+    (reports : List Report) × IsRecordOf workers script reports × Adds w.held w.new (record_text reports) × (summary ≡ summary_for asked reports)
 
 -- a write failed, and the beginning of that text was written
-abbrev pub IsCutOff : Program → Writing → Type 0
-IsCutOff script w =
-    Rose w.before w.after × ((reports : List Report) × (n : ℕ) × IsRecordOf script reports × Adds w.held w.new (take n (record_text reports)))
+abbrev pub IsCutOff : ℕ → Program → Writing → Type 0
+IsCutOff workers script w =
+    Rose w.before w.after × ((reports : List Report) × (n : ℕ) × IsRecordOf workers script reports × Adds w.held w.new (take n (record_text reports)))
 
--- running a script and writing its record, and how that ended: with this text of a summary or none
-abbrev pub IsScriptRun : Program → Bool → Writing → Status → Option (List ℕ) → Type 0
-IsScriptRun script asked w Done summary = IsPrinted script asked w summary
-IsScriptRun script asked w WriteFault summary = IsCutOff script w
-IsScriptRun script asked w Memory summary = IsUnwritten w
-IsScriptRun script asked w _ summary = ⊥
+-- running a script with so many workers and writing its record, and how that ended: with this text of a summary or none
+abbrev pub IsScriptRun : ℕ → Program → Bool → Writing → Status → Option (List ℕ) → Type 0
+IsScriptRun workers script asked w Done summary = IsPrinted workers script asked w summary
+IsScriptRun workers script asked w WriteFault summary = IsCutOff workers script w
+IsScriptRun workers script asked w Memory summary = IsUnwritten w
+IsScriptRun workers script asked w _ summary = ⊥
 
 -- the source spells a script, of which this holds
 abbrev pub Spells : Reading → (Program → Type 0) → Type 0
 Spells r Holds = IfSome r.left (λ bytes. (script : Program) × (script_of bytes ≡ Ok script) × Holds script)
 
--- running the script that the source spells
-abbrev pub IsSourceRun : Reading → Writing → Status → Option (List ℕ) → Type 0
-IsSourceRun r w Done summary = Spells r (λ script. IsPrinted script false w summary) × IsFine r × (summary ≡ None)
-IsSourceRun r w (BadScript line kind) summary = IfSome r.left (IsRefused line kind) × IsFine r × IsUnwritten w
-IsSourceRun r w ReadFault summary = Rose r.before r.after × IsUnwritten w
-IsSourceRun r w WriteFault summary = Spells r (λ script. IsCutOff script w) × Rose w.before w.after × IsFine r
-IsSourceRun r w Memory summary = IsFine r × IsUnwritten w
-IsSourceRun r w Usage summary = ⊥
+-- running the script that the source spells, with so many workers
+abbrev pub IsSourceRun : ℕ → Reading → Writing → Status → Option (List ℕ) → Type 0
+IsSourceRun workers r w Done summary = Spells r (λ script. IsPrinted workers script false w summary) × IsFine r × (summary ≡ None)
+IsSourceRun workers r w (BadScript line kind) summary = IfSome r.left (IsRefused line kind) × IsFine r × IsUnwritten w
+IsSourceRun workers r w ReadFault summary = Rose r.before r.after × IsUnwritten w
+IsSourceRun workers r w WriteFault summary = Spells r (λ script. IsCutOff workers script w) × Rose w.before w.after × IsFine r
+IsSourceRun workers r w Memory summary = IsFine r × IsUnwritten w
+IsSourceRun workers r w Usage summary = ⊥
 
--- running the script that the settings ask for: generated work, for which the source isn't read, or what the source spells
-abbrev pub IsRun : Option ℕ → Reading → Writing → Status → Option (List ℕ) → Type 0
-IsRun (Some calls) r w status summary = IsUnread r × IsScriptRun (generated calls) true w status summary
-IsRun None r w status summary = IsSourceRun r w status summary
+-- running with so many workers the script that is asked for: generated work, for which the source isn't read, or what the source spells
+abbrev pub IsRun : ℕ → Option ℕ → Reading → Writing → Status → Option (List ℕ) → Type 0
+IsRun workers (Some calls) r w status summary = IsUnread r × IsScriptRun workers (generated calls) true w status summary
+IsRun workers None r w status summary = IsSourceRun workers r w status summary
 
 -- the words have settings, and this is a run that they ask for
 abbrev pub IsRunAsked : List (List ℕ) → Reading → Writing → Status → Option (List ℕ) → Type 0
-IsRunAsked words r w status summary = (settings : Settings) × AreSettings words settings × IsRun settings.generate r w status summary
+IsRunAsked words r w status summary = (settings : Settings) × AreSettings words settings × IsRun settings.workers settings.generate r w status summary
 
 -- the settings of the words ask for generated work
 abbrev pub AskForWork : List (List ℕ) → Type 0
-AskForWork words = (calls : ℕ) × (settings_in words ≡ Some (record { generate = Some calls }))
+AskForWork words = (settings : Settings) × (calls : ℕ) × (settings_in words ≡ Some settings) × (settings.generate ≡ Some calls)
 
 -- what each status says of the words, of what was read, and of what was written
 abbrev pub IsAnswer : List (List ℕ) → Reading → Writing → Status → Option (List ℕ) → Type 0

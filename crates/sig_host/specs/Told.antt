@@ -56,7 +56,7 @@ text_or_none (Some text) = text
 abbrev pub told_text : Status → Option (List ℕ) → List ℕ
 told_text Done summary = text_or_none summary
 told_text (BadScript line kind) summary = refusal_text line kind
-told_text Usage summary = codes "usage: sigrun [--generate N]\n"
+told_text Usage summary = codes "usage: sigrun [--workers N] [--quota N] [--buffers never|always|churn:N|auto] [--generate N]\n"
 told_text ReadFault summary = codes "sigrun: read fault\n"
 told_text WriteFault summary = codes "sigrun: write fault\n"
 told_text Memory summary = codes "sigrun: out of memory\n"

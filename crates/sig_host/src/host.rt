@@ -1,7 +1,10 @@
 ghost use Rattle.std.specs.Prelude.{◌≡◌, ◌≢◌, ◌≤◌, ◌⊎◌, ℕ, Bool, true, List, map, string_bytes, IfOk, Option, Some};
 ghost use Rattle.sig_base.specs.Flow.{Rose, Adds};
-ghost use Rattle.sig_script.specs.Scripts.{Program};
+ghost use Rattle.sig_script.specs.Scripts.{Program, IsSound};
 ghost use Rattle.sig_script.specs.Generated.{generated};
+ghost use Rattle.sig_model.specs.OneWorker.{IsClear, RunsTo};
+ghost use Rattle.sig_model.specs.CrewLaw.{IsLawfulCrew};
+ghost use Rattle.sig_workers.specs.Rounds.{HasSettled};
 ghost use Rattle.sig_host.specs.Answers.{
   AreTexts,
   IsAnswer,
@@ -30,9 +33,11 @@ use sig_base::{Gate, ReadAll, Sink, Source, Written, read_all, write_whole};
 use sig_model::lawful_crew_comes_to_rest;
 use sig_process::Crew;
 use sig_record::{Record, a_lawful_crew_tells_a_run, print_record, summarize};
-use sig_script::{FaultKind, MOST_BYTES, MOST_CALLS, Script, ScriptError, generate, read_script};
-use sig_workers::run_one;
+use sig_script::{FaultKind, MOST_BYTES, MOST_CALLS, MOST_PROCESSES, Script, ScriptError, generate, read_script};
+use sig_workers::{run_one, run_rounds};
 use std::alloc::{AllocError, Global};
+use std::sync::Wait;
+use std::thread::Threads;
 
 /// Reads the script that these bytes spell.
 fn read_bytes(alloc: Global, bytes: &[u8]) -> Result<Script, Status>
@@ -63,13 +68,52 @@ fn read_source<S: Source>(alloc: Global, source: &mut S) -> Result<Script, Statu
     }
 }
 
-/// The record of the script's one-worker run, which is a settled run of its machine.
-fn run_record(alloc: Global, script: &Script) -> Result<Record, AllocError>
-    ensures { IfOk result (IsRecordOf script.now) }
+/// Runs the crew of a script until it has come to rest: with one worker by passes over its processes,
+/// with more by rounds of the workers, under the policy and the quota of the settings.
+fn run_crew<R: Threads + Wait + Sync, G: Gate>(
+    rt: &R,
+    alloc: Global,
+    settings: Settings,
+    crew: Crew,
+    gate: &G,
+) -> Result<Crew, AllocError>
+    requires range { IsInRange settings }
+    requires lawful { (script : Program) × IsSound script × IsLawfulCrew script crew }
+    requires clear { IsClear crew }
+    ensures lawful { (script : Program) → IsLawfulCrew script crew → IfOk result (IsLawfulCrew script) }
+    ensures clear { IfOk result IsClear }
+    ensures settled { (script : Program) → IsLawfulCrew script crew → IfOk result (HasSettled script) }
+    ensures alone { settings.workers ≡ 1 → IfOk result (RunsTo crew) }
 {
+    if settings.workers == 1 {
+        lawful_crew_comes_to_rest();
+        return run_one(crew);
+    }
+    let Settings {
+        workers,
+        quota,
+        policy,
+        generate: _,
+    } = settings;
+    let (last, _) = run_rounds(rt, alloc, crew, workers, quota, policy, gate)?;
+    Ok(last)
+}
+
+/// The record of a run of the script by the workers of the settings, which is a settled run of its
+/// machine; with one worker it is that of the one-worker run.
+fn run_record<R: Threads + Wait + Sync, G: Gate>(
+    rt: &R,
+    alloc: Global,
+    settings: Settings,
+    script: &Script,
+    gate: &G,
+) -> Result<Record, AllocError>
+    requires { IsInRange settings }
+    ensures { IfOk result (IsRecordOf settings.workers script.now) }
+{
+    prove!(script.count() as usize <= MOST_PROCESSES);
     let crew = Crew::open(alloc, script)?;
-    let crew = run_one(crew)?;
-    lawful_crew_comes_to_rest();
+    let crew = run_crew(rt, alloc, settings, crew, gate)?;
     a_lawful_crew_tells_a_run();
     let given = Record::gather(alloc, crew)?;
     Ok(given)
@@ -87,10 +131,18 @@ fn summary_of(alloc: Global, given: &Record, asked: bool) -> Result<Option<Vec<u
 }
 
 /// Runs the script. The texts of its record, and of the summary where one is asked for.
-fn run_texts(alloc: Global, script: &Script, asked: bool) -> Result<Texts, AllocError>
-    ensures { IfOk result (AreTexts script.now asked) }
+fn run_texts<R: Threads + Wait + Sync, G: Gate>(
+    rt: &R,
+    alloc: Global,
+    settings: Settings,
+    script: &Script,
+    asked: bool,
+    gate: &G,
+) -> Result<Texts, AllocError>
+    requires { IsInRange settings }
+    ensures { IfOk result (AreTexts settings.workers script.now asked) }
 {
-    let given = run_record(alloc, script)?;
+    let given = run_record(rt, alloc, settings, script, gate)?;
     let summary = summary_of(alloc, &given, asked)?;
     let mut record = Vec::new(alloc);
     print_record(&given, &mut record)?;
@@ -99,7 +151,7 @@ fn run_texts(alloc: Global, script: &Script, asked: bool) -> Result<Texts, Alloc
 
 /// Writes the record. The summary is told once it is written.
 fn write_record<O: Sink>(texts: Texts, out: &mut O) -> Ending
-    ensures run { (script : Program) → (asked : Bool) → AreTexts script asked texts → IsScriptRun script asked
+    ensures run { (workers : ℕ) → (script : Program) → (asked : Bool) → AreTexts workers script asked texts → IsScriptRun workers script asked
         (writing (O.held out.old) (O.held out.new) (O.faults out.old) (O.faults out.new))
         result.status (text_in result.summary) }
 {
@@ -113,67 +165,96 @@ fn write_record<O: Sink>(texts: Texts, out: &mut O) -> Ending
 }
 
 /// Runs the script, and writes the record. The texts are made whole before the first write.
-fn run_script<O: Sink>(alloc: Global, script: &Script, asked: bool, out: &mut O) -> Ending
-    ensures { IsScriptRun script.now asked (writing (O.held out.old) (O.held out.new) (O.faults out.old) (O.faults out.new))
+fn run_script<R: Threads + Wait + Sync, O: Sink, G: Gate>(
+    rt: &R,
+    alloc: Global,
+    settings: Settings,
+    script: &Script,
+    asked: bool,
+    out: &mut O,
+    gate: &G,
+) -> Ending
+    requires { IsInRange settings }
+    ensures { IsScriptRun settings.workers script.now asked (writing (O.held out.old) (O.held out.new) (O.faults out.old) (O.faults out.new))
         result.status (text_in result.summary) }
 {
-    match run_texts(alloc, script, asked) {
+    match run_texts(rt, alloc, settings, script, asked, gate) {
         Ok(texts) => write_record(texts, out),
         Err(_) => Ending::short(Status::Memory),
     }
 }
 
 /// Makes work of so many calls for each client, runs it, and writes the record.
-fn run_generated<O: Sink>(alloc: Global, calls: u32, out: &mut O) -> Ending
+fn run_generated<R: Threads + Wait + Sync, O: Sink, G: Gate>(
+    rt: &R,
+    alloc: Global,
+    settings: Settings,
+    calls: u32,
+    out: &mut O,
+    gate: &G,
+) -> Ending
+    requires range { IsInRange settings }
     requires least { 1 ≤ calls }
     requires most { calls ≤ MOST_CALLS }
-    ensures { IsScriptRun (generated calls) true (writing (O.held out.old) (O.held out.new) (O.faults out.old) (O.faults out.new))
+    ensures { IsScriptRun settings.workers (generated calls) true (writing (O.held out.old) (O.held out.new) (O.faults out.old) (O.faults out.new))
         result.status (text_in result.summary) }
 {
     match generate(alloc, calls) {
-        Ok(script) => run_script(alloc, &script, true, out),
+        Ok(script) => run_script(rt, alloc, settings, &script, true, out, gate),
         Err(_) => Ending::short(Status::Memory),
     }
 }
 
 /// Reads the script, runs it, and writes the record.
-fn run_source<S: Source, O: Sink>(alloc: Global, script: &mut S, out: &mut O) -> Ending
-    ensures { IsSourceRun
+fn run_source<R: Threads + Wait + Sync, S: Source, O: Sink, G: Gate>(
+    rt: &R,
+    alloc: Global,
+    settings: Settings,
+    script: &mut S,
+    out: &mut O,
+    gate: &G,
+) -> Ending
+    requires { IsInRange settings }
+    ensures { IsSourceRun settings.workers
         (reading (S.left script.old) (S.left script.new) (S.faults script.old) (S.faults script.new))
         (writing (O.held out.old) (O.held out.new) (O.faults out.old) (O.faults out.new))
         result.status (text_in result.summary) }
 {
     match read_source(alloc, script) {
-        Ok(script) => run_script(alloc, &script, false, out),
+        Ok(script) => run_script(rt, alloc, settings, &script, false, out, gate),
         Err(status) => Ending::short(status),
     }
 }
 
 /// Runs what the settings ask for, and writes the record.
-fn run_settings<S: Source, O: Sink>(
+fn run_settings<R: Threads + Wait + Sync, S: Source, O: Sink, G: Gate>(
+    rt: &R,
     alloc: Global,
     settings: Settings,
     script: &mut S,
     out: &mut O,
+    gate: &G,
 ) -> Ending
     requires { IsInRange settings }
-    ensures { IsRun settings.generate
+    ensures { IsRun settings.workers settings.generate
         (reading (S.left script.old) (S.left script.new) (S.faults script.old) (S.faults script.new))
         (writing (O.held out.old) (O.held out.new) (O.faults out.old) (O.faults out.new))
         result.status (text_in result.summary) }
 {
     match settings.generate {
-        Some(calls) => run_generated(alloc, calls, out),
-        None => run_source(alloc, script, out),
+        Some(calls) => run_generated(rt, alloc, settings, calls, out, gate),
+        None => run_source(rt, alloc, settings, script, out, gate),
     }
 }
 
 /// Reads the arguments, runs what they ask for, and writes the record.
-fn run_words<S: Source, O: Sink>(
+fn run_words<R: Threads + Wait + Sync, S: Source, O: Sink, G: Gate>(
+    rt: &R,
     alloc: Global,
     arguments: &[String],
     script: &mut S,
     out: &mut O,
+    gate: &G,
 ) -> Ending
     ensures { IsAnswer (map string_bytes arguments.now)
         (reading (S.left script.old) (S.left script.new) (S.faults script.old) (S.faults script.new))
@@ -181,15 +262,18 @@ fn run_words<S: Source, O: Sink>(
         result.status (text_in result.summary) }
 {
     match words(alloc, arguments) {
-        Ok(settings) => run_settings(alloc, settings, script, out),
+        Ok(settings) => run_settings(rt, alloc, settings, script, out, gate),
         Err(WordsError::Usage) => Ending::short(Status::Usage),
         Err(WordsError::Memory) => Ending::short(Status::Memory),
     }
 }
 
 /// Reads the arguments; makes the script, with `--generate`, or else reads it to its end; runs it
-/// with one worker; and writes the text of the record to `out`. What the record tells is a settled
-/// run of the script's machine. With `--generate` the source isn't read.
+/// with as many workers as they ask for; and writes the text of the record to `out`. What the record
+/// tells is a settled run of the script's machine, however many workers there are and whatever the
+/// policy of buffers; with one worker it is the one-worker run, of which a script has one. With
+/// `--generate` the source isn't read. With one worker the gate is told of nothing, and no thread is
+/// started.
 ///
 /// `Usage` comes exactly where [`words`] answers it, never on words in the plain form, and then the
 /// source isn't read. `BadScript` comes only without `--generate`, where the bytes spell no script,
@@ -200,14 +284,16 @@ fn run_words<S: Source, O: Sink>(
 ///
 /// What a status tells is written to `err` where no write to it fails: with `Done` the summary of
 /// the record, if the script was made. A fault of `err` changes no status. Words in the plain form
-/// with a script, and no fault of the source and of `out`, give `Done` or `Memory`.
-pub fn run<S: Source, O: Sink, E: Sink, G: Gate>(
+/// with a script, and no fault of the source and of `out`, give `Done` or `Memory`, if the call
+/// returns: with more than one worker it waits for threads.
+pub fn run<R: Threads + Wait + Sync, S: Source, O: Sink, E: Sink, G: Gate>(
+    rt: &R,
     alloc: Global,
     arguments: &[String],
     script: &mut S,
     out: &mut O,
     err: &mut E,
-    _gate: &G,
+    gate: &G,
 ) -> Status
     ensures answer { (summary : Option (List ℕ)) × IsAnswer (map string_bytes arguments.now)
         (reading (S.left script.old) (S.left script.new) (S.faults script.old) (S.faults script.new))
@@ -219,7 +305,7 @@ pub fn run<S: Source, O: Sink, E: Sink, G: Gate>(
         (writing (O.held out.old) (O.held out.new) (O.faults out.old) (O.faults out.new))
         → (result ≡ Status.Done) ⊎ (result ≡ Status.Memory) }
 {
-    let ending = run_words(alloc, arguments, script, out);
+    let ending = run_words(rt, alloc, arguments, script, out, gate);
     tell(err, &ending);
     ending.status
 }

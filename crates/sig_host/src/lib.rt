@@ -4,6 +4,7 @@
 mod command_line;
 mod ending;
 mod host;
+mod option_values;
 mod settings;
 mod status;
 mod summing;
@@ -13,7 +14,7 @@ mod words_error;
 
 pub use command_line::words;
 pub use host::run;
-pub use settings::Settings;
+pub use settings::{MOST_CHURN, MOST_QUOTA, MOST_WORKERS, Settings};
 pub use status::Status;
 pub use words_error::WordsError;
 
@@ -39,3 +40,5 @@ mod tests;
 mod text_tests;
 #[cfg(test)]
 mod watch_tests;
+#[cfg(test)]
+mod worker_tests;

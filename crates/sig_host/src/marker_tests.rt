@@ -1,5 +1,27 @@
 //! Worked examples of receive markers, through the top call.
 
+/// A server and twelve clients, of which one may be killed before it has its answer.
+pub(crate) const SERVER_AND_CLIENTS: &[u8] = b"process srv\nlabel l\nreceive\non {call,R,V} -> ans\nend\nlabel ans\nsend R {R,V}\ngoto l\nprocess c1\n\
+    reserve\nmonitor M @srv reply_demonitor\nbind M\nsend @srv {call,M,1}\nreceive using M\non {^M,V}\n\
+    on {'DOWN',^M,process,_,W}\nend\nprocess c2\nreserve\nmonitor M @srv reply_demonitor\nbind M\n\
+    send @srv {call,M,2}\nreceive using M\non {^M,V}\non {'DOWN',^M,process,_,W}\nend\nprocess c3\nreserve\n\
+    monitor M @srv reply_demonitor\nbind M\nsend @srv {call,M,3}\nreceive using M\non {^M,V}\n\
+    on {'DOWN',^M,process,_,W}\nend\nprocess c4\nreserve\nmonitor M @srv reply_demonitor\nbind M\n\
+    send @srv {call,M,4}\nreceive using M\non {^M,V}\non {'DOWN',^M,process,_,W}\nend\nprocess c5\nreserve\n\
+    monitor M @srv reply_demonitor\nbind M\nsend @srv {call,M,5}\nreceive using M\non {^M,V}\n\
+    on {'DOWN',^M,process,_,W}\nend\nprocess c6\nreserve\nmonitor M @srv reply_demonitor\nbind M\n\
+    send @srv {call,M,6}\nreceive using M\non {^M,V}\non {'DOWN',^M,process,_,W}\nend\nprocess c7\nreserve\n\
+    monitor M @srv reply_demonitor\nbind M\nsend @srv {call,M,7}\nreceive using M\non {^M,V}\n\
+    on {'DOWN',^M,process,_,W}\nend\nprocess c8\nreserve\nmonitor M @srv reply_demonitor\nbind M\n\
+    send @srv {call,M,8}\nreceive using M\non {^M,V}\non {'DOWN',^M,process,_,W}\nend\nprocess c9\nreserve\n\
+    monitor M @srv reply_demonitor\nbind M\nsend @srv {call,M,9}\nreceive using M\non {^M,V}\n\
+    on {'DOWN',^M,process,_,W}\nend\nprocess c10\nreserve\nmonitor M @srv reply_demonitor\nbind M\n\
+    send @srv {call,M,10}\nreceive using M\non {^M,V}\non {'DOWN',^M,process,_,W}\nend\nprocess c11\n\
+    reserve\nmonitor M @srv reply_demonitor\nbind M\nsend @srv {call,M,11}\nreceive using M\non {^M,V}\n\
+    on {'DOWN',^M,process,_,W}\nend\nprocess c12\nreserve\nmonitor M @srv reply_demonitor\nbind M\n\
+    send @srv {call,M,12}\nreceive using M\non {^M,V}\non {'DOWN',^M,process,_,W}\nend\nprocess k\nreceive\n\
+    after\nend\nreceive\nafter\nend\nreceive\nafter\nend\nexit_to @c5 kill\n";
+
 /// Scripts without their first line, and their records without theirs.
 pub(crate) const MARKERS: [(&[u8], &[u8]); 7] = [
     // Of nine markers the oldest is gone.
@@ -34,26 +56,7 @@ pub(crate) const MARKERS: [(&[u8], &[u8]); 7] = [
     ),
     // A server and twelve clients, one of which is killed before its reply comes.
     (
-        b"process srv\nlabel l\nreceive\non {call,R,V} -> ans\nend\nlabel ans\nsend R {R,V}\ngoto l\nprocess c1\n\
-          reserve\nmonitor M @srv reply_demonitor\nbind M\nsend @srv {call,M,1}\nreceive using M\non {^M,V}\n\
-          on {'DOWN',^M,process,_,W}\nend\nprocess c2\nreserve\nmonitor M @srv reply_demonitor\nbind M\n\
-          send @srv {call,M,2}\nreceive using M\non {^M,V}\non {'DOWN',^M,process,_,W}\nend\nprocess c3\nreserve\n\
-          monitor M @srv reply_demonitor\nbind M\nsend @srv {call,M,3}\nreceive using M\non {^M,V}\n\
-          on {'DOWN',^M,process,_,W}\nend\nprocess c4\nreserve\nmonitor M @srv reply_demonitor\nbind M\n\
-          send @srv {call,M,4}\nreceive using M\non {^M,V}\non {'DOWN',^M,process,_,W}\nend\nprocess c5\nreserve\n\
-          monitor M @srv reply_demonitor\nbind M\nsend @srv {call,M,5}\nreceive using M\non {^M,V}\n\
-          on {'DOWN',^M,process,_,W}\nend\nprocess c6\nreserve\nmonitor M @srv reply_demonitor\nbind M\n\
-          send @srv {call,M,6}\nreceive using M\non {^M,V}\non {'DOWN',^M,process,_,W}\nend\nprocess c7\nreserve\n\
-          monitor M @srv reply_demonitor\nbind M\nsend @srv {call,M,7}\nreceive using M\non {^M,V}\n\
-          on {'DOWN',^M,process,_,W}\nend\nprocess c8\nreserve\nmonitor M @srv reply_demonitor\nbind M\n\
-          send @srv {call,M,8}\nreceive using M\non {^M,V}\non {'DOWN',^M,process,_,W}\nend\nprocess c9\nreserve\n\
-          monitor M @srv reply_demonitor\nbind M\nsend @srv {call,M,9}\nreceive using M\non {^M,V}\n\
-          on {'DOWN',^M,process,_,W}\nend\nprocess c10\nreserve\nmonitor M @srv reply_demonitor\nbind M\n\
-          send @srv {call,M,10}\nreceive using M\non {^M,V}\non {'DOWN',^M,process,_,W}\nend\nprocess c11\n\
-          reserve\nmonitor M @srv reply_demonitor\nbind M\nsend @srv {call,M,11}\nreceive using M\non {^M,V}\n\
-          on {'DOWN',^M,process,_,W}\nend\nprocess c12\nreserve\nmonitor M @srv reply_demonitor\nbind M\n\
-          send @srv {call,M,12}\nreceive using M\non {^M,V}\non {'DOWN',^M,process,_,W}\nend\nprocess k\nreceive\n\
-          after\nend\nreceive\nafter\nend\nreceive\nafter\nend\nexit_to @c5 kill\n",
+        SERVER_AND_CLIENTS,
         b"process 0 srv\n3 from 1 1 watched\n4 from 2 1 watched\n5 from 3 1 watched\n6 from 4 1 watched\n\
           7 from 5 1 watched\n8 from 6 1 watched\n9 from 7 1 watched\n10 from 8 1 watched\n11 from 9 1 watched\n\
           12 from 10 1 watched\n13 from 11 1 watched\n14 from 12 1 watched\n15 from 1 2 kept {call,#Ref<1.1>,1}\n\

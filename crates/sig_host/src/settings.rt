@@ -1,7 +1,26 @@
+use sig_layout::Policy;
+
 /// What the arguments ask for.
 #[derive(Clone, Copy, Debug, PartialEq, Eq)]
 pub struct Settings {
+    /// How many workers run the processes, from 1 to [`MOST_WORKERS`].
+    pub workers: u32,
+    /// How many events a worker makes before its part of a round is over, at least: from 1 to
+    /// [`MOST_QUOTA`]. With one worker it counts for nothing.
+    pub quota: u32,
+    /// When the shared queues have buffers; the number of [`Policy::Churn`] is from 1 to
+    /// [`MOST_CHURN`]. With one worker it counts for nothing.
+    pub policy: Policy,
     /// The calls that each client of the generated work makes, from 1 to
     /// [`MOST_CALLS`](sig_script::MOST_CALLS). Without it the script is read.
     pub generate: Option<u32>,
 }
+
+/// The most workers that the command takes.
+pub const MOST_WORKERS: u32 = 16;
+
+/// The largest quota.
+pub const MOST_QUOTA: u32 = 1_000_000;
+
+/// The largest number of the policy [`Policy::Churn`].
+pub const MOST_CHURN: u32 = 1_000_000;

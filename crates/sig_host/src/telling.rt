@@ -10,6 +10,9 @@ use itoa::Buffer;
 use sig_base::{Sink, Written, write_whole};
 use sig_script::FaultKind;
 
+/// How the command is called.
+const USAGE: &[u8] = b"usage: sigrun [--workers N] [--quota N] [--buffers never|always|churn:N|auto] [--generate N]\n";
+
 /// A write to `err` failed. What was to follow isn't written.
 #[derive(Clone, Copy, Debug)]
 struct Untold;
@@ -80,7 +83,7 @@ pub fn tell<E: Sink>(err: &mut E, ending: &Ending)
     let _ = match ending.status {
         Status::Done => tell_summary(err, &ending.summary),
         Status::BadScript { line, kind } => tell_refusal(err, line, kind),
-        Status::Usage => tell_piece(err, b"usage: sigrun [--generate N]\n"),
+        Status::Usage => tell_piece(err, USAGE),
         Status::ReadFault => tell_piece(err, b"sigrun: read fault\n"),
         Status::WriteFault => tell_piece(err, b"sigrun: write fault\n"),
         Status::Memory => tell_piece(err, b"sigrun: out of memory\n"),

@@ -18,17 +18,20 @@ use itoa::Buffer;
 use sig_base::{
     FailingSink, FailingSource, MemorySink, MemorySource, OpenGate, Sink, Source, read_all,
 };
+use sig_layout::Policy;
 use sig_process::Crew;
 use sig_record::{Record, RecordError, print_record, read_record};
 use sig_script::{FaultKind, read_script};
 use sig_workers::run_one;
 use std::alloc::{AllocError, Global};
+use std::sync::Wait;
 use std::test::Fail;
+use std::thread::Threads;
 
 /// More bytes than any record of these tests has.
-const ROOM: usize = 500000;
+pub(crate) const ROOM: usize = 500000;
 
-const ONE_MESSAGE: &[u8] = b"sigscript 1\nprocess a\nsend @b hi\nprocess b\nreceive\non X\nend\n";
+pub(crate) const ONE_MESSAGE: &[u8] = b"sigscript 1\nprocess a\nsend @b hi\nprocess b\nreceive\non X\nend\n";
 
 const ONE_MESSAGE_RECORD: &[u8] =
     b"sigrecord 1\nprocess 0 a\n1 exec 1 sent <1> hi\n2 exec 2 ended normal\nstate ended normal\nprocess 1 b\n2 from 0 1 kept hi\n3 exec 1 took 1 1 hi\n4 exec 2 ended normal\nstate ended normal\n";
@@ -60,14 +63,14 @@ const TOLD_OPEN_RECEIVE: &[u8] = b"sigrun: line 5: syntax\n";
 const SUMMARY_OF_100: &[u8] = b"processes 9\nevents 9608\nkept 1600\nended 8\nwaiting 1\ncut 0\n";
 
 /// Runs with no arguments, and an `err` that never fails.
-fn run_with<S: Source, O: Sink>(
-    alloc: Global,
+fn run_with<R: Threads + Wait + Sync, S: Source, O: Sink>(
+    rt: &R, alloc: Global,
     script: &mut S,
     out: &mut O,
 ) -> Result<(Status, MemorySink), AllocError> {
     let mut err = MemorySink::with_room(alloc, 100)?;
     let none = Vec::new(alloc);
-    let status = run(alloc, none.as_slice(), script, out, &mut err, &OpenGate);
+    let status = run(rt, alloc, none.as_slice(), script, out, &mut err, &OpenGate);
     Ok((status, err))
 }
 
@@ -105,7 +108,7 @@ fn texts_are_read_in_pieces(rt: HostRuntime) -> Result<(), Fail> {
     for (text, piece, status, record, told) in rows {
         let mut source = MemorySource::new(Vec::from_slice(alloc, text)?, piece.max(1));
         let mut out = MemorySink::with_room(alloc, 1000)?;
-        let (answer, err) = run_with(alloc, &mut source, &mut out)?;
+        let (answer, err) = run_with(&rt, alloc, &mut source, &mut out)?;
         assert!(rt; answer == status, "{text:?}");
         assert!(rt; out.held() == record, "{text:?}");
         assert!(rt; err.held() == told, "{text:?}");
@@ -114,7 +117,7 @@ fn texts_are_read_in_pieces(rt: HostRuntime) -> Result<(), Fail> {
 }
 
 /// A text of these pieces, each so many times.
-fn text_of(alloc: Global, pieces: &[(&[u8], usize)]) -> Result<Vec<u8>, AllocError> {
+pub(crate) fn text_of(alloc: Global, pieces: &[(&[u8], usize)]) -> Result<Vec<u8>, AllocError> {
     let mut text = Vec::new(alloc);
     for (piece, times) in pieces {
         for _ in 0..*times {
@@ -130,7 +133,7 @@ fn faults_end_a_run(rt: HostRuntime) -> Result<(), Fail> {
     let fails = vec![in alloc; 2]?;
     let mut broken = FailingSource::new(Vec::from_slice(alloc, ONE_MESSAGE)?, 10, fails);
     let mut empty = MemorySink::with_room(alloc, 1000)?;
-    let (answer, err) = run_with(alloc, &mut broken, &mut empty)?;
+    let (answer, err) = run_with(&rt, alloc, &mut broken, &mut empty)?;
     assert!(rt; answer == Status::ReadFault);
     assert!(rt; answer.number() == 3);
     assert!(rt; empty.held().is_empty());
@@ -138,7 +141,7 @@ fn faults_end_a_run(rt: HostRuntime) -> Result<(), Fail> {
     let fails = vec![in alloc; 2]?;
     let mut source = MemorySource::new(Vec::from_slice(alloc, ONE_MESSAGE)?, 100);
     let mut out = FailingSink::with_room(alloc, 1000, 10, fails)?;
-    let (answer, err) = run_with(alloc, &mut source, &mut out)?;
+    let (answer, err) = run_with(&rt, alloc, &mut source, &mut out)?;
     assert!(rt; answer == Status::WriteFault);
     assert!(rt; answer.number() == 4);
     assert!(rt; out.held() == b"sigrecord ".as_slice());
@@ -147,7 +150,7 @@ fn faults_end_a_run(rt: HostRuntime) -> Result<(), Fail> {
 }
 
 /// The text of each of these words.
-fn strings(alloc: Global, list: &[&str]) -> Result<Vec<String>, AllocError> {
+pub(crate) fn strings(alloc: Global, list: &[&str]) -> Result<Vec<String>, AllocError> {
     let mut strings = Vec::new(alloc);
     for word in list {
         strings.push(String::from_str(alloc, word)?)?;
@@ -155,18 +158,76 @@ fn strings(alloc: Global, list: &[&str]) -> Result<Vec<String>, AllocError> {
     Ok(strings)
 }
 
-/// Words that the command takes, and the calls that they ask for.
-const WORDS: [(&[&str], Option<u32>); 6] = [
-    (&[], None),
-    (&["--"], None),
-    (&["--generate", "1"], Some(1)),
-    (&["--generate", "800"], Some(800)),
-    (&["--generate", "00000000000000000000005"], Some(5)),
-    (&["--generate=5"], Some(5)),
+/// Words that the command takes, and the settings that they give: the workers, the quota, the policy
+/// and the calls.
+const WORDS: [(&[&str], u32, u32, Policy, Option<u32>); 17] = [
+    (&[], 1, 64, Policy::Auto, None),
+    (&["--"], 1, 64, Policy::Auto, None),
+    (&["--generate", "1"], 1, 64, Policy::Auto, Some(1)),
+    (&["--generate", "800"], 1, 64, Policy::Auto, Some(800)),
+    (
+        &["--generate", "00000000000000000000005"],
+        1,
+        64,
+        Policy::Auto,
+        Some(5),
+    ),
+    (&["--generate=5"], 1, 64, Policy::Auto, Some(5)),
+    (&["--workers", "1"], 1, 64, Policy::Auto, None),
+    (&["--workers", "16"], 16, 64, Policy::Auto, None),
+    (&["--quota", "1"], 1, 1, Policy::Auto, None),
+    (&["--quota", "1000000"], 1, 1_000_000, Policy::Auto, None),
+    (&["--buffers", "never"], 1, 64, Policy::Never, None),
+    (&["--buffers", "always"], 1, 64, Policy::Always, None),
+    (&["--buffers", "auto"], 1, 64, Policy::Auto, None),
+    (&["--buffers", "churn:1"], 1, 64, Policy::Churn(1), None),
+    (
+        &["--buffers=churn:1000000"],
+        1,
+        64,
+        Policy::Churn(1_000_000),
+        None,
+    ),
+    (
+        &["--workers", "4", "--buffers", "churn:3"],
+        4,
+        64,
+        Policy::Churn(3),
+        None,
+    ),
+    (
+        &[
+            "--generate",
+            "7",
+            "--buffers",
+            "never",
+            "--quota",
+            "2",
+            "--workers=3",
+        ],
+        3,
+        2,
+        Policy::Never,
+        Some(7),
+    ),
 ];
 
 /// Words that it doesn't take.
-const OTHER_WORDS: [&[&str]; 18] = [
+const OTHER_WORDS: [&[&str]; 32] = [
+    &["--workers", "0"],
+    &["--workers", "17"],
+    &["--workers", "4", "--workers", "4"],
+    &["--quota", "0"],
+    &["--quota", "1000001"],
+    &["--buffers", "churn:0"],
+    &["--buffers", "churn:1000001"],
+    &["--buffers", "churn:"],
+    &["--buffers", "churn"],
+    &["--buffers", "churn:x"],
+    &["--buffers", "Auto"],
+    &["--buffers", "never "],
+    &["--buffers", ""],
+    &["--workers", "4", "--buffers"],
     &["--generate", "0"],
     &["--generate", "801"],
     &["--generate", "18446744073709551617"],
@@ -190,10 +251,16 @@ const OTHER_WORDS: [&[&str]; 18] = [
 #[test]
 fn words_give_their_settings(rt: HostRuntime) -> Result<(), Fail> {
     let alloc = rt.alloc();
-    for (list, generate) in WORDS {
+    for (list, workers, quota, policy, generate) in WORDS {
         let given = strings(alloc, list)?;
         let answer = words(alloc, given.as_slice());
-        assert!(rt; answer == Ok(Settings { generate }), "{list:?}");
+        let expected = Settings {
+            workers,
+            quota,
+            policy,
+            generate,
+        };
+        assert!(rt; answer == Ok(expected), "{list:?}");
     }
     for list in OTHER_WORDS {
         let given = strings(alloc, list)?;
@@ -205,8 +272,8 @@ fn words_give_their_settings(rt: HostRuntime) -> Result<(), Fail> {
 
 /// Runs with these arguments and a script that is there to be read: the status, whether the script
 /// wasn't read, and what was written and told.
-fn run_words(
-    alloc: Global,
+fn run_words<R: Threads + Wait + Sync>(
+    rt: &R, alloc: Global,
     list: &[&str],
     room: usize,
 ) -> Result<(Status, bool, MemorySink, MemorySink), AllocError> {
@@ -215,6 +282,7 @@ fn run_words(
     let mut out = MemorySink::with_room(alloc, ROOM)?;
     let mut err = MemorySink::with_room(alloc, room)?;
     let status = run(
+        rt,
         alloc,
         arguments.as_slice(),
         &mut source,
@@ -227,21 +295,49 @@ fn run_words(
     Ok((status, left.as_slice() == ONE_MESSAGE, out, err))
 }
 
-const TOLD_USAGE: &[u8] = b"usage: sigrun [--generate N]\n";
+const TOLD_USAGE: &[u8] = b"usage: sigrun [--workers N] [--quota N] [--buffers never|always|churn:N|auto] [--generate N]\n";
+
+const SUMMARY_OF_2: &[u8] = b"processes 9\nevents 200\nkept 32\nended 8\nwaiting 1\ncut 0\n";
 
 #[test]
 fn arguments_are_told(rt: HostRuntime) -> Result<(), Fail> {
     let alloc = rt.alloc();
-    let rows: [(&[&str], usize, u8, &[u8]); 6] = [
+    let rows: [(&[&str], usize, u8, &[u8]); 12] = [
+        (&["--workers", "0"], 100, 2, TOLD_USAGE),
+        (&["--buffers", "churn:0"], 100, 2, TOLD_USAGE),
         (&["--generate", "0"], 100, 2, TOLD_USAGE),
         (&["--generate", "801"], 100, 2, TOLD_USAGE),
         (&["--help"], 100, 2, TOLD_USAGE),
         (&["--help"], 5, 2, b"usage"),
         (&["--generate", "100"], 100, 0, SUMMARY_OF_100),
         (&["--generate", "1"], 12, 0, b"processes 9\n"),
+        (
+            &["--generate", "2", "--workers", "4", "--buffers", "never"],
+            100,
+            0,
+            SUMMARY_OF_2,
+        ),
+        (
+            &["--generate", "2", "--workers", "4", "--buffers", "always"],
+            100,
+            0,
+            SUMMARY_OF_2,
+        ),
+        (
+            &["--generate", "2", "--workers", "4", "--buffers", "churn:1"],
+            100,
+            0,
+            SUMMARY_OF_2,
+        ),
+        (
+            &["--generate", "2", "--workers", "4", "--quota", "1"],
+            100,
+            0,
+            SUMMARY_OF_2,
+        ),
     ];
     for (list, room, number, told) in rows {
-        let (status, unread, out, err) = run_words(alloc, list, room)?;
+        let (status, unread, out, err) = run_words(&rt, alloc, list, room)?;
         assert!(rt; status.number() == number, "{list:?}");
         assert!(rt; unread, "{list:?}");
         assert!(rt; out.held().is_empty() == (number == 2), "{list:?}");
@@ -251,23 +347,23 @@ fn arguments_are_told(rt: HostRuntime) -> Result<(), Fail> {
 }
 
 /// Runs the text.
-fn run_text(alloc: Global, text: &[u8]) -> Result<(Status, MemorySink, MemorySink), AllocError> {
+fn run_text<R: Threads + Wait + Sync>(rt: &R, alloc: Global, text: &[u8]) -> Result<(Status, MemorySink, MemorySink), AllocError> {
     let mut source = MemorySource::new(Vec::from_slice(alloc, text)?, 100000);
     let mut out = MemorySink::with_room(alloc, ROOM)?;
-    let (status, err) = run_with(alloc, &mut source, &mut out)?;
+    let (status, err) = run_with(rt, alloc, &mut source, &mut out)?;
     Ok((status, out, err))
 }
 
 /// Runs the script of these lines behind the header line.
-fn run_lines(alloc: Global, lines: &[u8]) -> Result<(Status, MemorySink, MemorySink), AllocError> {
+fn run_lines<R: Threads + Wait + Sync>(rt: &R, alloc: Global, lines: &[u8]) -> Result<(Status, MemorySink, MemorySink), AllocError> {
     let mut text = Vec::from_slice(alloc, b"sigscript 1\n")?;
     text.extend_from_slice(lines)?;
-    run_text(alloc, text.as_slice())
+    run_text(rt, alloc, text.as_slice())
 }
 
 /// Whether the record of the script of these lines is the first line of a record and these lines.
-fn gives(alloc: Global, lines: &[u8], record: &[u8]) -> Result<bool, AllocError> {
-    let (status, out, err) = run_lines(alloc, lines)?;
+fn gives<R: Threads + Wait + Sync>(rt: &R, alloc: Global, lines: &[u8], record: &[u8]) -> Result<bool, AllocError> {
+    let (status, out, err) = run_lines(rt, alloc, lines)?;
     let told = out.held().strip_prefix(b"sigrecord 1\n".as_slice());
     Ok(status == Status::Done && told == Some(record) && err.held().is_empty())
 }
@@ -476,12 +572,12 @@ const PATTERNS: [(&[u8], &[u8]); 5] = [
 ];
 
 /// The first of these scripts that gives another record. Both stand without their first line.
-fn first_other<'a>(
-    alloc: Global,
+fn first_other<'a, R: Threads + Wait + Sync>(
+    rt: &R, alloc: Global,
     rows: &[(&'a [u8], &'a [u8])],
 ) -> Result<Option<&'a [u8]>, AllocError> {
     for (lines, record) in rows {
-        if !gives(alloc, lines, record)? {
+        if !gives(rt, alloc, lines, record)? {
             return Ok(Some(*lines));
         }
     }
@@ -489,12 +585,12 @@ fn first_other<'a>(
 }
 
 /// The first of these texts that gives another record, or of which something is told.
-fn first_unlike<'a>(
-    alloc: Global,
+fn first_unlike<'a, R: Threads + Wait + Sync>(
+    rt: &R, alloc: Global,
     rows: &[(&'a [u8], &'a [u8])],
 ) -> Result<Option<&'a [u8]>, AllocError> {
     for (text, record) in rows {
-        let (status, out, err) = run_text(alloc, text)?;
+        let (status, out, err) = run_text(rt, alloc, text)?;
         if status != Status::Done || out.held() != *record || !err.held().is_empty() {
             return Ok(Some(*text));
         }
@@ -521,11 +617,11 @@ fn scripts_give_their_records(rt: HostRuntime) -> Result<(), Fail> {
         &MARKERS,
     ];
     for rows in tables {
-        let other = first_other(alloc, rows)?;
+        let other = first_other(&rt, alloc, rows)?;
         assert!(rt; other.is_none(), "{other:?}");
     }
     for rows in [TEXTS.as_slice(), EXAMPLES.as_slice()] {
-        let unlike = first_unlike(alloc, rows)?;
+        let unlike = first_unlike(&rt, alloc, rows)?;
         assert!(rt; unlike.is_none(), "{unlike:?}");
     }
     Ok(())
@@ -544,21 +640,21 @@ fn refusal(alloc: Global, place: &[u8]) -> Result<Vec<u8>, AllocError> {
 
 /// Whether the text is refused so: nothing is written, and this is told. A text of which nothing is
 /// told is accepted.
-fn tells(alloc: Global, text: &[u8], told: &[u8]) -> Result<bool, AllocError> {
-    let (status, out, err) = run_text(alloc, text)?;
+fn tells<R: Threads + Wait + Sync>(rt: &R, alloc: Global, text: &[u8], told: &[u8]) -> Result<bool, AllocError> {
+    let (status, out, err) = run_text(rt, alloc, text)?;
     let refused = status.number() == 1;
     Ok(err.held() == told && refused != told.is_empty() && refused == out.held().is_empty())
 }
 
 /// The first of these lines behind the header that aren't refused so.
-fn first_unrefused<'a>(
-    alloc: Global,
+fn first_unrefused<'a, R: Threads + Wait + Sync>(
+    rt: &R, alloc: Global,
     rows: &[(&'a [u8], &'a [u8])],
 ) -> Result<Option<&'a [u8]>, AllocError> {
     for (lines, place) in rows {
         let text = text_of(alloc, &[(b"sigscript 1\n", 1), (lines, 1)])?;
         let told = refusal(alloc, place)?;
-        if !tells(alloc, text.as_slice(), told.as_slice())? {
+        if !tells(rt, alloc, text.as_slice(), told.as_slice())? {
             return Ok(Some(*lines));
         }
     }
@@ -566,7 +662,7 @@ fn first_unrefused<'a>(
 }
 
 /// The same of all these tables.
-fn first_unrefused_of_all(alloc: Global) -> Result<Option<&'static [u8]>, AllocError> {
+fn first_unrefused_of_all<R: Threads + Wait + Sync>(rt: &R, alloc: Global) -> Result<Option<&'static [u8]>, AllocError> {
     let tables: [&[(&[u8], &[u8])]; 6] = [
         &HEADS,
         &TERMS,
@@ -576,7 +672,7 @@ fn first_unrefused_of_all(alloc: Global) -> Result<Option<&'static [u8]>, AllocE
         &OTHERS,
     ];
     for rows in tables {
-        let unrefused = first_unrefused(alloc, rows)?;
+        let unrefused = first_unrefused(rt, alloc, rows)?;
         if unrefused.is_some() {
             return Ok(unrefused);
         }
@@ -585,11 +681,11 @@ fn first_unrefused_of_all(alloc: Global) -> Result<Option<&'static [u8]>, AllocE
 }
 
 /// The length of the first of the long texts that isn't refused so.
-fn first_unlimited(alloc: Global) -> Result<Option<usize>, AllocError> {
+fn first_unlimited<R: Threads + Wait + Sync>(rt: &R, alloc: Global) -> Result<Option<usize>, AllocError> {
     for (pieces, place) in LONG {
         let text = text_of(alloc, pieces)?;
         let told = refusal(alloc, place)?;
-        if !tells(alloc, text.as_slice(), told.as_slice())? {
+        if !tells(rt, alloc, text.as_slice(), told.as_slice())? {
             return Ok(Some(text.len()));
         }
     }
@@ -599,15 +695,15 @@ fn first_unlimited(alloc: Global) -> Result<Option<usize>, AllocError> {
 #[test]
 fn texts_are_refused_at_their_line(rt: HostRuntime) -> Result<(), Fail> {
     let alloc = rt.alloc();
-    let unrefused = first_unrefused_of_all(alloc)?;
+    let unrefused = first_unrefused_of_all(&rt, alloc)?;
     assert!(rt; unrefused.is_none(), "{unrefused:?}");
-    let unlimited = first_unlimited(alloc)?;
+    let unlimited = first_unlimited(&rt, alloc)?;
     assert!(rt; unlimited.is_none(), "{unlimited:?} bytes");
     for (text, told) in REFUSALS {
-        assert!(rt; tells(alloc, text, told)?, "{text:?}");
+        assert!(rt; tells(&rt, alloc, text, told)?, "{text:?}");
     }
     for text in OTHER_FIRST_LINES {
-        assert!(rt; tells(alloc, text, TOLD_NO_HEADER)?, "{text:?}");
+        assert!(rt; tells(&rt, alloc, text, TOLD_NO_HEADER)?, "{text:?}");
     }
     Ok(())
 }
@@ -624,7 +720,7 @@ fn record_of_turns(alloc: Global) -> Result<Vec<u8>, AllocError> {
 
 const TURNS: &[u8] = b"turns 20000\nprocess a\nlabel l\ngoto l\n";
 
-const PING_PONG: &[u8] = b"turns 1500\n\
+pub(crate) const PING_PONG: &[u8] = b"turns 1500\n\
     process a\nlabel l\nsend @b ping\nreceive\non pong\nend\ngoto l\n\
     process b\nlabel l\nreceive\non ping\nend\nsend @a pong\ngoto l\n";
 
@@ -727,12 +823,12 @@ fn grown(alloc: Global, growth: &Growth) -> Result<(Vec<u8>, Vec<u8>), AllocErro
 #[test]
 fn long_runs_give_their_records(rt: HostRuntime) -> Result<(), Fail> {
     let alloc = rt.alloc();
-    assert!(rt; gives(alloc, TURNS, record_of_turns(alloc)?.as_slice())?);
-    assert!(rt; gives(alloc, PING_PONG, record_of_play(alloc)?.as_slice())?);
+    assert!(rt; gives(&rt, alloc, TURNS, record_of_turns(alloc)?.as_slice())?);
+    assert!(rt; gives(&rt, alloc, PING_PONG, record_of_play(alloc)?.as_slice())?);
     for growth in &GROWTHS {
         let (script, record) = grown(alloc, growth)?;
         assert!(rt;
-            gives(alloc, script.as_slice(), record.as_slice())?,
+            gives(&rt, alloc, script.as_slice(), record.as_slice())?,
             "{:?}",
             growth.last
         );

@@ -1,11 +1,15 @@
-//! Runs a script of processes from standard input, or with `--generate N` one that it makes, and
-//! prints the record of the run.
+//! Runs a script of processes from standard input, or with `--generate N` one that it makes, with one
+//! worker or several, and prints the record of the run.
 #![tactic(auto)]
 
 use sig_base::{OpenGate, StdSink, StdSource};
 use sig_host::{Status, run};
 use std::process::ExitCode;
 use std::{env, io};
+
+/// How the program is called.
+const USAGE: &str =
+    "usage: sigrun [--workers N] [--quota N] [--buffers never|always|churn:N|auto] [--generate N]";
 
 /// The arguments after the program's name.
 fn arguments(rt: &HostRuntime) -> io::Result<Vec<String>> {
@@ -31,6 +35,7 @@ fn main(rt: HostRuntime) -> ExitCode {
     match arguments(&rt) {
         Ok(arguments) => {
             let status = run(
+                &rt,
                 rt.alloc(),
                 arguments.as_slice(),
                 &mut source,
@@ -43,6 +48,6 @@ fn main(rt: HostRuntime) -> ExitCode {
         Err(fault) if fault.kind() == io::ErrorKind::OutOfMemory => {
             refuse(&rt, Status::Memory, "sigrun: out of memory")
         }
-        Err(_) => refuse(&rt, Status::Usage, "usage: sigrun [--generate N]"),
+        Err(_) => refuse(&rt, Status::Usage, USAGE),
     }
 }

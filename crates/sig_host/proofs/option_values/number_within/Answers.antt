@@ -1,6 +1,6 @@
 use Rattle.std.proofs.Common.{rules, ◌∙◌}
 use Rattle.sig_host.proofs.NumberLemmas.{not_digits, a_number, no_number}
-use Rattle.sig_host.proofs.command_line.number_within.Goals as goal
+use Rattle.sig_host.proofs.option_values.number_within.Goals as goal
 
 pub returns-then-not-are_digits-clause-number : goal.returns-then-not-are_digits-clause-number
 returns-then-not-are_digits-clause-number c = not_digits c.args.least c.args.most c.args.text.now (search rules)

@@ -1,0 +1,236 @@
+//! Runs with several workers, through the top call.
+
+use super::*;
+use crate::marker_tests::SERVER_AND_CLIENTS;
+use crate::tests::{ONE_MESSAGE, PING_PONG, ROOM, strings, text_of};
+use itoa::Buffer;
+use sig_base::{Gate, MemorySink, MemorySource, OpenGate, Point};
+use sig_record::read_record;
+use std::alloc::{AllocError, Global};
+use std::sync::atomic::{AtomicBool, AtomicU64, Ordering};
+use std::sync::{OnceLock, Wait};
+use std::test::Fail;
+use std::thread::Threads;
+
+/// How often a gate looks before it gives up.
+const LOOKS: u64 = 100_000_000;
+
+/// Runs the text with these arguments and this gate: the status, and what was written.
+fn run_gated<R: Threads + Wait + Sync, G: Gate>(
+    rt: &R,
+    alloc: Global,
+    list: &[&str],
+    text: &[u8],
+    gate: &G,
+) -> Result<(Status, MemorySink), AllocError> {
+    let arguments = strings(alloc, list)?;
+    let mut source = MemorySource::new(Vec::from_slice(alloc, text)?, 100_000);
+    let mut out = MemorySink::with_room(alloc, ROOM)?;
+    let mut err = MemorySink::with_room(alloc, 100)?;
+    let status = run(
+        rt,
+        alloc,
+        arguments.as_slice(),
+        &mut source,
+        &mut out,
+        &mut err,
+        gate,
+    );
+    Ok((status, out))
+}
+
+/// How often the piece stands in the text.
+fn count(text: &[u8], piece: &[u8]) -> usize {
+    let mut found = 0usize;
+    for at in 0..text.len() {
+        if text[at..].starts_with(piece) {
+            found = found.saturating_add(1);
+        }
+    }
+    found
+}
+
+/// What stands in the record of ping-pong, and how often.
+const PLAYED: [(&[u8], usize); 6] = [
+    (b" took 1 1 pong\n", 500),
+    (b" took 1 1 ping\n", 500),
+    (b" took ", 1000),
+    (b"\nleft ", 0),
+    (b"\nqueued ", 0),
+    (b"\nstate cut\n", 2),
+];
+
+/// What stands in the record of the server and its clients, and how often, where every client has
+/// ended.
+const SERVED: [(&[u8], usize); 3] = [
+    (b"\nstate waiting\nprocess 1 c1\n", 1),
+    (b"\nstate waiting\n", 1),
+    (b"\nstate cut\n", 0),
+];
+
+/// Whether each piece stands in the text as often as the table says.
+fn has_all(text: &[u8], table: &[(&[u8], usize)]) -> bool {
+    table.iter().all(|row| count(text, row.0) == row.1)
+}
+
+/// The client's taking of its answer, with the first clause and at once.
+fn answer_taken(alloc: Global, client: u32) -> Result<Vec<u8>, AllocError> {
+    let mut buffer = Buffer::new();
+    let digits = buffer.format(client).as_bytes();
+    text_of(
+        alloc,
+        &[
+            (b" exec 5 took 1 1 {#Ref<", 1),
+            (digits, 1),
+            (b".1>,", 1),
+            (digits, 1),
+            (b"}\n", 1),
+        ],
+    )
+}
+
+/// The first client that took no answer, but for the one that may be killed.
+fn first_unserved(alloc: Global, text: &[u8]) -> Result<Option<u32>, AllocError> {
+    for client in 1..13 {
+        let taken = answer_taken(alloc, client)?;
+        if client != 5 && count(text, taken.as_slice()) != 1 {
+            return Ok(Some(client));
+        }
+    }
+    Ok(None)
+}
+
+/// How many of the clients have ended as they may: each has stopped, or it is the one that may be
+/// killed and was killed.
+fn count_ended(text: &[u8]) -> usize {
+    let stopped = count(text, b" exec 6 ended normal\nstate ended normal\n");
+    stopped.saturating_add(count(text, b"\nstate ended killed\nprocess 6 c6\n"))
+}
+
+#[test]
+fn workers_settle(rt: HostRuntime) -> Result<(), Fail> {
+    let alloc = rt.alloc();
+    let play = text_of(alloc, &[(b"sigscript 1\n", 1), (PING_PONG, 1)])?;
+    let words: &[&str] = &["--workers", "4", "--buffers", "churn:1"];
+    let (status, out) = run_gated(&rt, alloc, words, play.as_slice(), &OpenGate)?;
+    assert!(rt; status == Status::Done);
+    assert!(rt; has_all(out.held(), &PLAYED));
+    assert!(rt; read_record(alloc, out.held())?.settled());
+    let serve = text_of(alloc, &[(b"sigscript 1\n", 1), (SERVER_AND_CLIENTS, 1)])?;
+    let words: &[&str] = &["--workers", "4", "--buffers", "auto"];
+    let (status, out) = run_gated(&rt, alloc, words, serve.as_slice(), &OpenGate)?;
+    assert!(rt; status == Status::Done);
+    assert!(rt; has_all(out.held(), &SERVED));
+    let unserved = first_unserved(alloc, out.held())?;
+    assert!(rt; unserved.is_none(), "{unserved:?}");
+    assert!(rt; count_ended(out.held()) == 12);
+    Ok(())
+}
+
+/// Looks until the flag is up. Whether it was, before the gate gave up.
+fn look(flag: &AtomicBool) -> bool {
+    for _ in 0..LOOKS {
+        if flag.load(Ordering::SeqCst) {
+            return true;
+        }
+    }
+    false
+}
+
+/// A gate that holds process 1 at its first instruction until process 0 has executed one, and
+/// process 0 at that one until process 1 has handled a signal.
+struct HoldBoth {
+    /// Process 0 has executed an instruction.
+    executed: AtomicBool,
+    /// Process 1 has handled a signal.
+    handled: AtomicBool,
+    /// Process 0 was held.
+    held_first: AtomicBool,
+    /// Process 1 was held.
+    held_second: AtomicBool,
+    /// A hold was given up.
+    gave_up: AtomicBool,
+}
+
+impl HoldBoth {
+    fn new() -> HoldBoth {
+        HoldBoth {
+            executed: AtomicBool::new(false),
+            handled: AtomicBool::new(false),
+            held_first: AtomicBool::new(false),
+            held_second: AtomicBool::new(false),
+            gave_up: AtomicBool::new(false),
+        }
+    }
+
+    /// Holds, the first time, until the flag is up.
+    fn hold(&self, held: &AtomicBool, flag: &AtomicBool) {
+        if !held.swap(true, Ordering::SeqCst) && !look(flag) {
+            self.gave_up.store(true, Ordering::SeqCst);
+        }
+    }
+}
+
+impl Gate for HoldBoth {
+    fn at(&self, _worker: u32, pid: u32, point: Point) {
+        match (pid, point) {
+            (0, Point::Executed) => {
+                self.executed.store(true, Ordering::SeqCst);
+                self.hold(&self.held_first, &self.handled);
+            }
+            (1, Point::Executed) => self.hold(&self.held_second, &self.executed),
+            (1, Point::Handled) => self.handled.store(true, Ordering::SeqCst),
+            _ => (),
+        }
+    }
+}
+
+const OVERLAP: &[u8] =
+    b"sigscript 1\nprocess a\nsend @b go\nprocess b\nset X 1\nreceive\non go\nend\n";
+
+#[test]
+fn workers_overlap(rt: HostRuntime) -> Result<(), Fail> {
+    let gate = HoldBoth::new();
+    let words: &[&str] = &["--workers", "2"];
+    let (status, _) = run_gated(&rt, rt.alloc(), words, OVERLAP, &gate)?;
+    assert!(rt; status == Status::Done);
+    assert!(rt; gate.held_first.load(Ordering::SeqCst));
+    assert!(rt; gate.held_second.load(Ordering::SeqCst));
+    assert!(rt; !gate.gave_up.load(Ordering::SeqCst));
+    Ok(())
+}
+
+/// A gate that keeps the first put, and counts all.
+struct Puts {
+    /// The sender, and the buffer that the signal went to.
+    first: OnceLock<(u32, Option<u8>)>,
+    count: AtomicU64,
+}
+
+impl Gate for Puts {
+    fn at(&self, _worker: u32, pid: u32, point: Point) {
+        if let Point::Put { buffer } = point {
+            self.count.fetch_add(1, Ordering::SeqCst);
+            let _ = self.first.try_set((pid, buffer));
+        }
+    }
+}
+
+#[test]
+fn workers_put_as_the_policy_says(rt: HostRuntime) -> Result<(), Fail> {
+    let rows: [(&[&str], Option<u8>); 2] = [
+        (&["--workers", "2", "--buffers", "always"], Some(0)),
+        (&["--workers", "2", "--buffers", "never"], None),
+    ];
+    for (words, buffer) in rows {
+        let gate = Puts {
+            first: OnceLock::new(),
+            count: AtomicU64::new(0),
+        };
+        let (status, _) = run_gated(&rt, rt.alloc(), words, ONE_MESSAGE, &gate)?;
+        assert!(rt; status == Status::Done, "{words:?}");
+        assert!(rt; gate.count.load(Ordering::SeqCst) == 1, "{words:?}");
+        assert!(rt; gate.first.get().copied() == Some((0, buffer)), "{words:?}");
+    }
+    Ok(())
+}
