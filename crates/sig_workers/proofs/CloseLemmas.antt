@@ -53,8 +53,8 @@ module _ (q : Queue) (v : Seated) (r : Running) (xs rest : List Signal) (journal
 
 -- one queue more was closed
 module _ (queues : List Queue) (seats : List Seated) (start procs : List Standing) (at : ℕ) (q : Queue) (v : Seated) (p t : Standing) (a : Account) (receipts later : List Account)
-  (queue : slice_get queues at ≡ Some q) (seat : slice_get seats at ≡ Some v) (there : slice_get (runnings_of procs) at ≡ Some p.running) (count : length receipts ≡ at)
-  (rest : (i : ℕ) → at ≤ i → slice_get (runnings_of procs) i ≡ slice_get (runnings_of start) i) (closed : HasClosed q v p.running a t.running) (pushed : later ≡ receipts ++ a ∷ []) where
+    (queue : slice_get queues at ≡ Some q) (seat : slice_get seats at ≡ Some v) (there : slice_get (runnings_of procs) at ≡ Some p.running) (count : length receipts ≡ at)
+    (rest : (i : ℕ) → at ≤ i → slice_get (runnings_of procs) i ≡ slice_get (runnings_of start) i) (closed : HasClosed q v p.running a t.running) (pushed : later ≡ receipts ++ a ∷ []) where
   abbrev now : List Running
   now = runnings_of (slice_set procs at t)
 
@@ -68,22 +68,22 @@ module _ (queues : List Queue) (seats : List Seated) (start procs : List Standin
       (i : ℕ) (b : Account) (u : Running) → slice_get later i ≡ Some b → slice_get now i ≡ Some u → IsClosedAt queues seats (runnings_of start) i b u
   closed_more old i b u at_b at_u = elim (get_push receipts a i b (subst (λ z. slice_get z i ≡ Some b) pushed at_b)) [
     | inl e ↦ (
-      let lt : i < at = (let w : i < length receipts = slice_get_within receipts i b e in omega (arith, w, count)) in
-      old i b u e (sym (ap (λ z. slice_get z i) now_is ∙ slice_get-set_other (runnings_of procs) at i t.running (λ k. (let f : ⊥ = omega (arith, lt, k) in f))) ∙ at_u)
-    )
+        let lt : i < at = (let w : i < length receipts = slice_get_within receipts i b e in omega (arith, w, count)) in
+        old i b u e (sym (ap (λ z. slice_get z i) now_is ∙ slice_get-set_other (runnings_of procs) at i t.running (λ k. (let f : ⊥ = omega (arith, lt, k) in f))) ∙ at_u)
+        )
     | inr e ↦ (
-      let here : at ≡ i = sym (e.0 ∙ count) in
-      let mine : t.running ≡ u = same_Some t.running u (sym (slice_get-set_same (runnings_of procs) at t.running p.running there) ∙ ap (λ z. slice_get z at) (sym now_is) ∙ ap (λ z. slice_get now z) here ∙ at_u) in
-      subst (λ z. IsClosedAt queues seats (runnings_of start) z b u) here (record {
-        q = q;
-        v = v;
-        r = p.running;
-        queue = queue;
-        seat = seat;
-        process = sym (rest at (omega arith)) ∙ there;
-        closed = subst (λ z. HasClosed q v p.running z u) e.1 (subst (λ z. HasClosed q v p.running a z) mine closed);
-      })
-    )
+        let here : at ≡ i = sym (e.0 ∙ count) in
+        let mine : t.running ≡ u = same_Some t.running u (sym (slice_get-set_same (runnings_of procs) at t.running p.running there) ∙ ap (λ z. slice_get z at) (sym now_is) ∙ ap (λ z. slice_get now z) here ∙ at_u) in
+        subst (λ z. IsClosedAt queues seats (runnings_of start) z b u) here (record {
+          q = q;
+          v = v;
+          r = p.running;
+          queue = queue;
+          seat = seat;
+          process = sym (rest at (omega arith)) ∙ there;
+          closed = subst (λ z. HasClosed q v p.running z u) e.1 (subst (λ z. HasClosed q v p.running a z) mine closed);
+        })
+        )
   ]
 
 -- the first of what is left of a list

@@ -38,8 +38,8 @@ rest_set seats start at w before p le = slice_get-set_other seats at p w (λ e. 
 
 pub all_fresh : (queues : List Queue) (first count at : ℕ) (seats : List Seated) → length seats ≡ length queues → length queues ≤ at → FreshTo queues first count at seats → AreFresh queues first count seats
 all_fresh queues first count at seats many le f = record {
-    many = many;
-    each = λ p v h. f p v (let n : p < length seats = slice_get_within seats p v h in omega (arith, n, many, le)) h
+  many = many;
+  each = λ p v h. f p v (let n : p < length seats = slice_get_within seats p v h in omega (arith, n, many, le)) h;
 }
 
 get_kept : {X : Type 0} (xs ys : List X) (p : ℕ) (v : X) → slice_get xs p ≡ Some v → slice_get (xs ++ ys) p ≡ Some v
@@ -53,13 +53,14 @@ get_end (y ∷ xs) x = get_end xs x
 
 pub opened_push : (policy : Policy) (crew : List Running) (at : ℕ) (queues : List Queue) (seats : List Seated) (q : Queue) (v : Seated) → length queues ≡ at → AreOpened policy crew queues seats → IsQueueOf policy crew at q × (v ≡ first_seated q) → AreOpened policy crew (queues ++ q ∷ []) (seats ++ v ∷ [])
 opened_push policy crew at queues seats q v len old new = record {
-    many = length-append seats (v ∷ []) ∙ ap (λ z. z + 1) old.many ∙ sym (length-append queues (q ∷ []));
-    each = λ p r h. elim (get_push queues q p r h) [
-      | inl e ↦ ((old.each p r e).0, get_kept seats (v ∷ []) p (first_seated r) (old.each p r e).1)
-      | inr e ↦ (
-          subst (λ z. IsQueueOf policy crew z r) (sym (e.0 ∙ len)) (subst (λ z. IsQueueOf policy crew at z) e.1 new.0),
-          subst (λ z. slice_get (seats ++ v ∷ []) z ≡ Some (first_seated r)) (old.many ∙ sym e.0) (get_end seats v ∙ ap Some (new.1 ∙ ap first_seated e.1)))
-    ]
+  many = length-append seats (v ∷ []) ∙ ap (λ z. z + 1) old.many ∙ sym (length-append queues (q ∷ []));
+  each = λ p r h. elim (get_push queues q p r h) [
+    | inl e ↦ ((old.each p r e).0, get_kept seats (v ∷ []) p (first_seated r) (old.each p r e).1)
+    | inr e ↦ (
+      subst (λ z. IsQueueOf policy crew z r) (sym (e.0 ∙ len)) (subst (λ z. IsQueueOf policy crew at z) e.1 new.0),
+      subst (λ z. slice_get (seats ++ v ∷ []) z ≡ Some (first_seated r)) (old.many ∙ sym e.0) (get_end seats v ∙ ap Some (new.1 ∙ ap first_seated e.1)),
+    )
+  ];
 }
 
 -- the fresh seat of a queue that was read

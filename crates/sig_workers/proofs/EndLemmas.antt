@@ -30,9 +30,9 @@ use Rattle.sig_workers.proofs.RoundLaw.{IsClosed, past, went_end, same_process}
 
 -- the joined seats of a crew
 module _ (script : Program) (policy : Policy) (crew : List Running) (queues : List Queue) (law : IsLawfulCrew script crew) (clear : IsClear crew) (same : length queues ≡ length crew)
-  (each : (p : ℕ) (q : Queue) → slice_get queues p ≡ Some q → IsQueueOf policy crew p q)
-  (seats : List Seated) (procs : List Running) (all : length procs ≡ length crew) (a : AreSeats queues 0 (length procs) seats)
-  (places : (p : ℕ) (r : Running) → slice_get procs p ≡ Some r → HasPlace queues crew seats p r) where
+    (each : (p : ℕ) (q : Queue) → slice_get queues p ≡ Some q → IsQueueOf policy crew p q)
+    (seats : List Seated) (procs : List Running) (all : length procs ≡ length crew) (a : AreSeats queues 0 (length procs) seats)
+    (places : (p : ℕ) (r : Running) → slice_get procs p ≡ Some r → HasPlace queues crew seats p r) where
   in_crew : (p : ℕ) → p < length crew → is_in 0 (length procs) p ≡ true
   in_crew p lt = (let e : 0 + p ≡ p = omega arith in subst (λ z. is_in 0 (length procs) z ≡ true) e (in_part 0 (length procs) p (omega (arith, lt, all))))
 
@@ -54,7 +54,7 @@ module _ (script : Program) (policy : Policy) (crew : List Running) (queues : Li
       }
 
   module _ (later : List Running) (accounts : List Account) (count : length accounts ≡ length queues) (many : length later ≡ length procs)
-    (closed : (p : ℕ) (x : Account) (t : Running) → slice_get accounts p ≡ Some x → slice_get later p ≡ Some t → IsClosedAt queues seats procs p x t) where
+      (closed : (p : ℕ) (x : Account) (t : Running) → slice_get accounts p ≡ Some x → slice_get later p ≡ Some t → IsClosedAt queues seats procs p x t) where
     pub as_many : length later ≡ length crew
     as_many = many ∙ all
 

@@ -68,7 +68,7 @@ module _ (script : Program) (policy : Policy) (crew : List Running) (queues : Li
       ∙ subst (λ o. came_to s (Some b) ++ left_for t o ≡ went_from t o) at_s (subst (λ o. came_to s o ++ left_for t (slice_get crew s) ≡ went_from t (slice_get crew s)) at_t (law.pairs s t ne))
 
 module _ (script : Program) (policy : Policy) (crew : List Running) (queues : List Queue) (law : IsLawfulCrew script crew) (few : length crew ≤ 256) (clear : IsClear crew) (same : length queues ≡ length crew)
-  (each : (p : ℕ) (q : Queue) → slice_get queues p ≡ Some q → IsQueueOf policy crew p q) (first count : ℕ) (seats : List Seated) (f : AreFresh queues first count seats) (within : first + count ≤ length crew) where
+    (each : (p : ℕ) (q : Queue) → slice_get queues p ≡ Some q → IsQueueOf policy crew p q) (first count : ℕ) (seats : List Seated) (f : AreFresh queues first count seats) (within : first + count ≤ length crew) where
   module _ (i : ℕ) (r : Running) (below : i < count) (at : slice_get crew (first + i) ≡ Some r) where
     abbrev pid : ℕ
     pid = first + i
@@ -105,7 +105,7 @@ module _ (script : Program) (policy : Policy) (crew : List Running) (queues : Li
             went p r,
             sym (ap (λ z. went p r ++ bound_for p z) empty ∙ append-nil (went p r)),
             sym (first_is script policy crew queues law p e.0 q lt pid r at) ∙ (let z : first_of e.0.setup pid ≡ first_of e.0.setup pid + 0 = omega arith in z)
-            ∙ ap (λ z. first_of e.0.setup pid + length (coming_from pid (signals z))) (sym e.2.put),
+                ∙ ap (λ z. first_of e.0.setup pid + length (coming_from pid (signals z))) (sym e.2.put),
           );
         }
 

@@ -308,7 +308,7 @@ module _ (queues : List Queue) (pid : ℕ) (t : Running) (x : Signal) (seats : L
   r = record t { outbox = x ∷ t.outbox }
 
   module _ (h : IsReady queues pid r seats) (p : ℕ) (v w : Seated) (there : slice_get seats p ≡ Some v) (same : IsSameSeat v w)
-    (from : x.from.0 ≡ pid) (to : x.to.0 ≡ p) (apart : p ≢ pid) (passed : Item) (signal : passed.signal ≡ x) (put : w.knows.put ≡ v.knows.put ++ passed ∷ []) (taken : w.knows.taken ≡ v.knows.taken) where
+      (from : x.from.0 ≡ pid) (to : x.to.0 ≡ p) (apart : p ≢ pid) (passed : Item) (signal : passed.signal ≡ x) (put : w.knows.put ≡ v.knows.put ++ passed ∷ []) (taken : w.knows.taken ≡ v.knows.taken) where
     abbrev put_seats : List Seated
     put_seats = slice_set seats p w
 
@@ -338,8 +338,8 @@ module _ (queues : List Queue) (pid : ℕ) (t : Running) (x : Signal) (seats : L
     sent_now q y at n old = elim (eqb_tells p q) [
       | inl a ↦ subst (λ z. SentAt z y n) a.1 (subst (λ z. SentAt p z n) (same_Some w y (sym (here queues pid r seats h p v w there same) ∙ ap (λ z. slice_get put_seats z) a.1 ∙ at)) (at_place (subst (λ z. HasSent z r n (length (coming_from pid (signals v.knows.put)))) (sym a.1) (old v (subst (λ z. slice_get seats z ≡ Some v) a.1 there)))))
       | inr a ↦ (
-        let f : HasSent q r n (length (coming_from pid (signals y.knows.put))) = old y (sym (elsewhere queues pid r seats h p v w there same q a.1) ∙ at) in (f.0, went_kept q ∙ f.1 ∙ ap (λ z. f.0 ++ z) (first_other q a.1), f.2)
-      )
+          let f : HasSent q r n (length (coming_from pid (signals y.knows.put))) = old y (sym (elsewhere queues pid r seats h p v w there same q a.1) ∙ at) in (f.0, went_kept q ∙ f.1 ∙ ap (λ z. f.0 ++ z) (first_other q a.1), f.2)
+          )
     ]
       where
         at_place : HasSent p r n (length (coming_from pid (signals v.knows.put))) → SentAt p w n
@@ -347,8 +347,8 @@ module _ (queues : List Queue) (pid : ℕ) (t : Running) (x : Signal) (seats : L
           f.0 ++ x ∷ [],
           went_kept p ∙ f.1 ∙ ap (λ z. f.0 ++ z) first_bound ∙ sym (append_assoc f.0 (x ∷ []) (bound_for p t.outbox)),
           (let a : length (f.0 ++ x ∷ []) ≡ length f.0 + 1 = length-append f.0 (x ∷ []) in
-            let m : length (coming_from pid (signals w.knows.put)) ≡ length (coming_from pid (signals v.knows.put)) + 1 = ap (λ (z : List Signal). length z) put_now ∙ length-append (coming_from pid (signals v.knows.put)) (x ∷ []) in
-            omega (arith, a, m, f.2)),
+              let m : length (coming_from pid (signals w.knows.put)) ≡ length (coming_from pid (signals v.knows.put)) + 1 = ap (λ (z : List Signal). length z) put_now ∙ length-append (coming_from pid (signals v.knows.put)) (x ∷ []) in
+              omega (arith, a, m, f.2)),
         )
 
     put_ready : IsKeeping t → IsReady queues pid t put_seats

@@ -207,24 +207,24 @@ module _ (queues : List Queue) (f n m : ℕ) (seats others later : List Seated) 
   }
 
   module _ (base xs ys : List Running) (nx : length xs ≡ n) (my : length ys ≡ m)
-    (each : (i : ℕ) (r : Running) → slice_get xs i ≡ Some r → HasPlace queues base seats (f + i) r) (also : (i : ℕ) (r : Running) → slice_get ys i ≡ Some r → HasPlace queues base others (f + n + i) r) where
+      (each : (i : ℕ) (r : Running) → slice_get xs i ≡ Some r → HasPlace queues base seats (f + i) r) (also : (i : ℕ) (r : Running) → slice_get ys i ≡ Some r → HasPlace queues base others (f + n + i) r) where
     pub joined_procs : (i : ℕ) (r : Running) → slice_get (xs ++ ys) i ≡ Some r → HasPlace queues base later (f + i) r
     joined_procs i r at = elim (get_append xs ys i r at) [
       | inl e ↦ (
-        let lt : i < n = (let w : i < length xs = slice_get_within xs i r e in omega (arith, w, nx)) in
-        place_kept queues (f + i) seats later (first_looks (f + i) (Rattle.sig_workers.proofs.PartLemmas.in_part f n i lt)) r base (each i r e)
-      )
+          let lt : i < n = (let w : i < length xs = slice_get_within xs i r e in omega (arith, w, nx)) in
+          place_kept queues (f + i) seats later (first_looks (f + i) (Rattle.sig_workers.proofs.PartLemmas.in_part f n i lt)) r base (each i r e)
+          )
       | inr w ↦ (
-        let lt : w.0 < m = (let k : w.0 < length ys = slice_get_within ys w.0 r w.2 in omega (arith, k, my)) in
-        let same : f + n + w.0 ≡ f + i = omega (arith, w.1, nx) in
-        subst (λ z. HasPlace queues base later z r) same
-        (place_kept queues (f + n + w.0) others later (second_looks (f + n + w.0) (Rattle.sig_workers.proofs.PartLemmas.in_part (f + n) m w.0 lt)) r base (also w.0 r w.2))
-      )
+          let lt : w.0 < m = (let k : w.0 < length ys = slice_get_within ys w.0 r w.2 in omega (arith, k, my)) in
+          let same : f + n + w.0 ≡ f + i = omega (arith, w.1, nx) in
+          subst (λ z. HasPlace queues base later z r) same
+          (place_kept queues (f + n + w.0) others later (second_looks (f + n + w.0) (Rattle.sig_workers.proofs.PartLemmas.in_part (f + n) m w.0 lt)) r base (also w.0 r w.2))
+          )
     ]
 
 -- the parts themselves
 module _ (queues : List Queue) (part other later : Part) (p : IsPart queues part) (o : IsPart queues other) (next : other.first ≡ part.first + length (procs_of part)) (base : (base_of other) ≡ (base_of part))
-  (j : AreJoined part.seats.items other.seats.items later.seats.items) (first : later.first ≡ part.first) (same : (base_of later) ≡ (base_of part)) (procs : procs_of later ≡ procs_of part ++ procs_of other) where
+    (j : AreJoined part.seats.items other.seats.items later.seats.items) (first : later.first ≡ part.first) (same : (base_of later) ≡ (base_of part)) (procs : procs_of later ≡ procs_of part ++ procs_of other) where
   abbrev n : ℕ
   n = length (procs_of part)
 

@@ -166,7 +166,7 @@ none_given A true xs h = h
 none_given A false xs h = refl
 
 module _ (q : Queue) (first count p : ℕ) (given : List ℕ) (role : Bool) (v w : Seated) (f : IsFreshSeat q 0 (first + count) p v) (own : w.queue ≡ v.queue)
-  (g : (s : ℕ) → has given s ≡ (is_in first count s && not (s == p))) (r : role ≡ is_in first count p) where
+    (g : (s : ℕ) → has given s ≡ (is_in first count s && not (s == p))) (r : role ≡ is_in first count p) where
   pub still_fresh : w.knows ≡ left_of v.knows given role → IsFreshSeat q 0 first p w
   still_fresh l = record {
     queue = own ∙ f.queue;

@@ -107,8 +107,8 @@ module _ (queues : List Queue) (q : ℕ) (seats later : List Seated) (k : LooksS
 
 -- the processes of a part after one was visited
 module _ (queues : List Queue) (base : List Running) (first : ℕ) (procs : List Running) (seats : List Seated) (a : AreSeats queues first (length procs) seats)
-  (each : (i : ℕ) (r : Running) → slice_get procs i ≡ Some r → HasPlace queues base seats (first + i) r) (at : ℕ) (r t : Running) (later : List Seated)
-  (there : slice_get procs at ≡ Some r) (g : Goes queues (first + at) r seats t later) (clear : t.outbox ≡ []) where
+    (each : (i : ℕ) (r : Running) → slice_get procs i ≡ Some r → HasPlace queues base seats (first + i) r) (at : ℕ) (r t : Running) (later : List Seated)
+    (there : slice_get procs at ≡ Some r) (g : Goes queues (first + at) r seats t later) (clear : t.outbox ≡ []) where
   abbrev then_procs : List Running
   then_procs = slice_set procs at t
 
@@ -138,7 +138,7 @@ running_at procs i p lt is =
 
 -- a part after one of its processes was visited
 module _ (queues : List Queue) (part later : Part) (h : IsPart queues part) (at : ℕ) (p q : Standing) (there : slice_get (procs_of part) at ≡ Some p.running)
-  (first : later.first ≡ part.first) (base : base_of later ≡ base_of part) (set : later.procs.items ≡ slice_set part.procs.items at q) where
+    (first : later.first ≡ part.first) (base : base_of later ≡ base_of part) (set : later.procs.items ≡ slice_set part.procs.items at q) where
   procs_set : procs_of later ≡ slice_set (procs_of part) at q.running
   procs_set = ap (λ z. runnings_of z) set ∙ map-set (λ (z : Standing). z.running) part.procs.items at q
 

@@ -63,9 +63,9 @@ module _ (start procs later : List Running) (at : ℕ) (here : Bool) (v : HasVis
   still_now : slice_get start at ≡ Some v.old → StillBelow at start procs → (length v.new.events ≡ length v.old.events) × IsStill v.new → StillBelow (at + 1) start later
   still_now s h m i t lt is = elim (eqb_tells at i) [
     | inl e ↦ (
-      let same : v.new ≡ t = same_Some v.new t (sym at_new ∙ ap (λ z. slice_get later z) e.1 ∙ is) in
-      (v.old, subst (λ z. slice_get start z ≡ Some v.old) e.1 s, subst (λ (z : Running). length z.events ≡ length v.old.events) same m.0, subst IsStill same m.1)
-    )
+        let same : v.new ≡ t = same_Some v.new t (sym at_new ∙ ap (λ z. slice_get later z) e.1 ∙ is) in
+        (v.old, subst (λ z. slice_get start z ≡ Some v.old) e.1 s, subst (λ (z : Running). length z.events ≡ length v.old.events) same m.0, subst IsStill same m.1)
+        )
     | inr e ↦ h i t (let f : i < at = omega (arith, lt, e.1) in f) (sym (at_other i e.1) ∙ is)
   ]
 

@@ -59,7 +59,7 @@ unfolding sent_by
 went_same p r xs = refl
 
 module _ (script : Program) (queues : List Queue) (base later : List Running) (seats : List Seated) (law : IsLawfulCrew script base) (clear : IsClear base) (same : length later ≡ length base) (many : length seats ≡ length base)
-  (strange : (s p : ℕ) → slice_get later s ≡ None → put_by s p seats ≡ []) (ends : (p : ℕ) (t : Running) → slice_get later p ≡ Some t → IsClosed queues base seats p t) where
+    (strange : (s p : ℕ) → slice_get later s ≡ None → put_by s p seats ≡ []) (ends : (p : ℕ) (t : Running) → slice_get later p ≡ Some t → IsClosed queues base seats p t) where
   clear_end : (p : ℕ) (t : Running) → slice_get later p ≡ Some t → t.outbox ≡ []
   clear_end p t at = let c : IsClosed queues base seats p t = ends p t at in ap (λ (z : Running). z.outbox) c.given ∙ c.place.clear
 
@@ -163,8 +163,7 @@ module _ (script : Program) (queues : List Queue) (base later : List Running) (s
       let a : t.state.counts.stamp ≡ c.r.state.counts.stamp = ap (λ (z : Running). z.state.counts.stamp) c.given in
       let b : length t.events ≡ length c.r.events = ap (λ (z : Running). length z.events) c.given in
       let d : c.place.was.state.counts.stamp ≡ r.state.counts.stamp = ap (λ (z : Running). z.state.counts.stamp) was in
-      let e : length c.place.was.events ≡ length r.events = ap (λ (z : Running). length z.events) was in
-      (
+      let e : length c.place.was.events ≡ length r.events = ap (λ (z : Running). length z.events) was in (
         omega (arith, a, d, c.place.gone.stamp),
         λ lt. (let m : c.place.was.state.counts.stamp < c.r.state.counts.stamp = c.place.gone.later (omega (arith, lt, b, e)) in omega (arith, a, d, m)),
       )

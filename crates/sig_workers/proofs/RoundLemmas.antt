@@ -81,7 +81,7 @@ module _ (script : Program) (policy : Policy) (crew : List Running) (law : IsLaw
         (k.0, subst (λ z. slice_get crew z ≡ Some k.0) (let e : 0 + p ≡ p = omega arith in e) k.1, k.2, k.3)
 
     module _ (later : List Running) (accounts : List Account) (count : length accounts ≡ length queues) (many : length later ≡ length (procs_of w.part))
-      (closed : (p : ℕ) (x : Account) (t : Running) → slice_get accounts p ≡ Some x → slice_get later p ≡ Some t → IsClosedAt queues w.part.seats.items (procs_of w.part) p x t) where
+        (closed : (p : ℕ) (x : Account) (t : Running) → slice_get accounts p ≡ Some x → slice_get later p ≡ Some t → IsClosedAt queues w.part.seats.items (procs_of w.part) p x t) where
       abbrev seats_now : List Seated
       seats_now = w.part.seats.items
 

@@ -65,7 +65,7 @@ module _ (queues : List Queue) (crew : List Running) (end : ℕ) where
           (w.0, subst (λ q. slice_get crew q ≡ Some w.0) (let z : length xs + m.0 ≡ 0 + p = omega (arith, m.1) in z) w.1, w.2, w.3)
 
   module _ (whole next later : Worked) (w : IsWhole queues crew (length (procs_of whole.part)) whole) (first : next.part.first ≡ length (procs_of whole.part)) (grown : HasGrownBy crew (length (procs_of whole.part)) (procs_of next.part) next.moved)
-    (part : IsPart queues later.part) (j : HasJoined whole.part next.part later.part) (moved : later.moved ≡ (whole.moved || next.moved)) where
+      (part : IsPart queues later.part) (j : HasJoined whole.part next.part later.part) (moved : later.moved ≡ (whole.moved || next.moved)) where
     pub joined_whole : IsWhole queues crew (length (procs_of later.part)) later
     joined_whole = record {
       is_part = part;

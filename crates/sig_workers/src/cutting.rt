@@ -134,13 +134,16 @@ pub(crate) fn make_parts(
     let Some(base) = bases.pop() else {
         unreachable!()
     };
-    parts.insert(0, Part {
-        worker: 0,
-        first: 0,
-        procs,
-        seats,
-        base,
-    })?;
+    parts.insert(
+        0,
+        Part {
+            worker: 0,
+            first: 0,
+            procs,
+            seats,
+            base,
+        },
+    )?;
     Ok(parts)
 }
 

@@ -79,9 +79,13 @@ pub(crate) fn put_all<R: Wait, G: Gate>(
 {
     while let Some(signal) = process.next_out() {
         let via = put_one(rt, queues, seats, signal)?;
-        gate.at(me.worker, me.pid, Point::Put {
-            buffer: buffer_of(via),
-        });
+        gate.at(
+            me.worker,
+            me.pid,
+            Point::Put {
+                buffer: buffer_of(via),
+            },
+        );
     }
     Ok(())
 }

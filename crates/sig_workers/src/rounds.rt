@@ -77,8 +77,7 @@ pub fn run_rounds<R: Threads + Wait + Sync, G: Gate>(
     ensures rounds { (script : Program) → IsLawfulCrew script crew → IfOk result (λ r. IsRounds script policy crew r.0 r.1) }
     ensures settled { (script : Program) → IsLawfulCrew script crew → IfOk result (λ r. HasSettled script r.0) }
 {
-    let (mut now, mut receipts, mut moved) =
-        round(rt, alloc, crew, workers, quota, policy, gate)?;
+    let (mut now, mut receipts, mut moved) = round(rt, alloc, crew, workers, quota, policy, gate)?;
     while moved {
         let (later, more, again) = round(rt, alloc, now, workers, quota, policy, gate)?;
         receipts.follow(more);

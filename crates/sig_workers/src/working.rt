@@ -33,7 +33,16 @@ fn visit_at<R: Wait, G: Gate, L: Ledger>(
         worker: part.worker,
         pid: part.first + at as u32,
     };
-    visit(rt, alloc, queues, gate, me, &mut part.procs[at], &mut part.seats, steps)
+    visit(
+        rt,
+        alloc,
+        queues,
+        gate,
+        me,
+        &mut part.procs[at],
+        &mut part.seats,
+        steps,
+    )
 }
 
 /// How many events the process at this place has.

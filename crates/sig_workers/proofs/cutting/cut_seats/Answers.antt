@@ -17,7 +17,7 @@ loop-at-preserved c =
       cut = ap (λ (z : List Seated). length z) c.in_ok-push.ensures.items ∙ length-append c.loop-at.others.items (c.cut_one-other.result ∷ []) ∙ ap (λ z. z + 1) inv.cut;
       rest = rest_set c.loop-at.seats.items c.args.seats.now.items c.loop-at.at c.cut_one-other.new.seat inv.rest;
       left = fresh_set c.args.queues.now 0 c.args.first c.loop-at.at c.loop-at.seats.items c.index_mut.result.now c.cut_one-other.new.seat c.index-queues-at.result mine there c.cut_one-other.ensures.left inv.left;
-      right = subst (FreshTo c.args.queues.now c.args.first c.args.count (c.loop-at.at + 1)) (sym c.in_ok-push.ensures.items) (fresh_pushed c.args.queues.now c.args.first c.args.count c.loop-at.at c.loop-at.others.items c.cut_one-other.result c.index-queues-at.result inv.cut there c.cut_one-other.ensures.right inv.right)
+      right = subst (FreshTo c.args.queues.now c.args.first c.args.count (c.loop-at.at + 1)) (sym c.in_ok-push.ensures.items) (fresh_pushed c.args.queues.now c.args.first c.args.count c.loop-at.at c.loop-at.others.items c.cut_one-other.result c.index-queues-at.result inv.cut there c.cut_one-other.ensures.right inv.right);
     }
 
 pub cut_one-other-requires-clause-fresh : goal.cut_one-other-requires-clause-fresh

@@ -56,14 +56,14 @@ loop-other-preserved c =
       rest = λ p less. slice_get-set_other xs c.len-at.result p w (λ same. (let no : n ≡ p = sym e ∙ same in omega (arith, no, less))) ∙ inv.rest p (omega (arith, less, short));
       done = λ p a le h. elim (eqb_tells c.len-at.result p) [
         | inl s ↦ (
-          let at : n ≡ p = sym e ∙ s.1 in (
-            c.index_mut.result.now,
-            c.in-Some.other,
-            subst (λ z. slice_get c.args.seats.now.items z ≡ Some c.index_mut.result.now) at old,
-            subst (λ z. slice_get c.args.others.items z ≡ Some c.in-Some.other) at last.1,
-            subst (λ (z : Seated). IsJoined c.index_mut.result.now c.in-Some.other z) (same_Some w a (sym here ∙ ap (λ z. slice_get (slice_set xs c.len-at.result w) z) at ∙ h)) (record { queue = c.join.ensures.own; knows = c.join.ensures.both }),
-          )
-        )
+            let at : n ≡ p = sym e ∙ s.1 in (
+              c.index_mut.result.now,
+              c.in-Some.other,
+              subst (λ z. slice_get c.args.seats.now.items z ≡ Some c.index_mut.result.now) at old,
+              subst (λ z. slice_get c.args.others.items z ≡ Some c.in-Some.other) at last.1,
+              subst (λ (z : Seated). IsJoined c.index_mut.result.now c.in-Some.other z) (same_Some w a (sym here ∙ ap (λ z. slice_get (slice_set xs c.len-at.result w) z) at ∙ h)) (record { queue = c.join.ensures.own; knows = c.join.ensures.both }),
+            )
+            )
         | inr s ↦ inv.done p a (let ne : c.len-at.result ≢ p = s.1 in omega (arith, ne, le, e, short)) (sym (slice_get-set_other xs c.len-at.result p w s.1) ∙ h)
       ];
     }

@@ -12,5 +12,5 @@ loop-at-preserved c =
     record {
       many = ap (λ (z : List Queue). length z) c.in_ok-push.ensures.items ∙ length-append c.loop-at.queues.items (c.in_ok-queue.queue ∷ []) ∙ ap (λ z. z + 1) inv.many;
       opened = subst (λ z. AreOpened c.args.policy (runnings_of c.args.procs.now) z c.push-in-loop-at.new.self.items) (sym c.in_ok-push.ensures.items)
-          (subst (λ z. AreOpened c.args.policy (runnings_of c.args.procs.now) (c.loop-at.queues.items ++ c.in_ok-queue.queue ∷ []) z) (sym c.in_ok-push-2.ensures.items) both)
+          (subst (λ z. AreOpened c.args.policy (runnings_of c.args.procs.now) (c.loop-at.queues.items ++ c.in_ok-queue.queue ∷ []) z) (sym c.in_ok-push-2.ensures.items) both);
     }

@@ -18,11 +18,11 @@ returns-clause-part g c =
     let lt : c.args.at < length c.args.part.now.procs.items = grind (arith, common_steps) in
     let there = running_at c.args.part.now.procs.items c.args.at c.index_mut.result.now lt c.index_mut.ensures.value in
     on_both c.visit.result c.visit.ensures.goes c.visit.ensures.empty (λ goes clear.
-      visited_part c.args.queues.now c.args.part.now _ c.requires.part c.args.at c.index_mut.result.now c.visit.new.process there refl refl refl goes clear)
+    visited_part c.args.queues.now c.args.part.now _ c.requires.part c.args.at c.index_mut.result.now c.visit.new.process there refl refl refl goes clear)
 
 pub returns-clause-visited : goal.returns-clause-visited
 returns-clause-visited g c =
     let lt : c.args.at < length c.args.part.now.procs.items = grind (arith, common_steps) in
     let there = running_at c.args.part.now.procs.items c.args.at c.index_mut.result.now lt c.index_mut.ensures.value in
     if_both c.visit.result c.visit.ensures.goes c.visit.ensures.moved (λ goes moved m.
-      has_visited c.args.part.now.procs.items c.args.at c.index_mut.result.now c.visit.new.process there goes.events moved m)
+    has_visited c.args.part.now.procs.items c.args.at c.index_mut.result.now c.visit.new.process there goes.events moved m)
