@@ -303,44 +303,46 @@ const TOLD_USAGE: &[u8] =
 
 const SUMMARY_OF_2: &[u8] = b"processes 9\nevents 200\nkept 32\nended 8\nwaiting 1\ncut 0\n";
 
+/// Arguments, how much `err` holds, the number of the status, and what is told.
+const ARGUMENTS: [(&[&str], usize, u8, &[u8]); 12] = [
+    (&["--workers", "0"], 100, 2, TOLD_USAGE),
+    (&["--buffers", "churn:0"], 100, 2, TOLD_USAGE),
+    (&["--generate", "0"], 100, 2, TOLD_USAGE),
+    (&["--generate", "801"], 100, 2, TOLD_USAGE),
+    (&["--help"], 100, 2, TOLD_USAGE),
+    (&["--help"], 5, 2, b"usage"),
+    (&["--generate", "100"], 100, 0, SUMMARY_OF_100),
+    (&["--generate", "1"], 12, 0, b"processes 9\n"),
+    (
+        &["--generate", "2", "--workers", "4", "--buffers", "never"],
+        100,
+        0,
+        SUMMARY_OF_2,
+    ),
+    (
+        &["--generate", "2", "--workers", "4", "--buffers", "always"],
+        100,
+        0,
+        SUMMARY_OF_2,
+    ),
+    (
+        &["--generate", "2", "--workers", "4", "--buffers", "churn:1"],
+        100,
+        0,
+        SUMMARY_OF_2,
+    ),
+    (
+        &["--generate", "2", "--workers", "4", "--quota", "1"],
+        100,
+        0,
+        SUMMARY_OF_2,
+    ),
+];
+
 #[test]
 fn arguments_are_told(rt: HostRuntime) -> Result<(), Fail> {
     let alloc = rt.alloc();
-    let rows: [(&[&str], usize, u8, &[u8]); 12] = [
-        (&["--workers", "0"], 100, 2, TOLD_USAGE),
-        (&["--buffers", "churn:0"], 100, 2, TOLD_USAGE),
-        (&["--generate", "0"], 100, 2, TOLD_USAGE),
-        (&["--generate", "801"], 100, 2, TOLD_USAGE),
-        (&["--help"], 100, 2, TOLD_USAGE),
-        (&["--help"], 5, 2, b"usage"),
-        (&["--generate", "100"], 100, 0, SUMMARY_OF_100),
-        (&["--generate", "1"], 12, 0, b"processes 9\n"),
-        (
-            &["--generate", "2", "--workers", "4", "--buffers", "never"],
-            100,
-            0,
-            SUMMARY_OF_2,
-        ),
-        (
-            &["--generate", "2", "--workers", "4", "--buffers", "always"],
-            100,
-            0,
-            SUMMARY_OF_2,
-        ),
-        (
-            &["--generate", "2", "--workers", "4", "--buffers", "churn:1"],
-            100,
-            0,
-            SUMMARY_OF_2,
-        ),
-        (
-            &["--generate", "2", "--workers", "4", "--quota", "1"],
-            100,
-            0,
-            SUMMARY_OF_2,
-        ),
-    ];
-    for (list, room, number, told) in rows {
+    for (list, room, number, told) in ARGUMENTS {
         let (status, unread, out, err) = run_words(&rt, alloc, list, room)?;
         assert!(rt; status.number() == number, "{list:?}");
         assert!(rt; unread, "{list:?}");
