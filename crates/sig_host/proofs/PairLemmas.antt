@@ -36,7 +36,7 @@ first_row name (p ∷ ps) = go (bytes_eq p.0 name) (first_row name ps)
   where
     go : (b : Bool) → first_of name (rows_for ps) ≡ value_of name ps
         → option_and_then (λ (r : Row). slice_get r.values 0) (if b then Some (row_for p.0 p.1) else find (λ (r : Row). bytes_eq r.id name) (rows_for ps))
-            ≡ (if b then Some p.1 else value_of name ps)
+        ≡ (if b then Some p.1 else value_of name ps)
     go true e = refl
     go false e = e
 

@@ -33,7 +33,9 @@ use sig_base::{Gate, ReadAll, Sink, Source, Written, read_all, write_whole};
 use sig_model::lawful_crew_comes_to_rest;
 use sig_process::Crew;
 use sig_record::{Record, a_lawful_crew_tells_a_run, print_record, summarize};
-use sig_script::{FaultKind, MOST_BYTES, MOST_CALLS, MOST_PROCESSES, Script, ScriptError, generate, read_script};
+use sig_script::{
+    FaultKind, MOST_BYTES, MOST_CALLS, MOST_PROCESSES, Script, ScriptError, generate, read_script,
+};
 use sig_workers::{run_one, run_rounds};
 use std::alloc::{AllocError, Global};
 use std::sync::Wait;

@@ -1,7 +1,8 @@
 //! Worked examples of receive markers, through the top call.
 
 /// A server and twelve clients, of which one may be killed before it has its answer.
-pub(crate) const SERVER_AND_CLIENTS: &[u8] = b"process srv\nlabel l\nreceive\non {call,R,V} -> ans\nend\nlabel ans\nsend R {R,V}\ngoto l\nprocess c1\n\
+pub(crate) const SERVER_AND_CLIENTS: &[u8] =
+    b"process srv\nlabel l\nreceive\non {call,R,V} -> ans\nend\nlabel ans\nsend R {R,V}\ngoto l\nprocess c1\n\
     reserve\nmonitor M @srv reply_demonitor\nbind M\nsend @srv {call,M,1}\nreceive using M\non {^M,V}\n\
     on {'DOWN',^M,process,_,W}\nend\nprocess c2\nreserve\nmonitor M @srv reply_demonitor\nbind M\n\
     send @srv {call,M,2}\nreceive using M\non {^M,V}\non {'DOWN',^M,process,_,W}\nend\nprocess c3\nreserve\n\

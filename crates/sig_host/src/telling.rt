@@ -11,7 +11,8 @@ use sig_base::{Sink, Written, write_whole};
 use sig_script::FaultKind;
 
 /// How the command is called.
-const USAGE: &[u8] = b"usage: sigrun [--workers N] [--quota N] [--buffers never|always|churn:N|auto] [--generate N]\n";
+const USAGE: &[u8] =
+    b"usage: sigrun [--workers N] [--quota N] [--buffers never|always|churn:N|auto] [--generate N]\n";
 
 /// A write to `err` failed. What was to follow isn't written.
 #[derive(Clone, Copy, Debug)]

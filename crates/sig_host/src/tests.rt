@@ -31,7 +31,8 @@ use std::thread::Threads;
 /// More bytes than any record of these tests has.
 pub(crate) const ROOM: usize = 500000;
 
-pub(crate) const ONE_MESSAGE: &[u8] = b"sigscript 1\nprocess a\nsend @b hi\nprocess b\nreceive\non X\nend\n";
+pub(crate) const ONE_MESSAGE: &[u8] =
+    b"sigscript 1\nprocess a\nsend @b hi\nprocess b\nreceive\non X\nend\n";
 
 const ONE_MESSAGE_RECORD: &[u8] =
     b"sigrecord 1\nprocess 0 a\n1 exec 1 sent <1> hi\n2 exec 2 ended normal\nstate ended normal\nprocess 1 b\n2 from 0 1 kept hi\n3 exec 1 took 1 1 hi\n4 exec 2 ended normal\nstate ended normal\n";
@@ -64,7 +65,8 @@ const SUMMARY_OF_100: &[u8] = b"processes 9\nevents 9608\nkept 1600\nended 8\nwa
 
 /// Runs with no arguments, and an `err` that never fails.
 fn run_with<R: Threads + Wait + Sync, S: Source, O: Sink>(
-    rt: &R, alloc: Global,
+    rt: &R,
+    alloc: Global,
     script: &mut S,
     out: &mut O,
 ) -> Result<(Status, MemorySink), AllocError> {
@@ -273,7 +275,8 @@ fn words_give_their_settings(rt: HostRuntime) -> Result<(), Fail> {
 /// Runs with these arguments and a script that is there to be read: the status, whether the script
 /// wasn't read, and what was written and told.
 fn run_words<R: Threads + Wait + Sync>(
-    rt: &R, alloc: Global,
+    rt: &R,
+    alloc: Global,
     list: &[&str],
     room: usize,
 ) -> Result<(Status, bool, MemorySink, MemorySink), AllocError> {
@@ -295,48 +298,51 @@ fn run_words<R: Threads + Wait + Sync>(
     Ok((status, left.as_slice() == ONE_MESSAGE, out, err))
 }
 
-const TOLD_USAGE: &[u8] = b"usage: sigrun [--workers N] [--quota N] [--buffers never|always|churn:N|auto] [--generate N]\n";
+const TOLD_USAGE: &[u8] =
+    b"usage: sigrun [--workers N] [--quota N] [--buffers never|always|churn:N|auto] [--generate N]\n";
 
 const SUMMARY_OF_2: &[u8] = b"processes 9\nevents 200\nkept 32\nended 8\nwaiting 1\ncut 0\n";
+
+/// Arguments, how much `err` holds, the number of the status, and what is told.
+const ARGUMENTS: [(&[&str], usize, u8, &[u8]); 12] = [
+    (&["--workers", "0"], 100, 2, TOLD_USAGE),
+    (&["--buffers", "churn:0"], 100, 2, TOLD_USAGE),
+    (&["--generate", "0"], 100, 2, TOLD_USAGE),
+    (&["--generate", "801"], 100, 2, TOLD_USAGE),
+    (&["--help"], 100, 2, TOLD_USAGE),
+    (&["--help"], 5, 2, b"usage"),
+    (&["--generate", "100"], 100, 0, SUMMARY_OF_100),
+    (&["--generate", "1"], 12, 0, b"processes 9\n"),
+    (
+        &["--generate", "2", "--workers", "4", "--buffers", "never"],
+        100,
+        0,
+        SUMMARY_OF_2,
+    ),
+    (
+        &["--generate", "2", "--workers", "4", "--buffers", "always"],
+        100,
+        0,
+        SUMMARY_OF_2,
+    ),
+    (
+        &["--generate", "2", "--workers", "4", "--buffers", "churn:1"],
+        100,
+        0,
+        SUMMARY_OF_2,
+    ),
+    (
+        &["--generate", "2", "--workers", "4", "--quota", "1"],
+        100,
+        0,
+        SUMMARY_OF_2,
+    ),
+];
 
 #[test]
 fn arguments_are_told(rt: HostRuntime) -> Result<(), Fail> {
     let alloc = rt.alloc();
-    let rows: [(&[&str], usize, u8, &[u8]); 12] = [
-        (&["--workers", "0"], 100, 2, TOLD_USAGE),
-        (&["--buffers", "churn:0"], 100, 2, TOLD_USAGE),
-        (&["--generate", "0"], 100, 2, TOLD_USAGE),
-        (&["--generate", "801"], 100, 2, TOLD_USAGE),
-        (&["--help"], 100, 2, TOLD_USAGE),
-        (&["--help"], 5, 2, b"usage"),
-        (&["--generate", "100"], 100, 0, SUMMARY_OF_100),
-        (&["--generate", "1"], 12, 0, b"processes 9\n"),
-        (
-            &["--generate", "2", "--workers", "4", "--buffers", "never"],
-            100,
-            0,
-            SUMMARY_OF_2,
-        ),
-        (
-            &["--generate", "2", "--workers", "4", "--buffers", "always"],
-            100,
-            0,
-            SUMMARY_OF_2,
-        ),
-        (
-            &["--generate", "2", "--workers", "4", "--buffers", "churn:1"],
-            100,
-            0,
-            SUMMARY_OF_2,
-        ),
-        (
-            &["--generate", "2", "--workers", "4", "--quota", "1"],
-            100,
-            0,
-            SUMMARY_OF_2,
-        ),
-    ];
-    for (list, room, number, told) in rows {
+    for (list, room, number, told) in ARGUMENTS {
         let (status, unread, out, err) = run_words(&rt, alloc, list, room)?;
         assert!(rt; status.number() == number, "{list:?}");
         assert!(rt; unread, "{list:?}");
@@ -347,7 +353,11 @@ fn arguments_are_told(rt: HostRuntime) -> Result<(), Fail> {
 }
 
 /// Runs the text.
-fn run_text<R: Threads + Wait + Sync>(rt: &R, alloc: Global, text: &[u8]) -> Result<(Status, MemorySink, MemorySink), AllocError> {
+fn run_text<R: Threads + Wait + Sync>(
+    rt: &R,
+    alloc: Global,
+    text: &[u8],
+) -> Result<(Status, MemorySink, MemorySink), AllocError> {
     let mut source = MemorySource::new(Vec::from_slice(alloc, text)?, 100000);
     let mut out = MemorySink::with_room(alloc, ROOM)?;
     let (status, err) = run_with(rt, alloc, &mut source, &mut out)?;
@@ -355,14 +365,23 @@ fn run_text<R: Threads + Wait + Sync>(rt: &R, alloc: Global, text: &[u8]) -> Res
 }
 
 /// Runs the script of these lines behind the header line.
-fn run_lines<R: Threads + Wait + Sync>(rt: &R, alloc: Global, lines: &[u8]) -> Result<(Status, MemorySink, MemorySink), AllocError> {
+fn run_lines<R: Threads + Wait + Sync>(
+    rt: &R,
+    alloc: Global,
+    lines: &[u8],
+) -> Result<(Status, MemorySink, MemorySink), AllocError> {
     let mut text = Vec::from_slice(alloc, b"sigscript 1\n")?;
     text.extend_from_slice(lines)?;
     run_text(rt, alloc, text.as_slice())
 }
 
 /// Whether the record of the script of these lines is the first line of a record and these lines.
-fn gives<R: Threads + Wait + Sync>(rt: &R, alloc: Global, lines: &[u8], record: &[u8]) -> Result<bool, AllocError> {
+fn gives<R: Threads + Wait + Sync>(
+    rt: &R,
+    alloc: Global,
+    lines: &[u8],
+    record: &[u8],
+) -> Result<bool, AllocError> {
     let (status, out, err) = run_lines(rt, alloc, lines)?;
     let told = out.held().strip_prefix(b"sigrecord 1\n".as_slice());
     Ok(status == Status::Done && told == Some(record) && err.held().is_empty())
@@ -573,7 +592,8 @@ const PATTERNS: [(&[u8], &[u8]); 5] = [
 
 /// The first of these scripts that gives another record. Both stand without their first line.
 fn first_other<'a, R: Threads + Wait + Sync>(
-    rt: &R, alloc: Global,
+    rt: &R,
+    alloc: Global,
     rows: &[(&'a [u8], &'a [u8])],
 ) -> Result<Option<&'a [u8]>, AllocError> {
     for (lines, record) in rows {
@@ -586,7 +606,8 @@ fn first_other<'a, R: Threads + Wait + Sync>(
 
 /// The first of these texts that gives another record, or of which something is told.
 fn first_unlike<'a, R: Threads + Wait + Sync>(
-    rt: &R, alloc: Global,
+    rt: &R,
+    alloc: Global,
     rows: &[(&'a [u8], &'a [u8])],
 ) -> Result<Option<&'a [u8]>, AllocError> {
     for (text, record) in rows {
@@ -640,7 +661,12 @@ fn refusal(alloc: Global, place: &[u8]) -> Result<Vec<u8>, AllocError> {
 
 /// Whether the text is refused so: nothing is written, and this is told. A text of which nothing is
 /// told is accepted.
-fn tells<R: Threads + Wait + Sync>(rt: &R, alloc: Global, text: &[u8], told: &[u8]) -> Result<bool, AllocError> {
+fn tells<R: Threads + Wait + Sync>(
+    rt: &R,
+    alloc: Global,
+    text: &[u8],
+    told: &[u8],
+) -> Result<bool, AllocError> {
     let (status, out, err) = run_text(rt, alloc, text)?;
     let refused = status.number() == 1;
     Ok(err.held() == told && refused != told.is_empty() && refused == out.held().is_empty())
@@ -648,7 +674,8 @@ fn tells<R: Threads + Wait + Sync>(rt: &R, alloc: Global, text: &[u8], told: &[u
 
 /// The first of these lines behind the header that aren't refused so.
 fn first_unrefused<'a, R: Threads + Wait + Sync>(
-    rt: &R, alloc: Global,
+    rt: &R,
+    alloc: Global,
     rows: &[(&'a [u8], &'a [u8])],
 ) -> Result<Option<&'a [u8]>, AllocError> {
     for (lines, place) in rows {
@@ -662,7 +689,10 @@ fn first_unrefused<'a, R: Threads + Wait + Sync>(
 }
 
 /// The same of all these tables.
-fn first_unrefused_of_all<R: Threads + Wait + Sync>(rt: &R, alloc: Global) -> Result<Option<&'static [u8]>, AllocError> {
+fn first_unrefused_of_all<R: Threads + Wait + Sync>(
+    rt: &R,
+    alloc: Global,
+) -> Result<Option<&'static [u8]>, AllocError> {
     let tables: [&[(&[u8], &[u8])]; 6] = [
         &HEADS,
         &TERMS,
@@ -681,7 +711,10 @@ fn first_unrefused_of_all<R: Threads + Wait + Sync>(rt: &R, alloc: Global) -> Re
 }
 
 /// The length of the first of the long texts that isn't refused so.
-fn first_unlimited<R: Threads + Wait + Sync>(rt: &R, alloc: Global) -> Result<Option<usize>, AllocError> {
+fn first_unlimited<R: Threads + Wait + Sync>(
+    rt: &R,
+    alloc: Global,
+) -> Result<Option<usize>, AllocError> {
     for (pieces, place) in LONG {
         let text = text_of(alloc, pieces)?;
         let told = refusal(alloc, place)?;

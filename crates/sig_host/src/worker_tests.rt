@@ -139,6 +139,7 @@ fn look(flag: &AtomicBool) -> bool {
 
 /// A gate that holds process 1 at its first instruction until process 0 has executed one, and
 /// process 0 at that one until process 1 has handled a signal.
+#[derive(Drop)]
 struct HoldBoth {
     /// Process 0 has executed an instruction.
     executed: AtomicBool,
@@ -201,6 +202,7 @@ fn workers_overlap(rt: HostRuntime) -> Result<(), Fail> {
 }
 
 /// A gate that keeps the first put, and counts all.
+#[derive(Drop)]
 struct Puts {
     /// The sender, and the buffer that the signal went to.
     first: OnceLock<(u32, Option<u8>)>,
