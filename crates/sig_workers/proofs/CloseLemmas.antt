@@ -1,5 +1,5 @@
 -- A queue is closed, and what it has left is handed over.
-use Rattle.std.proofs.Common.{◌≡◌, ◌≢◌, inl, inr, ◌⊎◌, ℕ, zero, suc, ◌+◌, ◌<◌, ◌≤◌, List, [], ◌∷◌, ◌++◌, length, drop, true, Some, refl, sym, ap, ◌∙◌, subst, arith}
+use Rattle.std.proofs.Common.{◌≡◌, inl, inr, ℕ, zero, suc, ◌+◌, ◌<◌, ◌≤◌, List, [], ◌∷◌, ◌++◌, length, drop, true, Some, sym, ap, ◌∙◌, subst, arith}
 use Rattle.std.specs.Prelude.{All, ◌==◌, slice_get, slice_set, slice_index_or, remove}
 use Rattle.std.proofs.lemmas.List.{map-set}
 use Rattle.std.proofs.lemmas.Option.{same_Some, slice_get_within}
@@ -13,7 +13,7 @@ use Rattle.sig_model.specs.Accounts.{coming_from, Continues}
 use Rattle.sig_model.proofs.OutboxNumbers.{counting-rest}
 use Rattle.sig_layout.specs.declared.entry.Entry.{Entry}
 use Rattle.sig_layout.specs.Sets.{has}
-use Rattle.sig_layout.specs.Sent.{sender, of, signals}
+use Rattle.sig_layout.specs.Sent.{signals}
 use Rattle.sig_layout.specs.Openings.{first_of, IsCarried}
 use Rattle.sig_queue.specs.declared.account.Account.{Account}
 use Rattle.sig_queue.specs.Accounts.{account_of}

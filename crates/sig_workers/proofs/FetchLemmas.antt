@@ -1,5 +1,5 @@
 -- What was put for a process is taken in.
-use Rattle.std.proofs.Common.{◌≡◌, ℕ, ◌+◌, ◌<◌, List, [], ◌∷◌, ◌++◌, length, Bool, true, false, cond, Some, refl, sym, ap, ◌∙◌, subst, arith}
+use Rattle.std.proofs.Common.{◌≡◌, ℕ, ◌+◌, List, [], ◌∷◌, ◌++◌, length, Bool, true, false, cond, Some, refl, sym, ap, ◌∙◌, subst, arith}
 use Rattle.std.specs.Prelude.{All, ◌==◌, slice_get, slice_set, Result, Ok, Err, OnOk, MatchResult}
 use Rattle.std.proofs.lemmas.Bool.{ne_eqb}
 use Rattle.std.proofs.lemmas.List.{append-nil}
@@ -15,7 +15,6 @@ use Rattle.sig_model.proofs.OutboxNumbers.{counting-rest}
 use Rattle.sig_process.specs.Standing.{Standing}
 use Rattle.sig_layout.specs.declared.knows.Knows.{Knows}
 use Rattle.sig_layout.specs.Sets.{has}
-use Rattle.sig_layout.specs.Sent.{sender, of}
 use Rattle.sig_layout.specs.Openings.{first_of, IsCarried}
 use Rattle.sig_queue.specs.Seats.{Queue, Seated}
 use Rattle.sig_queue.specs.Calls.{FetchedAs, Fetched}

@@ -12,14 +12,13 @@ use Rattle.sig_model.specs.Accounts.{came, went, bound_for, coming_from}
 use Rattle.sig_model.specs.CrewLaw.{came_to, went_from, left_for, IsLawfulCrew}
 use Rattle.sig_model.proofs.ClearLemmas.{clear_at}
 use Rattle.sig_layout.specs.declared.policy.Policy.{Policy}
-use Rattle.sig_layout.specs.Sets.{has}
 use Rattle.sig_layout.specs.Sent.{signals}
 use Rattle.sig_layout.specs.Openings.{first_of}
 use Rattle.sig_queue.specs.Seats.{Queue, Seated}
 use Rattle.sig_workers.specs.SeatAccounts.{put_in, put_by, taken_in, taken_at}
-use Rattle.sig_workers.specs.Gone.{HasGone, Continued, PutsFor, TakesFor, IsReady}
+use Rattle.sig_workers.specs.Gone.{HasGone, PutsFor, TakesFor, IsReady}
 use Rattle.sig_workers.specs.Parts.{is_in, AreSeats, HasPlace}
-use Rattle.sig_workers.specs.Opening.{numbers_to, IsQueueOf, IsFreshSeat, AreFresh}
+use Rattle.sig_workers.specs.Opening.{IsQueueOf, IsFreshSeat, AreFresh}
 use Rattle.sig_workers.proofs.PartLemmas.{in_part}
 use Rattle.sig_workers.proofs.OpenLemmas.{in_below, some_at}
 

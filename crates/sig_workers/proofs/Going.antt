@@ -1,11 +1,10 @@
 -- A process and its seats go on: by an event, by a put, by what is taken in, and by several of these.
-use Rattle.std.proofs.Common.{◌≡◌, ◌≢◌, ℕ, ◌+◌, ◌<◌, ◌≤◌, List, [], ◌∷◌, ◌++◌, map, length, Bool, true, false, cond, Option, Some, None, refl, sym, ap, ◌∙◌, subst, inl, inr, ◌⊎◌, arith, length-append, length-set, append_assoc}
-use Rattle.std.specs.Prelude.{All, ◌==◌, slice_get, slice_set, slice_index}
-use Rattle.std.specs.List.{filter}
+use Rattle.std.proofs.Common.{◌≡◌, ◌≢◌, ℕ, ◌+◌, ◌<◌, List, [], ◌∷◌, ◌++◌, length, true, false, cond, Some, refl, sym, ap, ◌∙◌, subst, inl, inr, arith, length-append, length-set, append_assoc}
+use Rattle.std.specs.Prelude.{◌==◌, slice_get, slice_set}
 use Rattle.std.proofs.lemmas.Bool.{eq-eqb, ne_eqb}
 use Rattle.std.proofs.lemmas.Bool.Decides.{eqb_tells}
 use Rattle.std.proofs.lemmas.Option.{same_Some}
-use Rattle.std.proofs.lemmas.List.{append-nil, map-append}
+use Rattle.std.proofs.lemmas.List.{append-nil}
 use Rattle.std.proofs.lemmas.List.Elements.{filter-append}
 use Rattle.sig_runs.proofs.Lists.{slice_get-set_same, slice_get-set_other}
 use Rattle.sig_kinds.specs.declared.signal.Signal.{Signal}
@@ -16,7 +15,7 @@ use Rattle.sig_queue.specs.Seats.{Queue, Seated}
 use Rattle.sig_layout.specs.declared.item.Item.{Item}
 use Rattle.sig_layout.specs.Sets.{has}
 use Rattle.sig_layout.specs.Sent.{signals}
-use Rattle.sig_model.specs.Accounts.{sent_by, came, went, bound_for, IsNumbered, coming_from}
+use Rattle.sig_model.specs.Accounts.{sent_by, came, went, bound_for, coming_from}
 use Rattle.sig_workers.specs.SeatAccounts.{put_in, put_by, taken_in, taken_at}
 use Rattle.sig_workers.specs.Gone.{HasGone, HasSent, PutsFor, Continued, TakesFor, IsReady, IsSameSeat, KeepOthers, Goes}
 use Rattle.sig_layout.specs.Openings.{first_of}

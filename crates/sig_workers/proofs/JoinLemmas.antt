@@ -1,14 +1,13 @@
 -- Two parts are joined.
 use Rattle.std.proofs.Common.{◌≡◌, ◌≢◌, ℕ, zero, suc, ◌+◌, ◌-◌, ◌<◌, ◌≤◌, List, [], ◌∷◌, ◌++◌, length, Bool, true, false, cond, not, ◌&&◌, ◌||◌, Option, Some, None, refl, sym, ap, ◌∙◌, subst, inl, inr, ◌⊎◌, arith, length-append, nat_le, nat_lt}
-use Rattle.std.specs.Prelude.{◌==◌, slice_get, map}
-use Rattle.std.proofs.lemmas.Bool.Decides.{eqb_tells, nat_tests}
+use Rattle.std.specs.Prelude.{◌==◌, slice_get}
+use Rattle.std.proofs.lemmas.Bool.Decides.{nat_tests}
 use Rattle.std.proofs.lemmas.Option.{same_Some, slice_get_within, slice_get_past}
 use Rattle.std.proofs.lemmas.List.{append-nil, map-append}
 use Rattle.std.proofs.lemmas.List.Elements.{filter-append}
 use Rattle.sig_kinds.specs.declared.signal.Signal.{Signal}
 use Rattle.sig_model.specs.Running.{Running}
 use Rattle.sig_queue.specs.Seats.{Queue, Seated}
-use Rattle.sig_layout.specs.declared.item.Item.{Item}
 use Rattle.sig_layout.specs.Sets.{has}
 use Rattle.sig_layout.specs.Sent.{signals}
 use Rattle.sig_layout.specs.declared.knows.Knows.{Knows}
@@ -19,7 +18,7 @@ use Rattle.sig_model.specs.Accounts.{coming_from}
 use Rattle.sig_workers.specs.SeatAccounts.{put_in, put_by, taken_in, taken_at}
 use Rattle.std.specs.Prelude.{Result, Ok, Err, is_ok, OnOk, if◌then◌else◌}
 use Rattle.sig_workers.specs.declared.part.Part.{Part}
-use Rattle.sig_workers.specs.Parts.{procs_of, base_of, is_in, IsOwn, IsSeat, AreSeats, LooksSame, HasPlace, IsPart, IsJoined, AreJoined, HasJoined}
+use Rattle.sig_workers.specs.Parts.{procs_of, base_of, is_in, IsOwn, IsSeat, AreSeats, LooksSame, HasPlace, IsPart, IsJoined, AreJoined}
 use Rattle.sig_workers.proofs.PartLemmas.{place_kept}
 
 pub get_append : (xs ys : List Running) (i : ℕ) (r : Running) → slice_get (xs ++ ys) i ≡ Some r → (slice_get xs i ≡ Some r) ⊎ ((j : ℕ) × (i ≡ length xs + j) × (slice_get ys j ≡ Some r))

@@ -1,6 +1,6 @@
 -- A visit of one process of a part leaves the others as ready as they were.
-use Rattle.std.proofs.Common.{◌≡◌, ◌≢◌, ℕ, suc, ◌+◌, ◌-◌, ◌<◌, ◌≤◌, List, [], ◌∷◌, ◌++◌, length, Bool, true, false, cond, not, ◌&&◌, Option, Some, None, refl, sym, ap, ◌∙◌, subst, inl, inr, ◌⊎◌, arith, length-append, length-set, nat_le, nat_lt, get_or}
-use Rattle.std.specs.Prelude.{◌==◌, slice_get, slice_set, slice_index, Result, Ok, Err, OnOk, IfOk}
+use Rattle.std.proofs.Common.{◌≡◌, ◌≢◌, ℕ, suc, ◌+◌, ◌<◌, ◌≤◌, List, [], ◌∷◌, ◌++◌, length, Bool, true, false, Some, refl, sym, ap, ◌∙◌, subst, inl, inr, arith, length-set, get_or}
+use Rattle.std.specs.Prelude.{slice_get, slice_set, Result, Ok, Err, OnOk, IfOk}
 use Rattle.std.proofs.lemmas.Bool.Decides.{eqb_tells, nat_tests}
 use Rattle.std.specs.Option.{option_map}
 use Rattle.std.proofs.lemmas.List.{map-set}
@@ -12,10 +12,10 @@ use Rattle.sig_queue.specs.Seats.{Queue, Seated}
 use Rattle.sig_layout.specs.Sets.{has}
 use Rattle.sig_layout.specs.Sent.{signals}
 use Rattle.sig_model.specs.Accounts.{came, went, bound_for, coming_from}
-use Rattle.sig_workers.specs.SeatAccounts.{put_in, put_by, taken_in, taken_at}
+use Rattle.sig_workers.specs.SeatAccounts.{put_in, taken_in}
 use Rattle.sig_layout.specs.Openings.{first_of}
 use Rattle.sig_process.specs.Standing.{Standing, runnings_of}
-use Rattle.sig_workers.specs.Gone.{HasGone, HasSent, PutsFor, TakesFor, IsReady, IsSameSeat, KeepOthers, Goes}
+use Rattle.sig_workers.specs.Gone.{HasGone, PutsFor, TakesFor, IsReady, IsSameSeat, KeepOthers, Goes}
 use Rattle.sig_workers.specs.Parts.{procs_of, base_of, is_in, IsSeat, AreSeats, LooksSame, HasPlace, IsPart, HasVisited}
 use Rattle.sig_workers.specs.Visits.{HasMoved}
 use Rattle.sig_workers.specs.declared.part.Part.{Part}

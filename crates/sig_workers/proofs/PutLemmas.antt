@@ -1,5 +1,5 @@
 -- What a process sends is put.
-use Rattle.std.proofs.Common.{◌≡◌, ◌≢◌, ℕ, ◌+◌, ◌<◌, List, [], ◌∷◌, ◌++◌, length, true, cond, Some, refl, sym, ap, ◌∙◌, subst, arith, length-append}
+use Rattle.std.proofs.Common.{◌≡◌, ◌≢◌, ℕ, ◌+◌, ◌<◌, List, ◌∷◌, ◌++◌, length, true, cond, Some, refl, sym, ap, ◌∙◌, subst, arith}
 use Rattle.std.specs.Prelude.{All, get_or, slice_get, slice_set, Result, Ok, Err, IfOk}
 use Rattle.std.specs.declared.alloc.AllocError.{AllocError}
 use Rattle.std.proofs.lemmas.Bool.{eq-eqb}
@@ -11,19 +11,14 @@ use Rattle.sig_kinds.specs.SignalNames.{IsSignalBelow}
 use Rattle.sig_kinds.specs.Counting.{IsCounting}
 use Rattle.sig_model.specs.Running.{Running}
 use Rattle.sig_model.specs.Keeping.{IsKeeping, IsLeaving}
-use Rattle.sig_model.specs.Accounts.{went, bound_for, coming_from}
+use Rattle.sig_model.specs.Accounts.{bound_for}
 use Rattle.sig_model.proofs.KeepLemmas.{outbox_keeps}
 use Rattle.sig_layout.specs.declared.via.Via.{Via}
-use Rattle.sig_layout.specs.declared.via.Via.TheVariants as via
-use Rattle.sig_layout.specs.declared.knows.Knows.{Knows}
 use Rattle.sig_layout.specs.Sets.{has}
-use Rattle.sig_layout.specs.Sent.{putter, of, signals}
+use Rattle.sig_layout.specs.Sent.{putter, of}
 use Rattle.sig_layout.specs.Openings.{first_of, IsNext}
 use Rattle.sig_queue.specs.Seats.{Queue, Seated}
 use Rattle.sig_queue.specs.Parts.{item}
-use Rattle.sig_queue.specs.Calls.{SentAs}
-use Rattle.sig_queue.specs.declared.sent.Sent.{Sent}
-use Rattle.sig_queue.specs.declared.sent.Sent.TheVariants as sent
 use Rattle.sig_workers.specs.Gone.{PutsFor, IsReady, IsSameSeat, Goes}
 use Rattle.sig_workers.specs.Visits.{MayPut, HasPut, WasPut}
 use Rattle.sig_workers.proofs.SeatLists.{items_length, counting-next}

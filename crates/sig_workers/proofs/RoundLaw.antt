@@ -1,5 +1,5 @@
 -- A round keeps the law of a crew.
-use Rattle.std.proofs.Common.{◌≡◌, ◌≢◌, ℕ, zero, suc, ◌+◌, ◌<◌, ◌≤◌, List, [], ◌∷◌, ◌++◌, length, Option, Some, None, refl, sym, ap, ◌∙◌, subst, inl, inr, arith, append_assoc, cond, get_or}
+use Rattle.std.proofs.Common.{◌≡◌, ◌≢◌, ℕ, zero, suc, ◌<◌, ◌≤◌, List, [], ◌∷◌, ◌++◌, length, Option, Some, None, refl, sym, ap, ◌∙◌, subst, inl, inr, arith, append_assoc, cond, get_or}
 use Rattle.std.specs.Prelude.{◌==◌, slice_get}
 use Rattle.std.proofs.lemmas.Bool.{eq-eqb}
 use Rattle.std.proofs.lemmas.Bool.Decides.{eqb_tells}
@@ -17,8 +17,7 @@ use Rattle.sig_model.specs.CrewLaw.{came_to, went_from, left_for, IsLawfulCrew}
 use Rattle.sig_model.proofs.ClearLemmas.{clear_at}
 use Rattle.sig_model.proofs.NumberLemmas.{lists_numbered}
 use Rattle.sig_queue.specs.Seats.{Queue, Seated}
-use Rattle.sig_workers.specs.SeatAccounts.{put_in, put_by, taken_in, taken_at}
-use Rattle.sig_workers.specs.Gone.{HasGone}
+use Rattle.sig_workers.specs.SeatAccounts.{put_in, put_by, taken_at}
 use Rattle.sig_workers.specs.Parts.{HasPlace}
 use Rattle.sig_workers.specs.Rounds.{Begin}
 

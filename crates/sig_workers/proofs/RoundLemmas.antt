@@ -1,5 +1,5 @@
 -- The phases of a round, one after another.
-use Rattle.std.proofs.Common.{◌≡◌, ℕ, ◌+◌, ◌<◌, ◌≤◌, ◌^◌, List, length, Bool, true, false, Some, refl, sym, ap, ◌∙◌, subst, arith}
+use Rattle.std.proofs.Common.{◌≡◌, ℕ, ◌+◌, ◌<◌, ◌≤◌, List, length, Bool, true, false, Some, refl, sym, ap, ◌∙◌, subst, arith}
 use Rattle.std.specs.Prelude.{slice_get, All, slice_index}
 use Rattle.std.proofs.lemmas.Option.{same_Some, slice_get_within}
 use Rattle.sig_script.specs.Scripts.{Program, IsSound}
@@ -23,7 +23,7 @@ use Rattle.sig_workers.proofs.PartLemmas.{in_part}
 use Rattle.sig_workers.proofs.OpenLemmas.{some_at}
 use Rattle.sig_workers.proofs.RowLemmas.{row_parts}
 use Rattle.sig_workers.proofs.RoundLaw.{all_clear, round_lawful, round_begins, round_stamp}
-use Rattle.sig_workers.proofs.EndLemmas.{may_close, as_many, seats_many, ends, strange_none, end_receipt, end_flag}
+use Rattle.sig_workers.proofs.EndLemmas.{may_close, ends, strange_none, end_receipt, end_flag}
 
 -- a sound script has few processes
 pub crew_few : (script : Program) (crew : List Running) → IsSound script → IsLawfulCrew script crew → length crew ≤ 256

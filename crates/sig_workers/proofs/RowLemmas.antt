@@ -1,15 +1,14 @@
 -- Parts in a row: they are ready, they work, and they are joined.
 use Rattle.std.proofs.Common.{◌≡◌, ◌≢◌, ℕ, zero, suc, ◌+◌, ◌-◌, ◌<◌, ◌≤◌, List, [], ◌∷◌, ◌++◌, length, take, drop, Bool, true, false, ◌||◌, Option, Some, None, refl, sym, ap, ◌∙◌, subst, inl, inr, ◌⊎◌, arith, length-append}
-use Rattle.std.specs.Prelude.{slice_get, slice_index_or, remove, All, Result, Ok, Err, IfOk}
-use Rattle.std.specs.Bool.{MatchBool}
+use Rattle.std.specs.Prelude.{slice_get, slice_index_or, remove, All, Result, Ok, Err}
 use Rattle.std.specs.declared.alloc.AllocError.{AllocError}
 use Rattle.std.proofs.lemmas.List.Elements.{All-nil, All-cons, All-head, All-tail}
-use Rattle.std.proofs.lemmas.Option.{same_Some, slice_get_within}
+use Rattle.std.proofs.lemmas.Option.{slice_get_within}
 use Rattle.sig_model.specs.Running.{Running}
 use Rattle.sig_model.specs.OneWorker.{IsClear}
 use Rattle.sig_layout.specs.declared.policy.Policy.{Policy}
 use Rattle.sig_model.specs.Still.{IsStill}
-use Rattle.sig_workers.specs.Parts.{procs_of, base_of, AreSeats, HasPlace, IsPart, IsSamePart, AnyMore, StillBelow, HavePassed, HasWorked, HaveWorked, HasJoined}
+use Rattle.sig_workers.specs.Parts.{procs_of, base_of, AreSeats, HasPlace, IsPart, HavePassed, HasWorked, HaveWorked, HasJoined}
 use Rattle.sig_script.specs.Scripts.{Program}
 use Rattle.sig_model.specs.CrewLaw.{IsLawfulCrew}
 use Rattle.sig_queue.specs.Seats.{Queue}

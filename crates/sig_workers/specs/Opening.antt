@@ -1,5 +1,5 @@
 -- Queues are opened for a crew, and its seats are cut.
-use Rattle.std.specs.Prelude.{◌≡◌, ◌==◌, ℕ, ◌+◌, ◌<◌, ◌≤◌, ◌^◌, not, ◌&&◌, List, [], length, map, slice_get, slice_index, Some}
+use Rattle.std.specs.Prelude.{◌≡◌, ◌==◌, ℕ, ◌<◌, ◌≤◌, ◌^◌, not, ◌&&◌, List, [], length, map, slice_get, slice_index, Some}
 use Rattle.sig_model.specs.Running.{Running}
 use Rattle.sig_layout.specs.declared.policy.Policy.{Policy}
 use Rattle.sig_layout.specs.Sets.{has}

@@ -1,6 +1,5 @@
 use Rattle.std.proofs.lemmas.Grind.{common_steps}
-use Rattle.std.proofs.Common.{◌≡◌, ◌<◌, ◌≤◌, ◌+◌, ◌++◌, [], ◌∷◌, List, length, sym, ap, ◌∙◌, subst, arith, length-append, length-set}
-use Rattle.std.specs.Prelude.{slice_get, Some}
+use Rattle.std.proofs.Common.{◌≡◌, ◌<◌, ◌+◌, ◌++◌, [], ◌∷◌, List, length, sym, ap, ◌∙◌, arith, length-append, length-set}
 use Rattle.sig_queue.specs.declared.account.Account.{Account}
 use Rattle.sig_workers.proofs.PartLemmas.{running_at}
 use Rattle.sig_workers.proofs.CloseLemmas.{first_left, closed_rest, closed_more}

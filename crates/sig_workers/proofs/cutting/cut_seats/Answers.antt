@@ -1,6 +1,5 @@
-use Rattle.std.proofs.Common.{◌≡◌, ◌<◌, ◌≤◌, ◌+◌, ◌++◌, [], ◌∷◌, List, length, sym, ap, ◌∙◌, subst, arith, length-set, length-append}
-use Rattle.std.specs.Prelude.{slice_get, Some}
-use Rattle.sig_queue.specs.Seats.{Queue, Seated}
+use Rattle.std.proofs.Common.{◌≡◌, ◌<◌, ◌+◌, [], ◌∷◌, List, length, sym, ap, ◌∙◌, subst, arith, length-set, length-append}
+use Rattle.sig_queue.specs.Seats.{Seated}
 use Rattle.sig_workers.proofs.PutLemmas.{at_place}
 use Rattle.sig_workers.proofs.CutLemmas.{FreshTo, fresh_pushed, fresh_set, rest_set, all_fresh, fresh_here}
 use Rattle.sig_workers.proofs.cutting.cut_seats.Goals as goal

@@ -1,4 +1,4 @@
-use Rattle.std.proofs.Common.{◌≡◌, ◌<◌, length, arith, ap}
+use Rattle.std.proofs.Common.{◌<◌, length, arith}
 use Rattle.std.proofs.lemmas.Grind.{common_steps}
 use Rattle.sig_workers.proofs.PutLemmas.{at_place}
 use Rattle.sig_workers.proofs.FetchLemmas.{fetch_own, fetched_arriving, fetched_continues, fetch_goes, taken_ok}

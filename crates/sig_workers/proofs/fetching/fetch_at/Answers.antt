@@ -1,4 +1,4 @@
-use Rattle.std.proofs.Common.{inl, inr, ◌∙◌}
+use Rattle.std.proofs.Common.{inl, inr}
 use Rattle.sig_workers.proofs.FetchLemmas.{any_fetched}
 use Rattle.sig_workers.proofs.fetching.fetch_at.Goals as goal
 

@@ -1,6 +1,6 @@
 use Rattle.sig_process.specs.Standing.{runnings_of}
 use Rattle.sig_workers.specs.Parts.{procs_of}
-use Rattle.std.proofs.Common.{◌≡◌, length}
+use Rattle.std.proofs.Common.{length}
 use Rattle.sig_workers.specs.Rows.{DoneRow, IsWhole}
 use Rattle.sig_workers.proofs.joining.join_all.Given as goal
 

@@ -1,5 +1,4 @@
-use Rattle.std.proofs.Common.{◌++◌, refl, ap}
-use Rattle.sig_process.specs.Standing.{runnings_of}
+use Rattle.std.proofs.Common.{◌++◌, refl}
 use Rattle.sig_workers.specs.declared.part.Part.{Part}
 use Rattle.sig_workers.specs.Parts.{IsPart, HasJoined}
 use Rattle.sig_workers.proofs.JoinLemmas.{joined_part, both_procs, when_ok}

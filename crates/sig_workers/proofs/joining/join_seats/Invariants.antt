@@ -1,5 +1,5 @@
 use Rattle.std.proofs.Common.{◌≡◌, ℕ, ◌<◌, ◌≤◌, length, slice_get, Some, take}
-use Rattle.sig_queue.specs.Seats.{Queue, Seated}
+use Rattle.sig_queue.specs.Seats.{Seated}
 use Rattle.sig_workers.specs.Parts.{IsJoined}
 use Rattle.sig_workers.proofs.joining.join_seats.Given as goal
 

@@ -1,6 +1,6 @@
 use Rattle.sig_queue.specs.Seats.{Queue}
 use Rattle.sig_process.specs.Standing.{runnings_of}
-use Rattle.std.proofs.Common.{◌≡◌, ◌+◌, ◌++◌, [], ◌∷◌, List, length, sym, ap, ◌∙◌, subst, length-append}
+use Rattle.std.proofs.Common.{◌+◌, ◌++◌, [], ◌∷◌, List, length, sym, ap, ◌∙◌, subst, length-append}
 use Rattle.sig_workers.specs.Opening.{AreOpened}
 use Rattle.sig_workers.proofs.CutLemmas.{opened_push}
 use Rattle.sig_workers.proofs.opening.open_all.Goals as goal

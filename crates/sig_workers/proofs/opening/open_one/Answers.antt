@@ -1,4 +1,4 @@
-use Rattle.std.proofs.Common.{◌≡◌, ◌&&◌, not, ◌<◌, ℕ, length, refl, subst, sym}
+use Rattle.std.proofs.Common.{◌≡◌, ◌&&◌, not, ◌<◌, length, subst, sym}
 use Rattle.std.specs.Prelude.{◌==◌}
 use Rattle.sig_process.specs.Standing.{runnings_of}
 use Rattle.sig_layout.specs.Sets.{has}

@@ -1,4 +1,4 @@
-use Rattle.std.proofs.Common.{◌≡◌, ◌∙◌, ◌+◌, not, ◌&&◌, ◌||◌, sym, ap, refl}
+use Rattle.std.proofs.Common.{◌∙◌, ◌+◌, not, ◌&&◌, ◌||◌, sym, ap}
 use Rattle.std.specs.Prelude.{◌==◌}
 use Rattle.sig_layout.specs.Sets.{has}
 use Rattle.sig_workers.proofs.OpenLemmas.{in_none, more_in, left_out, eqb_sym}

@@ -1,4 +1,4 @@
-use Rattle.std.proofs.Common.{◌≡◌, ◌==◌, ◌&&◌, not, ℕ, ◌<◌}
+use Rattle.std.proofs.Common.{◌≡◌, ◌==◌, ◌&&◌, not, ℕ}
 use Rattle.sig_layout.specs.Sets.{has}
 use Rattle.sig_workers.specs.Parts.{is_in}
 use Rattle.sig_workers.proofs.opening.senders_but.Given as goal

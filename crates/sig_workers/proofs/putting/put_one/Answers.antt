@@ -1,6 +1,6 @@
-use Rattle.std.proofs.Common.{◌≡◌, ◌<◌, length, Some, slice_get, sym, ap, arith}
+use Rattle.std.proofs.Common.{◌<◌, length, arith}
 use Rattle.std.proofs.lemmas.Grind.{common_steps}
-use Rattle.sig_workers.proofs.PutLemmas.{at_place, PutAt, may_put_at, was_put}
+use Rattle.sig_workers.proofs.PutLemmas.{at_place, may_put_at, was_put}
 use Rattle.sig_workers.proofs.putting.put_one.Goals as goal
 
 pub put_at-requires-clause-own : goal.put_at-requires-clause-own

@@ -1,4 +1,4 @@
-use Rattle.std.proofs.Common.{All, ◌≡◌, ◌≤◌, ◌∙◌, length, sym, subst, ap, arith, List}
+use Rattle.std.proofs.Common.{All, ◌≡◌, ◌≤◌, ◌∙◌, length, sym, subst, ap, arith}
 use Rattle.std.proofs.lemmas.Grind.{common_steps}
 use Rattle.sig_script.specs.Scripts.{Program}
 use Rattle.sig_model.specs.OneWorker.{IsClear}

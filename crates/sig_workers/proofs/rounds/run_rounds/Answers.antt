@@ -1,8 +1,5 @@
-use Rattle.std.proofs.Common.{◌≡◌, ◌<◌, ◌∙◌, sym, subst, true, false, Some, slice_get}
-use Rattle.sig_script.specs.Scripts.{Program}
-use Rattle.sig_model.specs.CrewLaw.{IsLawfulCrew}
-use Rattle.sig_queue.specs.Accounts.{all_followed}
-use Rattle.sig_workers.specs.Rounds.{IsRound, IsRounds, room_left}
+use Rattle.std.proofs.Common.{◌<◌, sym, subst}
+use Rattle.sig_workers.specs.Rounds.{IsRounds, room_left}
 use Rattle.sig_workers.proofs.RoundsLemmas.{first_round, less_room, may_follow, one_more_round}
 use Rattle.sig_workers.proofs.rounds.run_rounds.Goals as goal
 

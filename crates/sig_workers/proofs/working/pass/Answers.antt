@@ -1,5 +1,5 @@
 use Rattle.sig_workers.specs.Parts.{procs_of}
-use Rattle.std.proofs.Common.{◌≡◌, ◌<◌, ◌≤◌, ◌+◌, length, refl, arith}
+use Rattle.std.proofs.Common.{◌≤◌, length, refl, arith}
 use Rattle.std.proofs.lemmas.Grind.{common_steps}
 use Rattle.sig_workers.proofs.PassLemmas.{same_part, grow_refl, grow_trans, visit_grow, visit_rest, visit_passed, all_passed}
 use Rattle.sig_workers.proofs.working.pass.Goals as goal

@@ -1,6 +1,5 @@
-use Rattle.std.proofs.Common.{◌≡◌, ℕ, ◌<◌, ◌≤◌, length, slice_get, Some}
+use Rattle.std.proofs.Common.{◌≡◌, ℕ, ◌≤◌, slice_get}
 use Rattle.std.specs.Bool.{MatchBool}
-use Rattle.sig_model.specs.Running.{Running}
 use Rattle.sig_workers.specs.Parts.{procs_of, IsPart, IsSamePart, Grow, AnyMore, StillBelow}
 use Rattle.sig_workers.proofs.working.pass.Given as goal
 

@@ -1,4 +1,4 @@
-use Rattle.std.proofs.Common.{◌≡◌, ◌<◌, ◌≤◌, ◌+◌, length, refl, arith}
+use Rattle.std.proofs.Common.{◌<◌, length, refl, arith}
 use Rattle.std.proofs.lemmas.Grind.{common_steps}
 use Rattle.sig_workers.proofs.PartLemmas.{running_at, visited_part, has_visited, on_both, if_both}
 use Rattle.sig_workers.proofs.working.visit_at.Goals as goal

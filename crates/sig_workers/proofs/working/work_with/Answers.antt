@@ -1,6 +1,6 @@
 use Rattle.sig_workers.specs.Parts.{procs_of}
-use Rattle.std.proofs.Common.{◌≡◌, ◌<◌, ◌≤◌, ◌+◌, length, refl, arith}
-use Rattle.sig_workers.proofs.PassLemmas.{same_part, more_passes, last_pass, pass_true, pass_false, turns_passed}
+use Rattle.std.proofs.Common.{refl}
+use Rattle.sig_workers.proofs.PassLemmas.{same_part, more_passes, last_pass, pass_true, pass_false}
 use Rattle.sig_workers.proofs.working.work_with.Goals as goal
 
 pub returns-then-not-branch : goal.returns-then-not-branch

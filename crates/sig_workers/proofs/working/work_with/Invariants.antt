@@ -1,4 +1,4 @@
-use Rattle.std.proofs.Common.{◌≡◌, ℕ, ◌<◌, true, false}
+use Rattle.std.proofs.Common.{◌≡◌, ◌<◌, true}
 use Rattle.std.specs.Bool.{MatchBool}
 use Rattle.sig_workers.specs.Parts.{procs_of, IsPart, IsSamePart, AnyMore}
 use Rattle.sig_workers.proofs.working.work_with.Given as goal
