@@ -5,9 +5,9 @@ ghost use Rattle.sig_layout.specs.Policies.{IsPolicy};
 use crate::offering::offer_message;
 use crate::pids::{only, pair};
 use crate::relaying::{Line, relay};
-use sig_kinds::{Kind, Signals};
+use sig_kinds::{Kind, Signal, Signals};
 use sig_layout::{Entry, Journal, Numbers, Opening, Policy, Via};
-use sig_queue::{Fetch, Hold, Offer, SigQueue, laws};
+use sig_queue::{Closed, Fetch, Hold, Offer, SigQueue, laws};
 use sig_terms::{Pid, Term};
 use std::alloc::{AllocError, Global};
 use std::sync::Wait;
@@ -100,15 +100,20 @@ pub fn a_held_turn(alloc: Global) -> Result<bool, AllocError> {
     Ok(journal.len() == 1 && direct)
 }
 
-// The serial of the signal that comes first, which is taken out.
-fn first_serial(signals: &mut Signals) -> Option<u64> {
-    let signal = signals.pop_front()?;
+// The serial of this signal, where it is a message that is a reference.
+fn serial_of(signal: &Signal) -> Option<u64> {
     match &signal.kind {
         Kind::Message {
             term: Term::Ref(reference),
         } => Some(reference.serial),
         _ => None,
     }
+}
+
+// The serial of the signal that comes first, which is taken out.
+fn first_serial(signals: &mut Signals) -> Option<u64> {
+    let signal = signals.pop_front()?;
+    serial_of(&signal)
 }
 
 // Whether the journal has the entries of one switch on, one fetch, one switch off and one on.
@@ -120,6 +125,20 @@ fn has_switched(journal: &Journal) -> bool {
     let again = matches!(journal.get(4), Some(Entry::Direct { refused: false }));
     let last = matches!(journal.get(5), Some(Entry::Install));
     journal.len() == 6 && direct && on && fetch && off && again && last
+}
+
+// Whether the buffers of the senders 1 and 2 were filled, and then all but the last signal was fetched:
+// the outer list, and then the buffers in order.
+fn is_switch(filled: u64, mut taken: Signals, mut closed: Closed) -> bool {
+    let one = first_serial(&mut taken);
+    let two = first_serial(&mut taken);
+    let three = first_serial(&mut taken);
+    let fetched = one == Some(11) && two == Some(13) && three == Some(12) && taken.len() == 0;
+    let Some(signal) = closed.rest.next() else {
+        return false;
+    };
+    let left = serial_of(&signal) == Some(14) && closed.rest.next().is_none();
+    filled == 6 && fetched && left && has_switched(&closed.journal)
 }
 
 /// Buffers are installed by a put, emptied by a fetch, and removed, by one seat.
@@ -157,11 +176,5 @@ pub fn a_switch<R: Wait>(rt: &R, alloc: Global) -> Result<bool, AllocError> {
     let Offer::Put { via: Via::Outer } = offer_message(&queue, &mut seat, line(2), 2, 14) else {
         return Ok(false);
     };
-    let mut closed = queue.close(seat);
-    let one = first_serial(&mut into);
-    let two = first_serial(&mut into);
-    let three = first_serial(&mut into);
-    let taken = one == Some(11) && two == Some(13) && three == Some(12);
-    let left = closed.rest.next().is_some() && closed.rest.next().is_none();
-    Ok(filled == 6 && taken && left && has_switched(&closed.journal))
+    Ok(is_switch(filled, into, queue.close(seat)))
 }
