@@ -1,5 +1,5 @@
 -- A seat that puts one more.
-use Rattle.std.proofs.Common.{◌≡◌, ℕ, suc, ◌+◌, List, [], ◌∷◌, ◌++◌, length, map, sym, refl, ap, ◌∙◌, subst, arith, Bool, true, false, ◌||◌, ⊎_elim}
+use Rattle.std.proofs.Common.{◌≡◌, ℕ, suc, ◌+◌, List, [], ◌∷◌, ◌++◌, length, sym, refl, ap, ◌∙◌, arith, length-append, Bool, true, false, ◌||◌, ⊎_elim}
 use Rattle.sig_terms.specs.Names.{IsNameBelow}
 use Rattle.sig_terms.proofs.NameLemmas.{ref_names}
 use Rattle.sig_terms.specs.declared.pid.Pid.{Pid}
@@ -12,7 +12,7 @@ use Rattle.sig_layout.specs.declared.knows.Knows.{Knows}
 use Rattle.sig_layout.specs.Sets.{has}
 use Rattle.sig_layout.specs.Sent.{sender, putter, of, signals}
 use Rattle.sig_layout.specs.Openings.{first_of, IsNext}
-use Rattle.sig_layout.proofs.Sending.{of_own, of_signals, signals-append}
+use Rattle.sig_layout.proofs.Sending.{of_own, of-append, of_signals, signals-append}
 use Rattle.sig_queue.specs.Parts.{item}
 use Rattle.sig_queue.specs.Calls.{PutBy, RefusedOne}
 use Rattle.sig_relay.specs.declared.relaying.Line.{Line}
@@ -100,3 +100,14 @@ refused_senders x v w n k = ⊎_elim (λ e. ap (λ (y : Knows). y.senders) e) (�
 pub put_senders : (x : Signal) (v w : Knows) (way : Via) → PutBy x v way w → w.senders ≡ v.senders
 put_senders x v w via.Outer p = ap (λ (y : Knows). y.senders) p.1
 put_senders x v w (via.Buffer b) p = ap (λ (y : Knows). y.senders) p.1.1
+
+pub refused_put : (x : Signal) (v w : Knows) (n : ℕ) → RefusedOne x v n w → w.put ≡ v.put
+refused_put x v w n k = ⊎_elim (λ e. ap (λ (y : Knows). y.put) e) (λ e. ap (λ (y : Knows). y.put) e) k.1
+
+-- a put is one more of its sender
+one_more : (put : List Item) (i : Item) → length (of putter (putter i) (put ++ i ∷ [])) ≡ length (of putter (putter i) put) + 1
+one_more put i = ap length (of-append putter (putter i) put (i ∷ [])) ∙ (ap (λ (l : List Item). length (of putter (putter i) put ++ l)) (of_own putter (putter i) i [] refl) ∙ length-append (of putter (putter i) put) (i ∷ []))
+
+pub put_more_of : (x : Signal) (v w : Knows) (way : Via) → PutBy x v way w → length (of putter x.from.0 w.put) ≡ length (of putter x.from.0 v.put) + 1
+put_more_of x v w via.Outer p = ap (λ (y : Knows). length (of putter x.from.0 y.put)) p.1 ∙ one_more v.put (item via.Outer x)
+put_more_of x v w (via.Buffer b) p = ap (λ (y : Knows). length (of putter x.from.0 y.put)) p.1.1 ∙ one_more v.put (item (via.Buffer b) x)

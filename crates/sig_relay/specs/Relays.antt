@@ -9,6 +9,7 @@ use Rattle.sig_layout.specs.declared.knows.Knows.{Knows}
 use Rattle.sig_layout.specs.Sets.{has}
 use Rattle.sig_layout.specs.Sent.{signals}
 use Rattle.sig_layout.specs.Openings.{first_of}
+use Rattle.sig_queue.specs.Seats.{Queue, Seated}
 use Rattle.sig_relay.specs.declared.relaying.Line.{Line}
 
 -- a message that is a reference of its sender
@@ -41,3 +42,14 @@ pub record Receives (taken : List Signal) (v : Knows) : Type 0 where
   pub role : v.role ≡ true
   pub none_put : v.put ≡ []
   pub taken_is : v.taken ≡ taken
+
+-- a seat that has put nothing, and may put messages of this line
+pub record Puts (q : Queue) (l : Line) (s : Seated) : Type 0 where
+  pub own : s.queue ≡ q.id
+  pub sender : Sender q.setup l
+  pub can : has s.knows.senders l.from.0 ≡ true
+  pub none_put : s.knows.put ≡ []
+
+-- a seat of this queue, with these senders
+abbrev pub Keeps : Queue → List ℕ → Seated → Type 0
+Keeps q senders s = (s.queue ≡ q.id) × (s.knows.senders ≡ senders)

@@ -4,6 +4,7 @@
 mod messages;
 mod offering;
 mod pids;
+mod putting;
 mod relaying;
 mod rows;
 #[cfg(test)]
@@ -11,6 +12,6 @@ mod tests;
 
 pub use messages::message;
 pub use offering::offer_message;
-pub use pids::{only, pair};
+pub use pids::{only, pair, trio};
 pub use relaying::{Line, Relayed, relay};
-pub use rows::{a_held_turn, a_hundred, a_switch};
+pub use rows::{a_held_turn, a_hundred, a_note_is_learned, a_switch, three_senders};

@@ -22,3 +22,14 @@ pub fn pair(first: Pid, second: Pid) -> Senders
 {
     Senders::none().with(first).with(second)
 }
+
+/// The set of three pids.
+pub fn trio(first: Pid, second: Pid, third: Pid) -> Senders
+    requires { (first.0 < 256) × (second.0 < 256) × (third.0 < 256) }
+    ensures first { has result first.0 ≡ true }
+    ensures second { has result second.0 ≡ true }
+    ensures third { has result third.0 ≡ true }
+    ensures all { (s : ℕ) → has result s ≡ true → (s ≡ first.0) ⊎ ((s ≡ second.0) ⊎ (s ≡ third.0)) }
+{
+    pair(first, second).with(third)
+}

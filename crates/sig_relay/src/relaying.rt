@@ -78,7 +78,7 @@ fn take_some<R: Wait>(rt: &R, queue: &SigQueue, seat: &mut QSeat, into: &mut Sig
 }
 
 // Fetches until there are so many signals, or memory is wanting.
-fn receive<R: Wait>(
+pub(crate) fn receive<R: Wait>(
     rt: &R,
     queue: &SigQueue,
     mut seat: QSeat,

@@ -1,16 +1,18 @@
 //! Small runs whose outcome is known beforehand. Each tells whether it came out so.
-ghost use Rattle.std.specs.Prelude.{◌≡◌, [], ◌∷◌, IfOk};
+ghost use Rattle.std.specs.Prelude.{◌≡◌, [], ◌∷◌, true, IfOk};
 ghost use Rattle.sig_layout.specs.Policies.{IsPolicy};
 
 use crate::offering::offer_message;
-use crate::pids::{only, pair};
+use crate::pids::{only, pair, trio};
+use crate::putting::{put_and_receive, put_three};
 use crate::relaying::{Line, relay};
-use sig_kinds::{Kind, Signals};
+use sig_kinds::{Kind, Push, Signal, Signals};
 use sig_layout::{Entry, Journal, Numbers, Opening, Policy, Via};
-use sig_queue::{Fetch, Hold, Offer, SigQueue, laws};
+use sig_queue::{Closed, Fetch, Hold, Offer, QSeat, Rest, SigQueue, laws};
 use sig_terms::{Pid, Term};
 use std::alloc::{AllocError, Global};
 use std::sync::Wait;
+use std::thread;
 use std::thread::Threads;
 
 // Four processes, the first of which receives, and each sender's numbers are from 1 on.
@@ -100,15 +102,20 @@ pub fn a_held_turn(alloc: Global) -> Result<bool, AllocError> {
     Ok(journal.len() == 1 && direct)
 }
 
-// The serial of the signal that comes first, which is taken out.
-fn first_serial(signals: &mut Signals) -> Option<u64> {
-    let signal = signals.pop_front()?;
+// The serial of this signal, where it is a message that is a reference.
+fn serial_of(signal: &Signal) -> Option<u64> {
     match &signal.kind {
         Kind::Message {
             term: Term::Ref(reference),
         } => Some(reference.serial),
         _ => None,
     }
+}
+
+// The serial of the signal that comes first, which is taken out.
+fn first_serial(signals: &mut Signals) -> Option<u64> {
+    let signal = signals.pop_front()?;
+    serial_of(&signal)
 }
 
 // Whether the journal has the entries of one switch on, one fetch, one switch off and one on.
@@ -120,6 +127,20 @@ fn has_switched(journal: &Journal) -> bool {
     let again = matches!(journal.get(4), Some(Entry::Direct { refused: false }));
     let last = matches!(journal.get(5), Some(Entry::Install));
     journal.len() == 6 && direct && on && fetch && off && again && last
+}
+
+// Whether the buffers of the senders 1 and 2 were filled, and then all but the last signal was fetched:
+// the outer list, and then the buffers in order.
+fn is_switch(filled: u64, mut taken: Signals, mut closed: Closed) -> bool {
+    let one = first_serial(&mut taken);
+    let two = first_serial(&mut taken);
+    let three = first_serial(&mut taken);
+    let fetched = one == Some(11) && two == Some(13) && three == Some(12) && taken.len() == 0;
+    let Some(signal) = closed.rest.next() else {
+        return false;
+    };
+    let left = serial_of(&signal) == Some(14) && closed.rest.next().is_none();
+    filled == 6 && fetched && left && has_switched(&closed.journal)
 }
 
 /// Buffers are installed by a put, emptied by a fetch, and removed, by one seat.
@@ -157,11 +178,107 @@ pub fn a_switch<R: Wait>(rt: &R, alloc: Global) -> Result<bool, AllocError> {
     let Offer::Put { via: Via::Outer } = offer_message(&queue, &mut seat, line(2), 2, 14) else {
         return Ok(false);
     };
-    let mut closed = queue.close(seat);
-    let one = first_serial(&mut into);
-    let two = first_serial(&mut into);
-    let three = first_serial(&mut into);
-    let taken = one == Some(11) && two == Some(13) && three == Some(12);
-    let left = closed.rest.next().is_some() && closed.rest.next().is_none();
-    Ok(filled == 6 && taken && left && has_switched(&closed.journal))
+    Ok(is_switch(filled, into, queue.close(seat)))
+}
+
+// Fetches until a fetch passes no buffer by. It tells whether one came so far.
+fn fetch_all(queue: &SigQueue, seat: &mut QSeat, into: &mut Signals) -> bool
+    requires own { seat.old.queue ≡ queue.now.id }
+    requires role { seat.old.knows.role ≡ true }
+{
+    for _ in 0..u64::MAX {
+        if SigQueue::removal_due(seat) {
+            return false;
+        }
+        match queue.try_fetch(seat, into) {
+            Fetch::Took { skipped: 0, .. } => return true,
+            Fetch::Took { .. } | Fetch::Busy { .. } => thread::yield_now(),
+            Fetch::Memory => return false,
+        }
+    }
+    false
+}
+
+/// One thread puts a hundred messages of the sender 3 into its buffer while another fetches. Once the
+/// receiver has learned what was put, a fetch that passes no buffer by has taken all of it.
+pub fn a_note_is_learned<R: Threads + Wait + Sync>(
+    rt: &R,
+    alloc: Global,
+) -> Result<bool, AllocError> {
+    let opening = opening(alloc)?;
+    let (queue, mut seat) = SigQueue::open(alloc, Policy::Always, only(Pid(3)), &opening)?;
+    let sender = queue.split(&mut seat, only(Pid(3)), false);
+    let taken = Signals::new(alloc);
+    let ((mut sender, aside), (mut seat, mut taken)) = put_and_receive(
+        rt,
+        &queue,
+        sender,
+        seat,
+        line(3),
+        100,
+        taken,
+        30,
+    );
+    let note = queue.note(&mut sender);
+    queue.learn(&mut seat, note);
+    let all = fetch_all(&queue, &mut seat, &mut taken);
+    Ok(aside && all && taken.len() == 100 && is_in_order(&taken, 0))
+}
+
+// How many of the signals are of this sender, where their serials are from 0 on, in order.
+fn count_in_order(signals: &Signals, from: u32) -> Option<u64> {
+    let mut serial = 0u64;
+    for place in 0..signals.len() {
+        let signal = signals.get(place)?;
+        if signal.from.0 != from {
+            continue;
+        }
+        if serial_of(signal) != Some(serial) {
+            return None;
+        }
+        serial = serial.wrapping_add(1);
+    }
+    Some(serial)
+}
+
+// Whether these signals, and then those that are left, are twenty of each of the senders 1 to 3.
+fn is_sixty(mut signals: Signals, mut rest: Rest) -> bool {
+    for _ in 0..u64::MAX {
+        let Some(signal) = rest.next() else {
+            break;
+        };
+        let Push::Added = signals.push(signal) else {
+            return false;
+        };
+    }
+    let one = count_in_order(&signals, 1) == Some(20);
+    let two = count_in_order(&signals, 2) == Some(20);
+    let three = count_in_order(&signals, 3) == Some(20);
+    signals.len() == 60 && one && two && three
+}
+
+/// Three threads put twenty messages each, and a fourth fetches: those of each sender come in order.
+pub fn three_senders<R: Threads + Wait + Sync>(
+    rt: &R,
+    alloc: Global,
+    policy: Policy,
+) -> Result<bool, AllocError>
+    requires { IsPolicy policy }
+{
+    let opening = opening(alloc)?;
+    let senders = trio(Pid(1), Pid(2), Pid(3));
+    let (queue, mut seat) = SigQueue::open(alloc, policy, senders, &opening)?;
+    let first = queue.split(&mut seat, only(Pid(1)), false);
+    let second = queue.split(&mut seat, only(Pid(2)), false);
+    let third = queue.split(&mut seat, only(Pid(3)), false);
+    let taken = Signals::new(alloc);
+    let seats = (first, second, third);
+    let lines = (line(1), line(2), line(3));
+    let (((first, _), (second, _)), ((third, _), (mut seat, taken))) = put_three(
+        rt, &queue, seats, lines, seat, 20, taken, 40,
+    );
+    queue.join(&mut seat, first);
+    queue.join(&mut seat, second);
+    queue.join(&mut seat, third);
+    Ok(is_sixty(taken, queue.close(seat).rest))
 }

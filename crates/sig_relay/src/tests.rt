@@ -23,3 +23,18 @@ fn one_seat_installs_and_removes(rt: HostRuntime) -> Result<(), Fail> {
     assert!(rt; a_switch(&rt, rt.alloc())?);
     Ok(())
 }
+
+#[test]
+fn a_learned_note_is_taken(rt: HostRuntime) -> Result<(), Fail> {
+    assert!(rt; a_note_is_learned(&rt, rt.alloc())?);
+    Ok(())
+}
+
+#[test]
+fn four_threads_under_each_policy(rt: HostRuntime) -> Result<(), Fail> {
+    assert!(rt; three_senders(&rt, rt.alloc(), Policy::Never)?);
+    assert!(rt; three_senders(&rt, rt.alloc(), Policy::Always)?);
+    assert!(rt; three_senders(&rt, rt.alloc(), Policy::Churn(2))?);
+    assert!(rt; three_senders(&rt, rt.alloc(), Policy::Auto)?);
+    Ok(())
+}

@@ -1,4 +1,4 @@
-use Rattle.std.proofs.Common.{◌≡◌, ℕ, List, subst}
+use Rattle.std.proofs.Common.{ℕ, List, subst}
 use Rattle.sig_layout.specs.Sets.{no_senders}
 use Rattle.sig_relay.proofs.PidSets.{More, more_it, one_only}
 use Rattle.sig_relay.proofs.pids.only.Goals as goal

@@ -1,4 +1,4 @@
-use Rattle.std.proofs.Common.{rules, ◌≡◌, ◌+◌, ℕ, ap, ◌∙◌, sym, subst, take, length, arith}
+use Rattle.std.proofs.Common.{◌+◌, ℕ, ap, ◌∙◌, sym, subst, take, arith}
 use Rattle.std.proofs.lemmas.List.{take_more, length-take-le}
 use Rattle.sig_kinds.specs.declared.signal.Signal.{Signal}
 use Rattle.sig_layout.specs.Openings.{IsNext}

@@ -1,0 +1,149 @@
+//! Seats that put a count of messages each, one or three of them, while another fetches.
+ghost use Rattle.std.specs.Prelude.{◌≡◌};
+ghost use Rattle.sig_relay.specs.Relays.{Puts, Keeps, Receives};
+
+use crate::offering::offer_message;
+use crate::relaying::{Line, receive};
+use sig_kinds::Signals;
+use sig_layout::Via;
+use sig_queue::{Offer, QSeat, SigQueue};
+use sig_terms::Pid;
+use std::sync::Wait;
+use std::thread;
+use std::thread::Threads;
+
+// Whether the signal was put in the buffer of this sender, where it was put.
+fn is_aside(offer: &Offer, from: Pid) -> bool {
+    match offer {
+        Offer::Put { via: Via::Outer } => false,
+        Offer::Put {
+            via: Via::Buffer(buffer),
+        } => *buffer as u32 == from.0 % 64,
+        _ => true,
+    }
+}
+
+// Puts so many messages with the serials from 0 on, or as many as memory allows. It tells whether
+// all were put, and each in the sender's buffer.
+pub(crate) fn put_each(queue: &SigQueue, mut seat: QSeat, line: Line, count: u64) -> (QSeat, bool)
+    requires puts { Puts queue.now line seat }
+    ensures keeps { Keeps queue.now seat.knows.senders result.0 }
+{
+    let mut next = 0;
+    let mut aside = true;
+    for _ in 0..u64::MAX {
+        if next >= count {
+            break;
+        }
+        let Some(number) = line.first.checked_add(next) else {
+            break;
+        };
+        let offer = offer_message(queue, &mut seat, line, number, next);
+        aside &= is_aside(&offer, line.from);
+        match offer {
+            Offer::Put { .. } => next += 1,
+            Offer::Busy { .. } => thread::yield_now(),
+            Offer::Memory { .. } => break,
+        }
+    }
+    (seat, aside & (next == count))
+}
+
+// Two threads put so many messages each.
+fn put_two<R: Threads>(
+    rt: &R,
+    queue: &SigQueue,
+    first: QSeat,
+    second: QSeat,
+    one: Line,
+    two: Line,
+    count: u64,
+) -> ((QSeat, bool), (QSeat, bool))
+    requires first { Puts queue.now one first }
+    requires second { Puts queue.now two second }
+    ensures first { Keeps queue.now first.knows.senders result.0.0 }
+    ensures second { Keeps queue.now second.knows.senders result.1.0 }
+{
+    thread::join(
+        rt,
+        move || -> (QSeat, bool)
+            requires { Puts queue.now one first }
+            ensures { Keeps queue.entry.now first.knows.senders result.0 }
+        { put_each(queue, first, one, count) },
+        move || -> (QSeat, bool)
+            requires { Puts queue.now two second }
+            ensures { Keeps queue.entry.now second.knows.senders result.0 }
+        { put_each(queue, second, two, count) },
+    )
+}
+
+// One thread puts so many messages while another fetches, until it has enough.
+pub(crate) fn put_and_receive<R: Threads + Wait + Sync>(
+    rt: &R,
+    queue: &SigQueue,
+    sender: QSeat,
+    receiver: QSeat,
+    line: Line,
+    count: u64,
+    taken: Signals,
+    enough: usize,
+) -> ((QSeat, bool), (QSeat, Signals))
+    requires puts { Puts queue.now line sender }
+    requires own { receiver.queue ≡ queue.now.id }
+    requires receives { Receives taken.items receiver.knows }
+    ensures keeps { Keeps queue.now sender.knows.senders result.0.0 }
+    ensures own { result.1.0.queue ≡ queue.now.id }
+    ensures receives { Receives result.1.1.items result.1.0.knows }
+{
+    thread::join(
+        rt,
+        move || -> (QSeat, bool)
+            requires { Puts queue.now line sender }
+            ensures { Keeps queue.entry.now sender.knows.senders result.0 }
+        { put_each(queue, sender, line, count) },
+        move || -> (QSeat, Signals)
+            requires { (receiver.queue ≡ queue.now.id) × Receives taken.items receiver.knows }
+            ensures { (result.0.queue ≡ queue.entry.now.id) × Receives result.1.items result.0.knows }
+        { receive(rt, queue, receiver, taken, enough) },
+    )
+}
+
+// Three threads put so many messages each while a fourth fetches, until it has enough.
+pub(crate) fn put_three<R: Threads + Wait + Sync>(
+    rt: &R,
+    queue: &SigQueue,
+    seats: (QSeat, QSeat, QSeat),
+    lines: (Line, Line, Line),
+    receiver: QSeat,
+    count: u64,
+    taken: Signals,
+    enough: usize,
+) -> (
+    ((QSeat, bool), (QSeat, bool)),
+    ((QSeat, bool), (QSeat, Signals)),
+)
+    requires first { Puts queue.now lines.0 seats.0 }
+    requires second { Puts queue.now lines.1 seats.1 }
+    requires third { Puts queue.now lines.2 seats.2 }
+    requires own { receiver.queue ≡ queue.now.id }
+    requires receives { Receives taken.items receiver.knows }
+    ensures first { Keeps queue.now seats.0.knows.senders result.0.0.0 }
+    ensures second { Keeps queue.now seats.1.knows.senders result.0.1.0 }
+    ensures third { Keeps queue.now seats.2.knows.senders result.1.0.0 }
+    ensures own { result.1.1.0.queue ≡ queue.now.id }
+    ensures receives { Receives result.1.1.1.items result.1.1.0.knows }
+{
+    let (first, second, third) = seats;
+    let (one, two, three) = lines;
+    thread::join(
+        rt,
+        move || -> ((QSeat, bool), (QSeat, bool))
+            requires { Puts queue.now one first × Puts queue.now two second }
+            ensures { Keeps queue.entry.now first.knows.senders result.0.0 × Keeps queue.entry.now second.knows.senders result.1.0 }
+        { put_two(rt, queue, first, second, one, two, count) },
+        move || -> ((QSeat, bool), (QSeat, Signals))
+            requires { Puts queue.now three third × (receiver.queue ≡ queue.now.id) × Receives taken.items receiver.knows }
+            ensures { Keeps queue.entry.now third.knows.senders result.0.0 × (result.1.0.queue ≡ queue.entry.now.id) × Receives result.1.1.items result.1.0.knows }
+        { put_and_receive(rt, queue, third, receiver, three, count, taken, enough) },
+    )
+}
