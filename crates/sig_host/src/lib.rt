@@ -19,6 +19,8 @@ pub use status::Status;
 pub use words_error::WordsError;
 
 #[cfg(test)]
+mod argument_tests;
+#[cfg(test)]
 mod document_tests;
 #[cfg(test)]
 mod exit_tests;
@@ -30,6 +32,8 @@ mod link_tests;
 mod marker_tests;
 #[cfg(test)]
 mod match_tests;
+#[cfg(test)]
+mod record_tests;
 #[cfg(test)]
 mod refusal_tests;
 #[cfg(test)]

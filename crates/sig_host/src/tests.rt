@@ -15,14 +15,8 @@ use crate::refusal_tests::{
 use crate::text_tests::TEXTS;
 use crate::watch_tests::WATCHES;
 use itoa::Buffer;
-use sig_base::{
-    FailingSink, FailingSource, MemorySink, MemorySource, OpenGate, Sink, Source, read_all,
-};
-use sig_layout::Policy;
-use sig_process::Crew;
-use sig_record::{Record, RecordError, print_record, read_record};
-use sig_script::{FaultKind, read_script};
-use sig_workers::run_one;
+use sig_base::{FailingSink, FailingSource, MemorySink, MemorySource, OpenGate, Sink, Source};
+use sig_script::FaultKind;
 use std::alloc::{AllocError, Global};
 use std::sync::Wait;
 use std::test::Fail;
@@ -34,18 +28,8 @@ pub(crate) const ROOM: usize = 500000;
 pub(crate) const ONE_MESSAGE: &[u8] =
     b"sigscript 1\nprocess a\nsend @b hi\nprocess b\nreceive\non X\nend\n";
 
-const ONE_MESSAGE_RECORD: &[u8] =
+pub(crate) const ONE_MESSAGE_RECORD: &[u8] =
     b"sigrecord 1\nprocess 0 a\n1 exec 1 sent <1> hi\n2 exec 2 ended normal\nstate ended normal\nprocess 1 b\n2 from 0 1 kept hi\n3 exec 1 took 1 1 hi\n4 exec 2 ended normal\nstate ended normal\n";
-
-/// `01` where `1` has to stand.
-const PADDED_PID: &[u8] = b"sigrecord 1\nprocess 0 a\n1 exec 1 sent <01> hi\nstate waiting\n";
-
-/// A process's name begins with a small letter.
-const LARGE_NAME: &[u8] = b"sigrecord 1\nprocess 0 A\nstate waiting\n";
-
-/// The second signal has a lower number than the first.
-const OUT_OF_ORDER: &[u8] =
-    b"sigrecord 1\nprocess 0 a\nqueued 1 2 1 link\nqueued 1 1 1 link\nstate cut\n";
 
 const NO_HEADER: Status = Status::BadScript {
     line: 1,
@@ -60,8 +44,6 @@ const OPEN_RECEIVE: Status = Status::BadScript {
 };
 
 const TOLD_OPEN_RECEIVE: &[u8] = b"sigrun: line 5: syntax\n";
-
-const SUMMARY_OF_100: &[u8] = b"processes 9\nevents 9608\nkept 1600\nended 8\nwaiting 1\ncut 0\n";
 
 /// Runs with no arguments, and an `err` that never fails.
 fn run_with<R: Threads + Wait + Sync, S: Source, O: Sink>(
@@ -148,207 +130,6 @@ fn faults_end_a_run(rt: HostRuntime) -> Result<(), Fail> {
     assert!(rt; answer.number() == 4);
     assert!(rt; out.held() == b"sigrecord ".as_slice());
     assert!(rt; err.held() == b"sigrun: write fault\n".as_slice());
-    Ok(())
-}
-
-/// The text of each of these words.
-pub(crate) fn strings(alloc: Global, list: &[&str]) -> Result<Vec<String>, AllocError> {
-    let mut strings = Vec::new(alloc);
-    for word in list {
-        strings.push(String::from_str(alloc, word)?)?;
-    }
-    Ok(strings)
-}
-
-/// Words that the command takes, and the settings that they give: the workers, the quota, the policy
-/// and the calls.
-const WORDS: [(&[&str], u32, u32, Policy, Option<u32>); 17] = [
-    (&[], 1, 64, Policy::Auto, None),
-    (&["--"], 1, 64, Policy::Auto, None),
-    (&["--generate", "1"], 1, 64, Policy::Auto, Some(1)),
-    (&["--generate", "800"], 1, 64, Policy::Auto, Some(800)),
-    (
-        &["--generate", "00000000000000000000005"],
-        1,
-        64,
-        Policy::Auto,
-        Some(5),
-    ),
-    (&["--generate=5"], 1, 64, Policy::Auto, Some(5)),
-    (&["--workers", "1"], 1, 64, Policy::Auto, None),
-    (&["--workers", "16"], 16, 64, Policy::Auto, None),
-    (&["--quota", "1"], 1, 1, Policy::Auto, None),
-    (&["--quota", "1000000"], 1, 1_000_000, Policy::Auto, None),
-    (&["--buffers", "never"], 1, 64, Policy::Never, None),
-    (&["--buffers", "always"], 1, 64, Policy::Always, None),
-    (&["--buffers", "auto"], 1, 64, Policy::Auto, None),
-    (&["--buffers", "churn:1"], 1, 64, Policy::Churn(1), None),
-    (
-        &["--buffers=churn:1000000"],
-        1,
-        64,
-        Policy::Churn(1_000_000),
-        None,
-    ),
-    (
-        &["--workers", "4", "--buffers", "churn:3"],
-        4,
-        64,
-        Policy::Churn(3),
-        None,
-    ),
-    (
-        &[
-            "--generate",
-            "7",
-            "--buffers",
-            "never",
-            "--quota",
-            "2",
-            "--workers=3",
-        ],
-        3,
-        2,
-        Policy::Never,
-        Some(7),
-    ),
-];
-
-/// Words that it doesn't take.
-const OTHER_WORDS: [&[&str]; 32] = [
-    &["--workers", "0"],
-    &["--workers", "17"],
-    &["--workers", "4", "--workers", "4"],
-    &["--quota", "0"],
-    &["--quota", "1000001"],
-    &["--buffers", "churn:0"],
-    &["--buffers", "churn:1000001"],
-    &["--buffers", "churn:"],
-    &["--buffers", "churn"],
-    &["--buffers", "churn:x"],
-    &["--buffers", "Auto"],
-    &["--buffers", "never "],
-    &["--buffers", ""],
-    &["--workers", "4", "--buffers"],
-    &["--generate", "0"],
-    &["--generate", "801"],
-    &["--generate", "18446744073709551617"],
-    &["--generate", ""],
-    &["--generate", "5x"],
-    &["--generate", "+5"],
-    &["--generate", "-5"],
-    &["--generate", "--", "5"],
-    &["--generate="],
-    &["--generate"],
-    &["--generate", "5", "6"],
-    &["--generate", "5", "--generate", "5"],
-    &["--generate=5", "--generate=6"],
-    &["--gen", "5"],
-    &["--help"],
-    &["-h"],
-    &["--version"],
-    &["generate"],
-];
-
-#[test]
-fn words_give_their_settings(rt: HostRuntime) -> Result<(), Fail> {
-    let alloc = rt.alloc();
-    for (list, workers, quota, policy, generate) in WORDS {
-        let given = strings(alloc, list)?;
-        let answer = words(alloc, given.as_slice());
-        let expected = Settings {
-            workers,
-            quota,
-            policy,
-            generate,
-        };
-        assert!(rt; answer == Ok(expected), "{list:?}");
-    }
-    for list in OTHER_WORDS {
-        let given = strings(alloc, list)?;
-        let answer = words(alloc, given.as_slice());
-        assert!(rt; answer == Err(WordsError::Usage), "{list:?}");
-    }
-    Ok(())
-}
-
-/// Runs with these arguments and a script that is there to be read: the status, whether the script
-/// wasn't read, and what was written and told.
-fn run_words<R: Threads + Wait + Sync>(
-    rt: &R,
-    alloc: Global,
-    list: &[&str],
-    room: usize,
-) -> Result<(Status, bool, MemorySink, MemorySink), AllocError> {
-    let arguments = strings(alloc, list)?;
-    let mut source = MemorySource::new(Vec::from_slice(alloc, ONE_MESSAGE)?, 100);
-    let mut out = MemorySink::with_room(alloc, ROOM)?;
-    let mut err = MemorySink::with_room(alloc, room)?;
-    let status = run(
-        rt,
-        alloc,
-        arguments.as_slice(),
-        &mut source,
-        &mut out,
-        &mut err,
-        &OpenGate,
-    );
-    let mut left = Vec::new(alloc);
-    let _ = read_all(&mut source, 1000, &mut left);
-    Ok((status, left.as_slice() == ONE_MESSAGE, out, err))
-}
-
-const TOLD_USAGE: &[u8] =
-    b"usage: sigrun [--workers N] [--quota N] [--buffers never|always|churn:N|auto] [--generate N]\n";
-
-const SUMMARY_OF_2: &[u8] = b"processes 9\nevents 200\nkept 32\nended 8\nwaiting 1\ncut 0\n";
-
-/// Arguments, how much `err` holds, the number of the status, and what is told.
-const ARGUMENTS: [(&[&str], usize, u8, &[u8]); 12] = [
-    (&["--workers", "0"], 100, 2, TOLD_USAGE),
-    (&["--buffers", "churn:0"], 100, 2, TOLD_USAGE),
-    (&["--generate", "0"], 100, 2, TOLD_USAGE),
-    (&["--generate", "801"], 100, 2, TOLD_USAGE),
-    (&["--help"], 100, 2, TOLD_USAGE),
-    (&["--help"], 5, 2, b"usage"),
-    (&["--generate", "100"], 100, 0, SUMMARY_OF_100),
-    (&["--generate", "1"], 12, 0, b"processes 9\n"),
-    (
-        &["--generate", "2", "--workers", "4", "--buffers", "never"],
-        100,
-        0,
-        SUMMARY_OF_2,
-    ),
-    (
-        &["--generate", "2", "--workers", "4", "--buffers", "always"],
-        100,
-        0,
-        SUMMARY_OF_2,
-    ),
-    (
-        &["--generate", "2", "--workers", "4", "--buffers", "churn:1"],
-        100,
-        0,
-        SUMMARY_OF_2,
-    ),
-    (
-        &["--generate", "2", "--workers", "4", "--quota", "1"],
-        100,
-        0,
-        SUMMARY_OF_2,
-    ),
-];
-
-#[test]
-fn arguments_are_told(rt: HostRuntime) -> Result<(), Fail> {
-    let alloc = rt.alloc();
-    for (list, room, number, told) in ARGUMENTS {
-        let (status, unread, out, err) = run_words(&rt, alloc, list, room)?;
-        assert!(rt; status.number() == number, "{list:?}");
-        assert!(rt; unread, "{list:?}");
-        assert!(rt; out.held().is_empty() == (number == 2), "{list:?}");
-        assert!(rt; err.held() == told, "{list:?}");
-    }
     Ok(())
 }
 
@@ -866,93 +647,5 @@ fn long_runs_give_their_records(rt: HostRuntime) -> Result<(), Fail> {
             growth.last
         );
     }
-    Ok(())
-}
-
-/// The record of the script's run of one worker.
-fn record_of(alloc: Global, text: &[u8]) -> Result<Record, Fail> {
-    let script = read_script(alloc, text)?;
-    let crew = run_one(Crew::open(alloc, &script)?)?;
-    Ok(Record::gather(alloc, crew)?)
-}
-
-/// A script in which process 1 is cut before it has handled one signal of each of the others, and
-/// one of its own. That of process 0 comes last.
-fn many_senders(alloc: Global, last: u64) -> Result<Vec<u8>, Fail> {
-    let mut text = Vec::from_slice(
-        alloc,
-        b"sigscript 1\nturns 3\nprocess b\nreceive\non go\nend\nsend @hub b1\nsend @hub b2\n",
-    )?;
-    text.extend_from_slice(b"process hub\nsend @hub h1\nsend @hub h2\nsend @hub h3\n")?;
-    text.extend_from_slice(b"process c\nsend @b go\nset X 1\nsend @hub c1\n")?;
-    for number in 0..last {
-        let mut buffer = Buffer::new();
-        text.extend_from_slice(b"process d")?;
-        text.extend_from_slice(buffer.format(number).as_bytes())?;
-        text.extend_from_slice(b"\nset X 1\nset X 2\nsend @hub d\n")?;
-    }
-    Ok(text)
-}
-
-#[test]
-fn records_are_merged_and_sorted(rt: HostRuntime) -> Result<(), Fail> {
-    let alloc = rt.alloc();
-    let merged = record_of(alloc, ONE_MESSAGE)?;
-    let mut events = Vec::new(alloc);
-    for at in merged.merge(alloc)?.as_slice() {
-        events.push((at.pid.0, at.place))?;
-    }
-    let expected = [(0, 0), (0, 1), (1, 0), (1, 1), (1, 2)];
-    assert!(rt; events.as_slice() == expected.as_slice(), "{events:?}");
-    assert!(rt; merged.settled());
-    let text = many_senders(alloc, 24)?;
-    let record = record_of(alloc, text.as_slice())?;
-    let hub = record.reports().get(1).ok_or("no report")?;
-    let mut pairs = Vec::new(alloc);
-    for signal in hub.queued.as_slice() {
-        pairs.push((signal.from.0, signal.number))?;
-    }
-    let mut expected = Vec::from_slice(alloc, &[(0, 2), (1, 3)])?;
-    for sender in 2..27 {
-        expected.push((sender, 1))?;
-    }
-    assert!(rt; pairs == expected, "{pairs:?}");
-    Ok(())
-}
-
-/// The line at which the bytes are no record's text, where they are none.
-fn refused_line(alloc: Global, bytes: &[u8]) -> Option<u64> {
-    match read_record(alloc, bytes) {
-        Err(RecordError::BadRecord { line }) => Some(line),
-        _ => None,
-    }
-}
-
-#[test]
-fn records_and_no_other_texts_are_read(rt: HostRuntime) -> Result<(), Fail> {
-    let alloc = rt.alloc();
-    let record = read_record(alloc, ONE_MESSAGE_RECORD)?;
-    let mut text = Vec::new(alloc);
-    print_record(&record, &mut text)?;
-    assert!(rt; text.as_slice() == ONE_MESSAGE_RECORD);
-    let whole = ONE_MESSAGE_RECORD.len();
-    let mut lengths = Vec::new(alloc);
-    for length in 0..=whole {
-        if refused_line(alloc, &ONE_MESSAGE_RECORD[..length]).is_none() {
-            lengths.push(length)?;
-        }
-    }
-    // the record of no process, and that of the first one
-    assert!(rt;
-        lengths.as_slice() == [12, 86, whole].as_slice(),
-        "{lengths:?}"
-    );
-    let rows = [
-        refused_line(alloc, &ONE_MESSAGE_RECORD[..whole - 1]),
-        refused_line(alloc, PADDED_PID),
-        refused_line(alloc, LARGE_NAME),
-        refused_line(alloc, OUT_OF_ORDER),
-    ];
-    assert!(rt; rows == [Some(10), Some(3), Some(2), Some(4)], "{rows:?}");
     Ok(())
 }

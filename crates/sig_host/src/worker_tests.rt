@@ -1,8 +1,9 @@
 //! Runs with several workers, through the top call.
 
 use super::*;
+use crate::argument_tests::strings;
 use crate::marker_tests::SERVER_AND_CLIENTS;
-use crate::tests::{ONE_MESSAGE, PING_PONG, ROOM, strings, text_of};
+use crate::tests::{ONE_MESSAGE, PING_PONG, ROOM, text_of};
 use itoa::Buffer;
 use sig_base::{Gate, MemorySink, MemorySource, OpenGate, Point};
 use sig_record::read_record;
