@@ -1,50 +1,29 @@
 -- How far an event moves the counts of a process.
-use Rattle.std.proofs.Common.{ℕ, zero, suc, ◌+◌, ◌≤◌, ◌<◌, length, All, IfSome, arith}
+use Rattle.std.proofs.Common.{ℕ, zero, suc, ◌+◌, ◌≤◌, ◌<◌, length, IfSome, arith}
 use Rattle.std.specs.Prelude.{slice_index, replicate}
-use Rattle.std.specs.FinMap.{get}
 use Rattle.std.proofs.lemmas.Option.{IfSome_then}
-use Rattle.sig_terms.specs.Names.{Named, process, names_of_ref, AllNames}
 use Rattle.sig_kinds.specs.declared.signal.Signal.{Signal}
 use Rattle.sig_script.specs.Scripts.{Declared, IsWithin}
 use Rattle.sig_model.specs.declared.event.Did.{Did}
-use Rattle.sig_model.specs.ProcessState.{Tables, ProcessState, opening_state}
+use Rattle.sig_model.specs.ProcessState.{ProcessState, opening_state}
 use Rattle.sig_model.specs.Bodies.{Body}
 use Rattle.sig_model.specs.Executing.{executing}
 use Rattle.sig_model.specs.Handling.{handling}
 use Rattle.sig_model.specs.Finishing.{numbers_after, finished}
 use Rattle.sig_model.specs.Bounds.{IsBounded, IsBoundedBody, posts_to}
-use Rattle.sig_model.specs.Names.{TableNames}
-use Rattle.sig_model.proofs.Lookups.{some_any}
+use Rattle.sig_model.proofs.AnyNames.{Any, any_tables, any_signal, any_script}
 use Rattle.sig_model.proofs.PostCounts.{numbers_grow}
 use Rattle.sig_model.proofs.ExecutingLemmas.{executing_kept}
 use Rattle.sig_model.proofs.HandlingLemmas.{handling_kept}
 
--- whatever a process names
-abbrev pub Any : Named → Type 0
-Any n = Unit {0}
-
-pub any_tables : (t : Tables) → TableNames Any t
-any_tables t = record {
-  env = λ var. some_any (AllNames Any) (get t.env var) (λ x i d lt. tt);
-  inbox = record { messages = λ i d lt j e l. tt; marks = λ i d lt j e l. tt };
-  links = record { owner = tt; active = λ peer h. tt; awaited = λ peer h. tt };
-  watch = record {
-    owner = tt;
-    held = λ r. some_any (λ (target : ℕ). All Any (names_of_ref r) × Any (process target)) (get t.watch.held r) (λ target. ((λ i d lt. tt), tt));
-    borne = λ i d lt. ((λ j e l. tt), tt);
-    aliases = λ r h i d lt. tt;
-  };
-  end = some_any (AllNames Any) t.end (λ x i d lt. tt);
-}
-
 module _ (p : Declared) (s : ProcessState) (k : IsBounded p s) where
   -- what the next instruction does, where it can be executed
   pub executing_bounded : IsWithin p → IfSome (executing p s) (IsBoundedBody p s)
-  executing_bounded w = IfSome_then (executing p s) (executing_kept Any (Unit {0}) p s (any_tables s.tables) (λ j. k) (λ j. w) (λ i d lt j e l m f g. tt)) (λ b h. (h (λ n. tt)).bounds tt)
+  executing_bounded w = IfSome_then (executing p s) (executing_kept Any (Unit {0}) p s (any_tables s.tables) (λ j. k) (λ j. w) (any_script p)) (λ b h. (h (λ n. tt)).bounds tt)
 
   -- what the process does with a signal
   pub handling_bounded : (pid : ℕ) (x : Signal) → IsBoundedBody p s (handling pid s x)
-  handling_bounded pid x = (handling_kept Any (Unit {0}) p s (any_tables s.tables) (λ j. k) pid x (record { from = tt; to = tt; kind = λ i d lt. tt })).bounds tt
+  handling_bounded pid x = (handling_kept Any (Unit {0}) p s (any_tables s.tables) (λ j. k) pid x (any_signal x)).bounds tt
 
   -- with the stamp and the numbers
   pub finished_bounded : (pid executed stamp : ℕ) (what : Did) (b : Body) → IsBoundedBody p s b → s.counts.stamp < stamp

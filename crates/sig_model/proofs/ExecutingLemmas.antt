@@ -1,11 +1,14 @@
--- What holds of every name in a process and of the processes that its script names holds of every name in what an instruction
--- does, and no count goes too far: one case for each row of the table of instructions.
-use Rattle.std.proofs.Common.{◌≡◌, ℕ, suc, ◌+◌, ◌-◌, ◌≤◌, ◌<◌, List, [], ◌∷◌, length, drop, Bool, true, false, All, IfSome, Option, Some, None, slice_get, codes, refl, arith}
+-- What is shown of each instruction: ONE CASE FOR EACH ROW of the table of instructions gives the whole bundle, of names, bounds, sizes
+-- and marks. The laws of names, of marks and of sizes are parts of it.
+use Rattle.std.proofs.Common.{◌≡◌, ℕ, suc, ◌+◌, ◌-◌, ◌≤◌, ◌<◌, List, [], ◌∷◌, length, drop, Bool, true, false, All, IfSome, Option, Some, None, slice_get, codes, refl, sym, subst, arith}
+use Rattle.std.specs.Prelude.{remove}
 use Rattle.std.specs.Option.{option_map_or}
+use Rattle.std.specs.FinMap.{insert}
 use Rattle.std.proofs.lemmas.Bool.{cond_both}
 use Rattle.std.proofs.lemmas.List.Elements.{All-nil, All-head, All-tail, All-append, All-push, All-take, All-drop, All-filter, All-map, All-weaker}
-use Rattle.std.proofs.lemmas.Option.{slice_get_within}
+use Rattle.std.proofs.lemmas.Option.{slice_get_within, IfSome_then}
 use Rattle.sig_terms.specs.declared.pid.Pid.{Pid}
+use Rattle.sig_terms.specs.declared.reading.TheConstants.{READ_DEPTH, READ_NODES}
 use Rattle.sig_terms.specs.declared.reference.Ref.{Ref}
 use Rattle.sig_terms.specs.declared.term.Term.{Term}
 use Rattle.sig_terms.specs.declared.term.Term.TheVariants as term
@@ -18,13 +21,14 @@ use Rattle.sig_kinds.specs.SignalNames.{LinkNames, WatchNames}
 use Rattle.sig_kinds.specs.WatchRules.{WatchState, is_held, told_of, ends_with_monitor, monitor, alias, unaliased, unmonitored, mode_of}
 use Rattle.sig_kinds.proofs.LinkNameLemmas.{link_names, unlink_names}
 use Rattle.sig_kinds.proofs.WatchNameLemmas.{monitor_names, alias_names, unaliased_names, unmonitored_names, told_names}
+use Rattle.sig_patterns.specs.declared.clause.Clause.{Clause}
 use Rattle.sig_patterns.specs.declared.expression.Expr.{Expr}
+use Rattle.sig_patterns.specs.declared.mark.Reserve.{Reserve}
+use Rattle.sig_patterns.specs.declared.mark.Mark.{Mark}
 use Rattle.sig_patterns.specs.declared.var.Var.{Var}
 use Rattle.sig_patterns.specs.Environment.{value_of_var}
 use Rattle.sig_patterns.specs.Building.{value_of, is_small}
-use Rattle.sig_patterns.specs.declared.mark.Reserve.{Reserve}
-use Rattle.sig_patterns.specs.declared.mark.Mark.{Mark}
-use Rattle.sig_patterns.specs.Inbox.{Inbox, terms_of, without_message, down_place, reserved, without_mark, is_made_since, bound_by, bound_in, cleared_in}
+use Rattle.sig_patterns.specs.Inbox.{Inbox, terms_of, without_message, down_place, emptied_inbox, reserved, without_mark, is_made_since, bound_by, bound_in, cleared_in}
 use Rattle.sig_patterns.specs.Scanning.{Hit}
 use Rattle.sig_script.specs.declared.label.Label.{Label}
 use Rattle.sig_script.specs.declared.instruction.Instr.{Instr}
@@ -32,18 +36,19 @@ use Rattle.sig_script.specs.declared.instruction.Instr.TheVariants as instr
 use Rattle.sig_script.specs.declared.instruction.After.{After}
 use Rattle.sig_script.specs.Parts.{exprs_of}
 use Rattle.sig_script.specs.Scripts.{Declared, IsInstrBelow, IsProcBelow, IsPlace, IsWithin}
-use Rattle.sig_model.specs.declared.event.Outcome.{Outcome}
-use Rattle.sig_model.specs.declared.target.Target.{Target}
-use Rattle.sig_model.specs.declared.target.Target.TheVariants as target
+use Rattle.sig_model.specs.declared.event.Outcome.TheVariants as outcome
 use Rattle.sig_model.specs.ProcessState.{ProcessState}
-use Rattle.sig_model.specs.Bodies.{Post, Body, at_next, inboxed, rewatched, place_after, ending, system_limit}
-use Rattle.sig_model.specs.Executing.{with_value, with_pid, with_ref, with_target, sending, linked_by, unlink_posts, unlinked_by, new_ref, making, making_ref, monitored_by, monitoring, aliasing, demonitor_posts, flushed_into, flushed_by, demonitoring, unaliasing, reserving, ref_in, ref_of_var, marked_by, marking, binding, clearing, marked_start, from_mark, hit_from, receiving, exec_body, executing}
+use Rattle.sig_model.specs.Bodies.{Post, Body, at_next, rewatched, place_after, ending, system_limit}
+use Rattle.sig_model.specs.Executing.{with_value, with_pid, with_ref, with_target, sending, setting, linked_by, unlink_posts, unlinked_by, new_ref, making, monitored_by, monitoring, aliasing, flushed_into, demonitoring, unaliasing, reserving, ref_in, ref_of_var, marked_by, marking, binding, clearing, marked_start, from_mark, hit_from, receiving, exec_body, executing}
 use Rattle.sig_model.specs.Bounds.{IsBounded}
-use Rattle.sig_model.specs.Names.{EnvironmentNames, InboxNames, TableNames, ScriptNames}
+use Rattle.sig_model.specs.Names.{InboxNames, TableNames, ScriptNames}
+use Rattle.sig_model.specs.TermSizes.{IsKeptTerm, TableSizes, BodySizes}
+use Rattle.sig_model.proofs.AnyNames.{Any, any_tables, any_script}
 use Rattle.sig_model.proofs.Lookups.{at_place}
 use Rattle.sig_model.proofs.ValueNames.{ExprNames, var_names, value_names}
-use Rattle.sig_model.proofs.MatchNames.{insert_names, hit_names}
-use Rattle.sig_model.proofs.BodyLemmas.{IsAt, BearsAlike, same_watch, ArePosts, IsKeptBody, no_posts, one_post, few_row, moving, relinking, ending_kept, ending_atom, link_id, unlink_id}
+use Rattle.sig_model.proofs.TermSizeLemmas.{AreWithin, small_tells, small_kept, ref_small}
+use Rattle.sig_model.proofs.MatchParts.{HitValues, hit_values, name_parts, size_parts}
+use Rattle.sig_model.proofs.BodyLemmas.{IsAt, BearsAlike, same_watch, IsKeptBody, IsMoved, AnyInbox, OfRef, AllMessages, Shown, near, IsBuilt, held, IsTold, ArePosts, no_posts, one_post, demonitor_sent, AreKept, valued, watched, messaged, IsRow, IsBefore, few_row, moving, relinking, rewatching, ending_row, ending_atom, link_id, unlink_id}
 
 -- the rules for the calls leave the monitors that are borne
 monitor_alike : (watch : WatchState) (r : Ref) (target : ℕ) (mode : Option AliasMode) → BearsAlike watch (monitor watch r target mode).1
@@ -56,50 +61,26 @@ unmonitored_alike watch r =
     (λ e. cond_both (option_map_or ends_with_monitor (mode_of watch r) false) _ _ (BearsAlike watch) (λ f. record { owner = refl; borne = refl }) (λ f. record { owner = refl; borne = refl }))
     (λ e. same_watch watch)
 
--- without the message at a place, where there is one
-abbrev without_at : Inbox → Option ℕ → Bool × Inbox
-without_at inbox at = option_map_or {U = Bool × Inbox} (λ (i : ℕ). (true, without_message inbox i)) at (false, inbox)
-
-same_arrivals : (inbox : Inbox) (at : Option ℕ) → (without_at inbox at).1.next_arrival ≡ inbox.next_arrival
-same_arrivals inbox None = refl
-same_arrivals inbox (Some i) = refl
-
-bound_arrivals : (owner : ℕ) (inbox : Inbox) (r : Ref) (reserve : Option Reserve) → (option_map_or {U = Bool × Inbox} (bound_by owner inbox r) reserve (false, inbox)).1.next_arrival ≡ inbox.next_arrival
-bound_arrivals owner inbox r None = refl
-bound_arrivals owner inbox r (Some reserve) = cond_both (is_made_since owner reserve r) _ _ (λ (answer : Bool × Inbox). answer.1.next_arrival ≡ inbox.next_arrival) (λ e. refl) (λ e. refl)
-
 module _ (P : Named → Type 0) where
-  -- the names of a reference
-  abbrev pub OfRef : Ref → Type 0
-  OfRef r = All P (names_of_ref r)
-
-  pub demonitor_sent : (r : Ref) (tell : Option Pid) → OfRef r → IfSome tell (λ (q : Pid). P (process q.0)) → ArePosts P (demonitor_posts r tell)
-  demonitor_sent r None h g = no_posts P
-  demonitor_sent r (Some target) h g = one_post P (record { to = target.0; kind = kind.Demonitor r }) g h
-
   left_names : (inbox : Inbox) → InboxNames P inbox → (at : ℕ) → InboxNames P (without_message inbox at)
   left_names inbox k at = record {
     messages = All-append (λ (m : ℕ × Term). AllNames P m.1) _ _ (All-take (λ (m : ℕ × Term). AllNames P m.1) at inbox.messages k.messages) (All-drop (λ (m : ℕ × Term). AllNames P m.1) (suc at) inbox.messages k.messages);
     marks = k.marks;
   }
 
-  flushed_names : (inbox : Inbox) → InboxNames P inbox → (at : Option ℕ) → InboxNames P (without_at inbox at).1
-  flushed_names inbox k None = k
-  flushed_names inbox k (Some i) = left_names inbox k i
-
   -- the reference that a value is
-  ref_in_names : (t : Term) → AllNames P t → IfSome (ref_in t) OfRef
+  ref_in_names : (t : Term) → AllNames P t → IfSome (ref_in t) (OfRef P)
   ref_in_names (term.Ref r) h = let names : P (reference r) × P (process r.owner.0) = ref_tells P r h in all_of_ref P r names.0 names.1
   ref_in_names _ h = tt
 
   -- by the rules for marks
   abbrev OfMark : Mark → Type 0
-  OfMark m = OfRef m.reference
+  OfMark m = OfRef P m.reference
 
   without_names : (marks : List Mark) (r : Ref) → All OfMark marks → All OfMark (without_mark marks r)
   without_names marks r k = All-filter _ OfMark marks k
 
-  bound_names : (owner : ℕ) (inbox : Inbox) → InboxNames P inbox → (r : Ref) → OfRef r → (reserve : Option Reserve)
+  bound_names : (owner : ℕ) (inbox : Inbox) → InboxNames P inbox → (r : Ref) → OfRef P r → (reserve : Option Reserve)
       → InboxNames P (option_map_or {U = Bool × Inbox} (bound_by owner inbox r) reserve (false, inbox)).1
   bound_names owner inbox k r h None = k
   bound_names owner inbox k r h (Some reserve) =
@@ -128,212 +109,266 @@ module _ (P : Named → Type 0) where
   abbrev pub IsKeptMade : (H : Type 0) → Declared → ProcessState → Body → Type 0
   IsKeptMade H p s b = (s.counts.next_serial < b.state.counts.next_serial → P (reference (new_ref s))) → IsKeptBody P H p s b
 
-  module _ (H : Type 0) (p : Declared) (s : ProcessState) (k : TableNames P s.tables) (here : H → IsAt p s.counts.place) where
-    abbrev Kept : Body → Type 0
-    Kept b = IsKeptMade H p s b
+-- the messages that are left, and the arrival numbers
+left_messages : (messages : List (ℕ × Term)) (at : ℕ) → AllMessages messages → AllMessages (remove messages at)
+left_messages messages at h =
+    All-append (λ (m : ℕ × Term). IsKeptTerm m.1) _ _ (All-take (λ (m : ℕ × Term). IsKeptTerm m.1) at messages h) (All-drop (λ (m : ℕ × Term). IsKeptTerm m.1) (suc at) messages h)
 
-    ended : (a : List ℕ) → Kept (ending s (term.Atom a))
-    ended a n = ending_atom P H p s k here a
+-- only the marks differ
+record OnlyMarks (before after : Inbox) : Type 0 where
+  pub messages : after.messages ≡ before.messages
+  pub arrivals : after.next_arrival ≡ before.next_arrival
 
-    with_value_kept : (e : Expr) (go : Term → Body) → ExprNames P e → ((t : Term) → AllNames P t → Kept (go t)) → Kept (with_value s e go)
-    with_value_kept e go h goes =
-        let v : Term = value_of s.tables.env e in
-        cond_both (is_small v) (Some v) None (λ o. Kept (option_map_or go o (ending s system_limit)))
-        (λ b. goes v (value_names P s.tables.env k.env e h)) (λ b. ended (codes "system_limit"))
+bound_marks : (owner : ℕ) (inbox : Inbox) (r : Ref) (reserve : Option Reserve) → OnlyMarks inbox (option_map_or {U = Bool × Inbox} (bound_by owner inbox r) reserve (false, inbox)).1
+bound_marks owner inbox r None = record { messages = refl; arrivals = refl }
+bound_marks owner inbox r (Some reserve) =
+    cond_both (is_made_since owner reserve r) _ _ (λ (answer : Bool × Inbox). OnlyMarks inbox answer.1) (λ e. record { messages = refl; arrivals = refl }) (λ e. record { messages = refl; arrivals = refl })
 
-    with_pid_kept : (t : Term) (go : Pid → Body) → AllNames P t → ((q : Pid) → P (process q.0) → Kept (go q)) → Kept (with_pid s t go)
-    with_pid_kept (term.Pid q) go h goes = goes q (pid_tells P q h)
-    with_pid_kept _ go h goes = ended (codes "badarg")
+-- what may be made of the messages and marks by an instruction
+pub record IsExecuted (I : Inbox → Type 0) (s : ProcessState) : Type 0 where
+  pub same : I s.tables.inbox
+  pub without : (at : ℕ) → I (without_message s.tables.inbox at)
+  pub emptied : I (emptied_inbox s.tables.inbox)
+  pub reserve : I (reserved s.tables.inbox s.counts.next_serial)
+  pub bound : (r : Ref) → I (bound_in s.tables.watch.owner s.tables.inbox r).1
+  pub cleared : (r : Ref) → I (cleared_in s.tables.inbox r).1
 
-    with_ref_kept : (t : Term) (go : Ref → Body) → AllNames P t → ((r : Ref) → OfRef r → Kept (go r)) → Kept (with_ref s t go)
-    with_ref_kept (term.Ref r) go h goes = let names : P (reference r) × P (process r.owner.0) = ref_tells P r h in goes r (all_of_ref P r names.0 names.1)
-    with_ref_kept _ go h goes = ended (codes "badarg")
+pub any_executed : (s : ProcessState) → IsExecuted AnyInbox s
+any_executed s = record { same = tt; without = λ at. tt; emptied = tt; reserve = tt; bound = λ r. tt; cleared = λ r. tt }
 
-    with_target_kept : (t : Term) (go : Target → Body) → AllNames P t → ((q : Pid) → P (process q.0) → Kept (go (target.Process q))) →
-        ((r : Ref) → P (reference r) × P (process r.owner.0) → Kept (go (target.Alias r))) → Kept (with_target s t go)
-    with_target_kept (term.Pid q) go h pid_goes ref_goes = pid_goes q (pid_tells P q h)
-    with_target_kept (term.Ref r) go h pid_goes ref_goes = ref_goes r (ref_tells P r h)
-    with_target_kept _ go h pid_goes ref_goes = ended (codes "badarg")
+module _ (L : Shown) (p : Declared) (s : ProcessState) (names : TableNames L.name s.tables) (sizes : L.sized → TableSizes s.tables) (here : L.bounded → IsAt p s.counts.place) (c : IsExecuted L.inbox s) where
+  -- THE BUNDLE OF A ROW; where it makes a reference, what holds of every name has to hold of that too
+  abbrev Row : Body → Type 0
+  Row b = (s.counts.next_serial < b.state.counts.next_serial → L.name (reference (new_ref s))) → IsRow L p s b
 
-    -- with the process that the value of an expression names
-    with_peer_kept : (e : Expr) (go : Pid → Body) → ExprNames P e → ((q : Pid) → P (process q.0) → Kept (go q)) → Kept (with_value s e (λ t. with_pid s t go))
-    with_peer_kept e go h goes = with_value_kept e (λ t. with_pid s t go) h (λ t g. with_pid_kept t go g goes)
+  same : AreKept L s.tables
+  same = record { names = names; sizes = sizes; inbox = c.same }
 
-    -- where the process goes on behind an instruction
-    module _ (w : H → IsWithin p) (inside : H → s.counts.place ≤ length p.instrs) where
-      behind : H → IsAt p (s.counts.place + 1)
-      behind h = (omega arith, omega (arith, inside h))
+  before : IsBefore L p s
+  before = record { tables = same; here = here; emptied = c.emptied }
 
-      label_place : (o : Option Label) → (H → IfSome o (IsPlace (length p.instrs))) → H → IsAt p (option_map_or (λ l. l.place) o (s.counts.place + 1))
-      label_place None g = behind
-      label_place (Some label) g = g
+  ended : (a : List ℕ) → Row (ending s (term.Atom a))
+  ended a n = ending_atom L p s before a
 
-      target_place : (target : Option ℕ) → H → IsAt p (place_after p.labels target s.counts.place)
-      target_place None = behind
-      target_place (Some label) = label_place (slice_get p.labels label) (λ h. at_place (IsPlace (length p.instrs)) p.labels label (w h).places)
+  -- rows begin with values of expressions
+  with_value_row : (e : Expr) (go : Term → Body) → ExprNames L.name e → ((t : Term) → IsBuilt L t → Row (go t)) → Row (with_value s e go)
+  with_value_row e go h goes =
+      let v : Term = value_of s.tables.env e in
+      cond_both (is_small v) (Some v) None (λ o. Row (option_map_or go o (ending s system_limit)))
+      (λ b. goes v (record { names = value_names L.name s.tables.env names.env e h; size = λ z. small_tells v b })) (λ b. ended (codes "system_limit"))
 
-      linked_by_kept : (peer : Pid) (answer : Bool × LinkState) → P (process peer.0) → LinkNames P answer.1
-          → answer.1.next_id ≤ s.tables.links.next_id + 1 → Kept (linked_by s peer answer)
-      linked_by_kept peer (sends, links) g h ids n =
-          relinking P H p s k _ links _ _ behind h ids
-          (cond_both sends (record { to = peer.0; kind = kind.Link } ∷ []) [] (ArePosts P) (λ e. one_post P _ g (All-nil P)) (λ e. no_posts P))
+  with_pid_row : (t : Term) (go : Pid → Body) → IsBuilt L t → ((q : Pid) → L.name (process q.0) → Row (go q)) → Row (with_pid s t go)
+  with_pid_row (term.Pid q) go h goes = goes q (pid_tells L.name q h.names)
+  with_pid_row _ go h goes = ended (codes "badarg")
 
-      unlink_sent : (peer : Pid) (id : Option ℕ) → P (process peer.0) → ArePosts P (unlink_posts peer id)
-      unlink_sent peer None g = no_posts P
-      unlink_sent peer (Some id) g = one_post P (record { to = peer.0; kind = kind.Unlink id }) g (All-nil P)
+  with_ref_row : (t : Term) (go : Ref → Body) → IsBuilt L t → ((r : Ref) → OfRef L.name r → Row (go r)) → Row (with_ref s t go)
+  with_ref_row (term.Ref r) go h goes = let tells : L.name (reference r) × L.name (process r.owner.0) = ref_tells L.name r h.names in goes r (all_of_ref L.name r tells.0 tells.1)
+  with_ref_row _ go h goes = ended (codes "badarg")
 
-      unlinked_by_kept : (peer : Pid) (answer : Option ℕ × LinkState) → P (process peer.0) → LinkNames P answer.1
-          → answer.1.next_id ≤ s.tables.links.next_id + 1 → Kept (unlinked_by s peer answer)
-      unlinked_by_kept peer (id, links) g h ids n = relinking P H p s k _ links _ _ behind h ids (unlink_sent peer id g)
+  -- with the process, or the reference, that the value of an expression is
+  with_peer_row : (e : Expr) (go : Pid → Body) → ExprNames L.name e → ((q : Pid) → L.name (process q.0) → Row (go q)) → Row (with_value s e (λ t. with_pid s t go))
+  with_peer_row e go h goes = with_value_row e (λ t. with_pid s t go) h (λ t g. with_pid_row t go g goes)
 
-      -- a row that makes a reference
-      made : P (reference (new_ref s)) → OfRef (new_ref s)
-      made fresh = all_of_ref P (new_ref s) fresh k.watch.owner
+  with_reference_row : (e : Expr) (go : Ref → Body) → ExprNames L.name e → ((r : Ref) → OfRef L.name r → Row (go r)) → Row (with_value s e (λ t. with_ref s t go))
+  with_reference_row e go h goes = with_value_row e (λ t. with_ref s t go) h (λ t g. with_ref_row t go g goes)
 
-      making_kept : (var : List ℕ) (watch : WatchState) (posts : List Post) → (OfRef (new_ref s) → WatchNames P watch) → BearsAlike s.tables.watch watch → (OfRef (new_ref s) → ArePosts P posts)
-          → Kept (making s var watch posts)
-      making_kept var watch posts h alike sent n =
-          let fresh : P (reference (new_ref s)) = n (omega arith) in
-          let value : AllNames P (term.Ref (new_ref s)) = ref_names P (new_ref s) fresh k.watch.owner in
-          few_row P H p s _ (record { env = insert_names P s.tables.env var (term.Ref (new_ref s)) k.env value; inbox = k.inbox; links = k.links; watch = h (made fresh); end = k.end })
-          behind (omega arith) (omega arith) (omega arith) alike (sent (made fresh))
+  -- where the process goes on behind an instruction
+  module _ (w : L.bounded → IsWithin p) (inside : L.bounded → s.counts.place ≤ length p.instrs) where
+    behind : L.bounded → IsAt p (s.counts.place + 1)
+    behind h = (omega arith, omega (arith, inside h))
 
-      making_ref_kept : (var : List ℕ) → Kept (making_ref s var)
-      making_ref_kept var = making_kept var s.tables.watch [] (λ r. k.watch) (same_watch s.tables.watch) (λ r. no_posts P)
+    label_place : (o : Option Label) → (L.bounded → IfSome o (IsPlace (length p.instrs))) → L.bounded → IsAt p (option_map_or (λ l. l.place) o (s.counts.place + 1))
+    label_place None g = behind
+    label_place (Some label) g = g
 
-      monitored_kept : (var : List ℕ) (target : Pid) (answer : Bool × WatchState) → P (process target.0) → (OfRef (new_ref s) → WatchNames P answer.1) → BearsAlike s.tables.watch answer.1 → Kept (monitored_by s var target answer)
-      monitored_kept var target (sends, watch) g h alike =
-          making_kept var watch _ h alike
-          (λ r. cond_both sends (record { to = target.0; kind = kind.Monitor (new_ref s) } ∷ []) [] (ArePosts P) (λ e. one_post P _ g r) (λ e. no_posts P))
+    target_place : (target : Option ℕ) → L.bounded → IsAt p (place_after p.labels target s.counts.place)
+    target_place None = behind
+    target_place (Some label) = label_place (slice_get p.labels label) (λ h. at_place (IsPlace (length p.instrs)) p.labels label (w h).places)
 
-      monitoring_kept : (var : List ℕ) (mode : Option AliasMode) (target : Pid) → P (process target.0) → Kept (monitoring s var mode target)
-      monitoring_kept var mode target g =
-          monitored_kept var target (monitor s.tables.watch (new_ref s) target.0 mode) g (λ r. monitor_names P s.tables.watch k.watch (new_ref s) target.0 mode r g)
-          (monitor_alike s.tables.watch (new_ref s) target.0 mode)
+    sending_row : (t message : Term) → IsBuilt L t → IsBuilt L message → Row (with_target s t (sending s message))
+    sending_row (term.Pid q) message g h n =
+        moving L p s _ same behind refl refl refl refl (one_post L _ (pid_tells L.name q g.names) h.names h.size) (λ z. (small_kept (term.Pid q) (g.size z), small_kept message (h.size z)))
+    sending_row (term.Ref r) message g h n =
+        let tells : L.name (reference r) × L.name (process r.owner.0) = ref_tells L.name r g.names in
+        moving L p s _ same behind refl refl refl refl (one_post L _ tells.1 (All-append L.name (names_of_ref r) (names_of message) (all_of_ref L.name r tells.0 tells.1) h.names) h.size)
+        (λ z. (small_kept (term.Ref r) (g.size z), small_kept message (h.size z)))
+    sending_row _ message g h n = ended (codes "badarg") n
 
-      aliasing_kept : (var : List ℕ) (reply : Bool) → Kept (aliasing s var reply)
-      aliasing_kept var reply = making_kept var (alias s.tables.watch (new_ref s) reply) [] (λ r. alias_names P s.tables.watch k.watch (new_ref s) reply r) (record { owner = refl; borne = refl }) (λ r. no_posts P)
+    setting_row : (var : List ℕ) (value : Term) → IsBuilt L value → Row (setting s var value)
+    setting_row var value h n =
+        moving L p s _ (valued L s.tables same var value (held L value h)) behind refl refl refl refl (no_posts L) (λ z. small_kept value (h.size z))
 
-      -- a row that ends a monitor or an alias
-      rewatching : (watch : WatchState) (how : Outcome) (posts : List Post) → WatchNames P watch → BearsAlike s.tables.watch watch → ArePosts P posts
-          → Kept (record { state = rewatched (at_next s) watch; outcome = how; posts = posts })
-      rewatching watch how posts h alike sent n =
-          few_row P H p s _ (record { env = k.env; inbox = k.inbox; links = k.links; watch = h; end = k.end }) behind (omega arith) (omega arith) (omega arith) alike sent
+    linked_by_row : (peer : Pid) (answer : Bool × LinkState) → L.name (process peer.0) → LinkNames L.name answer.1
+        → answer.1.next_id ≤ s.tables.links.next_id + 1 → Row (linked_by s peer answer)
+    linked_by_row peer (sends, links) g h ids n =
+        relinking L p s before _ links _ _ behind h ids
+        (cond_both sends (record { to = peer.0; kind = kind.Link } ∷ []) [] (ArePosts L) (λ e. one_post L _ g (All-nil L.name) (λ z. tt)) (λ e. no_posts L)) (λ z. tt)
 
-      flushed_into_kept : (b : Body) → Kept b → (at : Option ℕ) → Kept (flushed_into b (without_at b.state.tables.inbox at))
-      flushed_into_kept b kept at n = let h : IsKeptBody P H p s b = kept n in record {
-        names = record {
-          tables = record { env = h.names.tables.env; inbox = flushed_names b.state.tables.inbox h.names.tables.inbox at; links = h.names.tables.links; watch = h.names.tables.watch; end = h.names.tables.end };
-          posts = h.names.posts;
-        };
-        bounds = λ j. record {
-          first = (h.bounds j).first;
-          within = (h.bounds j).within;
-          arrivals = rw (same_arrivals b.state.tables.inbox at) (h.bounds j).arrivals;
-          ids = (h.bounds j).ids;
-          serials = (h.bounds j).serials;
-          posts = (h.bounds j).posts;
-        };
-        owner = h.owner;
-      }
+    unlink_sent : (peer : Pid) (id : Option ℕ) → L.name (process peer.0) → ArePosts L (unlink_posts peer id)
+    unlink_sent peer None g = no_posts L
+    unlink_sent peer (Some id) g = one_post L (record { to = peer.0; kind = kind.Unlink id }) g (All-nil L.name) (λ z. tt)
 
-      flushed_kept : (b : Body) (r : Ref) (flush : Bool) → Kept b → Kept (flushed_by b r flush)
-      flushed_kept b r false h = h
-      flushed_kept b r true h = flushed_into_kept b h (down_place b.state.tables.inbox r)
+    unlinked_by_row : (peer : Pid) (answer : Option ℕ × LinkState) → L.name (process peer.0) → LinkNames L.name answer.1
+        → answer.1.next_id ≤ s.tables.links.next_id + 1 → Row (unlinked_by s peer answer)
+    unlinked_by_row peer (id, links) g h ids n = relinking L p s before _ links _ _ behind h ids (unlink_sent peer id g) (λ z. tt)
 
-      demonitoring_kept : (flush : Bool) (r : Ref) → OfRef r → Kept (demonitoring s flush r)
-      demonitoring_kept flush r h =
-          flushed_kept _ r flush
-          (rewatching (unmonitored s.tables.watch r) _ _ (unmonitored_names P s.tables.watch k.watch r) (unmonitored_alike s.tables.watch r)
-          (demonitor_sent r (told_of s.tables.watch r) h (told_names P s.tables.watch k.watch r)))
+    -- a row that makes a reference
+    making_row : (var : List ℕ) (watch : WatchState) (posts : List Post) → (OfRef L.name (new_ref s) → WatchNames L.name watch) → BearsAlike s.tables.watch watch
+        → (OfRef L.name (new_ref s) → ArePosts L posts) → Row (making s var watch posts)
+    making_row var watch posts h alike sent n =
+        let r : Ref = new_ref s in
+        let fresh : L.name (reference r) = n (omega arith) in
+        let made : OfRef L.name r = all_of_ref L.name r fresh names.watch.owner in
+        let value : IsBuilt L (term.Ref r) = record { names = ref_names L.name r fresh names.watch.owner; size = λ z. ref_small r } in
+        few_row L p s _
+        (watched L (record s.tables { env = insert s.tables.env var (term.Ref r) }) (valued L s.tables same var (term.Ref r) (held L (term.Ref r) value)) watch (h made))
+        behind (record { arrivals = omega arith; ids = omega arith; serials = omega arith; rises = omega arith }) alike (sent made) (λ z. small_kept (term.Ref r) (value.size z))
 
-      unaliasing_kept : (r : Ref) → Kept (unaliasing s r)
-      unaliasing_kept r = rewatching (unaliased s.tables.watch r) _ [] (unaliased_names P s.tables.watch k.watch r) (record { owner = refl; borne = refl }) (no_posts P)
+    monitored_row : (var : List ℕ) (target : Pid) (answer : Bool × WatchState) → L.name (process target.0) → (OfRef L.name (new_ref s) → WatchNames L.name answer.1)
+        → BearsAlike s.tables.watch answer.1 → Row (monitored_by s var target answer)
+    monitored_row var target (sends, watch) g h alike =
+        making_row var watch _ h alike
+        (λ r. cond_both sends (record { to = target.0; kind = kind.Monitor (new_ref s) } ∷ []) [] (ArePosts L) (λ e. one_post L _ g r (λ z. tt)) (λ e. no_posts L))
 
-      -- a row that changes the reserve and the marks
-      remarking : (inbox : Inbox) (how : Outcome) → InboxNames P inbox → inbox.next_arrival ≡ s.tables.inbox.next_arrival → Kept (record { state = inboxed (at_next s) inbox; outcome = how; posts = [] })
-      remarking inbox how h arrivals n = moving P H p s _ (record { env = k.env; inbox = h; links = k.links; watch = k.watch; end = k.end }) behind arrivals refl refl refl (no_posts P)
+    monitoring_row : (var : List ℕ) (mode : Option AliasMode) (target : Pid) → L.name (process target.0) → Row (monitoring s var mode target)
+    monitoring_row var mode target g =
+        monitored_row var target (monitor s.tables.watch (new_ref s) target.0 mode) g (λ r. monitor_names L.name s.tables.watch names.watch (new_ref s) target.0 mode r g)
+        (monitor_alike s.tables.watch (new_ref s) target.0 mode)
 
-      marked_kept : (answer : Bool × Inbox) → InboxNames P answer.1 → answer.1.next_arrival ≡ s.tables.inbox.next_arrival → Kept (marked_by s answer)
-      marked_kept (is, inbox) h arrivals = remarking inbox _ h arrivals
+    aliasing_row : (var : List ℕ) (reply : Bool) → Row (aliasing s var reply)
+    aliasing_row var reply =
+        making_row var (alias s.tables.watch (new_ref s) reply) [] (λ r. alias_names L.name s.tables.watch names.watch (new_ref s) reply r) (record { owner = refl; borne = refl }) (λ r. no_posts L)
 
-      marking_kept : (rule : Ref → Bool × Inbox) → ((r : Ref) → OfRef r → InboxNames P (rule r).1) → ((r : Ref) → (rule r).1.next_arrival ≡ s.tables.inbox.next_arrival)
-          → (o : Option Ref) → IfSome o OfRef → Kept (marking s rule o)
-      marking_kept rule h arrivals None named = marked_kept (false, s.tables.inbox) k.inbox refl
-      marking_kept rule h arrivals (Some r) named = marked_kept (rule r) (h r named) (arrivals r)
+    -- a row that ends a monitor, and one that ends an alias
+    flushing_row : (watch : WatchState) (posts : List Post) (at : Option ℕ) → WatchNames L.name watch → BearsAlike s.tables.watch watch → ArePosts L posts
+        → Row (flushed_into (record { state = rewatched (at_next s) watch; outcome = outcome.Done; posts = posts }) (option_map_or {U = Bool × Inbox} (λ (i : ℕ). (true, without_message s.tables.inbox i)) at (false, s.tables.inbox)))
+    flushing_row watch posts None h alike sent n = rewatching L p s before _ watch _ posts behind h alike sent (λ z. tt)
+    flushing_row watch posts (Some i) h alike sent n =
+        few_row L p s _
+        (messaged L (record s.tables { watch = watch }) (watched L s.tables same watch h) (without_message s.tables.inbox i) (left_names L.name s.tables.inbox names.inbox i)
+        (λ z. left_messages s.tables.inbox.messages i (sizes z).messages) (c.without i))
+        behind (near s _ refl refl refl) alike sent (λ z. tt)
 
-      reserving_kept : Kept (reserving s)
-      reserving_kept = remarking (reserved s.tables.inbox s.counts.next_serial) _ (record { messages = k.inbox.messages; marks = k.inbox.marks }) refl
+    demonitoring_row : (flush : Bool) (r : Ref) → OfRef L.name r → Row (demonitoring s flush r)
+    demonitoring_row false r h n =
+        let watch : WatchState = s.tables.watch in
+        rewatching L p s before _ (unmonitored watch r) _ _ behind (unmonitored_names L.name watch names.watch r) (unmonitored_alike watch r)
+        (demonitor_sent L r (told_of watch r) h (told_names L.name watch names.watch r)) (λ z. tt)
+    demonitoring_row true r h n =
+        let watch : WatchState = s.tables.watch in
+        flushing_row (unmonitored watch r) _ (down_place s.tables.inbox r) (unmonitored_names L.name watch names.watch r) (unmonitored_alike watch r)
+        (demonitor_sent L r (told_of watch r) h (told_names L.name watch names.watch r)) n
 
-      named_by : (x : Var) → IfSome (ref_of_var s.tables.env x) OfRef
-      named_by x = ref_in_names (value_of_var s.tables.env x.0) (var_names P s.tables.env k.env x.0)
+    unaliasing_row : (r : Ref) → Row (unaliasing s r)
+    unaliasing_row r n =
+        rewatching L p s before _ (unaliased s.tables.watch r) _ [] behind (unaliased_names L.name s.tables.watch names.watch r) (record { owner = refl; borne = refl }) (no_posts L) (λ z. tt)
 
-      binding_kept : (x : Var) → Kept (binding s x)
-      binding_kept x =
-          let inbox : Inbox = s.tables.inbox in
-          marking_kept (bound_in s.tables.watch.owner inbox) (λ r h. bound_names s.tables.watch.owner inbox k.inbox r h inbox.reserve)
-          (λ r. bound_arrivals s.tables.watch.owner inbox r inbox.reserve) (ref_of_var s.tables.env x) (named_by x)
+    -- a row that changes the reserve and the marks
+    marked_row : (answer : Bool × Inbox) → InboxNames L.name answer.1 → OnlyMarks s.tables.inbox answer.1 → L.inbox answer.1 → Row (marked_by s answer)
+    marked_row (is, inbox) h only moved n =
+        moving L p s _ (messaged L s.tables same inbox h (λ z. subst AllMessages (sym only.messages) (sizes z).messages) moved) behind only.arrivals refl refl refl (no_posts L) (λ z. tt)
 
-      clearing_kept : (x : Var) → Kept (clearing s x)
-      clearing_kept x = marking_kept (cleared_in s.tables.inbox) (λ r h. cleared_names s.tables.inbox k.inbox r) (λ r. refl) (ref_of_var s.tables.env x) (named_by x)
+    marking_row : (rule : Ref → Bool × Inbox) → ((r : Ref) → OfRef L.name r → InboxNames L.name (rule r).1) → ((r : Ref) → OnlyMarks s.tables.inbox (rule r).1) → ((r : Ref) → L.inbox (rule r).1)
+        → (o : Option Ref) → IfSome o (OfRef L.name) → Row (marking s rule o)
+    marking_row rule h only moved None named = marked_row (false, s.tables.inbox) names.inbox (record { messages = refl; arrivals = refl }) c.same
+    marking_row rule h only moved (Some r) named = marked_row (rule r) (h r named) (only r) (moved r)
 
-      receiving_kept : (after : Option After) (start from : ℕ) (o : Option Hit) → IfSome o (λ h. EnvironmentNames P h.env)
-          → IfSome (receiving p s after start from o) Kept
-      receiving_kept after start from (Some h) g = λ n.
-          moving P H p s _
-          (record { env = g; inbox = left_names s.tables.inbox k.inbox (from + h.at); links = k.links; watch = k.watch; end = k.end })
-          (target_place h.target) refl refl refl refl (no_posts P)
-      receiving_kept (Some after) start from None g = λ n. moving P H p s _ k (target_place after.target) refl refl refl refl (no_posts P)
-      receiving_kept None start from None g = tt
+    reserving_row : Row (reserving s)
+    reserving_row n =
+        moving L p s _
+        (messaged L s.tables same (reserved s.tables.inbox s.counts.next_serial) (record { messages = names.inbox.messages; marks = names.inbox.marks }) (λ z. (sizes z).messages) c.reserve)
+        behind refl refl refl refl (no_posts L) (λ z. tt)
 
-      instr_kept : (i : Instr) → InstrNames i → IfSome (exec_body from_mark p s (Some i)) Kept
-      instr_kept (instr.Send to message) h =
-          with_value_kept to _ (first to message h) (λ t g. with_value_kept message _ (second to message h) (λ m f. with_target_kept t (sending s m) g
-          (λ q e n. moving P H p s _ k behind refl refl refl refl (one_post P _ e f))
-          (λ r e n. moving P H p s _ k behind refl refl refl refl (one_post P _ e.1 (All-append P (names_of_ref r) (names_of m) (all_of_ref P r e.0 e.1) f)))))
-      instr_kept (instr.Set var value) h =
-          with_value_kept value _ (only value h)
-          (λ v g n. moving P H p s _ (record { env = insert_names P s.tables.env var.0 v k.env g; inbox = k.inbox; links = k.links; watch = k.watch; end = k.end }) behind refl refl refl refl (no_posts P))
-      instr_kept (instr.MakeRef var) h = making_ref_kept var.0
-      instr_kept (instr.Link peer) h =
-          with_peer_kept peer _ (only peer h)
-          (λ q g. linked_by_kept q (link s.tables.links q.0) g (link_names P s.tables.links k.links q.0 g) (link_id s.tables.links q.0))
-      instr_kept (instr.Unlink peer) h =
-          with_peer_kept peer _ (only peer h)
-          (λ q g. unlinked_by_kept q (unlink s.tables.links q.0) g (unlink_names P s.tables.links k.links q.0 g) (unlink_id s.tables.links q.0))
-      instr_kept (instr.Monitor var target mode) h = with_peer_kept target _ (only target h) (λ q g. monitoring_kept var.0 mode q g)
-      instr_kept (instr.Demonitor e flush) h =
-          with_value_kept e _ (only e h) (λ t g. with_ref_kept t _ g (demonitoring_kept flush))
-      instr_kept (instr.Alias var reply) h = aliasing_kept var.0 reply
-      instr_kept (instr.Unalias e) h =
-          with_value_kept e _ (only e h) (λ t g. with_ref_kept t _ g (λ r named. unaliasing_kept r))
-      instr_kept (instr.Exit reason) h = with_value_kept reason _ (only reason h) (λ t g n. ending_kept P H p s k here t g)
-      instr_kept (instr.ExitTo target reason) h =
-          with_value_kept target _ (first target reason h)
-          (λ t g. with_value_kept reason _ (second target reason h) (λ r f. with_pid_kept t _ g (λ q e n. moving P H p s _ k behind refl refl refl refl (one_post P _ e f))))
-      instr_kept (instr.Trap on) h = λ n. moving P H p s _ k behind refl refl refl refl (no_posts P)
-      instr_kept (instr.Goto label) h = λ n. moving P H p s _ k (target_place (Some label)) refl refl refl refl (no_posts P)
-      instr_kept instr.Stop h = ended (codes "normal")
-      instr_kept instr.Reserve h = reserving_kept
-      instr_kept (instr.Bind var) h = binding_kept var
-      instr_kept (instr.Clear var) h = clearing_kept var
-      instr_kept (instr.Receive using clauses after) h =
-          let start : ℕ = marked_start s using in
-          receiving_kept after start start (hit_from start clauses s)
-          (hit_names P s.tables.env k.env clauses (drop start (terms_of s.tables.inbox.messages))
-          (All-drop (AllNames P) start (terms_of s.tables.inbox.messages) (All-map (AllNames P) (λ (m : ℕ × Term). m.1) s.tables.inbox.messages k.inbox.messages)))
+    named_by : (x : Var) → IfSome (ref_of_var s.tables.env x) (OfRef L.name)
+    named_by x = ref_in_names L.name (value_of_var s.tables.env x.0) (var_names L.name s.tables.env names.env x.0)
 
-    body_kept : (H → IsWithin p) → (o : Option Instr) → slice_get p.instrs (s.counts.place - 1) ≡ o → IfSome o InstrNames → IfSome (exec_body from_mark p s o) Kept
-    body_kept w None e h = ended (codes "normal")
-    body_kept w (Some i) e h =
-        let lt : s.counts.place - 1 < length p.instrs = slice_get_within p.instrs (s.counts.place - 1) i e in instr_kept w (λ j. omega (arith, lt, (here j).0)) i h
+    binding_row : (x : Var) → Row (binding s x)
+    binding_row x =
+        let inbox : Inbox = s.tables.inbox in
+        let owner : ℕ = s.tables.watch.owner in
+        marking_row (bound_in owner inbox) (λ r h. bound_names L.name owner inbox names.inbox r h inbox.reserve) (λ r. bound_marks owner inbox r inbox.reserve) c.bound
+        (ref_of_var s.tables.env x) (named_by x)
 
--- what the next instruction does, where it can be executed
+    clearing_row : (x : Var) → Row (clearing s x)
+    clearing_row x =
+        marking_row (cleared_in s.tables.inbox) (λ r h. cleared_names L.name s.tables.inbox names.inbox r) (λ r. record { messages = refl; arrivals = refl }) c.cleared
+        (ref_of_var s.tables.env x) (named_by x)
+
+    -- a receive, where the scan finds this
+    receiving_row : (after : Option After) (start from : ℕ) (o : Option Hit) → IfSome o (HitValues (AllNames L.name)) → (L.sized → IfSome o (HitValues IsKeptTerm))
+        → IfSome (receiving p s after start from o) Row
+    receiving_row after start from (Some h) g k = λ n.
+        moving L p s _
+        (record {
+          names = record { env = g.env; inbox = left_names L.name s.tables.inbox names.inbox (from + h.at); links = names.links; watch = names.watch; end = names.end };
+          sizes = λ z. record { env = (k z).env; messages = left_messages s.tables.inbox.messages (from + h.at) (sizes z).messages; end = (sizes z).end };
+          inbox = c.without (from + h.at);
+        })
+        (target_place h.target) refl refl refl refl (no_posts L) (λ z. (k z).message)
+    receiving_row (Some after) start from None g k = λ n. moving L p s _ same (target_place after.target) refl refl refl refl (no_posts L) (λ z. tt)
+    receiving_row None start from None g k = tt
+
+    scanning_row : (after : Option After) (start : ℕ) (clauses : List Clause) → IfSome (receiving p s after start start (hit_from start clauses s)) Row
+    scanning_row after start clauses =
+        let messages : List (ℕ × Term) = s.tables.inbox.messages in
+        receiving_row after start start (hit_from start clauses s)
+        (hit_values (AllNames L.name) (All (AllNames L.name)) (name_parts L.name) s.tables.env names.env clauses (drop start (terms_of messages))
+        (All-drop (AllNames L.name) start (terms_of messages) (All-map (AllNames L.name) (λ (m : ℕ × Term). m.1) messages names.inbox.messages)))
+        (λ z. hit_values IsKeptTerm (AreWithin READ_NODES READ_DEPTH) size_parts s.tables.env (sizes z).env clauses (drop start (terms_of messages))
+        (All-drop IsKeptTerm start (terms_of messages) (All-map IsKeptTerm (λ (m : ℕ × Term). m.1) messages (sizes z).messages)))
+
+    -- ONE CASE FOR EACH INSTRUCTION
+    instr_row : (i : Instr) → InstrNames L.name i → IfSome (exec_body from_mark p s (Some i)) Row
+    instr_row (instr.Send to message) h =
+        with_value_row to _ (first L.name to message h) (λ t g. with_value_row message _ (second L.name to message h) (λ m f. sending_row t m g f))
+    instr_row (instr.Set var value) h = with_value_row value _ (only L.name value h) (setting_row var.0)
+    instr_row (instr.MakeRef var) h = making_row var.0 s.tables.watch [] (λ r. names.watch) (same_watch s.tables.watch) (λ r. no_posts L)
+    instr_row (instr.Link peer) h =
+        with_peer_row peer _ (only L.name peer h) (λ q g. linked_by_row q (link s.tables.links q.0) g (link_names L.name s.tables.links names.links q.0 g) (link_id s.tables.links q.0))
+    instr_row (instr.Unlink peer) h =
+        with_peer_row peer _ (only L.name peer h) (λ q g. unlinked_by_row q (unlink s.tables.links q.0) g (unlink_names L.name s.tables.links names.links q.0 g) (unlink_id s.tables.links q.0))
+    instr_row (instr.Monitor var target mode) h = with_peer_row target _ (only L.name target h) (monitoring_row var.0 mode)
+    instr_row (instr.Demonitor e flush) h = with_reference_row e _ (only L.name e h) (demonitoring_row flush)
+    instr_row (instr.Alias var reply) h = aliasing_row var.0 reply
+    instr_row (instr.Unalias e) h = with_reference_row e _ (only L.name e h) (λ r named. unaliasing_row r)
+    instr_row (instr.Exit reason) h = with_value_row reason _ (only L.name reason h) (λ t g n. ending_row L p s before t g)
+    instr_row (instr.ExitTo target reason) h =
+        with_value_row target _ (first L.name target reason h) (λ t g. with_value_row reason _ (second L.name target reason h)
+        (λ r f. with_pid_row t _ g (λ q e n. moving L p s _ same behind refl refl refl refl (one_post L _ e f.names f.size) (λ z. tt))))
+    instr_row (instr.Trap on) h = λ n. moving L p s _ same behind refl refl refl refl (no_posts L) (λ z. tt)
+    instr_row (instr.Goto label) h = λ n. moving L p s _ same (target_place (Some label)) refl refl refl refl (no_posts L) (λ z. tt)
+    instr_row instr.Stop h = ended (codes "normal")
+    instr_row instr.Reserve h = reserving_row
+    instr_row (instr.Bind var) h = binding_row var
+    instr_row (instr.Clear var) h = clearing_row var
+    instr_row (instr.Receive using clauses after) h = scanning_row after (marked_start s using) clauses
+
+  body_row : (L.bounded → IsWithin p) → (o : Option Instr) → slice_get p.instrs (s.counts.place - 1) ≡ o → IfSome o (InstrNames L.name) → IfSome (exec_body from_mark p s o) Row
+  body_row w None e h = ended (codes "normal")
+  body_row w (Some i) e h =
+      let lt : s.counts.place - 1 < length p.instrs = slice_get_within p.instrs (s.counts.place - 1) i e in instr_row w (λ j. omega (arith, lt, (here j).0)) i h
+
+  -- what the next instruction does, where it can be executed
+  executing_row : (L.bounded → IsWithin p) → ScriptNames L.name p → IfSome (executing p s) Row
+  unfolding executing
+  executing_row w h = body_row w (slice_get p.instrs (s.counts.place - 1)) refl (at_place (InstrNames L.name) p.instrs (s.counts.place - 1) h)
+
+-- the bundle's parts, each a law of its own: names and bounds, messages and marks, and sizes
 pub executing_kept : (P : Named → Type 0) (H : Type 0) (p : Declared) (s : ProcessState) → TableNames P s.tables → (H → IsBounded p s) → (H → IsWithin p) → ScriptNames P p
     → IfSome (executing p s) (IsKeptMade P H p s)
-unfolding executing
 executing_kept P H p s k b w h =
-    body_kept P H p s k (λ j. ((b j).first, (b j).within)) w (slice_get p.instrs (s.counts.place - 1)) refl (at_place (InstrNames P) p.instrs (s.counts.place - 1) h)
+    let L : Shown = record { name = P; bounded = H; sized = ⊥; inbox = AnyInbox } in
+    IfSome_then (executing p s) (executing_row L p s k (λ z. absurd z) (λ j. ((b j).first, (b j).within)) (any_executed s) w h) (λ body g n. (g n).kept)
+
+pub executing_moved : (I : Inbox → Type 0) (p : Declared) (s : ProcessState) → IsExecuted I s → IfSome (executing p s) (IsMoved I s)
+executing_moved I p s c =
+    let L : Shown = record { name = Any; bounded = ⊥; sized = ⊥; inbox = I } in
+    IfSome_then (executing p s) (executing_row L p s (any_tables s.tables) (λ z. absurd z) (λ j. absurd j) c (λ j. absurd j) (any_script p)) (λ body g. (g (λ n. tt)).moved)
+
+pub executing_sizes : (p : Declared) (s : ProcessState) → TableSizes s.tables → IfSome (executing p s) BodySizes
+executing_sizes p s k =
+    let L : Shown = record { name = Any; bounded = ⊥; sized = Unit {0}; inbox = AnyInbox } in
+    IfSome_then (executing p s) (executing_row L p s (any_tables s.tables) (λ z. k) (λ j. absurd j) (any_executed s) (λ j. absurd j) (any_script p)) (λ body g. (g (λ n. tt)).sizes tt)
 
 -- a script that names processes of the script alone
 pub script_names : (count : ℕ) (p : Declared) → IsProcBelow count p → ScriptNames (IsNameBelow count) p

@@ -8,7 +8,6 @@ use Rattle.sig_terms.specs.declared.reference.Ref.{Ref}
 use Rattle.sig_terms.specs.Names.{reference}
 use Rattle.sig_kinds.specs.declared.signal.Signal.{Signal}
 use Rattle.sig_kinds.specs.SignalNames.{names_of_kind}
-use Rattle.sig_patterns.specs.Inbox.{Inbox}
 use Rattle.sig_script.specs.Scripts.{Declared}
 use Rattle.sig_runs.specs.Rules.{Effect}
 use Rattle.sig_runs.specs.Fresh.{Holds, StandsAfter, IsNew, MakesFresh}
@@ -25,19 +24,11 @@ use Rattle.sig_model.specs.Names.{PostNames, BodyNames, ScriptNames}
 use Rattle.sig_model.specs.Marking.{IsOther, StandsIn, IsSaid, marking}
 use Rattle.sig_model.proofs.Lookups.{mapped_tells}
 use Rattle.sig_model.proofs.StampLemmas.{numbered_all}
-use Rattle.sig_model.proofs.BodyLemmas.{IsKeptBody}
-use Rattle.sig_model.proofs.ExecutingLemmas.{IsKeptMade, executing_kept}
-use Rattle.sig_model.proofs.HandlingLemmas.{handling_kept}
-use Rattle.sig_model.proofs.InboxLemmas.{IsMoved, IsExecuted, executing_moved, handling_moved}
+use Rattle.sig_model.proofs.AnyNames.{no_part}
+use Rattle.sig_model.proofs.BodyLemmas.{IsKeptBody, IsMoved, AnyInbox}
+use Rattle.sig_model.proofs.ExecutingLemmas.{IsKeptMade, any_executed, executing_kept, executing_moved}
+use Rattle.sig_model.proofs.HandlingLemmas.{any_handled, handling_kept, handling_moved}
 use Rattle.sig_model.proofs.HoldLemmas.{owner_in, serial_in, process_other, others_or_not}
-
--- a process that does nothing; what a process does with a signal depends on no part of a script
-abbrev pub no_part : Declared
-no_part = record { name = []; labels = []; instrs = [] }
-
--- whatever the messages and marks are
-abbrev AnyInbox : Inbox → Type 0
-AnyInbox inbox = Unit {0}
 
 -- what an instruction does at s, where it can be executed
 pub record IsBodyOf (p : Declared) (pid : ℕ) (s : ProcessState) (effect : Effect ProcessState Signal Event) : Type 0 where
@@ -108,8 +99,7 @@ module _ (r : Ref) where
 exec_next : (p : Declared) (pid : ℕ) (s : ProcessState) (effect : Effect ProcessState Signal Event) → execution_of pid (Some p) s ≡ Some effect → s.counts.next_serial ≤ effect.state.counts.next_serial
 exec_next p pid s effect e =
     let b : IsBodyOf p pid s effect = body_of p pid s effect e in
-    let any : IsExecuted AnyInbox s = record { same = tt; without = λ at. tt; emptied = tt; reserve = tt; bound = λ r. tt; cleared = λ r. tt } in
-    let moved : IsMoved AnyInbox s b.body = MatchOption-at_some (Unit {0}) (IsMoved AnyInbox s) b.body b.can (executing_moved AnyInbox p s any) in
+    let moved : IsMoved AnyInbox s b.body = MatchOption-at_some (Unit {0}) (IsMoved AnyInbox s) b.body b.can (executing_moved AnyInbox p s (any_executed s)) in
     subst (λ (f : Effect ProcessState Signal Event). s.counts.next_serial ≤ f.state.counts.next_serial) b.is moved.serial
 
 -- the law of freshness
@@ -129,8 +119,7 @@ module _ (turns : ℕ) (part : ℕ → Option Declared) where
   unfolding rules_with
   makes_fresh = record {
     exec_next = λ pid s effect e. of_part_next (part pid) pid s effect e;
-    handle_next = λ pid s x.
-        (handling_moved AnyInbox pid s (record { same = tt; arrived = λ message. tt; emptied = tt }) x).serial;
+    handle_next = λ pid s x. (handling_moved AnyInbox pid s (any_handled s) x).serial;
     exec_stands = λ pid s effect e sound r stands. of_part_stands (part pid) pid s effect e sound.owner r stands;
     handle_stands = λ pid s x r stands. inl (handle_stands r pid s x stands);
   }

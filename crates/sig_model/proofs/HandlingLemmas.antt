@@ -1,5 +1,5 @@
--- What holds of every name in a process and in a signal holds of every name in what the process does with the signal, and no count
--- goes too far: one case for each cell of the table of handling, and for the exit rule.
+-- What is shown of each signal that a process handles: ONE CASE FOR EACH CELL of the table of handling, and for the exit rule, gives
+-- the whole bundle, of names, bounds, sizes and marks. The laws of names, of marks and of sizes are parts of it.
 use Rattle.std.proofs.Common.{◌≡◌, ℕ, ◌+◌, ◌≤◌, List, [], ◌∷◌, ◌++◌, length, Bool, true, false, cond, ◌&&◌, not, ◌==◌, is_some, codes, All, IfSome, Option, Some, None, refl, arith}
 use Rattle.std.proofs.lemmas.Bool.{cond_both}
 use Rattle.std.proofs.lemmas.List.{length-append}
@@ -24,18 +24,22 @@ use Rattle.sig_kinds.specs.WatchRules.{WatchState, is_held, bears, without, unmo
 use Rattle.sig_kinds.specs.SignalNames.{names_of_kind, LinkNames, WatchNames, SignalNames}
 use Rattle.sig_kinds.proofs.LinkNameLemmas.{deactivated_names, on_link_names, on_unlink_names, on_ack_names}
 use Rattle.sig_kinds.proofs.WatchNameLemmas.{unmonitored_names, told_names, on_alias_message_names, on_monitor_names, on_demonitor_names}
-use Rattle.sig_patterns.specs.Inbox.{Inbox}
+use Rattle.sig_patterns.specs.Inbox.{Inbox, arrived_in, emptied_inbox}
 use Rattle.sig_script.specs.Scripts.{Declared}
+use Rattle.sig_model.specs.declared.event.Outcome.{Outcome}
 use Rattle.sig_model.specs.declared.event.Outcome.TheVariants as outcome
 use Rattle.sig_model.specs.ProcessState.{ProcessState}
 use Rattle.sig_model.specs.Bodies.{Post, Body, relinked, rewatched, appending, dropping, normal, kill}
 use Rattle.sig_model.specs.ExitRule.{exit_message, exit_rule, plain_exit, linked_exit}
 use Rattle.sig_model.specs.Executing.{demonitor_posts}
-use Rattle.sig_model.specs.Handling.{linking_up, unlinking_from, acknowledging, through_alias, watching, unwatching, down_message, told_down, live_body, ended_body, handling}
+use Rattle.sig_model.specs.Handling.{linking_up, unlinking_from, acknowledging, through_alias, watching, unwatching, down_message, told_down, answering_noproc, live_body, ended_body, handling}
 use Rattle.sig_model.specs.Bounds.{IsBounded, IsBoundedBody}
-use Rattle.sig_model.specs.Names.{TableNames, PostNames}
-use Rattle.sig_model.proofs.BodyLemmas.{IsAt, BearsAlike, same_watch, ArePosts, IsKeptBody, no_posts, one_post, row, few_row, moving, relinking, dropping_kept, appending_kept, ending_kept, ending_atom, on_link_id, on_ack_id}
-use Rattle.sig_model.proofs.ExecutingLemmas.{OfRef, unmonitored_alike, demonitor_sent}
+use Rattle.sig_model.specs.Names.{TableNames}
+use Rattle.sig_model.specs.TermSizes.{IsKeptTerm, KindSizes, OutcomeSizes, TableSizes, BodySizes}
+use Rattle.sig_model.proofs.AnyNames.{Any, any_tables, any_signal, no_part}
+use Rattle.sig_model.proofs.TermSizeLemmas.{small_kept, atom_small, exit_kept, down_kept}
+use Rattle.sig_model.proofs.BodyLemmas.{IsAt, BearsAlike, same_watch, IsKeptBody, IsMoved, AnyInbox, OfRef, Shown, near, IsBuilt, IsHeld, held, IsTold, ArePosts, no_posts, one_post, demonitor_sent, AreKept, linked, watched, messaged, IsRow, IsBefore, row, few_row, moving, relinking, rewatching, dropping_row, ending_row, ending_atom, on_link_id, on_ack_id}
+use Rattle.sig_model.proofs.ExecutingLemmas.{unmonitored_alike}
 
 -- what the rules for the signals do to the monitors that are borne
 fewer : {X : Type 0} (b : Bool) (x : X) (xs : List X) (n : ℕ) → length xs ≤ n → length (cond b (x ∷ xs) xs) ≤ n + 1
@@ -75,137 +79,190 @@ module _ (P : Named → Type 0) where
   by_mode_tells watch k r (Some alias_mode.Reply) = tt
   by_mode_tells watch k r (Some alias_mode.ReplyDemonitor) = told_names P watch k r
 
-module _ (P : Named → Type 0) (H : Type 0) (p : Declared) (pid sender : ℕ) (from : P (process sender)) where
-  exit_message_names : (reason : Term) → AllNames P reason → AllNames P (exit_message sender reason)
-  exit_message_names reason h =
-      let named : Term = term.Pid (record { 0 = sender }) in
-      tuple_names P (term.Atom (codes "EXIT") ∷ named ∷ reason ∷ [])
-      (All-cons (AllNames P) (term.Atom (codes "EXIT")) (named ∷ reason ∷ []) (atom_names P (codes "EXIT"))
-      (All-cons (AllNames P) named (reason ∷ []) (pid_names P (record { 0 = sender }) from)
-      (All-cons (AllNames P) reason [] h (All-nil (AllNames P)))))
+-- what may be made of the messages and marks of a process by a signal
+pub record IsHandled (I : Inbox → Type 0) (s : ProcessState) : Type 0 where
+  pub same : I s.tables.inbox
+  pub arrived : (message : Term) → I (arrived_in s.tables.inbox message)
+  pub emptied : I (emptied_inbox s.tables.inbox)
 
-  down_message_names : (r : Ref) (reason : Term) → OfRef P r → AllNames P reason → AllNames P (down_message r sender reason)
-  down_message_names r reason h g =
-      let made : P (reference r) × P (process r.owner.0) = ref_of_all P r h in
+pub any_handled : (s : ProcessState) → IsHandled AnyInbox s
+any_handled s = record { same = tt; arrived = λ message. tt; emptied = tt }
+
+-- by the answer of a rule, it tells one or the other
+either_told : (b : Bool) (x y : Outcome) → OutcomeSizes x → OutcomeSizes y → OutcomeSizes (cond b x y)
+either_told true x y h g = h
+either_told false x y h g = g
+
+module _ (L : Shown) (p : Declared) (pid sender : ℕ) (from : L.name (process sender)) where
+  -- the messages of an exit signal and of a down
+  exit_message_held : (reason : Term) → IsBuilt L reason → IsHeld L (exit_message sender reason)
+  exit_message_held reason h =
+      let all : Term → Type 0 = AllNames L.name in
+      let named : Term = term.Pid (record { 0 = sender }) in
+      record {
+        names = tuple_names L.name (term.Atom (codes "EXIT") ∷ named ∷ reason ∷ [])
+            (All-cons all (term.Atom (codes "EXIT")) (named ∷ reason ∷ []) (atom_names L.name (codes "EXIT"))
+            (All-cons all named (reason ∷ []) (pid_names L.name (record { 0 = sender }) from) (All-cons all reason [] h.names (All-nil all))));
+        size = λ z. exit_kept sender reason (h.size z);
+      }
+
+  down_message_held : (r : Ref) (reason : Term) → OfRef L.name r → IsBuilt L reason → IsHeld L (down_message r sender reason)
+  down_message_held r reason h g =
+      let all : Term → Type 0 = AllNames L.name in
+      let made : L.name (reference r) × L.name (process r.owner.0) = ref_of_all L.name r h in
       let named : Term = term.Pid (record { 0 = sender }) in
       let last : List Term = term.Atom (codes "process") ∷ named ∷ reason ∷ [] in
-      tuple_names P (term.Atom (codes "DOWN") ∷ term.Ref r ∷ last)
-      (All-cons (AllNames P) (term.Atom (codes "DOWN")) (term.Ref r ∷ last) (atom_names P (codes "DOWN"))
-      (All-cons (AllNames P) (term.Ref r) last (ref_names P r made.0 made.1)
-      (All-cons (AllNames P) (term.Atom (codes "process")) (named ∷ reason ∷ []) (atom_names P (codes "process"))
-      (All-cons (AllNames P) named (reason ∷ []) (pid_names P (record { 0 = sender }) from)
-      (All-cons (AllNames P) reason [] g (All-nil (AllNames P)))))))
+      record {
+        names = tuple_names L.name (term.Atom (codes "DOWN") ∷ term.Ref r ∷ last)
+            (All-cons all (term.Atom (codes "DOWN")) (term.Ref r ∷ last) (atom_names L.name (codes "DOWN"))
+            (All-cons all (term.Ref r) last (ref_names L.name r made.0 made.1)
+            (All-cons all (term.Atom (codes "process")) (named ∷ reason ∷ []) (atom_names L.name (codes "process"))
+            (All-cons all named (reason ∷ []) (pid_names L.name (record { 0 = sender }) from) (All-cons all reason [] g.names (All-nil all))))));
+        size = λ z. down_kept sender reason (g.size z) r;
+      }
 
-  exit_rule_kept : (s : ProcessState) → TableNames P s.tables → (H → IsAt p s.counts.place) → (reason : Term) → AllNames P reason
-      → IsKeptBody P H p s (exit_rule pid s sender reason)
-  exit_rule_kept s k here reason h =
-      cond_both s.traps _ _ (IsKeptBody P H p s) (λ e. appending_kept P H p s k here (exit_message sender reason) (exit_message_names reason h))
-      (λ e. cond_both (same_term reason normal && not (sender == pid)) _ _ (IsKeptBody P H p s) (λ f. dropping_kept P H p s k here) (λ f. ending_kept P H p s k here reason h))
-
-  module _ (s : ProcessState) (k : TableNames P s.tables) (here : H → IsAt p s.counts.place) where
-    -- where the link has ended before
-    unlinked_kept : (b : Body) → IsKeptBody P H p (relinked s (deactivated s.tables.links sender)) b → IsKeptBody P H p s b
-    unlinked_kept b h =
-        record {
-          names = h.names;
-          bounds = λ j. let e : IsBoundedBody p (relinked s (deactivated s.tables.links sender)) b = h.bounds j in
-              record { first = e.first; within = e.within; arrivals = e.arrivals; ids = e.ids; serials = e.serials; posts = e.posts };
-          owner = h.owner;
-        }
-
-    plain_exit_kept : (reason : Term) → AllNames P reason → IsKeptBody P H p s (plain_exit pid s sender reason)
-    plain_exit_kept reason h =
-        cond_both (same_term reason kill) _ _ (IsKeptBody P H p s) (λ e. ending_atom P H p s k here (codes "killed"))
-        (λ e. exit_rule_kept s k here reason h)
-
-    linked_exit_kept : (reason : Term) → AllNames P reason → IsKeptBody P H p s (linked_exit pid s sender reason)
-    linked_exit_kept reason h =
-        let after : LinkState = deactivated s.tables.links sender in
-        let tables : TableNames P (relinked s after).tables =
-        record { env = k.env; inbox = k.inbox; links = deactivated_names P s.tables.links k.links sender; watch = k.watch; end = k.end } in
-        cond_both (is_active s.tables.links sender) (exit_rule pid (relinked s after) sender reason) (dropping s) (IsKeptBody P H p s)
-        (λ e. unlinked_kept _ (exit_rule_kept (relinked s after) tables here reason h)) (λ e. dropping_kept P H p s k here)
-
-    linking_up_kept : (answer : Bool × LinkState) → LinkNames P answer.1 → answer.1.next_id ≤ s.tables.links.next_id + 1
-        → IsKeptBody P H p s (linking_up s answer)
-    linking_up_kept (linked, links) h ids = relinking P H p s k s.counts.place links _ [] here h ids (no_posts P)
-
-    unlinking_from_kept : (id : ℕ) (answer : Bool × LinkState) → LinkNames P answer.1 → answer.1.next_id ≤ s.tables.links.next_id + 1
-        → IsKeptBody P H p s (unlinking_from s sender id answer)
-    unlinking_from_kept id (ended, links) h ids =
-        relinking P H p s k s.counts.place links _ _ here h ids (one_post P (record { to = sender; kind = UnlinkAck id }) from (All-nil P))
-
-    acknowledging_kept : (answer : Bool × LinkState) → LinkNames P answer.1 → answer.1.next_id ≤ s.tables.links.next_id + 1
-        → IsKeptBody P H p s (acknowledging s answer)
-    acknowledging_kept (awaited, links) h ids = relinking P H p s k s.counts.place links _ [] here h ids (no_posts P)
-
+  module _ (s : ProcessState) (k : IsBefore L p s) (arrived : (message : Term) → L.inbox (arrived_in s.tables.inbox message)) where
     -- a message comes, and the monitors and aliases change
-    kept_message : (watch : WatchState) (message : Term) (posts : List Post) → WatchNames P watch → BearsAlike s.tables.watch watch → AllNames P message → ArePosts P posts
-        → IsKeptBody P H p s (record { state = (appending (rewatched s watch) message).state; outcome = outcome.Kept message; posts = posts })
+    kept_message : (watch : WatchState) (message : Term) (posts : List Post) → WatchNames L.name watch → BearsAlike s.tables.watch watch → IsHeld L message → ArePosts L posts
+        → IsRow L p s (record { state = (appending (rewatched s watch) message).state; outcome = outcome.Kept message; posts = posts })
     kept_message watch message posts h alike g sent =
         let inbox : Inbox = s.tables.inbox in
-        let all : All (λ (m : ℕ × Term). AllNames P m.1) (inbox.messages ++ (inbox.next_arrival, message) ∷ []) = All-push (λ (m : ℕ × Term). AllNames P m.1) inbox.messages (inbox.next_arrival, message) k.inbox.messages g in
-        few_row P H p s _ (record { env = k.env; inbox = record { messages = all; marks = k.inbox.marks }; links = k.links; watch = h; end = k.end }) here (omega arith) (omega arith) (omega arith) alike sent
+        few_row L p s _
+        (messaged L (record s.tables { watch = watch }) (watched L s.tables k.tables watch h) (arrived_in inbox message)
+        (record { messages = All-push (λ (m : ℕ × Term). AllNames L.name m.1) inbox.messages (inbox.next_arrival, message) k.tables.names.inbox.messages g.names; marks = k.tables.names.inbox.marks })
+        (λ z. All-push (λ (m : ℕ × Term). IsKeptTerm m.1) inbox.messages (inbox.next_arrival, message) (k.tables.sizes z).messages (g.size z)) (arrived message))
+        k.here (record { arrivals = omega arith; ids = omega arith; serials = omega arith; rises = omega arith }) alike sent g.size
 
-    through_alias_by : (r : Ref) (message : Term) (answer : AliasAnswer × WatchState) → OfRef P r → AllNames P message → WatchNames P answer.1 → BearsAlike s.tables.watch answer.1 → TellNames P answer.0
-        → IsKeptBody P H p s (through_alias s r message answer)
-    through_alias_by r message (alias_answer.Dropped, watch) h g w alike told = dropping_kept P H p s k here
-    through_alias_by r message (alias_answer.Kept tell, watch) h g w alike told = kept_message watch message (demonitor_posts r tell) w alike g (demonitor_sent P r tell h told)
+    appending_row : (message : Term) → IsHeld L message → IsRow L p s (appending s message)
+    appending_row message h = kept_message s.tables.watch message [] k.tables.names.watch (same_watch s.tables.watch) h (no_posts L)
 
-    through_alias_kept : (r : Ref) (message : Term) → OfRef P r → AllNames P message → IsKeptBody P H p s (through_alias s r message (on_alias_message s.tables.watch r))
-    through_alias_kept r message h g =
-        through_alias_by r message (on_alias_message s.tables.watch r) h g (on_alias_message_names P s.tables.watch k.watch r) (by_mode_alike s.tables.watch r (mode_of s.tables.watch r))
-        (by_mode_tells P s.tables.watch k.watch r (mode_of s.tables.watch r))
+    exit_rule_row : (reason : Term) → IsBuilt L reason → IsRow L p s (exit_rule pid s sender reason)
+    exit_rule_row reason h =
+        cond_both s.traps _ _ (IsRow L p s) (λ e. appending_row (exit_message sender reason) (exit_message_held reason h))
+        (λ e. cond_both (same_term reason normal && not (sender == pid)) _ _ (IsRow L p s) (λ f. dropping_row L p s k) (λ f. ending_row L p s k reason h))
 
-    watching_kept : (r : Ref) → OfRef P r → IsKeptBody P H p s (watching s (on_monitor s.tables.watch r sender))
-    watching_kept r h =
-        row P H p s _ (record { env = k.env; inbox = k.inbox; links = k.links; watch = on_monitor_names P s.tables.watch k.watch r sender h from; end = k.end })
-        here (omega arith) (omega arith) (omega arith) (same_owner s.tables.watch r sender) (All-nil (PostNames P)) (λ peer. omega (arith, one_borne s.tables.watch r sender))
+    plain_exit_row : (reason : Term) → IsBuilt L reason → IsRow L p s (plain_exit pid s sender reason)
+    plain_exit_row reason h = cond_both (same_term reason kill) _ _ (IsRow L p s) (λ e. ending_atom L p s k (codes "killed")) (λ e. exit_rule_row reason h)
 
-    unwatching_kept : (r : Ref) → IsKeptBody P H p s (unwatching s (on_demonitor s.tables.watch r))
-    unwatching_kept r =
-        row P H p s _ (record { env = k.env; inbox = k.inbox; links = k.links; watch = on_demonitor_names P s.tables.watch k.watch r; end = k.end })
-        here (omega arith) (omega arith) (omega arith) refl (All-nil (PostNames P)) (λ peer. omega (arith, kept_few s.tables.watch.borne r))
+  -- where the link has ended before
+  unlinked_row : (s : ProcessState) (links : LinkState) (b : Body) → links.next_id ≡ s.tables.links.next_id → IsRow L p (relinked s links) b → IsRow L p s b
+  unlinked_row s links b same h = record {
+    kept = record {
+      names = h.kept.names;
+      bounds = λ j. let e : IsBoundedBody p (relinked s links) b = h.kept.bounds j in
+          record { first = e.first; within = e.within; arrivals = e.arrivals; ids = omega (arith, e.ids, same); serials = e.serials; posts = e.posts };
+      owner = h.kept.owner;
+    };
+    sizes = h.sizes;
+    moved = record { inbox = h.moved.inbox; serial = h.moved.serial };
+  }
 
-    told_down_kept : (r : Ref) (reason : Term) → OfRef P r → AllNames P reason → IsKeptBody P H p s (told_down s r sender reason (on_down s.tables.watch r))
-    told_down_kept r reason h g =
-        cond_both (is_held s.tables.watch r) _ (dropping s) (IsKeptBody P H p s)
-        (λ e. kept_message (unmonitored s.tables.watch r) (down_message r sender reason) [] (unmonitored_names P s.tables.watch k.watch r) (unmonitored_alike s.tables.watch r)
-        (down_message_names r reason h g) (no_posts P))
-        (λ e. dropping_kept P H p s k here)
+  module _ (s : ProcessState) (k : IsBefore L p s) (arrived : (message : Term) → L.inbox (arrived_in s.tables.inbox message)) where
+    linked_exit_row : (reason : Term) → IsBuilt L reason → IsRow L p s (linked_exit pid s sender reason)
+    linked_exit_row reason h =
+        let after : LinkState = deactivated s.tables.links sender in
+        let before : IsBefore L p (relinked s after) =
+        record { tables = linked L s.tables k.tables after (deactivated_names L.name s.tables.links k.tables.names.links sender); here = k.here; emptied = k.emptied } in
+        cond_both (is_active s.tables.links sender) (exit_rule pid (relinked s after) sender reason) (dropping s) (IsRow L p s)
+        (λ e. unlinked_row s after _ refl (exit_rule_row (relinked s after) before arrived reason h)) (λ e. dropping_row L p s k)
+
+    linking_up_row : (answer : Bool × LinkState) → LinkNames L.name answer.1 → answer.1.next_id ≤ s.tables.links.next_id + 1 → IsRow L p s (linking_up s answer)
+    linking_up_row (is, links) h ids = relinking L p s k s.counts.place links _ [] k.here h ids (no_posts L) (λ z. either_told is outcome.Linked outcome.Dropped tt tt)
+
+    unlinking_from_row : (id : ℕ) (answer : Bool × LinkState) → LinkNames L.name answer.1 → answer.1.next_id ≤ s.tables.links.next_id + 1
+        → IsRow L p s (unlinking_from s sender id answer)
+    unlinking_from_row id (ended, links) h ids =
+        relinking L p s k s.counts.place links _ _ k.here h ids (one_post L (record { to = sender; kind = UnlinkAck id }) from (All-nil L.name) (λ z. tt)) (λ z. tt)
+
+    acknowledging_row : (answer : Bool × LinkState) → LinkNames L.name answer.1 → answer.1.next_id ≤ s.tables.links.next_id + 1 → IsRow L p s (acknowledging s answer)
+    acknowledging_row (awaited, links) h ids =
+        relinking L p s k s.counts.place links _ [] k.here h ids (no_posts L) (λ z. either_told awaited outcome.Acked outcome.Dropped tt tt)
+
+    through_alias_by : (r : Ref) (message : Term) (answer : AliasAnswer × WatchState) → OfRef L.name r → IsBuilt L message → WatchNames L.name answer.1
+        → BearsAlike s.tables.watch answer.1 → TellNames L.name answer.0 → IsRow L p s (through_alias s r message answer)
+    through_alias_by r message (alias_answer.Dropped, watch) h g w alike told = dropping_row L p s k
+    through_alias_by r message (alias_answer.Kept tell, watch) h g w alike told =
+        kept_message s k arrived watch message (demonitor_posts r tell) w alike (held L message g) (demonitor_sent L r tell h told)
+
+    through_alias_row : (r : Ref) (message : Term) → OfRef L.name r → IsBuilt L message → IsRow L p s (through_alias s r message (on_alias_message s.tables.watch r))
+    through_alias_row r message h g =
+        let watch : WatchState = s.tables.watch in
+        let names : WatchNames L.name watch = k.tables.names.watch in
+        through_alias_by r message (on_alias_message watch r) h g (on_alias_message_names L.name watch names r) (by_mode_alike watch r (mode_of watch r))
+        (by_mode_tells L.name watch names r (mode_of watch r))
+
+    watching_row : (r : Ref) → OfRef L.name r → IsRow L p s (watching s (on_monitor s.tables.watch r sender))
+    watching_row r h =
+        let watch : WatchState = s.tables.watch in
+        row L p s _ (watched L s.tables k.tables (on_monitor watch r sender) (on_monitor_names L.name watch k.tables.names.watch r sender h from)) k.here (near s _ refl refl refl)
+        (same_owner watch r sender) (no_posts L).names (no_posts L).sizes (λ peer. omega (arith, one_borne watch r sender)) (λ z. tt)
+
+    unwatching_row : (r : Ref) → IsRow L p s (unwatching s (on_demonitor s.tables.watch r))
+    unwatching_row r =
+        let watch : WatchState = s.tables.watch in
+        row L p s _ (watched L s.tables k.tables (on_demonitor watch r).1 (on_demonitor_names L.name watch k.tables.names.watch r)) k.here (near s _ refl refl refl)
+        refl (no_posts L).names (no_posts L).sizes (λ peer. omega (arith, kept_few watch.borne r)) (λ z. either_told (on_demonitor watch r).0 outcome.Unwatched outcome.Dropped tt tt)
+
+    told_down_row : (r : Ref) (reason : Term) → OfRef L.name r → IsBuilt L reason → IsRow L p s (told_down s r sender reason (on_down s.tables.watch r))
+    told_down_row r reason h g =
+        let watch : WatchState = s.tables.watch in
+        cond_both (is_held watch r) _ (dropping s) (IsRow L p s)
+        (λ e. kept_message s k arrived (unmonitored watch r) (down_message r sender reason) [] (unmonitored_names L.name watch k.tables.names.watch r) (unmonitored_alike watch r)
+        (down_message_held r reason h g) (no_posts L))
+        (λ e. dropping_row L p s k)
 
     -- a reference, and the term behind it
-    names_front : (r : Ref) (t : Term) → All P (names_of_ref r ++ names_of t) → OfRef P r
-    names_front r t h = all_before P (names_of_ref r) (names_of t) h
+    front : (r : Ref) (t : Term) → All L.name (names_of_ref r ++ names_of t) → OfRef L.name r
+    front r t h = all_before L.name (names_of_ref r) (names_of t) h
 
-    names_behind : (r : Ref) (t : Term) → All P (names_of_ref r ++ names_of t) → AllNames P t
-    names_behind r t h = all_behind P (names_of_ref r) (names_of t) h
+    term_behind : (r : Ref) (t : Term) → All L.name (names_of_ref r ++ names_of t) → (L.sized → KindSizes (Message t)) → IsBuilt L t
+    term_behind r t h size = record { names = all_behind L.name (names_of_ref r) (names_of t) h; size = size }
 
-    -- at a live process
-    live_kept : (what : Kind) → All P (names_of_kind what) → IsKeptBody P H p s (live_body pid s sender what)
-    live_kept (Message message) h = appending_kept P H p s k here message h
-    live_kept (AliasMessage r message) h = through_alias_kept r message (names_front r message h) (names_behind r message h)
-    live_kept Link h = linking_up_kept (on_link s.tables.links sender) (on_link_names P s.tables.links k.links sender from) (on_link_id s.tables.links sender)
-    live_kept (Unlink id) h = unlinking_from_kept id (on_unlink s.tables.links sender) (on_unlink_names P s.tables.links k.links sender) (omega arith)
-    live_kept (UnlinkAck id) h =
-        acknowledging_kept (on_ack s.tables.links sender id) (on_ack_names P s.tables.links k.links sender id) (on_ack_id s.tables.links sender id)
-    live_kept (Monitor r) h = watching_kept r h
-    live_kept (Demonitor r) h = unwatching_kept r
-    live_kept (Exit reason true) h = linked_exit_kept reason h
-    live_kept (Exit reason false) h = plain_exit_kept reason h
-    live_kept (Down r reason) h = told_down_kept r reason (names_front r reason h) (names_behind r reason h)
+    -- ONE CASE FOR EACH KIND at a live process
+    live_row : (what : Kind) → All L.name (names_of_kind what) → (L.sized → KindSizes what) → IsRow L p s (live_body pid s sender what)
+    live_row (Message message) h g = appending_row s k arrived message (held L message (record { names = h; size = g }))
+    live_row (AliasMessage r message) h g = through_alias_row r message (front r message h) (term_behind r message h g)
+    live_row Link h g = linking_up_row (on_link s.tables.links sender) (on_link_names L.name s.tables.links k.tables.names.links sender from) (on_link_id s.tables.links sender)
+    live_row (Unlink id) h g = unlinking_from_row id (on_unlink s.tables.links sender) (on_unlink_names L.name s.tables.links k.tables.names.links sender) (omega arith)
+    live_row (UnlinkAck id) h g =
+        acknowledging_row (on_ack s.tables.links sender id) (on_ack_names L.name s.tables.links k.tables.names.links sender id) (on_ack_id s.tables.links sender id)
+    live_row (Monitor r) h g = watching_row r h
+    live_row (Demonitor r) h g = unwatching_row r
+    live_row (Exit reason true) h g = linked_exit_row reason (record { names = h; size = g })
+    live_row (Exit reason false) h g = plain_exit_row s k arrived reason (record { names = h; size = g })
+    live_row (Down r reason) h g = told_down_row r reason (front r reason h) (term_behind r reason h g)
 
-    -- at a process that has ended
-    ended_kept : (what : Kind) → All P (names_of_kind what) → IsKeptBody P H p s (ended_body s sender what)
-    ended_kept Link h = moving P H p s _ k here refl refl refl refl (one_post P _ from (atom_names P (codes "noproc")))
-    ended_kept (Monitor r) h = moving P H p s _ k here refl refl refl refl (one_post P _ from (All-append P (names_of_ref r) _ h (atom_names P (codes "noproc"))))
-    ended_kept _ h = dropping_kept P H p s k here
+    -- and at a process that has ended
+    answering_row : (answer : Kind) → All L.name (names_of_kind answer) → (L.sized → KindSizes answer) → IsRow L p s (answering_noproc s sender answer)
+    answering_row answer names size = moving L p s _ k.tables k.here refl refl refl refl (one_post L (record { to = sender; kind = answer }) from names size) (λ z. tt)
+
+    ended_row : (what : Kind) → All L.name (names_of_kind what) → IsRow L p s (ended_body s sender what)
+    ended_row Link h = answering_row _ (atom_names L.name (codes "noproc")) (λ z. atom_small (codes "noproc"))
+    ended_row (Monitor r) h = answering_row _ (All-append L.name (names_of_ref r) _ h (atom_names L.name (codes "noproc"))) (λ z. atom_small (codes "noproc"))
+    ended_row _ h = dropping_row L p s k
 
 -- what a process does with a signal
+handling_row : (L : Shown) (p : Declared) (pid : ℕ) (s : ProcessState) (x : Signal) → TableNames L.name s.tables → (L.sized → TableSizes s.tables) → (L.bounded → IsAt p s.counts.place)
+    → IsHandled L.inbox s → SignalNames L.name x → (L.sized → KindSizes x.kind) → IsRow L p s (handling pid s x)
+unfolding handling
+handling_row L p pid s x names sizes here c h g =
+    let k : IsBefore L p s = record { tables = record { names = names; sizes = sizes; inbox = c.same }; here = here; emptied = c.emptied } in
+    cond_both (is_some s.tables.end) _ _ (IsRow L p s) (λ e. ended_row L p pid x.from.0 h.from s k c.arrived x.kind h.kind)
+    (λ e. live_row L p pid x.from.0 h.from s k c.arrived x.kind h.kind g)
+
+-- the bundle's parts, each a law of its own: names and bounds, messages and marks, and sizes
 pub handling_kept : (P : Named → Type 0) (H : Type 0) (p : Declared) (s : ProcessState) → TableNames P s.tables → (H → IsBounded p s) → (pid : ℕ) (x : Signal)
     → SignalNames P x → IsKeptBody P H p s (handling pid s x)
-unfolding handling
 handling_kept P H p s k b pid x h =
-    let here : H → IsAt p s.counts.place = λ j. ((b j).first, (b j).within) in
-    cond_both (is_some s.tables.end) _ _ (IsKeptBody P H p s) (λ e. ended_kept P H p pid x.from.0 h.from s k here x.kind h.kind)
-    (λ e. live_kept P H p pid x.from.0 h.from s k here x.kind h.kind)
+    let L : Shown = record { name = P; bounded = H; sized = ⊥; inbox = AnyInbox } in
+    (handling_row L p pid s x k (λ z. absurd z) (λ j. ((b j).first, (b j).within)) (any_handled s) h (λ z. absurd z)).kept
+
+pub handling_moved : (I : Inbox → Type 0) (pid : ℕ) (s : ProcessState) → IsHandled I s → (x : Signal) → IsMoved I s (handling pid s x)
+handling_moved I pid s c x =
+    let L : Shown = record { name = Any; bounded = ⊥; sized = ⊥; inbox = I } in
+    (handling_row L no_part pid s x (any_tables s.tables) (λ z. absurd z) (λ j. absurd j) c (any_signal x) (λ z. absurd z)).moved
+
+pub handling_sizes : (pid : ℕ) (s : ProcessState) (x : Signal) → TableSizes s.tables → KindSizes x.kind → BodySizes (handling pid s x)
+handling_sizes pid s x k h =
+    let L : Shown = record { name = Any; bounded = ⊥; sized = Unit {0}; inbox = AnyInbox } in
+    (handling_row L no_part pid s x (any_tables s.tables) (λ z. k) (λ j. absurd j) (any_handled s) (any_signal x) (λ z. h)).sizes tt

@@ -1,8 +1,10 @@
 pub mod Lookups
 pub mod PostCounts
 pub mod Waiting
+pub mod AnyNames
 pub mod ValueNames
-pub mod MatchNames
+pub mod TermSizeLemmas
+pub mod MatchParts
 pub mod BodyLemmas
 pub mod ExecutingLemmas
 pub mod HandlingLemmas
@@ -24,7 +26,6 @@ pub mod KeepLemmas
 pub mod PlacedLemmas
 pub mod NumberLemmas
 pub mod HoldLemmas
-pub mod InboxLemmas
 pub mod MarkingLemmas
 pub mod FreshLemmas
 pub mod MarkerLemmas
@@ -33,11 +34,6 @@ pub mod MarkedRuns
 pub mod LawLemmas
 pub mod KeptLawLemmas
 pub mod LawfulRunLemmas
-pub mod TermSizeLemmas
-pub mod MatchParts
-pub mod SizeLemmas
-pub mod ExecutingSizes
-pub mod HandlingSizes
 pub mod SizeLaw
 pub mod LawfulEndLemmas
 pub mod OutboxNumbers

@@ -22,16 +22,15 @@ use Rattle.sig_model.specs.Finishing.{finished_exec}
 use Rattle.sig_model.specs.Machine.{execution_of, handling_of, rules_with, rules_of, opening_from, opening_of}
 use Rattle.sig_model.specs.Marking.{IsOther, StandsIn, IsSoundInbox, IsSoundProcess, marking, execution_whole_of, whole_of}
 use Rattle.sig_model.proofs.Lookups.{at_place}
-use Rattle.sig_model.proofs.BodyLemmas.{IsKeptBody}
-use Rattle.sig_model.proofs.BoundLemmas.{Any, any_tables}
-use Rattle.sig_model.proofs.ExecutingLemmas.{IsKeptMade, executing_kept}
-use Rattle.sig_model.proofs.HandlingLemmas.{handling_kept}
+use Rattle.sig_model.proofs.AnyNames.{Any, any_tables, any_signal, no_part, any_script}
+use Rattle.sig_model.proofs.BodyLemmas.{IsKeptBody, IsMoved}
+use Rattle.sig_model.proofs.ExecutingLemmas.{IsKeptMade, IsExecuted, executing_kept, executing_moved}
+use Rattle.sig_model.proofs.HandlingLemmas.{IsHandled, handling_kept, handling_moved}
 use Rattle.sig_model.proofs.SkipLemmas.{whole_same}
 use Rattle.sig_model.proofs.RunningNames.{opening_names}
 use Rattle.sig_model.proofs.HoldLemmas.{never, process_other, holds_not}
-use Rattle.sig_model.proofs.InboxLemmas.{IsMoved, IsHandled, IsExecuted, executing_moved, handling_moved}
 use Rattle.sig_model.proofs.MarkingLemmas.{arrived_sound, without_sound, emptied_sound, reserved_sound, cleared_sound, bound_sound, no_messages_sound, start_skips}
-use Rattle.sig_model.proofs.FreshLemmas.{no_part, IsBodyOf, body_of}
+use Rattle.sig_model.proofs.FreshLemmas.{IsBodyOf, body_of}
 
 module _ (pid : ℕ) (s : ProcessState) (k : IsSoundProcess pid s) where
   -- no message holds an own reference that was not made
@@ -68,14 +67,14 @@ module _ (pid : ℕ) (s : ProcessState) (k : IsSoundProcess pid s) where
 
   handled_sound : (x : Signal) → IsSoundProcess pid (handling_of pid s x).state
   handled_sound x =
-      let kept : IsKeptBody Any ⊥ no_part s (handling pid s x) = handling_kept Any ⊥ no_part s (any_tables s.tables) (λ j. absurd j) pid x (record { from = tt; to = tt; kind = λ i d lt. tt }) in
+      let kept : IsKeptBody Any ⊥ no_part s (handling pid s x) = handling_kept Any ⊥ no_part s (any_tables s.tables) (λ j. absurd j) pid x (any_signal x) in
       record { owner = kept.owner ∙ k.owner; inbox = (handling_moved (IsSoundInbox pid) pid s handled x).inbox }
 
   executed_sound : (p : Declared) (effect : Effect ProcessState Signal Event) → execution_of pid (Some p) s ≡ Some effect → OwnMade marking pid s → IsSoundProcess pid effect.state
   executed_sound p effect e made =
       let b : IsBodyOf p pid s effect = body_of p pid s effect e in
       let kept : IsKeptMade Any ⊥ p s b.body =
-      MatchOption-at_some (Unit {0}) (IsKeptMade Any ⊥ p s) b.body b.can (executing_kept Any ⊥ p s (any_tables s.tables) (λ j. absurd j) (λ j. absurd j) (λ i d lt j f l m g h. tt)) in
+      MatchOption-at_some (Unit {0}) (IsKeptMade Any ⊥ p s) b.body b.can (executing_kept Any ⊥ p s (any_tables s.tables) (λ j. absurd j) (λ j. absurd j) (any_script p)) in
       let moved : IsMoved (IsSoundInbox pid) s b.body = MatchOption-at_some (Unit {0}) (IsMoved (IsSoundInbox pid) s) b.body b.can (executing_moved (IsSoundInbox pid) p s (executed made)) in
       subst (λ (f : Effect ProcessState Signal Event). IsSoundProcess pid f.state) b.is (record { owner = (kept (λ n. tt)).owner ∙ k.owner; inbox = moved.inbox })
 

@@ -1,5 +1,5 @@
--- What holds of the values of the variables, and of the term that is matched, holds of all that a match binds, where it holds of the
--- parts of a term of which it holds.
+-- What holds of the values of the variables, and of the messages, holds of all that a match binds and of the message that a scan
+-- finds, where it holds of the parts of a term of which it holds: so of the names in terms, and of how large terms are.
 use Rattle.std.proofs.Common.{ℕ, List, [], ◌∷◌, map, All, IfSome, Option, Some, None, option_and_then, sym, subst}
 use Rattle.std.specs.Option.{option_map, option_or}
 use Rattle.std.specs.Ordering.{nat_cmp, eq_by_cmp}
@@ -8,17 +8,23 @@ use Rattle.std.specs.FinMap.{empty, get, insert, get-empty, get-insert}
 use Rattle.std.proofs.lemmas.Bool.{cond_both}
 use Rattle.std.proofs.lemmas.List.Elements.{All-nil, All-cons, All-head, All-tail}
 use Rattle.sig_terms.specs.TermTest.{same_term}
-use Rattle.sig_terms.specs.declared.term.Term.{Term}
+use Rattle.sig_terms.specs.declared.reading.TheConstants.{READ_DEPTH, READ_NODES}
+use Rattle.sig_terms.specs.declared.term.Term.{Term, out-Term}
 use Rattle.sig_terms.specs.declared.term.Term.TheVariants as term
+use Rattle.sig_terms.specs.declared.term.Term.TheOpen.{Term-F}
+use Rattle.sig_terms.specs.declared.term.Term.TheOpen as layer
+use Rattle.sig_terms.specs.Names.{Named, AllNames}
+use Rattle.sig_terms.proofs.NameLemmas.{list_names, AllOfLayer, elements_tell}
 use Rattle.sig_patterns.specs.declared.clause.Clause.{Clause}
 use Rattle.sig_patterns.specs.declared.pattern.Pattern.{Pattern, roll-Pattern, map-Pattern}
 use Rattle.sig_patterns.specs.declared.pattern.Pattern.TheOpen.{Pattern-F}
 use Rattle.sig_patterns.specs.declared.pattern.Pattern.TheOpen as pattern
 use Rattle.sig_patterns.specs.declared.pattern.Pattern.TheFolds.{fold-roll-Pattern, ind-Pattern}
 use Rattle.sig_patterns.specs.Environment.{Environment, value_of_var}
-use Rattle.sig_patterns.specs.Matching.{Bindings, Matcher, bound_to, asking, binding, match_each, match_cons, match_step, matching, overlaid, match_of, tuple_items, list_items}
+use Rattle.sig_patterns.specs.Matching.{Bindings, Matcher, bound_to, asking, binding, match_each, match_cons, match_step, matching, overlaid, match_of, tuple_layer, list_layer, tuple_items, list_items}
 use Rattle.sig_patterns.specs.Scanning.{Hit, hit_by, behind_clause, behind_message, hit_here, hit}
-use Rattle.sig_model.specs.TermSizes.{AllValues}
+use Rattle.sig_model.specs.TermSizes.{IsKeptTerm, AllValues}
+use Rattle.sig_model.proofs.TermSizeLemmas.{AreWithin, PartsWithin, list_within, head_within, tail_within, parts_within}
 
 -- what holds of the value, where there is one, through a step that may fail, and through a function
 some_then : {A B : Type 0} (P : A → Type 0) (Q : B → Type 0) (f : A → Option B) (o : Option A) → IfSome o P → ((x : A) → P x → IfSome (f x) Q)
@@ -43,6 +49,11 @@ pub record GoesToParts (P : Term → Type 0) (Q : List Term → Type 0) : Type 0
   pub whole : (ts : List Term) → Q ts → P (term.List ts)
 
 module _ (P : Term → Type 0) where
+  -- the environment after a hit, and its message
+  pub record HitValues (h : Hit) : Type 0 where
+    pub env : AllValues P h.env
+    pub message : P h.message
+
   pub empty_values : AllValues P empty
   empty_values var = subst (λ o. IfSome o P) (sym (get-empty {X = Term} (slice_cmp nat_cmp) var)) tt
 
@@ -121,20 +132,53 @@ module _ (P : Term → Type 0) where
           some_mapped AllBound (AllValues P) (overlaid env) (matching env p t []) (matching_binds p t [] k (All-nil (λ (b : List ℕ × Term). P b.1)))
           (λ bound h. overlaid_values env bound values h)
 
-      -- the environment after a hit
-      abbrev HitValues : Hit → Type 0
-      HitValues h = AllValues P h.env
-
       here_values : (clauses : List Clause) (message : Term) → P message → IfSome (hit_here clauses env message) HitValues
       here_values [] message k = tt
       here_values (c ∷ clauses) message k =
           some_or HitValues (option_map (hit_by c message) (match_of c.pattern env message)) (option_map behind_clause (hit_here clauses env message))
-          (some_mapped (AllValues P) HitValues (hit_by c message) (match_of c.pattern env message) (match_values c.pattern message k) (λ after g. g))
-          (some_mapped HitValues HitValues behind_clause (hit_here clauses env message) (here_values clauses message k) (λ h g. g))
+          (some_mapped (AllValues P) HitValues (hit_by c message) (match_of c.pattern env message) (match_values c.pattern message k) (λ after g. record { env = g; message = k }))
+          (some_mapped HitValues HitValues behind_clause (hit_here clauses env message) (here_values clauses message k) (λ h g. record { env = g.env; message = g.message }))
 
       pub hit_values : (clauses : List Clause) (messages : List Term) → All P messages → IfSome (hit clauses env messages) HitValues
       unfolding hit
       hit_values clauses [] k = tt
       hit_values clauses (m ∷ ms) k =
           some_or HitValues (hit_here clauses env m) (option_map behind_message (hit clauses env ms)) (here_values clauses m (All-head P m ms k))
-          (some_mapped HitValues HitValues behind_message (hit clauses env ms) (hit_values clauses ms (All-tail P m ms k)) (λ h g. g))
+          (some_mapped HitValues HitValues behind_message (hit clauses env ms) (hit_values clauses ms (All-tail P m ms k)) (λ h g. record { env = g.env; message = g.message }))
+
+-- the names in a term, and in its elements
+module _ (P : Named → Type 0) where
+  tuple_names : (x : Term-F Term) → AllOfLayer P x → IfSome (tuple_layer x) (All (AllNames P))
+  tuple_names (layer.Tuple ts) h = h
+  tuple_names _ h = tt
+
+  elements_names : (x : Term-F Term) → AllOfLayer P x → IfSome (list_layer x) (All (AllNames P))
+  elements_names (layer.List ts) h = h
+  elements_names _ h = tt
+
+  pub name_parts : GoesToParts (AllNames P) (All (AllNames P))
+  name_parts = record {
+    tuple = λ t h. tuple_names (out-Term t) (elements_tell P t h);
+    list = λ t h. elements_names (out-Term t) (elements_tell P t h);
+    head = λ t ts h. All-head (AllNames P) t ts h;
+    tail = λ t ts h. All-tail (AllNames P) t ts h;
+    whole = list_names P;
+  }
+
+-- the nodes of a term and its depth, and those of its elements
+tuple_parts : (x : Term-F Term) → PartsWithin READ_NODES READ_DEPTH x → IfSome (tuple_layer x) (AreWithin READ_NODES READ_DEPTH)
+tuple_parts (layer.Tuple ts) h = h
+tuple_parts _ h = tt
+
+list_parts : (x : Term-F Term) → PartsWithin READ_NODES READ_DEPTH x → IfSome (list_layer x) (AreWithin READ_NODES READ_DEPTH)
+list_parts (layer.List ts) h = h
+list_parts _ h = tt
+
+pub size_parts : GoesToParts IsKeptTerm (AreWithin READ_NODES READ_DEPTH)
+size_parts = record {
+  tuple = λ t h. tuple_parts (out-Term t) (parts_within READ_NODES READ_DEPTH t h);
+  list = λ t h. list_parts (out-Term t) (parts_within READ_NODES READ_DEPTH t h);
+  head = head_within READ_NODES READ_DEPTH;
+  tail = tail_within READ_NODES READ_DEPTH;
+  whole = list_within READ_NODES READ_DEPTH;
+}

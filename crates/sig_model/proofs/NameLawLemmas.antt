@@ -21,10 +21,11 @@ use Rattle.sig_model.specs.Names.{PostNames, BodyNames}
 use Rattle.sig_model.specs.NameLaw.{IsStateBelow, names_below}
 use Rattle.sig_model.proofs.StampLemmas.{numbered_all}
 use Rattle.sig_model.proofs.RunningNames.{opening_names}
+use Rattle.sig_model.proofs.AnyNames.{no_part}
 use Rattle.sig_model.proofs.BodyLemmas.{IsKeptBody}
 use Rattle.sig_model.proofs.ExecutingLemmas.{IsKeptMade, executing_kept, script_names}
 use Rattle.sig_model.proofs.HandlingLemmas.{handling_kept}
-use Rattle.sig_model.proofs.FreshLemmas.{no_part, IsBodyOf, body_of}
+use Rattle.sig_model.proofs.FreshLemmas.{IsBodyOf, body_of}
 use Rattle.sig_model.proofs.MarkerLemmas.{opened_state}
 
 module _ (count : ℕ) where

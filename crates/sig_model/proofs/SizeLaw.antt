@@ -23,8 +23,8 @@ use Rattle.sig_model.specs.TermSizes.{IsKeptTerm, KindSizes, TableSizes, PostSiz
 use Rattle.sig_model.proofs.Lookups.{mapped_tells}
 use Rattle.sig_model.proofs.MatchParts.{empty_values}
 use Rattle.sig_model.proofs.StampLemmas.{numbered_all}
-use Rattle.sig_model.proofs.ExecutingSizes.{executing_sizes}
-use Rattle.sig_model.proofs.HandlingSizes.{handling_sizes}
+use Rattle.sig_model.proofs.ExecutingLemmas.{executing_sizes}
+use Rattle.sig_model.proofs.HandlingLemmas.{handling_sizes}
 
 -- the event of a body
 finished_sizes : (pid : ℕ) (s : ProcessState) (executed stamp : ℕ) (what : Did) (body : Body) → BodySizes body → HoldAfter term_sizes pid (finished pid s executed stamp what body)

@@ -11,6 +11,8 @@ use Rattle.sig_kinds.specs.declared.signal.Signal.{Signal}
 use Rattle.sig_patterns.specs.declared.building.TheConstants.{MOST_NODES, MOST_DEPTH}
 use Rattle.sig_patterns.specs.Environment.{Environment}
 use Rattle.sig_runs.specs.Everywhere.{Facts}
+use Rattle.sig_model.specs.declared.event.Outcome.{Outcome}
+use Rattle.sig_model.specs.declared.event.Outcome.TheVariants.{Sent, Set, Took, Ended, Kept}
 use Rattle.sig_model.specs.ProcessState.{Tables, ProcessState}
 use Rattle.sig_model.specs.Bodies.{Post, Body}
 
@@ -49,10 +51,20 @@ pub record TableSizes (t : Tables) : Type 0 where
 abbrev pub PostSizes : Post → Type 0
 PostSizes p = KindSizes p.kind
 
+-- the terms that an event tells of
+abbrev pub OutcomeSizes : Outcome → Type 0
+OutcomeSizes (Sent to message) = IsKeptTerm to × IsKeptTerm message
+OutcomeSizes (Set value) = IsKeptTerm value
+OutcomeSizes (Took clause looked message) = IsKeptTerm message
+OutcomeSizes (Ended reason) = IsKeptTerm reason
+OutcomeSizes (Kept message) = IsKeptTerm message
+OutcomeSizes _ = Unit {0}
+
 -- the terms of what an event does
 pub record BodySizes (b : Body) : Type 0 where
   pub tables : TableSizes b.state.tables
   pub posts : All PostSizes b.posts
+  pub outcome : OutcomeSizes b.outcome
 
 -- the terms of each process and of each signal
 abbrev pub term_sizes : Facts ProcessState Signal

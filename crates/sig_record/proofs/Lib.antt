@@ -23,7 +23,6 @@ pub mod TermFronts
 pub mod ItemSteps
 pub mod WidePids
 pub mod Refused
-pub mod OutcomeSizes
 pub mod EventSizes
 pub mod SizedCrews
 pub mod SizedReads

@@ -12,12 +12,12 @@ use Rattle.sig_model.specs.declared.event.Outcome.TheVariants.{Sent, Set, Took, 
 use Rattle.sig_model.specs.declared.event.Event.{Event}
 use Rattle.sig_model.specs.declared.state.State.{State}
 use Rattle.sig_model.specs.declared.state.State.TheVariants as state
-use Rattle.sig_model.specs.TermSizes.{IsKeptTerm}
+use Rattle.sig_model.specs.TermSizes.{IsKeptTerm, OutcomeSizes}
 use Rattle.sig_record.specs.declared.report.Left.{Left}
 use Rattle.sig_record.specs.declared.report.Report.{Report}
 use Rattle.sig_record.specs.Records.{IsRecord}
 use Rattle.sig_record.specs.ReadableRecord.{IsReadableOutcome, IsReadableEvent, IsReadableLeft, IsReadableKind, IsReadableSignal, IsReadableState, IsReadableReport, IsReadableRecord}
-use Rattle.sig_record.specs.SizedRecord.{IsSizedOutcome, IsSizedEvent, IsSizedLeft, IsSizedKind, IsSizedSignal, IsSizedState, IsSizedReport, IsSizedRecord, CanBeReread}
+use Rattle.sig_record.specs.SizedRecord.{IsSizedEvent, IsSizedLeft, IsSizedKind, IsSizedSignal, IsSizedState, IsSizedReport, IsSizedRecord, CanBeReread}
 use Rattle.sig_record.specs.StoredRecord.{IsStoredOutcome, IsStoredEvent, IsStoredLeft, IsStoredKind, IsStoredSignal, IsStoredState, IsStoredReport, IsStoredRecord}
 
 -- two facts of each item give a third
@@ -27,7 +27,7 @@ both P Q R f xs p q = λ k d lt. f (get_or xs k d) (p k d lt) (q k d lt)
 term_reads : (t : Term) → IsTerm t → IsKeptTerm t → IsReadable t
 term_reads t is k = record { term = is; nodes = k.nodes; depth = k.depth }
 
-outcome_reads : (o : Outcome) → IsStoredOutcome o → IsSizedOutcome o → IsReadableOutcome o
+outcome_reads : (o : Outcome) → IsStoredOutcome o → OutcomeSizes o → IsReadableOutcome o
 outcome_reads (Sent to message) s k = (term_reads to s.0 k.0, term_reads message s.1 k.1)
 outcome_reads (Set value) s k = term_reads value s k
 outcome_reads (Took clause looked message) s k = (s.0, term_reads message s.1 k)

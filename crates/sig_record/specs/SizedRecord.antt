@@ -6,12 +6,10 @@ use Rattle.sig_kinds.specs.declared.signal.Kind.{Kind}
 use Rattle.sig_kinds.specs.declared.signal.Kind.TheVariants.{Message, AliasMessage, Exit, Down}
 use Rattle.sig_kinds.specs.declared.signal.Signal.{Signal}
 use Rattle.sig_script.specs.Scripts.{Declared, Program}
-use Rattle.sig_model.specs.declared.event.Outcome.{Outcome}
-use Rattle.sig_model.specs.declared.event.Outcome.TheVariants.{Sent, Set, Took, Ended, Kept}
 use Rattle.sig_model.specs.declared.event.Event.{Event}
 use Rattle.sig_model.specs.declared.state.State.{State}
 use Rattle.sig_model.specs.declared.state.State.TheVariants as state
-use Rattle.sig_model.specs.TermSizes.{IsKeptTerm}
+use Rattle.sig_model.specs.TermSizes.{IsKeptTerm, OutcomeSizes}
 use Rattle.sig_record.specs.declared.report.Left.{Left}
 use Rattle.sig_record.specs.declared.report.Report.{Report}
 use Rattle.sig_record.specs.ReadableRecord.{IsReadableRecord}
@@ -20,16 +18,8 @@ use Rattle.sig_record.specs.ReadableRecord.{IsReadableRecord}
 abbrev pub AreNames : Program → Type 0
 AreNames script = All (λ (d : Declared). is_name d.name ≡ true) script.procs
 
-abbrev pub IsSizedOutcome : Outcome → Type 0
-IsSizedOutcome (Sent to message) = IsKeptTerm to × IsKeptTerm message
-IsSizedOutcome (Set value) = IsKeptTerm value
-IsSizedOutcome (Took clause looked message) = IsKeptTerm message
-IsSizedOutcome (Ended reason) = IsKeptTerm reason
-IsSizedOutcome (Kept message) = IsKeptTerm message
-IsSizedOutcome _ = Unit {0}
-
 abbrev pub IsSizedEvent : Event → Type 0
-IsSizedEvent e = IsSizedOutcome e.outcome
+IsSizedEvent e = OutcomeSizes e.outcome
 
 abbrev pub IsSizedLeft : Left → Type 0
 IsSizedLeft l = IsKeptTerm l.message
