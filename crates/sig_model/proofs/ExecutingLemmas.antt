@@ -48,7 +48,7 @@ use Rattle.sig_model.proofs.Lookups.{at_place}
 use Rattle.sig_model.proofs.ValueNames.{ExprNames, var_names, value_names}
 use Rattle.sig_model.proofs.TermSizeLemmas.{AreWithin, small_tells, small_kept, ref_small}
 use Rattle.sig_model.proofs.MatchParts.{HitValues, hit_values, name_parts, size_parts}
-use Rattle.sig_model.proofs.BodyLemmas.{IsAt, BearsAlike, same_watch, IsKeptBody, IsMoved, AnyInbox, OfRef, AllMessages, Shown, near, IsBuilt, held, IsTold, ArePosts, no_posts, one_post, demonitor_sent, AreKept, valued, watched, messaged, IsRow, IsBefore, few_row, moving, relinking, rewatching, ending_row, ending_atom, link_id, unlink_id}
+use Rattle.sig_model.proofs.BodyLemmas.{IsAt, BearsAlike, same_watch, IsKeptBody, IsMoved, AnyInbox, OfRef, AllMessages, Shown, near, IsBuilt, held, ArePosts, no_posts, one_post, demonitor_sent, AreKept, valued, watched, messaged, IsRow, IsBefore, few_row, moving, relinking, rewatching, ending_row, ending_atom, link_id, unlink_id}
 
 -- the rules for the calls leave the monitors that are borne
 monitor_alike : (watch : WatchState) (r : Ref) (target : ℕ) (mode : Option AliasMode) → BearsAlike watch (monitor watch r target mode).1

@@ -37,8 +37,8 @@ use Rattle.sig_model.specs.Bounds.{IsBounded, IsBoundedBody}
 use Rattle.sig_model.specs.Names.{TableNames}
 use Rattle.sig_model.specs.TermSizes.{IsKeptTerm, KindSizes, OutcomeSizes, TableSizes, BodySizes}
 use Rattle.sig_model.proofs.AnyNames.{Any, any_tables, any_signal, no_part}
-use Rattle.sig_model.proofs.TermSizeLemmas.{small_kept, atom_small, exit_kept, down_kept}
-use Rattle.sig_model.proofs.BodyLemmas.{IsAt, BearsAlike, same_watch, IsKeptBody, IsMoved, AnyInbox, OfRef, Shown, near, IsBuilt, IsHeld, held, IsTold, ArePosts, no_posts, one_post, demonitor_sent, AreKept, linked, watched, messaged, IsRow, IsBefore, row, few_row, moving, relinking, rewatching, dropping_row, ending_row, ending_atom, on_link_id, on_ack_id}
+use Rattle.sig_model.proofs.TermSizeLemmas.{atom_small, exit_kept, down_kept}
+use Rattle.sig_model.proofs.BodyLemmas.{IsAt, BearsAlike, same_watch, IsKeptBody, IsMoved, AnyInbox, OfRef, Shown, near, IsBuilt, IsHeld, held, ArePosts, no_posts, one_post, demonitor_sent, linked, watched, messaged, IsRow, IsBefore, row, few_row, moving, relinking, dropping_row, ending_row, ending_atom, on_link_id, on_ack_id}
 use Rattle.sig_model.proofs.ExecutingLemmas.{unmonitored_alike}
 
 -- what the rules for the signals do to the monitors that are borne
