@@ -48,7 +48,7 @@ use Rattle.sig_model.proofs.Lookups.{at_place}
 use Rattle.sig_model.proofs.ValueNames.{ExprNames, var_names, value_names}
 use Rattle.sig_model.proofs.TermSizeLemmas.{AreWithin, small_tells, small_kept, ref_small}
 use Rattle.sig_model.proofs.MatchParts.{HitValues, hit_values, name_parts, size_parts}
-use Rattle.sig_model.proofs.BodyLemmas.{IsAt, BearsAlike, same_watch, IsKeptBody, IsMoved, AnyInbox, OfRef, AllMessages, Shown, near, IsBuilt, held, ArePosts, no_posts, one_post, demonitor_sent, AreKept, valued, watched, messaged, IsRow, IsBefore, few_row, moving, relinking, rewatching, ending_row, ending_atom, link_id, unlink_id}
+use Rattle.sig_model.proofs.BodyLemmas.{IsAt, BearsAlike, same_watch, IsKeptBody, IsMoved, AnyInbox, OfRef, AllMessages, Shown, near, IsBuilt, held, ArePosts, no_posts, one_post, demonitor_sent, valued, watched, messaged, IsRow, IsBefore, few_row, moving, relinking, rewatching, ending_row, ending_atom, link_id, unlink_id}
 
 -- the rules for the calls leave the monitors that are borne
 monitor_alike : (watch : WatchState) (r : Ref) (target : ℕ) (mode : Option AliasMode) → BearsAlike watch (monitor watch r target mode).1
@@ -136,19 +136,19 @@ pub record IsExecuted (I : Inbox → Type 0) (s : ProcessState) : Type 0 where
 pub any_executed : (s : ProcessState) → IsExecuted AnyInbox s
 any_executed s = record { same = tt; without = λ at. tt; emptied = tt; reserve = tt; bound = λ r. tt; cleared = λ r. tt }
 
-module _ (L : Shown) (p : Declared) (s : ProcessState) (names : TableNames L.name s.tables) (sizes : L.sized → TableSizes s.tables) (here : L.bounded → IsAt p s.counts.place) (c : IsExecuted L.inbox s) where
-  -- THE BUNDLE OF A ROW; where it makes a reference, what holds of every name has to hold of that too
+module _ (L : Shown) (p : Declared) (s : ProcessState) (k : IsBefore L p s) (c : IsExecuted L.inbox s) where
+  -- the bundle of a row; where it makes a reference, what holds of every name has to hold of that too
   abbrev Row : Body → Type 0
   Row b = (s.counts.next_serial < b.state.counts.next_serial → L.name (reference (new_ref s))) → IsRow L p s b
 
-  same : AreKept L s.tables
-  same = record { names = names; sizes = sizes; inbox = c.same }
+  names : TableNames L.name s.tables
+  names = k.tables.names
 
-  before : IsBefore L p s
-  before = record { tables = same; here = here; emptied = c.emptied }
+  sizes : L.sized → TableSizes s.tables
+  sizes = k.tables.sizes
 
   ended : (a : List ℕ) → Row (ending s (term.Atom a))
-  ended a n = ending_atom L p s before a
+  ended a n = ending_atom L p s k a
 
   -- rows begin with values of expressions
   with_value_row : (e : Expr) (go : Term → Body) → ExprNames L.name e → ((t : Term) → IsBuilt L t → Row (go t)) → Row (with_value s e go)
@@ -187,21 +187,21 @@ module _ (L : Shown) (p : Declared) (s : ProcessState) (names : TableNames L.nam
 
     sending_row : (t message : Term) → IsBuilt L t → IsBuilt L message → Row (with_target s t (sending s message))
     sending_row (term.Pid q) message g h n =
-        moving L p s _ same behind refl refl refl refl (one_post L _ (pid_tells L.name q g.names) h.names h.size) (λ z. (small_kept (term.Pid q) (g.size z), small_kept message (h.size z)))
+        moving L p s _ k.tables behind refl refl refl refl (one_post L _ (pid_tells L.name q g.names) h.names h.size) (λ z. (small_kept (term.Pid q) (g.size z), small_kept message (h.size z)))
     sending_row (term.Ref r) message g h n =
         let tells : L.name (reference r) × L.name (process r.owner.0) = ref_tells L.name r g.names in
-        moving L p s _ same behind refl refl refl refl (one_post L _ tells.1 (All-append L.name (names_of_ref r) (names_of message) (all_of_ref L.name r tells.0 tells.1) h.names) h.size)
+        moving L p s _ k.tables behind refl refl refl refl (one_post L _ tells.1 (All-append L.name (names_of_ref r) (names_of message) (all_of_ref L.name r tells.0 tells.1) h.names) h.size)
         (λ z. (small_kept (term.Ref r) (g.size z), small_kept message (h.size z)))
     sending_row _ message g h n = ended (codes "badarg") n
 
     setting_row : (var : List ℕ) (value : Term) → IsBuilt L value → Row (setting s var value)
     setting_row var value h n =
-        moving L p s _ (valued L s.tables same var value (held L value h)) behind refl refl refl refl (no_posts L) (λ z. small_kept value (h.size z))
+        moving L p s _ (valued L s.tables k.tables var value (held L value h)) behind refl refl refl refl (no_posts L) (λ z. small_kept value (h.size z))
 
     linked_by_row : (peer : Pid) (answer : Bool × LinkState) → L.name (process peer.0) → LinkNames L.name answer.1
         → answer.1.next_id ≤ s.tables.links.next_id + 1 → Row (linked_by s peer answer)
     linked_by_row peer (sends, links) g h ids n =
-        relinking L p s before _ links _ _ behind h ids
+        relinking L p s k _ links _ _ behind h ids
         (cond_both sends (record { to = peer.0; kind = kind.Link } ∷ []) [] (ArePosts L) (λ e. one_post L _ g (All-nil L.name) (λ z. tt)) (λ e. no_posts L)) (λ z. tt)
 
     unlink_sent : (peer : Pid) (id : Option ℕ) → L.name (process peer.0) → ArePosts L (unlink_posts peer id)
@@ -210,7 +210,7 @@ module _ (L : Shown) (p : Declared) (s : ProcessState) (names : TableNames L.nam
 
     unlinked_by_row : (peer : Pid) (answer : Option ℕ × LinkState) → L.name (process peer.0) → LinkNames L.name answer.1
         → answer.1.next_id ≤ s.tables.links.next_id + 1 → Row (unlinked_by s peer answer)
-    unlinked_by_row peer (id, links) g h ids n = relinking L p s before _ links _ _ behind h ids (unlink_sent peer id g) (λ z. tt)
+    unlinked_by_row peer (id, links) g h ids n = relinking L p s k _ links _ _ behind h ids (unlink_sent peer id g) (λ z. tt)
 
     -- a row that makes a reference
     making_row : (var : List ℕ) (watch : WatchState) (posts : List Post) → (OfRef L.name (new_ref s) → WatchNames L.name watch) → BearsAlike s.tables.watch watch
@@ -221,7 +221,7 @@ module _ (L : Shown) (p : Declared) (s : ProcessState) (names : TableNames L.nam
         let made : OfRef L.name r = all_of_ref L.name r fresh names.watch.owner in
         let value : IsBuilt L (term.Ref r) = record { names = ref_names L.name r fresh names.watch.owner; size = λ z. ref_small r } in
         few_row L p s _
-        (watched L (record s.tables { env = insert s.tables.env var (term.Ref r) }) (valued L s.tables same var (term.Ref r) (held L (term.Ref r) value)) watch (h made))
+        (watched L (record s.tables { env = insert s.tables.env var (term.Ref r) }) (valued L s.tables k.tables var (term.Ref r) (held L (term.Ref r) value)) watch (h made))
         behind (record { arrivals = omega arith; ids = omega arith; serials = omega arith; rises = omega arith }) alike (sent made) (λ z. small_kept (term.Ref r) (value.size z))
 
     monitored_row : (var : List ℕ) (target : Pid) (answer : Bool × WatchState) → L.name (process target.0) → (OfRef L.name (new_ref s) → WatchNames L.name answer.1)
@@ -242,17 +242,17 @@ module _ (L : Shown) (p : Declared) (s : ProcessState) (names : TableNames L.nam
     -- a row that ends a monitor, and one that ends an alias
     flushing_row : (watch : WatchState) (posts : List Post) (at : Option ℕ) → WatchNames L.name watch → BearsAlike s.tables.watch watch → ArePosts L posts
         → Row (flushed_into (record { state = rewatched (at_next s) watch; outcome = outcome.Done; posts = posts }) (option_map_or {U = Bool × Inbox} (λ (i : ℕ). (true, without_message s.tables.inbox i)) at (false, s.tables.inbox)))
-    flushing_row watch posts None h alike sent n = rewatching L p s before _ watch _ posts behind h alike sent (λ z. tt)
+    flushing_row watch posts None h alike sent n = rewatching L p s k _ watch _ posts behind h alike sent (λ z. tt)
     flushing_row watch posts (Some i) h alike sent n =
         few_row L p s _
-        (messaged L (record s.tables { watch = watch }) (watched L s.tables same watch h) (without_message s.tables.inbox i) (left_names L.name s.tables.inbox names.inbox i)
+        (messaged L (record s.tables { watch = watch }) (watched L s.tables k.tables watch h) (without_message s.tables.inbox i) (left_names L.name s.tables.inbox names.inbox i)
         (λ z. left_messages s.tables.inbox.messages i (sizes z).messages) (c.without i))
         behind (near s _ refl refl refl) alike sent (λ z. tt)
 
     demonitoring_row : (flush : Bool) (r : Ref) → OfRef L.name r → Row (demonitoring s flush r)
     demonitoring_row false r h n =
         let watch : WatchState = s.tables.watch in
-        rewatching L p s before _ (unmonitored watch r) _ _ behind (unmonitored_names L.name watch names.watch r) (unmonitored_alike watch r)
+        rewatching L p s k _ (unmonitored watch r) _ _ behind (unmonitored_names L.name watch names.watch r) (unmonitored_alike watch r)
         (demonitor_sent L r (told_of watch r) h (told_names L.name watch names.watch r)) (λ z. tt)
     demonitoring_row true r h n =
         let watch : WatchState = s.tables.watch in
@@ -261,12 +261,12 @@ module _ (L : Shown) (p : Declared) (s : ProcessState) (names : TableNames L.nam
 
     unaliasing_row : (r : Ref) → Row (unaliasing s r)
     unaliasing_row r n =
-        rewatching L p s before _ (unaliased s.tables.watch r) _ [] behind (unaliased_names L.name s.tables.watch names.watch r) (record { owner = refl; borne = refl }) (no_posts L) (λ z. tt)
+        rewatching L p s k _ (unaliased s.tables.watch r) _ [] behind (unaliased_names L.name s.tables.watch names.watch r) (record { owner = refl; borne = refl }) (no_posts L) (λ z. tt)
 
     -- a row that changes the reserve and the marks
     marked_row : (answer : Bool × Inbox) → InboxNames L.name answer.1 → OnlyMarks s.tables.inbox answer.1 → L.inbox answer.1 → Row (marked_by s answer)
     marked_row (is, inbox) h only moved n =
-        moving L p s _ (messaged L s.tables same inbox h (λ z. subst AllMessages (sym only.messages) (sizes z).messages) moved) behind only.arrivals refl refl refl (no_posts L) (λ z. tt)
+        moving L p s _ (messaged L s.tables k.tables inbox h (λ z. subst AllMessages (sym only.messages) (sizes z).messages) moved) behind only.arrivals refl refl refl (no_posts L) (λ z. tt)
 
     marking_row : (rule : Ref → Bool × Inbox) → ((r : Ref) → OfRef L.name r → InboxNames L.name (rule r).1) → ((r : Ref) → OnlyMarks s.tables.inbox (rule r).1) → ((r : Ref) → L.inbox (rule r).1)
         → (o : Option Ref) → IfSome o (OfRef L.name) → Row (marking s rule o)
@@ -276,7 +276,7 @@ module _ (L : Shown) (p : Declared) (s : ProcessState) (names : TableNames L.nam
     reserving_row : Row (reserving s)
     reserving_row n =
         moving L p s _
-        (messaged L s.tables same (reserved s.tables.inbox s.counts.next_serial) (record { messages = names.inbox.messages; marks = names.inbox.marks }) (λ z. (sizes z).messages) c.reserve)
+        (messaged L s.tables k.tables (reserved s.tables.inbox s.counts.next_serial) (record { messages = names.inbox.messages; marks = names.inbox.marks }) (λ z. (sizes z).messages) c.reserve)
         behind refl refl refl refl (no_posts L) (λ z. tt)
 
     named_by : (x : Var) → IfSome (ref_of_var s.tables.env x) (OfRef L.name)
@@ -297,16 +297,16 @@ module _ (L : Shown) (p : Declared) (s : ProcessState) (names : TableNames L.nam
     -- a receive, where the scan finds this
     receiving_row : (after : Option After) (start from : ℕ) (o : Option Hit) → IfSome o (HitValues (AllNames L.name)) → (L.sized → IfSome o (HitValues IsKeptTerm))
         → IfSome (receiving p s after start from o) Row
-    receiving_row after start from (Some h) g k = λ n.
+    receiving_row after start from (Some h) g small = λ n.
         moving L p s _
         (record {
           names = record { env = g.env; inbox = left_names L.name s.tables.inbox names.inbox (from + h.at); links = names.links; watch = names.watch; end = names.end };
-          sizes = λ z. record { env = (k z).env; messages = left_messages s.tables.inbox.messages (from + h.at) (sizes z).messages; end = (sizes z).end };
+          sizes = λ z. record { env = (small z).env; messages = left_messages s.tables.inbox.messages (from + h.at) (sizes z).messages; end = (sizes z).end };
           inbox = c.without (from + h.at);
         })
-        (target_place h.target) refl refl refl refl (no_posts L) (λ z. (k z).message)
-    receiving_row (Some after) start from None g k = λ n. moving L p s _ same (target_place after.target) refl refl refl refl (no_posts L) (λ z. tt)
-    receiving_row None start from None g k = tt
+        (target_place h.target) refl refl refl refl (no_posts L) (λ z. (small z).message)
+    receiving_row (Some after) start from None g small = λ n. moving L p s _ k.tables (target_place after.target) refl refl refl refl (no_posts L) (λ z. tt)
+    receiving_row None start from None g small = tt
 
     scanning_row : (after : Option After) (start : ℕ) (clauses : List Clause) → IfSome (receiving p s after start start (hit_from start clauses s)) Row
     scanning_row after start clauses =
@@ -331,12 +331,12 @@ module _ (L : Shown) (p : Declared) (s : ProcessState) (names : TableNames L.nam
     instr_row (instr.Demonitor e flush) h = with_reference_row e _ (only L.name e h) (demonitoring_row flush)
     instr_row (instr.Alias var reply) h = aliasing_row var.0 reply
     instr_row (instr.Unalias e) h = with_reference_row e _ (only L.name e h) (λ r named. unaliasing_row r)
-    instr_row (instr.Exit reason) h = with_value_row reason _ (only L.name reason h) (λ t g n. ending_row L p s before t g)
+    instr_row (instr.Exit reason) h = with_value_row reason _ (only L.name reason h) (λ t g n. ending_row L p s k t g)
     instr_row (instr.ExitTo target reason) h =
         with_value_row target _ (first L.name target reason h) (λ t g. with_value_row reason _ (second L.name target reason h)
-        (λ r f. with_pid_row t _ g (λ q e n. moving L p s _ same behind refl refl refl refl (one_post L _ e f.names f.size) (λ z. tt))))
-    instr_row (instr.Trap on) h = λ n. moving L p s _ same behind refl refl refl refl (no_posts L) (λ z. tt)
-    instr_row (instr.Goto label) h = λ n. moving L p s _ same (target_place (Some label)) refl refl refl refl (no_posts L) (λ z. tt)
+        (λ r f. with_pid_row t _ g (λ q e n. moving L p s _ k.tables behind refl refl refl refl (one_post L _ e f.names f.size) (λ z. tt))))
+    instr_row (instr.Trap on) h = λ n. moving L p s _ k.tables behind refl refl refl refl (no_posts L) (λ z. tt)
+    instr_row (instr.Goto label) h = λ n. moving L p s _ k.tables (target_place (Some label)) refl refl refl refl (no_posts L) (λ z. tt)
     instr_row instr.Stop h = ended (codes "normal")
     instr_row instr.Reserve h = reserving_row
     instr_row (instr.Bind var) h = binding_row var
@@ -346,7 +346,7 @@ module _ (L : Shown) (p : Declared) (s : ProcessState) (names : TableNames L.nam
   body_row : (L.bounded → IsWithin p) → (o : Option Instr) → slice_get p.instrs (s.counts.place - 1) ≡ o → IfSome o (InstrNames L.name) → IfSome (exec_body from_mark p s o) Row
   body_row w None e h = ended (codes "normal")
   body_row w (Some i) e h =
-      let lt : s.counts.place - 1 < length p.instrs = slice_get_within p.instrs (s.counts.place - 1) i e in instr_row w (λ j. omega (arith, lt, (here j).0)) i h
+      let lt : s.counts.place - 1 < length p.instrs = slice_get_within p.instrs (s.counts.place - 1) i e in instr_row w (λ j. omega (arith, lt, (k.here j).0)) i h
 
   -- what the next instruction does, where it can be executed
   executing_row : (L.bounded → IsWithin p) → ScriptNames L.name p → IfSome (executing p s) Row
@@ -358,17 +358,20 @@ pub executing_kept : (P : Named → Type 0) (H : Type 0) (p : Declared) (s : Pro
     → IfSome (executing p s) (IsKeptMade P H p s)
 executing_kept P H p s k b w h =
     let L : Shown = record { name = P; bounded = H; sized = ⊥; inbox = AnyInbox } in
-    IfSome_then (executing p s) (executing_row L p s k (λ z. absurd z) (λ j. ((b j).first, (b j).within)) (any_executed s) w h) (λ body g n. (g n).kept)
+    let before : IsBefore L p s = record { tables = record { names = k; sizes = λ z. absurd z; inbox = tt }; here = λ j. ((b j).first, (b j).within); emptied = tt } in
+    IfSome_then (executing p s) (executing_row L p s before (any_executed s) w h) (λ body g n. (g n).kept)
 
 pub executing_moved : (I : Inbox → Type 0) (p : Declared) (s : ProcessState) → IsExecuted I s → IfSome (executing p s) (IsMoved I s)
 executing_moved I p s c =
     let L : Shown = record { name = Any; bounded = ⊥; sized = ⊥; inbox = I } in
-    IfSome_then (executing p s) (executing_row L p s (any_tables s.tables) (λ z. absurd z) (λ j. absurd j) c (λ j. absurd j) (any_script p)) (λ body g. (g (λ n. tt)).moved)
+    let before : IsBefore L p s = record { tables = record { names = any_tables s.tables; sizes = λ z. absurd z; inbox = c.same }; here = λ j. absurd j; emptied = c.emptied } in
+    IfSome_then (executing p s) (executing_row L p s before c (λ j. absurd j) (any_script p)) (λ body g. (g (λ n. tt)).moved)
 
 pub executing_sizes : (p : Declared) (s : ProcessState) → TableSizes s.tables → IfSome (executing p s) BodySizes
 executing_sizes p s k =
     let L : Shown = record { name = Any; bounded = ⊥; sized = Unit {0}; inbox = AnyInbox } in
-    IfSome_then (executing p s) (executing_row L p s (any_tables s.tables) (λ z. k) (λ j. absurd j) (any_executed s) (λ j. absurd j) (any_script p)) (λ body g. (g (λ n. tt)).sizes tt)
+    let before : IsBefore L p s = record { tables = record { names = any_tables s.tables; sizes = λ z. k; inbox = tt }; here = λ j. absurd j; emptied = tt } in
+    IfSome_then (executing p s) (executing_row L p s before (any_executed s) (λ j. absurd j) (any_script p)) (λ body g. (g (λ n. tt)).sizes tt)
 
 -- a script that names processes of the script alone
 pub script_names : (count : ℕ) (p : Declared) → IsProcBelow count p → ScriptNames (IsNameBelow count) p
