@@ -201,7 +201,7 @@ module _ (L : Shown) where
       inbox = moved;
     }
 
-  -- THE BUNDLE: all that is shown of one thing that a process does
+  -- the bundle: all that is shown of one thing that a process does
   pub record IsRow (p : Declared) (s : ProcessState) (b : Body) : Type 0 where
     pub kept : IsKeptBody L.name L.bounded p s b
     pub sizes : L.sized → BodySizes b

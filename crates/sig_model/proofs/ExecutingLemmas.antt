@@ -1,5 +1,5 @@
--- What is shown of each instruction: ONE CASE FOR EACH ROW of the table of instructions gives the whole bundle, of names, bounds, sizes
--- and marks. The laws of names, of marks and of sizes are parts of it.
+-- What is shown of each instruction: one case for each row of the table of instructions gives the whole bundle, of names, bounds, sizes
+-- and marks. The laws of names, of marks and of sizes are parts of it, so that a new instruction has its case here alone.
 use Rattle.std.proofs.Common.{◌≡◌, ℕ, suc, ◌+◌, ◌-◌, ◌≤◌, ◌<◌, List, [], ◌∷◌, length, drop, Bool, true, false, All, IfSome, Option, Some, None, slice_get, codes, refl, sym, subst, arith}
 use Rattle.std.specs.Prelude.{remove}
 use Rattle.std.specs.Option.{option_map_or}
@@ -36,9 +36,10 @@ use Rattle.sig_script.specs.declared.instruction.Instr.TheVariants as instr
 use Rattle.sig_script.specs.declared.instruction.After.{After}
 use Rattle.sig_script.specs.Parts.{exprs_of}
 use Rattle.sig_script.specs.Scripts.{Declared, IsInstrBelow, IsProcBelow, IsPlace, IsWithin}
+use Rattle.sig_model.specs.declared.event.Outcome.{Outcome}
 use Rattle.sig_model.specs.declared.event.Outcome.TheVariants as outcome
 use Rattle.sig_model.specs.ProcessState.{ProcessState}
-use Rattle.sig_model.specs.Bodies.{Post, Body, at_next, rewatched, place_after, ending, system_limit}
+use Rattle.sig_model.specs.Bodies.{Post, Body, at_next, rewatched, place_after, going_on, ending, system_limit}
 use Rattle.sig_model.specs.Executing.{with_value, with_pid, with_ref, with_target, sending, setting, linked_by, unlink_posts, unlinked_by, new_ref, making, monitored_by, monitoring, aliasing, flushed_into, demonitoring, unaliasing, reserving, ref_in, ref_of_var, marked_by, marking, binding, clearing, marked_start, from_mark, hit_from, receiving, exec_body, executing}
 use Rattle.sig_model.specs.Bounds.{IsBounded}
 use Rattle.sig_model.specs.Names.{InboxNames, TableNames, ScriptNames}
@@ -48,7 +49,7 @@ use Rattle.sig_model.proofs.Lookups.{at_place}
 use Rattle.sig_model.proofs.ValueNames.{ExprNames, var_names, value_names}
 use Rattle.sig_model.proofs.TermSizeLemmas.{AreWithin, small_tells, small_kept, ref_small}
 use Rattle.sig_model.proofs.MatchParts.{HitValues, hit_values, name_parts, size_parts}
-use Rattle.sig_model.proofs.BodyLemmas.{IsAt, BearsAlike, same_watch, IsKeptBody, IsMoved, AnyInbox, OfRef, AllMessages, Shown, near, IsBuilt, held, ArePosts, no_posts, one_post, demonitor_sent, valued, watched, messaged, IsRow, IsBefore, few_row, moving, relinking, rewatching, ending_row, ending_atom, link_id, unlink_id}
+use Rattle.sig_model.proofs.BodyLemmas.{IsAt, BearsAlike, same_watch, IsKeptBody, IsMoved, AnyInbox, OfRef, AllMessages, Shown, near, IsBuilt, held, IsTold, ArePosts, no_posts, one_post, demonitor_sent, valued, watched, messaged, IsRow, IsBefore, few_row, moving, relinking, rewatching, ending_row, ending_atom, link_id, unlink_id}
 
 -- the rules for the calls leave the monitors that are borne
 monitor_alike : (watch : WatchState) (r : Ref) (target : ℕ) (mode : Option AliasMode) → BearsAlike watch (monitor watch r target mode).1
@@ -185,14 +186,21 @@ module _ (L : Shown) (p : Declared) (s : ProcessState) (k : IsBefore L p s) (c :
     target_place None = behind
     target_place (Some label) = label_place (slice_get p.labels label) (λ h. at_place (IsPlace (length p.instrs)) p.labels label (w h).places)
 
+    -- a row that leaves the tables: it goes on behind with these signals, or at a place
+    stepping : (traps : Bool) (how : Outcome) (posts : List Post) → ArePosts L posts → IsTold L how → Row (record { state = record (at_next s) { traps = traps }; outcome = how; posts = posts })
+    stepping traps how posts sent told n = moving L p s _ k.tables behind refl refl refl refl sent told
+
+    going_row : (place : ℕ) (how : Outcome) → (L.bounded → IsAt p place) → IsTold L how → Row (going_on s place how)
+    going_row place how at told n = moving L p s _ k.tables at refl refl refl refl (no_posts L) told
+
     sending_row : (t message : Term) → IsBuilt L t → IsBuilt L message → Row (with_target s t (sending s message))
-    sending_row (term.Pid q) message g h n =
-        moving L p s _ k.tables behind refl refl refl refl (one_post L _ (pid_tells L.name q g.names) h.names h.size) (λ z. (small_kept (term.Pid q) (g.size z), small_kept message (h.size z)))
-    sending_row (term.Ref r) message g h n =
+    sending_row (term.Pid q) message g h =
+        stepping _ _ _ (one_post L _ (pid_tells L.name q g.names) h.names h.size) (λ z. (small_kept (term.Pid q) (g.size z), small_kept message (h.size z)))
+    sending_row (term.Ref r) message g h =
         let tells : L.name (reference r) × L.name (process r.owner.0) = ref_tells L.name r g.names in
-        moving L p s _ k.tables behind refl refl refl refl (one_post L _ tells.1 (All-append L.name (names_of_ref r) (names_of message) (all_of_ref L.name r tells.0 tells.1) h.names) h.size)
+        stepping _ _ _ (one_post L _ tells.1 (All-append L.name (names_of_ref r) (names_of message) (all_of_ref L.name r tells.0 tells.1) h.names) h.size)
         (λ z. (small_kept (term.Ref r) (g.size z), small_kept message (h.size z)))
-    sending_row _ message g h n = ended (codes "badarg") n
+    sending_row _ message g h = ended (codes "badarg")
 
     setting_row : (var : List ℕ) (value : Term) → IsBuilt L value → Row (setting s var value)
     setting_row var value h n =
@@ -305,7 +313,7 @@ module _ (L : Shown) (p : Declared) (s : ProcessState) (k : IsBefore L p s) (c :
           inbox = c.without (from + h.at);
         })
         (target_place h.target) refl refl refl refl (no_posts L) (λ z. (small z).message)
-    receiving_row (Some after) start from None g small = λ n. moving L p s _ k.tables (target_place after.target) refl refl refl refl (no_posts L) (λ z. tt)
+    receiving_row (Some after) start from None g small = going_row _ _ (target_place after.target) (λ z. tt)
     receiving_row None start from None g small = tt
 
     scanning_row : (after : Option After) (start : ℕ) (clauses : List Clause) → IfSome (receiving p s after start start (hit_from start clauses s)) Row
@@ -317,7 +325,7 @@ module _ (L : Shown) (p : Declared) (s : ProcessState) (k : IsBefore L p s) (c :
         (λ z. hit_values IsKeptTerm (AreWithin READ_NODES READ_DEPTH) size_parts s.tables.env (sizes z).env clauses (drop start (terms_of messages))
         (All-drop IsKeptTerm start (terms_of messages) (All-map IsKeptTerm (λ (m : ℕ × Term). m.1) messages (sizes z).messages)))
 
-    -- ONE CASE FOR EACH INSTRUCTION
+    -- one case for each instruction
     instr_row : (i : Instr) → InstrNames L.name i → IfSome (exec_body from_mark p s (Some i)) Row
     instr_row (instr.Send to message) h =
         with_value_row to _ (first L.name to message h) (λ t g. with_value_row message _ (second L.name to message h) (λ m f. sending_row t m g f))
@@ -334,9 +342,9 @@ module _ (L : Shown) (p : Declared) (s : ProcessState) (k : IsBefore L p s) (c :
     instr_row (instr.Exit reason) h = with_value_row reason _ (only L.name reason h) (λ t g n. ending_row L p s k t g)
     instr_row (instr.ExitTo target reason) h =
         with_value_row target _ (first L.name target reason h) (λ t g. with_value_row reason _ (second L.name target reason h)
-        (λ r f. with_pid_row t _ g (λ q e n. moving L p s _ k.tables behind refl refl refl refl (one_post L _ e f.names f.size) (λ z. tt))))
-    instr_row (instr.Trap on) h = λ n. moving L p s _ k.tables behind refl refl refl refl (no_posts L) (λ z. tt)
-    instr_row (instr.Goto label) h = λ n. moving L p s _ k.tables (target_place (Some label)) refl refl refl refl (no_posts L) (λ z. tt)
+        (λ r f. with_pid_row t _ g (λ q e. stepping _ _ _ (one_post L _ e f.names f.size) (λ z. tt))))
+    instr_row (instr.Trap on) h = stepping on _ [] (no_posts L) (λ z. tt)
+    instr_row (instr.Goto label) h = going_row _ _ (target_place (Some label)) (λ z. tt)
     instr_row instr.Stop h = ended (codes "normal")
     instr_row instr.Reserve h = reserving_row
     instr_row (instr.Bind var) h = binding_row var

@@ -1,5 +1,6 @@
--- What is shown of each signal that a process handles: ONE CASE FOR EACH CELL of the table of handling, and for the exit rule, gives
--- the whole bundle, of names, bounds, sizes and marks. The laws of names, of marks and of sizes are parts of it.
+-- What is shown of each signal that a process handles: one case for each cell of the table of handling, and for the exit rule, gives
+-- the whole bundle, of names, bounds, sizes and marks. The laws of names, of marks and of sizes are parts of it, so that a new kind of
+-- signal has its case here alone.
 use Rattle.std.proofs.Common.{◌≡◌, ℕ, ◌+◌, ◌≤◌, List, [], ◌∷◌, ◌++◌, length, Bool, true, false, cond, ◌&&◌, not, ◌==◌, is_some, codes, All, IfSome, Option, Some, None, refl, arith}
 use Rattle.std.proofs.lemmas.Bool.{cond_both}
 use Rattle.std.proofs.lemmas.List.{length-append}
@@ -218,7 +219,7 @@ module _ (L : Shown) (p : Declared) (pid sender : ℕ) (from : L.name (process s
     term_behind : (r : Ref) (t : Term) → All L.name (names_of_ref r ++ names_of t) → (L.sized → KindSizes (Message t)) → IsBuilt L t
     term_behind r t h size = record { names = all_behind L.name (names_of_ref r) (names_of t) h; size = size }
 
-    -- ONE CASE FOR EACH KIND at a live process
+    -- one case for each kind, at a live process
     live_row : (what : Kind) → All L.name (names_of_kind what) → (L.sized → KindSizes what) → IsRow L p s (live_body pid s sender what)
     live_row (Message message) h g = appending_row s k arrived message (held L message (record { names = h; size = g }))
     live_row (AliasMessage r message) h g = through_alias_row r message (front r message h) (term_behind r message h g)
