@@ -23,7 +23,8 @@ use Rattle.sig_queue.specs.declared.slot.Slot.{Slot}
 use Rattle.sig_queue.specs.declared.slot.Slot.TheVariants as slot
 use Rattle.sig_layout.specs.declared.part.Part.{Part}
 use Rattle.sig_layout.specs.declared.knows.Knows.{Knows}
-use Rattle.sig_layout.specs.Policies.{IsPolicy}
+use Rattle.sig_layout.specs.declared.policy.Policy.{Policy}
+use Rattle.sig_layout.specs.Policies.{IsPolicy, AllowsMode}
 use Rattle.sig_layout.specs.Summaries.{due_at, is_install, is_remove}
 use Rattle.sig_layout.specs.Openings.{IsNext}
 use Rattle.sig_layout.specs.Views.{number, IsSomebody, table_from, mode_word, flag, filled_at, with_bit, signals_of, holding, turned_away, after_put, after_same, with_bits, after_fetch, switched_on, switched_off, after_remove, saw, counted, gains, turned_away_at, saw_under, marked, given_back, loses, put_aside, took_part, passed, left_of, right_of, note_of, joined, spent}
@@ -39,6 +40,7 @@ use Rattle.sig_layout.proofs.Listing.{lists}
 use Rattle.sig_layout.proofs.Lawful.{lawful, fetched_all, mod_small}
 use Rattle.sig_queue.proofs.Taking.{took_carried}
 use Rattle.sig_layout.proofs.Carrying.{carried}
+use Rattle.sig_layout.proofs.Steadying.{steady}
 use Rattle.sig_queue.specs.Tied.{HasTaken, FreshBut, TookCarried, apart, home, cell_home, words_of, homes_of, shown, Tied, Held, Foreign, tried_outer, tried_buffer, loaded_mode, loaded_under, loaded_filled, bit_set, bits_taken, bit_back, stored_on, stored_off, left_put, left_same, left_fetch, left_remove, left_aside, left_buffer, left_part, left_passed, looked_only}
 
 -- a list whose place is set to what was found there
@@ -336,17 +338,20 @@ module _ (z : Setup) where
   ))
 
   -- the mode
-  pub loads_mode : (slots id : ℕ) (me : Held) → me.0.held ≡ None → Allows (Tied z) slots id me 8 (λ n. n) (loaded_mode (step slots 8 0 0 none) me)
-  loads_mode slots id me idle = let v : Knows = me.0 in allows slots id me 8 (λ n. n) (loaded_mode (step slots 8 0 0 none) me) (λ q st at. let q' : QState = core.load_mode q id v in (
+  allowed : (policy : Policy) → policy ≡ z.policy → (q : QState) → Stands q → AllowsMode policy q.mode
+  allowed policy same q st = subst (λ (y : Policy). AllowsMode y q.mode) (ap (λ (y : Setup). y.policy) (same_setup q st.reached) ∙ sym same) (steady z st.proper q st.reached).allowed
+
+  pub loads_mode : (slots id : ℕ) (me : Held) (policy : Policy) → policy ≡ z.policy → me.0.held ≡ None → Allows (Tied z) slots id me 8 (λ n. n) (loaded_mode policy (step slots 8 0 0 none) me)
+  loads_mode slots id me policy same idle = let v : Knows = me.0 in allows slots id me 8 (λ n. n) (loaded_mode policy (step slots 8 0 0 none) me) (λ q st at. let q' : QState = core.load_mode q id v in (
     saw v q.mode,
     keeps,
     tt,
     record { core = q'; reached = by_load_mode q id v (record { at = at; idle = idle }) st.reached; is = refl; proper = st.proper },
-    (q.mode, refl, refl),
+    (q.mode, refl, refl, allowed policy same q st),
   ))
 
-  pub loads_under : (slots id : ℕ) (me : Held) (p : Part) → me.0.held ≡ None → me.0.parts ≡ p ∷ [] → p.number < 64 → Allows (Tied z) slots id me 8 (λ n. n) (loaded_under (step slots 8 0 0 none) me)
-  loads_under slots id me p idle one low = let v : Knows = me.0 in allows slots id me 8 (λ n. n) (loaded_under (step slots 8 0 0 none) me) (λ q st at. let q' : QState = core.load_under q id v p in let c : ℕ = p.number in let x : Cell = record (q.cells c) { sure = q.mode } in (
+  pub loads_under : (slots id : ℕ) (me : Held) (p : Part) (policy : Policy) → policy ≡ z.policy → me.0.held ≡ None → me.0.parts ≡ p ∷ [] → p.number < 64 → Allows (Tied z) slots id me 8 (λ n. n) (loaded_under policy (step slots 8 0 0 none) me)
+  loads_under slots id me p policy same idle one low = let v : Knows = me.0 in allows slots id me 8 (λ n. n) (loaded_under policy (step slots 8 0 0 none) me) (λ q st at. let q' : QState = core.load_under q id v p in let c : ℕ = p.number in let x : Cell = record (q.cells c) { sure = q.mode } in (
     saw_under v p q.mode,
     keeps,
     tt,
@@ -360,7 +365,7 @@ module _ (z : Setup) where
       };
       proper = st.proper;
     },
-    (λ p' one'. (q.mode, refl, ap (λ (r : Part). let m : Held = (saw_under v r q.mode, me.1) in m) (first_is p p' (sym one ∙ one')))),
+    (λ p' one'. (q.mode, refl, ap (λ (r : Part). let m : Held = (saw_under v r q.mode, me.1) in m) (first_is p p' (sym one ∙ one')), allowed policy same q st)),
   ))
 
   pub loads_filled : (slots id : ℕ) (me : Held) → Allows (Tied z) slots id me 16 (λ n. n) (loaded_filled (step slots 16 0 0 none) me)
@@ -372,12 +377,12 @@ module _ (z : Setup) where
     refl,
   ))
 
-  pub stores_on : (slots id : ℕ) (me : Held) (o : Outer) → Begins me.0 o → Allows (Tied z) slots id me 8 (λ _. 1) (λ _. stored_on (step slots 8 1 0 none) me 1)
-  stores_on slots id me o begins = let v : Knows = me.0 in allows slots id me 8 (λ _. 1) (λ _. stored_on (step slots 8 1 0 none) me 1) (λ q st at. let q' : QState = core.mode_on q id v in (
+  pub stores_on : (slots id : ℕ) (me : Held) (o : Outer) → Begins me.0 o → is_install (due_at z.policy (o.journal ++ Direct (some_refused me.0.refused) ∷ [])) ≡ true → Allows (Tied z) slots id me 8 (λ _. 1) (λ _. stored_on (step slots 8 1 0 none) me 1)
+  stores_on slots id me o begins due = let v : Knows = me.0 in allows slots id me 8 (λ _. 1) (λ _. stored_on (step slots 8 1 0 none) me 1) (λ q st at. let q' : QState = core.mode_on q id v in (
     switched_on v,
     keeps,
     tt,
-    record { core = q'; reached = by_mode_on q id v o (record { at = at; begins = begins }) st.reached; is = refl; proper = st.proper },
+    record { core = q'; reached = by_mode_on q id v o (record { at = at; begins = begins; is_due = ap (λ (y : Setup). is_install (due_at y.policy (o.journal ++ Direct (some_refused v.refused) ∷ []))) (same_setup q st.reached) ∙ due }) st.reached; is = refl; proper = st.proper },
     refl,
   ))
 

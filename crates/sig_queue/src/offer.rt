@@ -1,4 +1,5 @@
-ghost use Rattle.std.specs.Prelude.{◌≡◌, true};
+ghost use Rattle.std.specs.Prelude.{◌≡◌, ◌≢◌, ℕ, true};
+ghost use Rattle.sig_layout.specs.declared.policy.Policy.TheVariants.{Never, Always};
 ghost use Rattle.sig_layout.specs.Sets.{has};
 ghost use Rattle.sig_layout.specs.Openings.{IsNext};
 ghost use Rattle.sig_queue.specs.Calls.{Offered};
@@ -25,13 +26,16 @@ pub enum Offer {
 impl SigQueue {
     /// Offers a signal: to the sender's buffer where the mode is on, and else to the outer list. It
     /// tries each turn once, and never waits. The signal is of a sender of the seat, goes to the
-    /// queue's receiver, and continues the numbers of its sender.
+    /// queue's receiver, and continues the numbers of its sender. Under `Never` it is put into no
+    /// buffer, and under `Always` never into the outer list.
     pub fn offer(&self, seat: &mut QSeat, signal: Signal) -> Offer
         requires own { seat.old.queue ≡ self.now.id }
         requires from { has seat.old.knows.senders signal.from.0 ≡ true }
         requires next { IsNext self.now.setup seat.old.knows.put signal }
         ensures own { seat.new.queue ≡ seat.old.queue }
         ensures offered { Offered signal seat.old.knows result seat.new.knows }
+        ensures never { self.now.setup.policy ≡ Never → (b : ℕ) → result ≢ Offer.Put (Via.Buffer b) }
+        ensures always { self.now.setup.policy ≡ Always → result ≢ Offer.Put Via.Outer }
     {
         let words = &self.table.shared;
         let mine = seat.least + 1;
