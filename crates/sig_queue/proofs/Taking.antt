@@ -1,11 +1,11 @@
 -- What was taken, and what is left, is what the queue carries.
-use Rattle.std.proofs.Common.{◌≡◌, ℕ, subst, true, List, ◌++◌, All, ap, ◌∙◌}
+use Rattle.std.proofs.Common.{◌≡◌, ℕ, subst, List, ◌++◌, All, ap, ◌∙◌}
 use Rattle.sig_kinds.specs.declared.signal.Signal.{Signal}
 use Rattle.sig_kinds.specs.Counting.{IsCounting}
 use Rattle.sig_layout.specs.declared.setup.Setup.{Setup}
 use Rattle.sig_layout.specs.declared.knows.Knows.{Knows}
 use Rattle.sig_layout.specs.Sent.{sender, of, signals}
-use Rattle.sig_layout.specs.Openings.{first_of, IsCarried, IsCounted}
+use Rattle.sig_layout.specs.Openings.{first_of, IsCarried}
 use Rattle.sig_layout.specs.Carried.{Carried, CarriedAs}
 use Rattle.sig_layout.specs.Core.{QState, buffer_of}
 use Rattle.sig_layout.specs.Law.{Law}

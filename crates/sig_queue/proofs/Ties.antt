@@ -1,5 +1,5 @@
 -- Each atomic step of the table is a step of the core.
-use Rattle.std.proofs.Common.{◌≡◌, ◌≢◌, ℕ, zero, suc, ◌+◌, ◌*◌, ◌%◌, ◌^◌, ◌<◌, ◌≤◌, ◌==◌, bit_or, subst, Bool, true, false, List, [], ◌∷◌, ◌++◌, All, length, get_or, set, sym, refl, ap, ◌∙◌, arith, eq-eqb, ne_eqb, append_assoc, inl, inr, ⊎_elim, Option, Some, None}
+use Rattle.std.proofs.Common.{◌≡◌, ◌≢◌, ℕ, zero, suc, ◌+◌, ◌*◌, ◌%◌, ◌^◌, ◌<◌, ◌==◌, bit_or, subst, Bool, true, false, List, [], ◌∷◌, ◌++◌, All, get_or, set, sym, refl, ap, ◌∙◌, arith, eq-eqb, ne_eqb, inl, inr, ⊎_elim, Option, Some, None}
 use Rattle.std.proofs.lemmas.List.Elements.{All-nil, All-cons}
 use mathlib.Core.Logic.{dite}
 use mathlib.Core.Option as maybe
@@ -15,7 +15,7 @@ use Rattle.sig_layout.specs.declared.setup.Setup.{Setup}
 use Rattle.sig_layout.specs.declared.item.Item.{Item}
 use Rattle.sig_layout.specs.declared.outer.Outer.{Outer}
 use Rattle.sig_layout.specs.Sets.{has}
-use Rattle.sig_layout.specs.Sent.{sender, putter, of, signals, Prefix, Within, AllWithin}
+use Rattle.sig_layout.specs.Sent.{sender, of, signals, Prefix, AllWithin}
 use Rattle.sig_layout.specs.Core.{some_refused}
 use Rattle.sig_layout.proofs.Sending.{prefix_through, prefix_signals}
 use Rattle.sig_layout.proofs.Members.{has_below, least_has}
@@ -27,7 +27,7 @@ use Rattle.sig_layout.specs.declared.policy.Policy.{Policy}
 use Rattle.sig_layout.specs.Policies.{IsPolicy, AllowsMode}
 use Rattle.sig_layout.specs.Summaries.{due_at, is_install, is_remove}
 use Rattle.sig_layout.specs.Openings.{IsNext}
-use Rattle.sig_layout.specs.Views.{number, IsSomebody, table_from, mode_word, flag, filled_at, with_bit, signals_of, holding, turned_away, after_put, after_same, with_bits, after_fetch, switched_on, switched_off, after_remove, saw, counted, gains, turned_away_at, saw_under, marked, given_back, loses, put_aside, took_part, passed, left_of, right_of, note_of, joined, spent}
+use Rattle.sig_layout.specs.Views.{number, IsSomebody, table_from, mode_word, flag, filled_at, signals_of, holding, turned_away, after_put, after_same, with_bits, after_fetch, switched_on, switched_off, after_remove, saw, counted, gains, turned_away_at, saw_under, marked, given_back, loses, put_aside, took_part, passed, left_of, right_of, note_of, joined, spent}
 use Rattle.sig_layout.specs.Outers.{added, emptied, removed, behind}
 use Rattle.sig_layout.specs.Core as core
 use Rattle.sig_layout.specs.Core.{Cell, QState, put, buffer_of, opened_with, Idle, Begins, Unmasked, Reached, by_take_outer, by_refuse_outer, by_put, by_leave, by_take_bits, by_fetch, by_mode_on, by_mode_off, by_remove, by_load_mode, by_load_filled, by_take_buffer, by_refuse_buffer, by_set_back, by_load_under, by_set_bit, by_put_aside, by_leave_buffer, by_take_part, by_pass, by_split, by_note, by_join, opened}
@@ -41,7 +41,7 @@ use Rattle.sig_layout.proofs.Lawful.{lawful, fetched_all, mod_small}
 use Rattle.sig_queue.proofs.Taking.{took_carried}
 use Rattle.sig_layout.proofs.Carrying.{carried}
 use Rattle.sig_layout.proofs.Steadying.{steady}
-use Rattle.sig_queue.specs.Tied.{HasTaken, FreshBut, TookCarried, apart, home, cell_home, words_of, homes_of, shown, Tied, Held, Foreign, tried_outer, tried_buffer, loaded_mode, loaded_under, loaded_filled, bit_set, bits_taken, bit_back, stored_on, stored_off, left_put, left_same, left_fetch, left_remove, left_aside, left_buffer, left_part, left_passed, looked_only}
+use Rattle.sig_queue.specs.Tied.{HasTaken, apart, home, cell_home, words_of, homes_of, shown, Tied, Held, Foreign, tried_outer, tried_buffer, loaded_mode, loaded_under, loaded_filled, bit_set, bits_taken, bit_back, stored_on, stored_off, left_put, left_same, left_fetch, left_remove, left_aside, left_buffer, left_part, left_passed, looked_only}
 
 -- a list whose place is set to what was found there
 set_found : (xs : List ℕ) (i : ℕ) → set xs i (get_or xs i 0) ≡ xs

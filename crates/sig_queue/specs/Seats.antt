@@ -1,8 +1,7 @@
 -- What contracts see of queues and of the tokens of one queue, and what is true of each.
-use Rattle.std.specs.Prelude.{◌≡◌, ℕ, ◌≤◌, Bool, true, false, List, [], ◌∷◌, None}
+use Rattle.std.specs.Prelude.{◌≡◌, ℕ, ◌≤◌, Bool, false, List, [], ◌∷◌}
 use Rattle.atomic_table.specs.Seated.{TableId}
 use Rattle.sig_layout.specs.declared.setup.Setup.{Setup}
-use Rattle.sig_layout.specs.declared.policy.Policy.{Policy}
 use Rattle.sig_queue.specs.declared.slot.Slot.TheVariants as slot
 use Rattle.sig_layout.specs.declared.knows.Knows.{Knows}
 use Rattle.sig_layout.specs.Sets.{no_senders}

@@ -1,5 +1,5 @@
 -- The table as threads see it is a state of the core.
-use Rattle.std.specs.Prelude.{◌≡◌, ◌≢◌, ℕ, zero, suc, ◌+◌, ◌*◌, ◌≤◌, Bool, true, false, List, [], ◌∷◌, All, Some}
+use Rattle.std.specs.Prelude.{◌≡◌, ◌≢◌, ℕ, zero, suc, ◌+◌, ◌*◌, Bool, true, false, List, [], ◌∷◌, All, Some}
 use mathlib.Core.Option as maybe
 use mathlib.Core.Option.{none, some}
 use Rattle.atomic_table.specs.Table.{State, Me, Step, rest}
@@ -12,7 +12,7 @@ use Rattle.sig_layout.specs.declared.policy.Policy.TheVariants.{Never}
 use Rattle.sig_layout.specs.Policies.{IsPolicy, AllowsMode}
 use Rattle.sig_layout.specs.Openings.{IsCarried, IsCounted}
 use Rattle.sig_layout.specs.Sets.{has}
-use Rattle.sig_layout.specs.Sent.{sender, putter, of, signals, Prefix}
+use Rattle.sig_layout.specs.Sent.{sender, of, signals, Prefix}
 use Rattle.sig_queue.specs.declared.slot.Slot.{Slot}
 use Rattle.sig_queue.specs.declared.slot.Slot.TheVariants as slot
 use Rattle.sig_layout.specs.declared.part.Part.{Part}
