@@ -38,7 +38,7 @@ impl SigQueue {
         ensures always { self.now.setup.policy ≡ Always → result ≢ Offer.Put Via.Outer }
     {
         let words = &self.table.shared;
-        let mine = seat.least + 1;
+        let mine = seat.kept.least + 1;
         let buffer = signal.from.0 % 64;
         let aside = offer_aside(words, &mut seat.place, buffer as usize, mine, signal);
         match aside {
@@ -48,14 +48,14 @@ impl SigQueue {
             Aside::Busy(signal, found) => Offer::Busy { signal, found },
             Aside::Memory(signal) => Offer::Memory { signal },
             Aside::Off(signal) => {
-                let refused = seat.refused;
+                let refused = seat.kept.refused;
                 match offer_outer(words, &mut seat.place, mine, signal, refused, self.policy) {
                     Outward::Put => {
-                        seat.refused = false;
+                        seat.kept.refused = false;
                         Offer::Put { via: Via::Outer }
                     }
                     Outward::Busy(signal, found) => {
-                        seat.refused = true;
+                        seat.kept.refused = true;
                         Offer::Busy { signal, found }
                     }
                     Outward::Memory(signal) => Offer::Memory { signal },
