@@ -30,7 +30,7 @@ use Rattle.sig_layout.proofs.Putting.{at_table}
 use Rattle.sig_layout.proofs.Agreeing.{same_view, agrees}
 use Rattle.sig_layout.proofs.Listing.{lists}
 use Rattle.sig_layout.proofs.Lawful.{lawful, mod_small}
-use Rattle.sig_layout.proofs.Journaling.{journals}
+use Rattle.sig_layout.proofs.Journaling.{same_setup, journals}
 use Rattle.sig_layout.proofs.Carrying.{all_of, all_each, all_rest, carried, ways}
 use Rattle.sig_layout.proofs.Steadying.{steady}
 use Rattle.sig_layout.proofs.Wording.{lawful_of}
@@ -38,7 +38,7 @@ use Rattle.sig_queue.specs.Tied.{apart, home, cell_home, homes_of, Tied, list_or
 use Rattle.sig_queue.specs.Ends.{zeros, first_words, first_outer, all_buffers, lists_in, EndsAs}
 use Rattle.sig_queue.proofs.Ways.{outer_by_sender}
 use Rattle.sig_queue.proofs.Fetches.{flag_dropped}
-use Rattle.sig_queue.proofs.Ties.{not_outer, same_setup}
+use Rattle.sig_queue.proofs.Ties.{not_outer}
 
 module _ {X : Type 0} where
   table_same : (k n : ℕ) (x : X) → table_from k n (λ _. x) ≡ replicate n x

@@ -40,6 +40,7 @@ use Rattle.sig_layout.proofs.Listing.{lists}
 use Rattle.sig_layout.proofs.Lawful.{lawful, fetched_all, mod_small}
 use Rattle.sig_queue.proofs.Taking.{took_carried}
 use Rattle.sig_layout.proofs.Carrying.{carried}
+use Rattle.sig_layout.proofs.Journaling.{same_setup}
 use Rattle.sig_layout.proofs.Steadying.{steady}
 use Rattle.sig_queue.specs.Tied.{HasTaken, apart, home, cell_home, words_of, homes_of, shown, Tied, Held, Foreign, tried_outer, tried_buffer, loaded_mode, loaded_under, loaded_filled, bit_set, bits_taken, bit_back, stored_on, stored_off, left_put, left_same, left_fetch, left_remove, left_aside, left_buffer, left_part, left_passed, looked_only}
 
@@ -138,32 +139,6 @@ module _ (z : Setup) where
   abbrev Steps : ℕ → Held → ℕ → (ℕ → ℕ) → (ℕ → Held → Type 0) → State Slot Knows → Type 0
   Steps id me i f told s = get_elem? s.views id ≡ some me.0 → (w : Knows) × (a : Act Slot) × Valid s.homes me.1 a × Tied z (stepped s i (f (get_or s.words i 0)) id me.1 w a) × told (get_or s.words i 0) (w, carried_after me.1 a)
 
-  pub same_setup : (q : QState) → Reached z q → q.setup ≡ z
-  same_setup _ opened = refl
-  same_setup _ (by_take_outer q i v can r) = same_setup q r
-  same_setup _ (by_refuse_outer q i v can r) = same_setup q r
-  same_setup _ (by_put q i v o x can r) = same_setup q r
-  same_setup _ (by_leave q i v o can r) = same_setup q r
-  same_setup _ (by_take_bits q i v o can r) = same_setup q r
-  same_setup _ (by_fetch q i v o can r) = same_setup q r
-  same_setup _ (by_mode_on q i v o can r) = same_setup q r
-  same_setup _ (by_mode_off q i v o can r) = same_setup q r
-  same_setup _ (by_remove q i v o can r) = same_setup q r
-  same_setup _ (by_load_mode q i v can r) = same_setup q r
-  same_setup _ (by_load_filled q i v at r) = same_setup q r
-  same_setup _ (by_take_buffer q i v c can r) = same_setup q r
-  same_setup _ (by_refuse_buffer q i v c can r) = same_setup q r
-  same_setup _ (by_set_back q i v c o can r) = same_setup q r
-  same_setup _ (by_load_under q i v p can r) = same_setup q r
-  same_setup _ (by_set_bit q i v p can r) = same_setup q r
-  same_setup _ (by_put_aside q i v p x can r) = same_setup q r
-  same_setup _ (by_leave_buffer q i v p ps can r) = same_setup q r
-  same_setup _ (by_take_part q i v p ps o can r) = same_setup q r
-  same_setup _ (by_pass q i v p ps o can r) = same_setup q r
-  same_setup _ (by_split q i v given role can r) = same_setup q r
-  same_setup _ (by_note q i v at r) = same_setup q r
-  same_setup _ (by_join q i v j w can r) = same_setup q r
-
   pub record Stands (q : QState) : Type 0 where
     pub reached : Reached z q
     pub proper : IsPolicy z.policy
@@ -222,7 +197,7 @@ module _ (z : Setup) where
         tt,
         record {
           core = q';
-          reached = by_put q id v o x (record { at = at; held = held; fetching = nf; removing = nr; installs = due ∙ ap (λ (y : Setup). is_install (due_at y.policy (o.journal ++ Direct (some_refused v.refused) ∷ []))) (sym (same_setup q st.reached)); off = off; from = from; next = subst (λ (y : Setup). IsNext y v.put x) (sym (same_setup q st.reached)) next }) st.reached;
+          reached = by_put q id v o x (record { at = at; held = held; fetching = nf; removing = nr; installs = due ∙ ap (λ (y : Setup). is_install (due_at y.policy (o.journal ++ Direct (some_refused v.refused) ∷ []))) (sym (same_setup z q st.reached)); off = off; from = from; next = subst (λ (y : Setup). IsNext y v.put x) (sym (same_setup z q st.reached)) next }) st.reached;
           is = refl;
           proper = st.proper;
         },
@@ -251,7 +226,7 @@ module _ (z : Setup) where
       → Allows (Tied z) slots id me 0 (λ _. 0) (λ _. left_fetch y due (step slots 0 0 0 none) me 0)
   fetches slots id me o due y same held f nr ns unmasked role not_due due_is out = let v : Knows = me.0 in let o' : Outer = emptied o v.moved in
       allows_with slots id me (0, slot.Outer o') 0 (λ _. 0) (λ m _. left_fetch y due (step slots 0 0 0 none) m 0) out (λ xs q st at. let q' : QState = core.leave_fetch q id v o in let doing = (st.agrees.each id v at).outer o held in let ok = st.lists.each id v at in
-      let same_due : core.makes_due q id v o ≡ due = ap (λ (y : Setup). is_remove (due_at y.policy o'.journal)) (same_setup q st.reached) ∙ sym due_is in
+      let same_due : core.makes_due q id v o ≡ due = ap (λ (y : Setup). is_remove (due_at y.policy o'.journal)) (same_setup z q st.reached) ∙ sym due_is in
       let all_taken : q.taken ++ q.outer.signals ≡ v.taken ++ signals_of v.held = ap (λ (l : List Signal). l ++ q.outer.signals) (sym (ok.took role)) ∙ ap (λ (l : List Signal). v.taken ++ l) (ap (λ (y : Outer). y.signals) doing.value ∙ sym (ap signals_of held)) in
       let base_taken : (s : ℕ) → filled_at v.back (buffer_of s) ≡ false → HasTaken (after_fetch v due) s q.base = (λ s clear. subst (λ (l : List Signal). Prefix (of sender s (signals q.base)) (of sender s l)) all_taken
       (fetched_all mod_small q st.law (doing.fetch ∙ f) (λ d low. doing.masks (doing.fetch ∙ f) d low ∙ unmasked d low) s (ap (λ (n : ℕ). filled_at n (buffer_of s)) (doing.given (doing.fetch ∙ f)) ∙ clear))) in
@@ -271,7 +246,7 @@ module _ (z : Setup) where
             own = λ s clear. prefix_through _ _ _ (prefix_signals s v.put q.base (based.0 s)) (base_taken s clear);
             told = λ s clear. all_taken_of v.told q.base (after_fetch v due) s based.1 (base_taken s clear);
           },
-          took_carried y q (same_setup q st.reached ∙ sym same) st.law (carried z q st.reached) (after_fetch v due) all_taken,
+          took_carried y q (same_setup z q st.reached ∙ sym same) st.law (carried z q st.reached) (after_fetch v due) all_taken,
         ),
       ))
 
@@ -339,7 +314,7 @@ module _ (z : Setup) where
 
   -- the mode
   allowed : (policy : Policy) → policy ≡ z.policy → (q : QState) → Stands q → AllowsMode policy q.mode
-  allowed policy same q st = subst (λ (y : Policy). AllowsMode y q.mode) (ap (λ (y : Setup). y.policy) (same_setup q st.reached) ∙ sym same) (steady z st.proper q st.reached).allowed
+  allowed policy same q st = subst (λ (y : Policy). AllowsMode y q.mode) (ap (λ (y : Setup). y.policy) (same_setup z q st.reached) ∙ sym same) (steady z st.proper q st.reached).allowed
 
   pub loads_mode : (slots id : ℕ) (me : Held) (policy : Policy) → policy ≡ z.policy → me.0.held ≡ None → Allows (Tied z) slots id me 8 (λ n. n) (loaded_mode policy (step slots 8 0 0 none) me)
   loads_mode slots id me policy same idle = let v : Knows = me.0 in allows slots id me 8 (λ n. n) (loaded_mode policy (step slots 8 0 0 none) me) (λ q st at. let q' : QState = core.load_mode q id v in (
@@ -382,7 +357,7 @@ module _ (z : Setup) where
     switched_on v,
     keeps,
     tt,
-    record { core = q'; reached = by_mode_on q id v o (record { at = at; begins = begins; is_due = ap (λ (y : Setup). is_install (due_at y.policy (o.journal ++ Direct (some_refused v.refused) ∷ []))) (same_setup q st.reached) ∙ due }) st.reached; is = refl; proper = st.proper },
+    record { core = q'; reached = by_mode_on q id v o (record { at = at; begins = begins; is_due = ap (λ (y : Setup). is_install (due_at y.policy (o.journal ++ Direct (some_refused v.refused) ∷ []))) (same_setup z q st.reached) ∙ due }) st.reached; is = refl; proper = st.proper },
     refl,
   ))
 
@@ -516,7 +491,7 @@ module _ (z : Setup) where
         tt,
         record {
           core = q';
-          reached = by_put_aside q id v p x (record { at = at; one = one; idle = idle; sure = sure; is_set = is_set; blind = blind; from = from; next = subst (λ (y : Setup). IsNext y v.put x) (sym (same_setup q st.reached)) next; home = here }) st.reached;
+          reached = by_put_aside q id v p x (record { at = at; one = one; idle = idle; sure = sure; is_set = is_set; blind = blind; from = from; next = subst (λ (y : Setup). IsNext y v.put x) (sym (same_setup z q st.reached)) next; home = here }) st.reached;
           is = λ k. record {
             words = words_put q.turn (mode_word q.mode) q.filled q.cells p.number low i y is k;
             homes = homes_put (home q.turn (slot.Outer q.outer)) q.cells p.number low (p.number + 1) y (some (slot.List (p.list ++ x ∷ []))) refl (ap (λ (l : List Signal). some (slot.List (l ++ x ∷ []))) (sym h.list)) k;
