@@ -15,7 +15,7 @@ use Rattle.sig_layout.specs.declared.part.Part.{Part}
 use Rattle.sig_layout.specs.declared.knows.Knows.{Knows}
 use Rattle.sig_layout.specs.Views.{number, filled_at, with_bit, flag, tail, holding, turned_away, after_put, after_same, with_bits, after_fetch, switched_on, switched_off, after_remove, saw, counted, gains, part, turned_away_at, saw_under, marked, given_back, loses, put_aside, took_part, passed, left_of, right_of, note_of, joined, spent, first_seat}
 use Rattle.sig_layout.specs.Outers.{added, behind}
-use Rattle.sig_layout.specs.Core.{Cell, QState, put, opened_with, Idle, CanTakeOuter, take_outer, refuse_outer, refused, CanPut, leave_put, CanLeave, leave_same, CanBegin, take_bits, CanFetch, leave_fetch, makes_due, mode_on, CanSwitchOff, mode_off, CanRemove, leave_remove, load_mode, load_filled, CanTakeBuffer, take_buffer, refuse_buffer, CanSetBack, set_back, load_under, set_bit, buffer_put, buffer_same, CanTakePart, buffer_fetched, CanPass, buffer_passed, CanSplit, split, note, CanJoin, join, Reached, opened, by_take_outer, by_refuse_outer, by_put, by_leave, by_take_bits, by_fetch, by_mode_on, by_mode_off, by_remove, by_load_mode, by_load_filled, by_take_buffer, by_refuse_buffer, by_set_back, by_load_under, by_set_bit, by_put_aside, by_leave_buffer, by_take_part, by_pass, by_split, by_note, by_join}
+use Rattle.sig_layout.specs.Core.{Cell, QState, put, opened_with, Idle, CanTakeOuter, take_outer, refuse_outer, refused, CanPut, leave_put, CanLeave, leave_same, CanTakeBits, take_bits, CanFetch, leave_fetch, makes_due, CanSwitchOn, mode_on, CanSwitchOff, mode_off, CanRemove, leave_remove, load_mode, load_filled, CanTakeBuffer, take_buffer, refuse_buffer, CanSetBack, set_back, load_under, set_bit, buffer_put, buffer_same, CanTakePart, buffer_fetched, CanPass, buffer_passed, CanSplit, split, note, CanJoin, join, Reached, opened, by_take_outer, by_refuse_outer, by_put, by_leave, by_take_bits, by_fetch, by_mode_on, by_mode_off, by_remove, by_load_mode, by_load_filled, by_take_buffer, by_refuse_buffer, by_set_back, by_load_under, by_set_bit, by_put_aside, by_leave_buffer, by_take_part, by_pass, by_split, by_note, by_join}
 use Rattle.sig_layout.specs.Agree.{Apart, Among, HeldBy, HoldsAll, Doing, Nothing, SeatAgrees, Turn, HasOuter, HasBuffer, Agrees}
 use Rattle.sig_layout.proofs.Sending.{not_both}
 use Rattle.sig_layout.proofs.Putting.{put_here, put_else, at_each, get_table}
@@ -333,7 +333,7 @@ module _ (m : QState) (ok : Agrees m) (i : ℕ) (v : Knows) (at : get_elem? m.se
   not_idle o held e = let z : Some i ≡ None = sym (own.outer o held).mine ∙ e in absurd cc
 
   -- a fetch takes the bits: the mask that it then knows is the bits as they were
-  pub agrees_take_bits : (o : Outer) → CanBegin m i v o → Agrees (take_bits m i v)
+  pub agrees_take_bits : (o : Outer) → CanTakeBits m i v o → Agrees (take_bits m i v)
   agrees_take_bits o can = let b = can.begins in let w : Knows = with_bits v m.filled in
       let same : SameSeat v w = record { senders = refl; role = refl } in
       outer_changes (take_bits m i v) w o b.held (λ c. record { word = refl; holder = refl; list = refl; set = refl; sure = refl })
@@ -350,7 +350,7 @@ module _ (m : QState) (ok : Agrees m) (i : ℕ) (v : Knows) (at : get_elem? m.se
       })
       (λ e. busy o b.held e) (outer_kept w same refl) (λ e. not_idle o b.held e)
 
-  pub agrees_mode_on : (o : Outer) → CanBegin m i v o → Agrees (mode_on m i v)
+  pub agrees_mode_on : (o : Outer) → CanSwitchOn m i v o → Agrees (mode_on m i v)
   agrees_mode_on o can = let b = can.begins in let w : Knows = switched_on v in
       let same : SameSeat v w = record { senders = refl; role = refl } in
       outer_changes (mode_on m i v) w o b.held untouched (λ j n. refl) own.saw same refl

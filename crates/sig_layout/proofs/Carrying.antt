@@ -29,30 +29,32 @@ use Rattle.sig_layout.proofs.Agreeing.{agrees}
 use Rattle.sig_layout.proofs.Listing.{lists}
 use Rattle.sig_layout.proofs.Lawful.{lawful}
 
--- what holds of all, and of each sender's
-module _ (P : Signal → Type 0) where
-  pub all_front : (xs ys : List Signal) → All P (xs ++ ys) → All P xs
+-- what holds of all
+module _ {X : Type 0} (P : X → Type 0) where
+  pub all_front : (xs ys : List X) → All P (xs ++ ys) → All P xs
   all_front [] ys h = All-nil P
   all_front (x ∷ xs) ys h = All-cons P x xs (All-head P x (xs ++ ys) h) (all_front xs ys (All-tail P x (xs ++ ys) h))
 
-  pub all_rest : (xs ys : List Signal) → All P (xs ++ ys) → All P ys
+  pub all_rest : (xs ys : List X) → All P (xs ++ ys) → All P ys
   all_rest [] ys h = h
   all_rest (x ∷ xs) ys h = all_rest xs ys (All-tail P x (xs ++ ys) h)
 
-  pub all_of : (s : ℕ) (xs : List Signal) → All P xs → All P (of sender s xs)
+-- and of each sender's
+module _ {X : Type 0} (key : X → ℕ) (P : X → Type 0) where
+  pub all_of : (s : ℕ) (xs : List X) → All P xs → All P (of key s xs)
   all_of s [] h = All-nil P
-  all_of s (x ∷ xs) h = dite (ℕ_discrete (sender x) s)
-      (λ e. subst (All P) (sym (of_own sender s x xs e))
-      (All-cons P x (of sender s xs) (All-head P x xs h) (all_of s xs (All-tail P x xs h))))
-      (λ n. subst (All P) (sym (of_other sender s x xs n)) (all_of s xs (All-tail P x xs h)))
+  all_of s (x ∷ xs) h = dite (ℕ_discrete (key x) s)
+      (λ e. subst (All P) (sym (of_own key s x xs e))
+      (All-cons P x (of key s xs) (All-head P x xs h) (all_of s xs (All-tail P x xs h))))
+      (λ n. subst (All P) (sym (of_other key s x xs n)) (all_of s xs (All-tail P x xs h)))
 
-  pub all_each : (xs : List Signal) → ((s : ℕ) → All P (of sender s xs)) → All P xs
+  pub all_each : (xs : List X) → ((s : ℕ) → All P (of key s xs)) → All P xs
   all_each [] h = All-nil P
-  all_each (x ∷ xs) h = All-cons P x xs (All-head P x (of sender (sender x) xs)
-      (subst (All P) (of_own sender (sender x) x xs refl) (h (sender x))))
-      (all_each xs (λ s. dite (ℕ_discrete (sender x) s)
-      (λ e. All-tail P x (of sender s xs) (subst (All P) (of_own sender s x xs e) (h s)))
-      (λ n. subst (All P) (of_other sender s x xs n) (h s))))
+  all_each (x ∷ xs) h = All-cons P x xs (All-head P x (of key (key x) xs)
+      (subst (All P) (of_own key (key x) x xs refl) (h (key x))))
+      (all_each xs (λ s. dite (ℕ_discrete (key x) s)
+      (λ e. All-tail P x (of key s xs) (subst (All P) (of_own key s x xs e) (h s)))
+      (λ n. subst (All P) (of_other key s x xs n) (h s))))
 
 -- numbers that count up
 pub counting_front : (n : ℕ) (xs ys : List Signal) → IsCounting n (xs ++ ys) → IsCounting n xs
@@ -197,9 +199,9 @@ module _ (z : Setup) where
 
   pub taken_carried : (q : QState) → Reached z q → All (IsCarried q.setup) q.taken
   taken_carried q r = let P : Signal → Type 0 = IsCarried q.setup in
-      all_each P q.taken (λ s. all_front P (of sender s q.taken)
+      all_each sender P q.taken (λ s. all_front P (of sender s q.taken)
       (of sender s q.outer.signals ++ of sender s (q.cells (buffer_of s)).list)
-      (subst (All P) (front_of q r s) (all_of P s (signals q.log) (carried q r).all)))
+      (subst (All P) (front_of q r s) (all_of sender P s (signals q.log) (carried q r).all)))
 
   pub taken_counted : (q : QState) → Reached z q → IsCounted q.setup q.taken
   taken_counted q r s h = counting_front (first_of q.setup s) (of sender s q.taken)

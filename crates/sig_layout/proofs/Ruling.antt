@@ -25,6 +25,7 @@ use Rattle.sig_layout.proofs.Listing.{lists, within_log, held_cases}
 use Rattle.sig_layout.proofs.Lawful.{lawful}
 use Rattle.sig_layout.proofs.Journaling.{journals}
 use Rattle.sig_layout.proofs.Carrying.{carried, ways}
+use Rattle.sig_layout.proofs.Steadying.{steady}
 use Rattle.sig_layout.proofs.Wording.{lawful_of, due_so, is_due, period_of}
 
 module _ (q : QState) (a : Agrees q) (l : Lists q) (w : Law q) where
@@ -73,7 +74,7 @@ module _ (z : Setup) (proper : IsPolicy z.policy) (q : QState) (r : Reached z q)
 
   pub ruled : Rule q
   ruled = let a = agrees z q r in let l = lists z q r in let w = lawful z q r in let j = journals z proper q r in
-      let c = carried z q r in record {
+      let c = carried z q r in let t = steady z proper q r in record {
         outer_turn = a.turn;
         buffer_turns = a.cells;
         views = a.each;
@@ -92,6 +93,10 @@ module _ (z : Setup) (proper : IsPolicy z.policy) (q : QState) (r : Reached z q)
         directs = ways z q r;
         fetches = λ i v at role. (j.owes i v at).made role;
         due = due_of_seat;
+        steady = t.allowed;
+        steady_on = t.on;
+        steady_off = λ i v at saw. t.off i ((a.each i v at).saw ∙ saw);
+        ways = t.ways;
         put = within_log q l;
         told = λ i v at. (l.each i v at).told;
         own = λ i v s at h. (l.each i v at).own s h;

@@ -152,16 +152,18 @@ module _ (q : QState) (i : ℕ) (v : Knows) where
   abbrev pub refuse_outer : QState
   refuse_outer = record q { saw_off = put q.saw_off i false; seats = seats_with (turned_away v q.turn) }
 
+  -- whether a put makes an install due
+  abbrev pub makes_install : Outer → Bool
+  makes_install o = is_install (due_at q.setup.policy (o.journal ++ Direct refused ∷ []))
+
   -- It is left in one of four ways, here with one more signal. That installs where the put makes an install due.
-  abbrev pub Installs : Outer → Type 0
-  Installs o = v.switched ≡ is_install (due_at q.setup.policy (o.journal ++ Direct refused ∷ []))
 
   pub record CanPut (o : Outer) (x : Signal) : Type 0 where
     pub at : At
     pub held : v.held ≡ Some o
     pub fetching : v.fetching ≡ false
     pub removing : v.removing ≡ false
-    pub installs : Installs o
+    pub installs : v.switched ≡ makes_install o
     pub off : v.saw_off ≡ true
     pub from : has v.senders x.from.0 ≡ true
     pub next : IsNext q.setup v.put x
@@ -194,8 +196,8 @@ module _ (q : QState) (i : ℕ) (v : Knows) where
     seats = seats_with (after_same v);
   }
 
-  -- a fetch takes the bits, or a put that installs stores the mode on
-  pub record CanBegin (o : Outer) : Type 0 where
+  -- a fetch takes the bits
+  pub record CanTakeBits (o : Outer) : Type 0 where
     pub at : At
     pub begins : Begins v o
 
@@ -208,6 +210,12 @@ module _ (q : QState) (i : ℕ) (v : Knows) where
     back = 0;
     seats = seats_with (with_bits v q.filled);
   }
+
+  -- a put that makes an install due stores the mode on
+  pub record CanSwitchOn (o : Outer) : Type 0 where
+    pub at : At
+    pub begins : Begins v o
+    pub is_due : makes_install o ≡ true
 
   abbrev pub mode_on : QState
   mode_on = record q { mode = true; switched = true; seats = seats_with (switched_on v) }
@@ -450,9 +458,9 @@ pub data Reached (z : Setup) : QState → Type 0 where
   by_refuse_outer : (q : QState) (i : ℕ) (v : Knows) → CanRefuseOuter q i v → Reached z q → Reached z (refuse_outer q i v)
   by_put : (q : QState) (i : ℕ) (v : Knows) (o : Outer) (x : Signal) → CanPut q i v o x → Reached z q → Reached z (leave_put q i v o x)
   by_leave : (q : QState) (i : ℕ) (v : Knows) (o : Outer) → CanLeave q i v o → Reached z q → Reached z (leave_same q i v)
-  by_take_bits : (q : QState) (i : ℕ) (v : Knows) (o : Outer) → CanBegin q i v o → Reached z q → Reached z (take_bits q i v)
+  by_take_bits : (q : QState) (i : ℕ) (v : Knows) (o : Outer) → CanTakeBits q i v o → Reached z q → Reached z (take_bits q i v)
   by_fetch : (q : QState) (i : ℕ) (v : Knows) (o : Outer) → CanFetch q i v o → Reached z q → Reached z (leave_fetch q i v o)
-  by_mode_on : (q : QState) (i : ℕ) (v : Knows) (o : Outer) → CanBegin q i v o → Reached z q → Reached z (mode_on q i v)
+  by_mode_on : (q : QState) (i : ℕ) (v : Knows) (o : Outer) → CanSwitchOn q i v o → Reached z q → Reached z (mode_on q i v)
   by_mode_off : (q : QState) (i : ℕ) (v : Knows) (o : Outer) → CanSwitchOff q i v o → Reached z q → Reached z (mode_off q i v)
   by_remove : (q : QState) (i : ℕ) (v : Knows) (o : Outer) → CanRemove q i v o → Reached z q → Reached z (leave_remove q i v o)
   by_load_mode : (q : QState) (i : ℕ) (v : Knows) → CanLoad q i v → Reached z q → Reached z (load_mode q i v)

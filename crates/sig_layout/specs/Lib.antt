@@ -12,4 +12,5 @@ pub mod Lists
 pub mod Law
 pub mod Journals
 pub mod Carried
+pub mod Steady
 pub mod Rule

@@ -5,6 +5,8 @@ use Rattle.sig_layout.specs.declared.entry.Entry.{Entry}
 use Rattle.sig_layout.specs.declared.entry.Entry.TheVariants.{Direct, Fetch, Install, Remove}
 use Rattle.sig_layout.specs.declared.policy.Policy.{Policy}
 use Rattle.sig_layout.specs.declared.policy.Policy.TheVariants.{Never, Always, Churn, Auto}
+use Rattle.sig_layout.specs.declared.via.Via.{Via}
+use Rattle.sig_layout.specs.declared.via.Via.TheVariants as via
 use Rattle.sig_layout.specs.declared.decision.Due.{Due}
 use Rattle.sig_layout.specs.declared.decision.Due.TheVariants as due
 
@@ -26,6 +28,18 @@ first_journal Never = []
 first_journal Always = Install ∷ []
 first_journal (Churn n) = []
 first_journal Auto = []
+
+-- under Never the mode is never on, and under Always it is never off
+abbrev pub AllowsMode : Policy → Bool → Type 0
+AllowsMode Never on = on ≡ false
+AllowsMode Always on = on ≡ true
+AllowsMode (Churn n) on = Unit {0}
+AllowsMode Auto on = Unit {0}
+
+-- under Never no way is a buffer, and under Always none is the outer list
+abbrev pub AllowsWay : Policy → Via → Type 0
+AllowsWay p via.Outer = AllowsMode p false
+AllowsWay p (via.Buffer b) = AllowsMode p true
 
 -- no switch
 abbrev pub IsStill : Entry → Type 0

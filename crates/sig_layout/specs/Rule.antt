@@ -7,7 +7,7 @@ use Rattle.sig_layout.specs.declared.knows.Knows.{Knows}
 use Rattle.sig_layout.specs.declared.item.Item.{Item}
 use Rattle.sig_layout.specs.Sets.{has}
 use Rattle.sig_layout.specs.Sent.{sender, putter, of, signals, Prefix, Within, AllWithin}
-use Rattle.sig_layout.specs.Policies.{IsPeriod, RemoveDue, IsLawful, direct_count, fetch_count}
+use Rattle.sig_layout.specs.Policies.{AllowsMode, AllowsWay, IsPeriod, RemoveDue, IsLawful, direct_count, fetch_count}
 use Rattle.sig_layout.specs.Openings.{IsCarried, IsCounted}
 use Rattle.sig_layout.specs.Views.{filled_at}
 use Rattle.sig_layout.specs.Core.{QState, buffer_of, At}
@@ -73,6 +73,12 @@ pub record Rule (q : QState) : Type 0 where
   pub directs : direct_count q.outer.journal ≡ outer_count q.log
   pub fetches : (i : ℕ) (v : Knows) → At q i v → v.role ≡ true → v.fetches ≡ fetch_count q.outer.journal
   pub due : (i : ℕ) (v : Knows) → At q i v → v.role ≡ true → (v.due ≡ true) ↔ RemoveDue q.setup.policy q.outer.journal
+  -- The policies that never switch. Under Never the mode is off for ever, so that no seat sees it on, and all that is put goes into
+  -- the outer list. Under Always it is on for ever, so that no seat sees it off, and all that is put goes into buffers.
+  pub steady : AllowsMode q.setup.policy q.mode
+  pub steady_on : (c : ℕ) → (q.cells c).sure ≡ true → AllowsMode q.setup.policy true
+  pub steady_off : (i : ℕ) (v : Knows) → At q i v → v.saw_off ≡ true → AllowsMode q.setup.policy false
+  pub ways : All (λ (x : Item). AllowsWay q.setup.policy x.via) q.log
   -- Freshness. What a seat put, and what it was told, are fronts of what each sender put; for its own senders, what it put is all
   -- of that. What the seat with the role took is what was taken. Where a seat has taken the bits, all that it put and was told has
   -- come, but of senders whose buffers stood in the mask that it took.

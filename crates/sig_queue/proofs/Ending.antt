@@ -7,10 +7,11 @@ use lib.ListN.{get_elem?}
 use Rattle.atomic_table.specs.Table.{State, opening, Final, Seen}
 use Rattle.sig_kinds.specs.declared.signal.Signal.{Signal}
 use Rattle.sig_layout.specs.declared.setup.Setup.{Setup}
+use Rattle.sig_layout.specs.declared.item.Item.{Item}
 use Rattle.sig_layout.specs.declared.outer.Outer.{Outer}
 use Rattle.sig_layout.specs.declared.policy.Policy.{Policy}
 use Rattle.sig_kinds.specs.Counting.{IsCounting}
-use Rattle.sig_layout.specs.Policies.{begins_on, IsPolicy, IsLawful, direct_count, fetch_count}
+use Rattle.sig_layout.specs.Policies.{begins_on, IsPolicy, AllowsWay, IsLawful, direct_count, fetch_count}
 use Rattle.sig_layout.specs.Openings.{first_of, IsCarried, IsCounted}
 use Rattle.sig_layout.specs.Carried.{CarriedAs, outer_count}
 use Rattle.sig_layout.specs.Rooms.{all_pieces}
@@ -29,14 +30,15 @@ use Rattle.sig_layout.proofs.Putting.{at_table}
 use Rattle.sig_layout.proofs.Agreeing.{same_view, agrees}
 use Rattle.sig_layout.proofs.Listing.{lists}
 use Rattle.sig_layout.proofs.Lawful.{lawful, mod_small}
-use Rattle.sig_layout.proofs.Journaling.{journals}
+use Rattle.sig_layout.proofs.Journaling.{same_setup, journals}
 use Rattle.sig_layout.proofs.Carrying.{all_of, all_each, all_rest, carried, ways}
+use Rattle.sig_layout.proofs.Steadying.{steady}
 use Rattle.sig_layout.proofs.Wording.{lawful_of}
 use Rattle.sig_queue.specs.Tied.{apart, home, cell_home, homes_of, Tied, list_or}
 use Rattle.sig_queue.specs.Ends.{zeros, first_words, first_outer, all_buffers, lists_in, EndsAs}
 use Rattle.sig_queue.proofs.Ways.{outer_by_sender}
 use Rattle.sig_queue.proofs.Fetches.{flag_dropped}
-use Rattle.sig_queue.proofs.Ties.{not_outer, same_setup}
+use Rattle.sig_queue.proofs.Ties.{not_outer}
 
 module _ {X : Type 0} where
   table_same : (k n : ℕ) (x : X) → table_from k n (λ _. x) ≡ replicate n x
@@ -109,6 +111,10 @@ free_for_one q law id v at role every word holder Has (inr h) idle = let ok = la
     (λ n. let s : ℕ = number h.view in let found = least_has h.view.senders n in
     absurd (apart (sym (its.owns s found) ∙ ok.owns s (every s (its.known s found)))))
 
+-- this was put by a way that the policy allows
+abbrev IsAllowed : Setup → Item → Type 0
+IsAllowed z x = AllowsWay z.policy x.via
+
 -- the table at the end
 pub record Ended (z : Setup) (v : Knows) (xs : List Slot) : Type 0 where
   pub outer : Outer
@@ -119,6 +125,7 @@ pub record Ended (z : Setup) (v : Knows) (xs : List Slot) : Type 0 where
   pub near : (s c : ℕ) → c ≢ buffer_of s → of sender s (list c) ≡ []
   pub carried : All (IsCarried z) (signals v.put)
   pub counted : IsCounted z (signals v.put)
+  pub ways : All (IsAllowed z) v.put
   pub lawful : IsLawful z.policy outer.journal
   pub directs : direct_count outer.journal ≡ outer_count v.put
   pub fetches : fetch_count outer.journal ≡ v.fetches
@@ -142,8 +149,9 @@ ends z id v ws xs final idle role every = let tied = final.1.0 in let q : QState
           ∙ (at_table 0 64 c (λ d. cell_home (q.cells d)) low ∙ (ap (λ (d : ℕ). some (cell_home (q.cells d))) (omega arith) ∙ ap (λ (n : ℕ). some (home n (slot.List (q.cells c).list))) (cell_free c)))));
       flows = λ s. sent_is s ∙ (law.flows s ∙ ap (λ (l : List Signal). of sender s (l ++ q.outer.signals) ++ of sender s (q.cells (buffer_of s)).list) (sym (ok.took role)));
       near = λ s c n. (law.each c).near s (λ e. n (sym e));
-      carried = all_each (IsCarried z) (signals v.put) (λ s. subst (All (IsCarried z)) (sym (sent_is s)) (all_of (IsCarried z) s (signals q.log) c.all));
+      carried = all_each sender (IsCarried z) (signals v.put) (λ s. subst (All (IsCarried z)) (sym (sent_is s)) (all_of sender (IsCarried z) s (signals q.log) c.all));
       counted = λ s h. subst (IsCounting (first_of z s)) (sym (sent_is s)) (c.counted s h);
+      ways = all_each putter (IsAllowed z) v.put (λ s. subst (All (IsAllowed z)) (sym (put_is s)) (all_of putter (IsAllowed z) s q.log (subst (λ (y : Setup). All (IsAllowed y) q.log) same (steady z tied.proper q r).ways)));
       lawful = subst (λ (y : Setup). IsLawful y.policy q.outer.journal) same (lawful_of q.setup.policy q.outer.journal (journals z tied.proper q r).allowed);
       directs = ways z q r ∙ outer_by_sender q.log v.put (λ s. sym (put_is s));
       fetches = sym (((journals z tied.proper q r).owes id v at).made role);
@@ -163,7 +171,8 @@ ended_as z v xs e outer ls rest is lists_are rest_is = let order : (s : ℕ) →
       order = order;
       carried = e.carried;
       counted = e.counted;
-      left = all_each (IsCarried z) rest (λ s. all_rest (IsCarried z) (of sender s v.taken) (of sender s rest) (subst (All (IsCarried z)) (order s ∙ of-append sender s v.taken rest) (all_of (IsCarried z) s (signals v.put) e.carried)));
+      left = all_each sender (IsCarried z) rest (λ s. all_rest (IsCarried z) (of sender s v.taken) (of sender s rest) (subst (All (IsCarried z)) (order s ∙ of-append sender s v.taken rest) (all_of sender (IsCarried z) s (signals v.put) e.carried)));
+      ways = e.ways;
       lawful = subst (IsLawful z.policy) journal e.lawful;
       directs = ap direct_count (sym journal) ∙ e.directs;
       fetches = ap fetch_count (sym journal) ∙ e.fetches;

@@ -1,5 +1,5 @@
 -- Each atomic step of the table is a step of the core.
-use Rattle.std.proofs.Common.{◌≡◌, ◌≢◌, ℕ, zero, suc, ◌+◌, ◌*◌, ◌%◌, ◌^◌, ◌<◌, ◌≤◌, ◌==◌, bit_or, subst, Bool, true, false, List, [], ◌∷◌, ◌++◌, All, length, get_or, set, sym, refl, ap, ◌∙◌, arith, eq-eqb, ne_eqb, append_assoc, inl, inr, ⊎_elim, Option, Some, None}
+use Rattle.std.proofs.Common.{◌≡◌, ◌≢◌, ℕ, zero, suc, ◌+◌, ◌*◌, ◌%◌, ◌^◌, ◌<◌, ◌==◌, bit_or, subst, Bool, true, false, List, [], ◌∷◌, ◌++◌, All, get_or, set, sym, refl, ap, ◌∙◌, arith, eq-eqb, ne_eqb, inl, inr, ⊎_elim, Option, Some, None}
 use Rattle.std.proofs.lemmas.List.Elements.{All-nil, All-cons}
 use mathlib.Core.Logic.{dite}
 use mathlib.Core.Option as maybe
@@ -15,7 +15,7 @@ use Rattle.sig_layout.specs.declared.setup.Setup.{Setup}
 use Rattle.sig_layout.specs.declared.item.Item.{Item}
 use Rattle.sig_layout.specs.declared.outer.Outer.{Outer}
 use Rattle.sig_layout.specs.Sets.{has}
-use Rattle.sig_layout.specs.Sent.{sender, putter, of, signals, Prefix, Within, AllWithin}
+use Rattle.sig_layout.specs.Sent.{sender, of, signals, Prefix, AllWithin}
 use Rattle.sig_layout.specs.Core.{some_refused}
 use Rattle.sig_layout.proofs.Sending.{prefix_through, prefix_signals}
 use Rattle.sig_layout.proofs.Members.{has_below, least_has}
@@ -23,10 +23,11 @@ use Rattle.sig_queue.specs.declared.slot.Slot.{Slot}
 use Rattle.sig_queue.specs.declared.slot.Slot.TheVariants as slot
 use Rattle.sig_layout.specs.declared.part.Part.{Part}
 use Rattle.sig_layout.specs.declared.knows.Knows.{Knows}
-use Rattle.sig_layout.specs.Policies.{IsPolicy}
+use Rattle.sig_layout.specs.declared.policy.Policy.{Policy}
+use Rattle.sig_layout.specs.Policies.{IsPolicy, AllowsMode}
 use Rattle.sig_layout.specs.Summaries.{due_at, is_install, is_remove}
 use Rattle.sig_layout.specs.Openings.{IsNext}
-use Rattle.sig_layout.specs.Views.{number, IsSomebody, table_from, mode_word, flag, filled_at, with_bit, signals_of, holding, turned_away, after_put, after_same, with_bits, after_fetch, switched_on, switched_off, after_remove, saw, counted, gains, turned_away_at, saw_under, marked, given_back, loses, put_aside, took_part, passed, left_of, right_of, note_of, joined, spent}
+use Rattle.sig_layout.specs.Views.{number, IsSomebody, table_from, mode_word, flag, filled_at, signals_of, holding, turned_away, after_put, after_same, with_bits, after_fetch, switched_on, switched_off, after_remove, saw, counted, gains, turned_away_at, saw_under, marked, given_back, loses, put_aside, took_part, passed, left_of, right_of, note_of, joined, spent}
 use Rattle.sig_layout.specs.Outers.{added, emptied, removed, behind}
 use Rattle.sig_layout.specs.Core as core
 use Rattle.sig_layout.specs.Core.{Cell, QState, put, buffer_of, opened_with, Idle, Begins, Unmasked, Reached, by_take_outer, by_refuse_outer, by_put, by_leave, by_take_bits, by_fetch, by_mode_on, by_mode_off, by_remove, by_load_mode, by_load_filled, by_take_buffer, by_refuse_buffer, by_set_back, by_load_under, by_set_bit, by_put_aside, by_leave_buffer, by_take_part, by_pass, by_split, by_note, by_join, opened}
@@ -39,7 +40,9 @@ use Rattle.sig_layout.proofs.Listing.{lists}
 use Rattle.sig_layout.proofs.Lawful.{lawful, fetched_all, mod_small}
 use Rattle.sig_queue.proofs.Taking.{took_carried}
 use Rattle.sig_layout.proofs.Carrying.{carried}
-use Rattle.sig_queue.specs.Tied.{HasTaken, FreshBut, TookCarried, apart, home, cell_home, words_of, homes_of, shown, Tied, Held, Foreign, tried_outer, tried_buffer, loaded_mode, loaded_under, loaded_filled, bit_set, bits_taken, bit_back, stored_on, stored_off, left_put, left_same, left_fetch, left_remove, left_aside, left_buffer, left_part, left_passed, looked_only}
+use Rattle.sig_layout.proofs.Journaling.{same_setup}
+use Rattle.sig_layout.proofs.Steadying.{steady}
+use Rattle.sig_queue.specs.Tied.{HasTaken, apart, home, cell_home, words_of, homes_of, shown, Tied, Held, Foreign, tried_outer, tried_buffer, loaded_mode, loaded_under, loaded_filled, bit_set, bits_taken, bit_back, stored_on, stored_off, left_put, left_same, left_fetch, left_remove, left_aside, left_buffer, left_part, left_passed, looked_only}
 
 -- a list whose place is set to what was found there
 set_found : (xs : List ℕ) (i : ℕ) → set xs i (get_or xs i 0) ≡ xs
@@ -136,32 +139,6 @@ module _ (z : Setup) where
   abbrev Steps : ℕ → Held → ℕ → (ℕ → ℕ) → (ℕ → Held → Type 0) → State Slot Knows → Type 0
   Steps id me i f told s = get_elem? s.views id ≡ some me.0 → (w : Knows) × (a : Act Slot) × Valid s.homes me.1 a × Tied z (stepped s i (f (get_or s.words i 0)) id me.1 w a) × told (get_or s.words i 0) (w, carried_after me.1 a)
 
-  pub same_setup : (q : QState) → Reached z q → q.setup ≡ z
-  same_setup _ opened = refl
-  same_setup _ (by_take_outer q i v can r) = same_setup q r
-  same_setup _ (by_refuse_outer q i v can r) = same_setup q r
-  same_setup _ (by_put q i v o x can r) = same_setup q r
-  same_setup _ (by_leave q i v o can r) = same_setup q r
-  same_setup _ (by_take_bits q i v o can r) = same_setup q r
-  same_setup _ (by_fetch q i v o can r) = same_setup q r
-  same_setup _ (by_mode_on q i v o can r) = same_setup q r
-  same_setup _ (by_mode_off q i v o can r) = same_setup q r
-  same_setup _ (by_remove q i v o can r) = same_setup q r
-  same_setup _ (by_load_mode q i v can r) = same_setup q r
-  same_setup _ (by_load_filled q i v at r) = same_setup q r
-  same_setup _ (by_take_buffer q i v c can r) = same_setup q r
-  same_setup _ (by_refuse_buffer q i v c can r) = same_setup q r
-  same_setup _ (by_set_back q i v c o can r) = same_setup q r
-  same_setup _ (by_load_under q i v p can r) = same_setup q r
-  same_setup _ (by_set_bit q i v p can r) = same_setup q r
-  same_setup _ (by_put_aside q i v p x can r) = same_setup q r
-  same_setup _ (by_leave_buffer q i v p ps can r) = same_setup q r
-  same_setup _ (by_take_part q i v p ps o can r) = same_setup q r
-  same_setup _ (by_pass q i v p ps o can r) = same_setup q r
-  same_setup _ (by_split q i v given role can r) = same_setup q r
-  same_setup _ (by_note q i v at r) = same_setup q r
-  same_setup _ (by_join q i v j w can r) = same_setup q r
-
   pub record Stands (q : QState) : Type 0 where
     pub reached : Reached z q
     pub proper : IsPolicy z.policy
@@ -220,7 +197,7 @@ module _ (z : Setup) where
         tt,
         record {
           core = q';
-          reached = by_put q id v o x (record { at = at; held = held; fetching = nf; removing = nr; installs = due ∙ ap (λ (y : Setup). is_install (due_at y.policy (o.journal ++ Direct (some_refused v.refused) ∷ []))) (sym (same_setup q st.reached)); off = off; from = from; next = subst (λ (y : Setup). IsNext y v.put x) (sym (same_setup q st.reached)) next }) st.reached;
+          reached = by_put q id v o x (record { at = at; held = held; fetching = nf; removing = nr; installs = due ∙ ap (λ (y : Setup). is_install (due_at y.policy (o.journal ++ Direct (some_refused v.refused) ∷ []))) (sym (same_setup z q st.reached)); off = off; from = from; next = subst (λ (y : Setup). IsNext y v.put x) (sym (same_setup z q st.reached)) next }) st.reached;
           is = refl;
           proper = st.proper;
         },
@@ -249,7 +226,7 @@ module _ (z : Setup) where
       → Allows (Tied z) slots id me 0 (λ _. 0) (λ _. left_fetch y due (step slots 0 0 0 none) me 0)
   fetches slots id me o due y same held f nr ns unmasked role not_due due_is out = let v : Knows = me.0 in let o' : Outer = emptied o v.moved in
       allows_with slots id me (0, slot.Outer o') 0 (λ _. 0) (λ m _. left_fetch y due (step slots 0 0 0 none) m 0) out (λ xs q st at. let q' : QState = core.leave_fetch q id v o in let doing = (st.agrees.each id v at).outer o held in let ok = st.lists.each id v at in
-      let same_due : core.makes_due q id v o ≡ due = ap (λ (y : Setup). is_remove (due_at y.policy o'.journal)) (same_setup q st.reached) ∙ sym due_is in
+      let same_due : core.makes_due q id v o ≡ due = ap (λ (y : Setup). is_remove (due_at y.policy o'.journal)) (same_setup z q st.reached) ∙ sym due_is in
       let all_taken : q.taken ++ q.outer.signals ≡ v.taken ++ signals_of v.held = ap (λ (l : List Signal). l ++ q.outer.signals) (sym (ok.took role)) ∙ ap (λ (l : List Signal). v.taken ++ l) (ap (λ (y : Outer). y.signals) doing.value ∙ sym (ap signals_of held)) in
       let base_taken : (s : ℕ) → filled_at v.back (buffer_of s) ≡ false → HasTaken (after_fetch v due) s q.base = (λ s clear. subst (λ (l : List Signal). Prefix (of sender s (signals q.base)) (of sender s l)) all_taken
       (fetched_all mod_small q st.law (doing.fetch ∙ f) (λ d low. doing.masks (doing.fetch ∙ f) d low ∙ unmasked d low) s (ap (λ (n : ℕ). filled_at n (buffer_of s)) (doing.given (doing.fetch ∙ f)) ∙ clear))) in
@@ -269,7 +246,7 @@ module _ (z : Setup) where
             own = λ s clear. prefix_through _ _ _ (prefix_signals s v.put q.base (based.0 s)) (base_taken s clear);
             told = λ s clear. all_taken_of v.told q.base (after_fetch v due) s based.1 (base_taken s clear);
           },
-          took_carried y q (same_setup q st.reached ∙ sym same) st.law (carried z q st.reached) (after_fetch v due) all_taken,
+          took_carried y q (same_setup z q st.reached ∙ sym same) st.law (carried z q st.reached) (after_fetch v due) all_taken,
         ),
       ))
 
@@ -336,17 +313,20 @@ module _ (z : Setup) where
   ))
 
   -- the mode
-  pub loads_mode : (slots id : ℕ) (me : Held) → me.0.held ≡ None → Allows (Tied z) slots id me 8 (λ n. n) (loaded_mode (step slots 8 0 0 none) me)
-  loads_mode slots id me idle = let v : Knows = me.0 in allows slots id me 8 (λ n. n) (loaded_mode (step slots 8 0 0 none) me) (λ q st at. let q' : QState = core.load_mode q id v in (
+  allowed : (policy : Policy) → policy ≡ z.policy → (q : QState) → Stands q → AllowsMode policy q.mode
+  allowed policy same q st = subst (λ (y : Policy). AllowsMode y q.mode) (ap (λ (y : Setup). y.policy) (same_setup z q st.reached) ∙ sym same) (steady z st.proper q st.reached).allowed
+
+  pub loads_mode : (slots id : ℕ) (me : Held) (policy : Policy) → policy ≡ z.policy → me.0.held ≡ None → Allows (Tied z) slots id me 8 (λ n. n) (loaded_mode policy (step slots 8 0 0 none) me)
+  loads_mode slots id me policy same idle = let v : Knows = me.0 in allows slots id me 8 (λ n. n) (loaded_mode policy (step slots 8 0 0 none) me) (λ q st at. let q' : QState = core.load_mode q id v in (
     saw v q.mode,
     keeps,
     tt,
     record { core = q'; reached = by_load_mode q id v (record { at = at; idle = idle }) st.reached; is = refl; proper = st.proper },
-    (q.mode, refl, refl),
+    (q.mode, refl, refl, allowed policy same q st),
   ))
 
-  pub loads_under : (slots id : ℕ) (me : Held) (p : Part) → me.0.held ≡ None → me.0.parts ≡ p ∷ [] → p.number < 64 → Allows (Tied z) slots id me 8 (λ n. n) (loaded_under (step slots 8 0 0 none) me)
-  loads_under slots id me p idle one low = let v : Knows = me.0 in allows slots id me 8 (λ n. n) (loaded_under (step slots 8 0 0 none) me) (λ q st at. let q' : QState = core.load_under q id v p in let c : ℕ = p.number in let x : Cell = record (q.cells c) { sure = q.mode } in (
+  pub loads_under : (slots id : ℕ) (me : Held) (p : Part) (policy : Policy) → policy ≡ z.policy → me.0.held ≡ None → me.0.parts ≡ p ∷ [] → p.number < 64 → Allows (Tied z) slots id me 8 (λ n. n) (loaded_under policy (step slots 8 0 0 none) me)
+  loads_under slots id me p policy same idle one low = let v : Knows = me.0 in allows slots id me 8 (λ n. n) (loaded_under policy (step slots 8 0 0 none) me) (λ q st at. let q' : QState = core.load_under q id v p in let c : ℕ = p.number in let x : Cell = record (q.cells c) { sure = q.mode } in (
     saw_under v p q.mode,
     keeps,
     tt,
@@ -360,7 +340,7 @@ module _ (z : Setup) where
       };
       proper = st.proper;
     },
-    (λ p' one'. (q.mode, refl, ap (λ (r : Part). let m : Held = (saw_under v r q.mode, me.1) in m) (first_is p p' (sym one ∙ one')))),
+    (λ p' one'. (q.mode, refl, ap (λ (r : Part). let m : Held = (saw_under v r q.mode, me.1) in m) (first_is p p' (sym one ∙ one')), allowed policy same q st)),
   ))
 
   pub loads_filled : (slots id : ℕ) (me : Held) → Allows (Tied z) slots id me 16 (λ n. n) (loaded_filled (step slots 16 0 0 none) me)
@@ -372,12 +352,12 @@ module _ (z : Setup) where
     refl,
   ))
 
-  pub stores_on : (slots id : ℕ) (me : Held) (o : Outer) → Begins me.0 o → Allows (Tied z) slots id me 8 (λ _. 1) (λ _. stored_on (step slots 8 1 0 none) me 1)
-  stores_on slots id me o begins = let v : Knows = me.0 in allows slots id me 8 (λ _. 1) (λ _. stored_on (step slots 8 1 0 none) me 1) (λ q st at. let q' : QState = core.mode_on q id v in (
+  pub stores_on : (slots id : ℕ) (me : Held) (o : Outer) → Begins me.0 o → is_install (due_at z.policy (o.journal ++ Direct (some_refused me.0.refused) ∷ [])) ≡ true → Allows (Tied z) slots id me 8 (λ _. 1) (λ _. stored_on (step slots 8 1 0 none) me 1)
+  stores_on slots id me o begins due = let v : Knows = me.0 in allows slots id me 8 (λ _. 1) (λ _. stored_on (step slots 8 1 0 none) me 1) (λ q st at. let q' : QState = core.mode_on q id v in (
     switched_on v,
     keeps,
     tt,
-    record { core = q'; reached = by_mode_on q id v o (record { at = at; begins = begins }) st.reached; is = refl; proper = st.proper },
+    record { core = q'; reached = by_mode_on q id v o (record { at = at; begins = begins; is_due = ap (λ (y : Setup). is_install (due_at y.policy (o.journal ++ Direct (some_refused v.refused) ∷ []))) (same_setup z q st.reached) ∙ due }) st.reached; is = refl; proper = st.proper },
     refl,
   ))
 
@@ -511,7 +491,7 @@ module _ (z : Setup) where
         tt,
         record {
           core = q';
-          reached = by_put_aside q id v p x (record { at = at; one = one; idle = idle; sure = sure; is_set = is_set; blind = blind; from = from; next = subst (λ (y : Setup). IsNext y v.put x) (sym (same_setup q st.reached)) next; home = here }) st.reached;
+          reached = by_put_aside q id v p x (record { at = at; one = one; idle = idle; sure = sure; is_set = is_set; blind = blind; from = from; next = subst (λ (y : Setup). IsNext y v.put x) (sym (same_setup z q st.reached)) next; home = here }) st.reached;
           is = λ k. record {
             words = words_put q.turn (mode_word q.mode) q.filled q.cells p.number low i y is k;
             homes = homes_put (home q.turn (slot.Outer q.outer)) q.cells p.number low (p.number + 1) y (some (slot.List (p.list ++ x ∷ []))) refl (ap (λ (l : List Signal). some (slot.List (l ++ x ∷ []))) (sym h.list)) k;

@@ -2,7 +2,9 @@
 use Rattle.std.specs.Prelude.{◌≡◌, ◌⊎◌, ℕ, ◌+◌, Bool, true, false, List, [], ◌∷◌, ◌++◌, length, Option, Some, None}
 use Rattle.atomic_table.specs.Seated.{TableId}
 use Rattle.sig_kinds.specs.declared.signal.Signal.{Signal}
+use Rattle.sig_layout.specs.declared.policy.Policy.{Policy}
 use Rattle.sig_layout.specs.declared.setup.Setup.{Setup}
+use Rattle.sig_layout.specs.Policies.{AllowsMode}
 use Rattle.sig_layout.specs.declared.knows.Knows.{Knows}
 use Rattle.sig_layout.specs.declared.via.Via.{Via}
 use Rattle.sig_layout.specs.declared.via.Via.TheVariants as via
@@ -41,6 +43,13 @@ OfferedAside b x v (aside.Off y) w = (y ≡ x) × ((bs : List Bool) × (w ≡ re
 OfferedAside b x v aside.Put w = (bs : List Bool) × (w ≡ record (looked v (bs ++ true ∷ [])) { put = v.put ++ item (via.Buffer b) x ∷ [] })
 OfferedAside b x v (aside.Busy y n) w = (y ≡ x) × ((bs : List Bool) × (w ≡ record (looked v bs) { refusals = v.refusals ++ (b + 3, n) ∷ [] })) × Foreign v n
 OfferedAside b x v (aside.Memory y) w = (y ≡ x) × ((bs : List Bool) × (w ≡ looked v bs))
+
+-- it was off, and put, only where the policy allows the mode to be so
+abbrev pub AllowsAside : Policy → Aside → Type 0
+AllowsAside p (aside.Off y) = AllowsMode p false
+AllowsAside p aside.Put = AllowsMode p true
+AllowsAside p (aside.Busy y n) = Unit {0}
+AllowsAside p (aside.Memory y) = Unit {0}
 
 -- an offer to the outer list
 abbrev pub OfferedOut : Signal → Knows → Outward → Knows → Type 0

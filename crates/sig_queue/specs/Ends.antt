@@ -2,12 +2,13 @@
 use Rattle.std.specs.Prelude.{◌≡◌, ℕ, true, All, List, [], ◌∷◌, ◌++◌, replicate, slice_index_or}
 use Rattle.sig_kinds.specs.declared.signal.Signal.{Signal}
 use Rattle.sig_layout.specs.declared.policy.Policy.{Policy}
+use Rattle.sig_layout.specs.declared.item.Item.{Item}
 use Rattle.sig_layout.specs.declared.outer.Outer.{Outer}
 use Rattle.sig_layout.specs.declared.entry.Entry.{Entry}
 use Rattle.sig_layout.specs.declared.opening.Opening.{Opening}
 use Rattle.sig_layout.specs.declared.setup.Setup.{Setup}
 use Rattle.sig_layout.specs.declared.knows.Knows.{Knows}
-use Rattle.sig_layout.specs.Policies.{begins_on, first_journal, IsLawful, direct_count, fetch_count}
+use Rattle.sig_layout.specs.Policies.{begins_on, first_journal, AllowsWay, IsLawful, direct_count, fetch_count}
 use Rattle.sig_layout.specs.Openings.{IsCarried, IsCounted}
 use Rattle.sig_layout.specs.Carried.{outer_count}
 use Rattle.sig_layout.specs.Sets.{has}
@@ -57,6 +58,8 @@ pub record EndsAs (z : Setup) (v : Knows) (rest : List Signal) (journal : List E
   pub carried : All (IsCarried z) (signals v.put)
   pub counted : IsCounted z (signals v.put)
   pub left : All (IsCarried z) rest
+  -- under Never none of it was put into a buffer, and under Always none into the outer list
+  pub ways : All (λ (x : Item). AllowsWay z.policy x.via) v.put
   -- the journal has an Install and a Remove where one was due, a Direct for each put into the outer list, and a Fetch for each fetch
   pub lawful : IsLawful z.policy journal
   pub directs : direct_count journal ≡ outer_count v.put

@@ -1,8 +1,8 @@
 -- What contracts see of queues and of the tokens of one queue, and what is true of each.
-use Rattle.std.specs.Prelude.{◌≡◌, ℕ, ◌≤◌, Bool, true, false, List, [], ◌∷◌, None}
+use Rattle.std.specs.Prelude.{◌≡◌, ℕ, ◌≤◌, Bool, false, List, [], ◌∷◌}
 use Rattle.atomic_table.specs.Seated.{TableId}
 use Rattle.sig_layout.specs.declared.setup.Setup.{Setup}
-use Rattle.sig_layout.specs.declared.policy.Policy.{Policy}
+use Rattle.sig_queue.specs.declared.kept.Kept.{Kept}
 use Rattle.sig_queue.specs.declared.slot.Slot.TheVariants as slot
 use Rattle.sig_layout.specs.declared.knows.Knows.{Knows}
 use Rattle.sig_layout.specs.Sets.{no_senders}
@@ -22,19 +22,19 @@ pub record Seated : Type 0 where
   pub knows : Knows
 
 -- what the running seat keeps is what contracts see
-pub record Keeps (v : Knows) (senders : List ℕ) (least : ℕ) (role due refused : Bool) : Type 0 where
-  pub senders_are : v.senders ≡ senders
-  pub number_is : number v ≡ least
-  pub low : least ≤ 256
-  pub role_is : v.role ≡ role
-  pub due_is : v.due ≡ due
-  pub refused_is : refused ≡ some_refused v.refused
+pub record Keeps (v : Knows) (k : Kept) : Type 0 where
+  pub senders_are : v.senders ≡ k.senders
+  pub number_is : number v ≡ k.least
+  pub low : k.least ≤ 256
+  pub role_is : v.role ≡ k.role
+  pub due_is : v.due ≡ k.due
+  pub refused_is : k.refused ≡ some_refused v.refused
 
 -- a seat between two calls
-pub record IsSeat (me : Held) (senders : List ℕ) (least : ℕ) (role due refused : Bool) : Type 0 where
+pub record IsSeat (me : Held) (k : Kept) : Type 0 where
   pub idle : Idle me.0
   pub bare : me.1 ≡ []
-  pub keeps : Keeps me.0 senders least role due refused
+  pub keeps : Keeps me.0 k
 
 -- a note: it has no sender and no role
 pub record IsNote (me : Held) : Type 0 where
@@ -46,7 +46,7 @@ pub record IsNote (me : Held) : Type 0 where
   pub unrefused : me.0.refused ≡ 0
 
 -- a seat that holds the outer turn between two calls, for tests
-pub record IsHolder (me : Held) (senders : List ℕ) (least : ℕ) (role due refused : Bool) : Type 0 where
+pub record IsHolder (me : Held) (k : Kept) : Type 0 where
   pub begins : Begins me.0 (held_or me.0.held)
   pub slots : me.1 ≡ (0, slot.Outer (held_or me.0.held)) ∷ []
   pub parts : me.0.parts ≡ []
@@ -55,4 +55,4 @@ pub record IsHolder (me : Held) (senders : List ℕ) (least : ℕ) (role due ref
   pub back : me.0.back ≡ 0
   pub moved : me.0.moved ≡ 0
   pub progress : me.0.progress ≡ 0
-  pub keeps : Keeps me.0 senders least role due refused
+  pub keeps : Keeps me.0 k

@@ -1,5 +1,5 @@
 -- The table as threads see it is a state of the core.
-use Rattle.std.specs.Prelude.{◌≡◌, ◌≢◌, ℕ, zero, suc, ◌+◌, ◌*◌, ◌≤◌, Bool, true, false, List, [], ◌∷◌, All, Some}
+use Rattle.std.specs.Prelude.{◌≡◌, ◌≢◌, ℕ, zero, suc, ◌+◌, ◌*◌, Bool, true, false, List, [], ◌∷◌, All, Some}
 use mathlib.Core.Option as maybe
 use mathlib.Core.Option.{none, some}
 use Rattle.atomic_table.specs.Table.{State, Me, Step, rest}
@@ -7,11 +7,12 @@ use Rattle.sig_kinds.specs.declared.signal.Signal.{Signal}
 use Rattle.sig_layout.specs.declared.setup.Setup.{Setup}
 use Rattle.sig_layout.specs.declared.outer.Outer.{Outer}
 use Rattle.sig_layout.specs.declared.item.Item.{Item}
+use Rattle.sig_layout.specs.declared.policy.Policy.{Policy}
 use Rattle.sig_layout.specs.declared.policy.Policy.TheVariants.{Never}
-use Rattle.sig_layout.specs.Policies.{IsPolicy}
+use Rattle.sig_layout.specs.Policies.{IsPolicy, AllowsMode}
 use Rattle.sig_layout.specs.Openings.{IsCarried, IsCounted}
 use Rattle.sig_layout.specs.Sets.{has}
-use Rattle.sig_layout.specs.Sent.{sender, putter, of, signals, Prefix}
+use Rattle.sig_layout.specs.Sent.{sender, of, signals, Prefix}
 use Rattle.sig_queue.specs.declared.slot.Slot.{Slot}
 use Rattle.sig_queue.specs.declared.slot.Slot.TheVariants as slot
 use Rattle.sig_layout.specs.declared.part.Part.{Part}
@@ -104,11 +105,11 @@ tried_outer st m n m' = (n ≡ 0 → (o : Outer) × (m' ≡ (holding m.0 o, (0, 
 abbrev pub tried_buffer : Tells
 tried_buffer st m n m' = (b : ℕ) → st.word ≡ 8 * (b + 3) → (n ≡ 0 → (l : List Signal) × (m' ≡ (gains m.0 b l, (b + 1, slot.List l) ∷ m.1))) × (n ≢ 0 → (m' ≡ (turned_away_at m.0 (b + 3) n, m.1)) × Foreign m.0 n)
 
-abbrev pub loaded_mode : Tells
-loaded_mode st m n m' = (on : Bool) × (n ≡ mode_word on) × (m' ≡ (saw m.0 on, m.1))
+abbrev pub loaded_mode : Policy → Tells
+loaded_mode policy st m n m' = (on : Bool) × (n ≡ mode_word on) × (m' ≡ (saw m.0 on, m.1)) × AllowsMode policy on
 
-abbrev pub loaded_under : Tells
-loaded_under st m n m' = (p : Part) → m.0.parts ≡ p ∷ [] → (on : Bool) × (n ≡ mode_word on) × (m' ≡ (saw_under m.0 p on, m.1))
+abbrev pub loaded_under : Policy → Tells
+loaded_under policy st m n m' = (p : Part) → m.0.parts ≡ p ∷ [] → (on : Bool) × (n ≡ mode_word on) × (m' ≡ (saw_under m.0 p on, m.1)) × AllowsMode policy on
 
 abbrev pub loaded_filled : Tells
 loaded_filled st m n m' = m' ≡ (counted m.0 n, m.1)

@@ -5,13 +5,14 @@ ghost use Rattle.sig_layout.specs.Openings.{IsNext};
 ghost use Rattle.sig_layout.specs.Core.{Idle, buffer_of};
 ghost use Rattle.sig_layout.specs.Views.{number, IsSomebody};
 ghost use Rattle.sig_queue.specs.Parts.{first_part, IsOne};
-ghost use Rattle.sig_queue.specs.Calls.{Under, OfferedAside};
+ghost use Rattle.sig_queue.specs.Calls.{Under, OfferedAside, AllowsAside};
 
 use crate::rule::{Place, Words};
 use crate::slot::Slot;
 use crate::steps::{load_mode, load_under, set_bit};
 use crate::turns::{leave_aside, leave_buffer, put_list, take_list, try_buffer};
 use sig_kinds::Signal;
+use std::marker::Brand;
 
 /// What an offer to a buffer gave. `Off`: the mode was off.
 #[derive(Drop)]
@@ -32,8 +33,9 @@ fn under_turn(words: &Words, place: &mut Place, buffer: usize, signal: Signal) -
     requires out { place.old.me.1 ≡ (buffer + 1, Slot.List (first_part place.old.me.0.parts).list) ∷ [] }
     ensures same { (place.new.table_id ≡ place.old.table_id) × (place.new.id ≡ place.old.id) × (place.new.me.1 ≡ []) }
     ensures offered { Under signal place.old.me.0 result place.new.me.0 }
+    ensures allowed { AllowsAside words.now.key.policy result }
 {
-    if !load_under(words, place, buffer) {
+    if !load_under::<Brand>(words, place, buffer) {
         leave_buffer(words, place, buffer);
         return Aside::Off(signal);
     }
@@ -64,8 +66,9 @@ pub(crate) fn offer_aside(
     requires next { IsNext words.now.key place.old.me.0.put signal }
     ensures same { (place.new.table_id ≡ place.old.table_id) × (place.new.id ≡ place.old.id) × (place.new.me.1 ≡ []) }
     ensures offered { OfferedAside buffer signal place.old.me.0 result place.new.me.0 }
+    ensures allowed { AllowsAside words.now.key.policy result }
 {
-    if !load_mode(words, place) {
+    if !load_mode::<Brand>(words, place) {
         return Aside::Off(signal);
     }
     let found = try_buffer(words, place, buffer, mine);

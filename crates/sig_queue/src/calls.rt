@@ -4,6 +4,7 @@ ghost use Rattle.std.specs.Prelude.{◌≡◌, ℕ, true};
 ghost use Rattle.sig_layout.specs.Sets.{has};
 ghost use Rattle.sig_layout.specs.Views.{left_of, right_of, note_of, joined, counted};
 
+use crate::kept::Kept;
 use crate::note::Note;
 use crate::qseat::QSeat;
 use crate::seats::{cut, merge, tell};
@@ -25,19 +26,18 @@ impl SigQueue {
         ensures right { result.knows ≡ right_of seat.old.knows senders receiver }
     {
         let place = cut::<Brand>(&self.table.shared, &mut seat.place, senders, receiver);
-        let due = seat.due && receiver;
-        seat.senders = seat.senders.minus(senders);
-        seat.least = seat.senders.least();
-        seat.role = seat.role && !receiver;
-        seat.due = seat.due && !receiver;
-        QSeat {
-            place,
+        let given = Kept {
             senders,
             least: senders.least(),
             role: receiver,
-            due,
+            due: seat.kept.due && receiver,
             refused: false,
-        }
+        };
+        seat.kept.senders = seat.kept.senders.minus(senders);
+        seat.kept.least = seat.kept.senders.least();
+        seat.kept.role = seat.kept.role && !receiver;
+        seat.kept.due = seat.kept.due && !receiver;
+        QSeat { place, kept: given }
     }
 
     /// Gives all that the other seat has to this one.
@@ -46,20 +46,13 @@ impl SigQueue {
         ensures own { seat.new.queue ≡ seat.old.queue }
         ensures both { seat.new.knows ≡ joined seat.old.knows other.knows }
     {
-        let QSeat {
-            place,
-            senders,
-            least: _,
-            role,
-            due,
-            refused,
-        } = other;
+        let QSeat { place, kept } = other;
         merge(&self.table.shared, &mut seat.place, place);
-        seat.senders = seat.senders.plus(senders);
-        seat.least = seat.senders.least();
-        seat.role = seat.role || role;
-        seat.due = seat.due || due;
-        seat.refused = seat.refused || refused;
+        seat.kept.senders = seat.kept.senders.plus(kept.senders);
+        seat.kept.least = seat.kept.senders.least();
+        seat.kept.role = seat.kept.role || kept.role;
+        seat.kept.due = seat.kept.due || kept.due;
+        seat.kept.refused = seat.kept.refused || kept.refused;
     }
 
     /// Tells what this seat knows to have been put.
@@ -83,8 +76,8 @@ impl SigQueue {
         let words = &self.table.shared;
         merge(words, &mut seat.place, place);
         look_only(words, &mut seat.place);
-        seat.senders = seat.senders.plus(Senders::none());
-        seat.least = seat.senders.least();
+        seat.kept.senders = seat.kept.senders.plus(Senders::none());
+        seat.kept.least = seat.kept.senders.least();
     }
 
     /// What one load of the word of bits gives.

@@ -69,15 +69,15 @@ impl SigQueue {
         ensures fetched { Fetched self.now.setup into.old.items into.new.items seat.old.knows result seat.new.knows }
     {
         let words = &self.table.shared;
-        let mine = seat.least + 1;
+        let mine = seat.kept.least + 1;
         let found = try_outer(words, &mut seat.place, mine);
         if found != 0 {
-            seat.refused = true;
+            seat.kept.refused = true;
             return Fetch::Busy { found };
         }
         let fetch = fetch_held(words, &mut seat.place, mine, into, self.policy);
         if let Fetch::Took { due, .. } = fetch {
-            seat.due = due;
+            seat.kept.due = due;
         }
         fetch
     }

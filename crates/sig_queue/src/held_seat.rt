@@ -1,17 +1,12 @@
+use crate::kept::Kept;
 use crate::rule::Place;
-use sig_layout::Senders;
 use std::marker::Model;
 
 /// A seat that holds the outer turn, for tests. Contracts see of which queue it is, and what it knows.
 #[derive(Drop)]
 pub struct HeldSeat {
     pub(crate) place: Place,
-    pub(crate) senders: Senders,
-    // The least sender, or 256.
-    pub(crate) least: u64,
-    pub(crate) role: bool,
-    pub(crate) due: bool,
-    pub(crate) refused: bool,
+    pub(crate) kept: Kept,
 }
 
 impl Model for HeldSeat {
@@ -28,5 +23,5 @@ impl Model for HeldSeat {
       knows = s.place.me.0;
     } };
 
-    ghost invariant = { λ s. IsHolder s.place.me s.senders s.least s.role s.due s.refused };
+    ghost invariant = { λ s. IsHolder s.place.me s.kept };
 }

@@ -17,32 +17,15 @@ pub fn hold(queue: &SigQueue, seat: QSeat) -> Hold
 {
     let QSeat {
         mut place,
-        senders,
-        least,
-        role,
-        due,
-        refused,
+        mut kept,
     } = seat;
-    let found = try_outer(&queue.table.shared, &mut place, least + 1);
+    let found = try_outer(&queue.table.shared, &mut place, kept.least + 1);
     if found != 0 {
-        let seat = QSeat {
-            place,
-            senders,
-            least,
-            role,
-            due,
-            refused: true,
-        };
+        kept.refused = true;
+        let seat = QSeat { place, kept };
         return Hold::Busy { seat, found };
     }
-    Hold::Held(HeldSeat {
-        place,
-        senders,
-        least,
-        role,
-        due,
-        refused,
-    })
+    Hold::Held(HeldSeat { place, kept })
 }
 
 /// Leaves the outer turn, with all as it was.
@@ -51,21 +34,7 @@ pub fn release(queue: &SigQueue, held: HeldSeat) -> QSeat
     ensures own { result.queue ≡ queue.now.id }
     ensures left { result.knows ≡ record (held.knows) { held = None } }
 {
-    let HeldSeat {
-        mut place,
-        senders,
-        least,
-        role,
-        due,
-        refused,
-    } = held;
+    let HeldSeat { mut place, kept } = held;
     leave_same(&queue.table.shared, &mut place);
-    QSeat {
-        place,
-        senders,
-        least,
-        role,
-        due,
-        refused,
-    }
+    QSeat { place, kept }
 }

@@ -1,4 +1,5 @@
-ghost use Rattle.std.specs.Prelude.{◌≡◌, true};
+ghost use Rattle.std.specs.Prelude.{◌≡◌, ◌≢◌, ℕ, true};
+ghost use Rattle.sig_layout.specs.declared.policy.Policy.TheVariants.{Never, Always};
 ghost use Rattle.sig_layout.specs.Sets.{has};
 ghost use Rattle.sig_layout.specs.Openings.{IsNext};
 ghost use Rattle.sig_queue.specs.Calls.{Offered};
@@ -25,16 +26,19 @@ pub enum Offer {
 impl SigQueue {
     /// Offers a signal: to the sender's buffer where the mode is on, and else to the outer list. It
     /// tries each turn once, and never waits. The signal is of a sender of the seat, goes to the
-    /// queue's receiver, and continues the numbers of its sender.
+    /// queue's receiver, and continues the numbers of its sender. Under `Never` it is put into no
+    /// buffer, and under `Always` never into the outer list.
     pub fn offer(&self, seat: &mut QSeat, signal: Signal) -> Offer
         requires own { seat.old.queue ≡ self.now.id }
         requires from { has seat.old.knows.senders signal.from.0 ≡ true }
         requires next { IsNext self.now.setup seat.old.knows.put signal }
         ensures own { seat.new.queue ≡ seat.old.queue }
         ensures offered { Offered signal seat.old.knows result seat.new.knows }
+        ensures never { self.now.setup.policy ≡ Never → (b : ℕ) → result ≢ Offer.Put (Via.Buffer b) }
+        ensures always { self.now.setup.policy ≡ Always → result ≢ Offer.Put Via.Outer }
     {
         let words = &self.table.shared;
-        let mine = seat.least + 1;
+        let mine = seat.kept.least + 1;
         let buffer = signal.from.0 % 64;
         let aside = offer_aside(words, &mut seat.place, buffer as usize, mine, signal);
         match aside {
@@ -44,14 +48,14 @@ impl SigQueue {
             Aside::Busy(signal, found) => Offer::Busy { signal, found },
             Aside::Memory(signal) => Offer::Memory { signal },
             Aside::Off(signal) => {
-                let refused = seat.refused;
+                let refused = seat.kept.refused;
                 match offer_outer(words, &mut seat.place, mine, signal, refused, self.policy) {
                     Outward::Put => {
-                        seat.refused = false;
+                        seat.kept.refused = false;
                         Offer::Put { via: Via::Outer }
                     }
                     Outward::Busy(signal, found) => {
-                        seat.refused = true;
+                        seat.kept.refused = true;
                         Offer::Busy { signal, found }
                     }
                     Outward::Memory(signal) => Offer::Memory { signal },

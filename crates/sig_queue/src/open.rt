@@ -5,6 +5,7 @@ ghost use Rattle.sig_layout.specs.Openings.{IsSetup};
 ghost use Rattle.sig_layout.specs.Views.{first_seat, mode_word};
 ghost use Rattle.sig_queue.specs.Ends.{first_words as words_at_first, first_outer, all_buffers, setup_of};
 
+use crate::kept::Kept;
 use crate::outer_box::OuterBox;
 use crate::qseat::QSeat;
 use crate::sig_queue::SigQueue;
@@ -105,14 +106,14 @@ impl SigQueue {
             alloc,
             lists,
         };
-        let seat = QSeat {
-            place,
+        let kept = Kept {
             senders,
             least: senders.least(),
             role: true,
             due: false,
             refused: false,
         };
+        let seat = QSeat { place, kept };
         Ok((queue, seat))
     }
 }

@@ -1,8 +1,10 @@
 //! The second half of an offer: to the outer list.
-ghost use Rattle.std.specs.Prelude.{◌≡◌, ◌≢◌, ℕ, ◌+◌, ◌<◌, [], ◌∷◌, true, false, Some, None};
+ghost use Rattle.std.specs.Prelude.{◌≡◌, ◌≢◌, ℕ, ◌+◌, ◌<◌, ◌++◌, [], ◌∷◌, true, false, Some, None};
 ghost use Rattle.sig_layout.specs.Sets.{has};
 ghost use Rattle.sig_layout.specs.Openings.{IsNext};
 ghost use Rattle.sig_layout.specs.declared.outer.Outer.{Outer};
+ghost use Rattle.sig_layout.specs.declared.entry.Entry.TheVariants.{Direct};
+ghost use Rattle.sig_layout.specs.Summaries.{due_at, is_install};
 ghost use Rattle.sig_layout.specs.Core.{Begins, some_refused};
 ghost use Rattle.sig_layout.specs.Views.{number, IsSomebody};
 ghost use Rattle.sig_queue.specs.Calls.{OfferedOut};
@@ -23,7 +25,7 @@ pub(crate) enum Outward {
 // Stores the mode on where the put makes an install due.
 fn install_if(words: &Words, place: &mut Place, switched: bool)
     requires table { (place.old.table_id ≡ words.now.table_id) × (words.now.table_id.words ≡ 536) }
-    requires begins { (o : Outer) × Begins place.old.me.0 o }
+    requires begins { (o : Outer) × Begins place.old.me.0 o × (switched ≡ is_install (due_at words.now.key.policy (o.journal ++ Direct (some_refused place.old.me.0.refused) ∷ []))) }
     ensures same { (place.new.table_id ≡ place.old.table_id) × (place.new.id ≡ place.old.id) }
     ensures switched { place.new.me ≡ (record place.old.me.0 { switched = switched }, place.old.me.1) }
 {

@@ -1,6 +1,8 @@
 //! What each step on the table tells. No value of these types is made.
 ghost use Rattle.sig_layout.specs.Views.{left_of, right_of, note_of, joined, spent};
 ghost use Rattle.sig_layout.specs.declared.setup.Setup.{Setup};
+ghost use Rattle.sig_layout.specs.declared.policy.Policy.{Policy};
+ghost use Rattle.sig_layout.specs.declared.policy.Policy.TheVariants.{Never};
 ghost use Rattle.std.specs.Prelude.{Bool, ℕ, List, false};
 ghost use Rattle.sig_layout.specs.Sets.{no_senders};
 ghost use Rattle.sig_queue.specs.Tied.{no_setup, tried_outer, tried_buffer, loaded_mode, loaded_under, loaded_filled, bit_set, bits_taken, bit_back, stored_on, stored_off, left_put, left_same, left_fetch, left_remove, left_aside, left_buffer, left_part, left_passed, looked_only};
@@ -22,16 +24,29 @@ impl Play<Slot, Knows> for TryBuffer {
     ghost then = { tried_buffer };
 }
 
-pub(crate) struct LoadMode;
-
-impl Play<Slot, Knows> for LoadMode {
-    ghost then = { loaded_mode };
+/// The policy of the queue. The caller's proof picks it.
+pub(crate) trait Ruled {
+    ghost policy: { Policy };
 }
 
-pub(crate) struct LoadUnder;
+impl Ruled for Brand {
+    ghost policy = { Never };
+}
 
-impl Play<Slot, Knows> for LoadUnder {
-    ghost then = { loaded_under };
+pub(crate) struct LoadMode<G> {
+    ruled: PhantomData<G>,
+}
+
+impl<G: Ruled> Play<Slot, Knows> for LoadMode<G> {
+    ghost then = { loaded_mode G.policy };
+}
+
+pub(crate) struct LoadUnder<G> {
+    ruled: PhantomData<G>,
+}
+
+impl<G: Ruled> Play<Slot, Knows> for LoadUnder<G> {
+    ghost then = { loaded_under G.policy };
 }
 
 pub(crate) struct LoadFilled;

@@ -1,17 +1,12 @@
+use crate::kept::Kept;
 use crate::rule::Place;
-use sig_layout::Senders;
 use std::marker::Model;
 
 /// A caller's token of one queue, which holds no turn. Contracts see of which queue it is, and what it knows.
 #[derive(Drop)]
 pub struct QSeat {
     pub(crate) place: Place,
-    pub(crate) senders: Senders,
-    // The least sender, or 256.
-    pub(crate) least: u64,
-    pub(crate) role: bool,
-    pub(crate) due: bool,
-    pub(crate) refused: bool,
+    pub(crate) kept: Kept,
 }
 
 impl Model for QSeat {
@@ -28,5 +23,5 @@ impl Model for QSeat {
       knows = s.place.me.0;
     } };
 
-    ghost invariant = { λ s. IsSeat s.place.me s.senders s.least s.role s.due s.refused };
+    ghost invariant = { λ s. IsSeat s.place.me s.kept };
 }

@@ -207,7 +207,7 @@ impl SigQueue {
     pub fn removal_due(seat: &QSeat) -> bool
         ensures { result ≡ seat.now.knows.due }
     {
-        seat.due
+        seat.kept.due
     }
 
     /// Takes the mode off and moves what lies in the buffers behind the outer list. It may wait for
@@ -221,10 +221,10 @@ impl SigQueue {
         ensures err { OnErr result (seat.new.knows ≡ waited seat.old.knows seat.new.knows) }
     {
         let words = &self.table.shared;
-        let mine = seat.least + 1;
-        seat.refused = wait_outer(rt, words, &mut seat.place, mine, seat.refused);
+        let mine = seat.kept.least + 1;
+        seat.kept.refused = wait_outer(rt, words, &mut seat.place, mine, seat.kept.refused);
         remove_held(rt, self.alloc, words, &mut seat.place, mine)?;
-        seat.due = false;
+        seat.kept.due = false;
         Ok(())
     }
 }

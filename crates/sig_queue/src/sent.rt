@@ -1,4 +1,5 @@
-ghost use Rattle.std.specs.Prelude.{◌≡◌, true};
+ghost use Rattle.std.specs.Prelude.{◌≡◌, ◌≢◌, ℕ, true};
+ghost use Rattle.sig_layout.specs.declared.policy.Policy.TheVariants.{Never, Always};
 ghost use Rattle.sig_layout.specs.Sets.{has};
 ghost use Rattle.sig_layout.specs.Openings.{IsNext};
 ghost use Rattle.sig_queue.specs.Calls.{SentAs};
@@ -23,13 +24,16 @@ pub enum Sent {
 impl SigQueue {
     /// Offers a signal until it was put, or memory is wanting. It may wait for other seats. The
     /// signal is of a sender of the seat, goes to the queue's receiver, and continues the numbers of
-    /// its sender.
+    /// its sender. Under `Never` it is put into no buffer, and under `Always` never into the outer
+    /// list.
     pub fn send<R: Wait>(&self, rt: &R, seat: &mut QSeat, mut signal: Signal) -> Sent
         requires own { seat.old.queue ≡ self.now.id }
         requires from { has seat.old.knows.senders signal.from.0 ≡ true }
         requires next { IsNext self.now.setup seat.old.knows.put signal }
         ensures own { seat.new.queue ≡ seat.old.queue }
         ensures sent { SentAs signal seat.old.knows result seat.new.knows }
+        ensures never { self.now.setup.policy ≡ Never → (b : ℕ) → result ≢ Sent.Put (Via.Buffer b) }
+        ensures always { self.now.setup.policy ≡ Always → result ≢ Sent.Put Via.Outer }
     {
         for _ in rt.forever() {
             match self.offer(seat, signal) {

@@ -8,6 +8,7 @@ ghost use Rattle.sig_layout.specs.Sets.{has};
 ghost use Rattle.sig_layout.specs.Openings.{IsNext};
 ghost use Rattle.sig_layout.specs.Core.{some_refused};
 ghost use Rattle.sig_layout.specs.Summaries.{due_at, is_install, is_remove};
+ghost use Rattle.sig_layout.specs.Policies.{AllowsMode};
 ghost use Rattle.sig_layout.specs.Core.{Begins, Unmasked};
 ghost use Rattle.sig_layout.specs.Views.{number, IsSomebody, flag, holding, turned_away, after_put, after_same, after_fetch, after_remove, switched_on, switched_off, with_bits, given_back, saw, saw_under, counted, marked};
 ghost use Rattle.sig_layout.specs.Outers.{added, emptied, removed};
@@ -17,7 +18,7 @@ ghost use Rattle.sig_queue.specs.Parts.{first_part, IsOne};
 use crate::outer_box::OuterBox;
 use crate::plays::{
     LeaveFetch, LeavePut, LeaveRemove, LeaveSame, Leaves, LoadFilled, LoadMode, LoadUnder,
-    LookOnly, SetBack, SetBit, StoreOff, StoreOn, TakeBits, TryOuter, Which,
+    LookOnly, Ruled, SetBack, SetBit, StoreOff, StoreOn, TakeBits, TryOuter, Which,
 };
 use crate::rule::{Place, Words};
 use crate::slot::Slot;
@@ -109,25 +110,29 @@ pub(crate) fn leave_remove(words: &Words, place: &mut Place)
     words.store::<LeaveRemove>(place, 0, 0);
 }
 
-// Whether the mode is on.
-pub(crate) fn load_mode(words: &Words, place: &mut Place) -> bool
+// Whether the mode is on. The proof picks `G` by the policy.
+pub(crate) fn load_mode<G: Ruled>(words: &Words, place: &mut Place) -> bool
     requires table { (place.old.table_id ≡ words.now.table_id) × (words.now.table_id.words ≡ 536) }
+    requires picked { G.policy ≡ words.now.key.policy }
     requires idle { place.old.me.0.held ≡ None }
     ensures same { (place.new.table_id ≡ place.old.table_id) × (place.new.id ≡ place.old.id) }
     ensures saw { place.new.me ≡ (saw place.old.me.0 result, place.old.me.1) }
+    ensures allowed { AllowsMode words.now.key.policy result }
 {
-    words.load::<LoadMode>(place, MODE) == 1
+    words.load::<LoadMode<G>>(place, MODE) == 1
 }
 
 // Whether the mode is on, under the turn of a buffer.
-pub(crate) fn load_under(words: &Words, place: &mut Place, buffer: usize) -> bool
+pub(crate) fn load_under<G: Ruled>(words: &Words, place: &mut Place, buffer: usize) -> bool
     requires table { (place.old.table_id ≡ words.now.table_id) × (words.now.table_id.words ≡ 536) × (buffer < 64) }
+    requires picked { G.policy ≡ words.now.key.policy }
     requires idle { place.old.me.0.held ≡ None }
     requires one { IsOne place.old.me.0.parts buffer }
     ensures same { (place.new.table_id ≡ place.old.table_id) × (place.new.id ≡ place.old.id) }
     ensures saw { place.new.me ≡ (saw_under place.old.me.0 (first_part place.old.me.0.parts) result, place.old.me.1) }
+    ensures allowed { AllowsMode words.now.key.policy result }
 {
-    words.load::<LoadUnder>(place, MODE) == 1
+    words.load::<LoadUnder<G>>(place, MODE) == 1
 }
 
 pub(crate) fn load_filled(words: &Words, place: &mut Place) -> u64
@@ -138,15 +143,17 @@ pub(crate) fn load_filled(words: &Words, place: &mut Place) -> u64
     words.load::<LoadFilled>(place, FILLED)
 }
 
+// Stores the mode on, where the put that comes makes an install due.
 pub(crate) fn mode_on(words: &Words, place: &mut Place)
     requires table { (place.old.table_id ≡ words.now.table_id) × (words.now.table_id.words ≡ 536) }
-    requires begins { (o : Outer) × Begins place.old.me.0 o }
+    requires begins { (o : Outer) × Begins place.old.me.0 o × (is_install (due_at words.now.key.policy (o.journal ++ Direct (some_refused place.old.me.0.refused) ∷ [])) ≡ true) }
     ensures same { (place.new.table_id ≡ place.old.table_id) × (place.new.id ≡ place.old.id) }
     ensures on { place.new.me ≡ (switched_on place.old.me.0, place.old.me.1) }
 {
     words.store::<StoreOn>(place, MODE, 1);
 }
 
+// Stores the mode off, where a removal is due.
 pub(crate) fn mode_off(words: &Words, place: &mut Place)
     requires table { (place.old.table_id ≡ words.now.table_id) × (words.now.table_id.words ≡ 536) }
     requires begins { (o : Outer) × Begins place.old.me.0 o }

@@ -1,4 +1,4 @@
-use Rattle.std.proofs.Common.{ℕ, List, ◌∷◌, ap, sym, ◌∙◌}
+use Rattle.std.proofs.Common.{◌∷◌, ap, sym, ◌∙◌}
 use Rattle.atomic_table.specs.Table.{rest}
 use Rattle.sig_layout.specs.declared.outer.Outer.{Outer}
 use Rattle.sig_queue.specs.declared.slot.Slot.TheVariants as slot

@@ -1,4 +1,4 @@
-use Rattle.std.proofs.Common.{sym, ◌∙◌, subst}
+use Rattle.std.proofs.Common.{◌∙◌, subst}
 use Rattle.sig_kinds.specs.declared.signal.Signal.{Signal}
 use Rattle.sig_queue.specs.Calls.{PutBy}
 use Rattle.sig_queue.proofs.Sendings.{tried_more, tried_looked, sent_by, same_next}
