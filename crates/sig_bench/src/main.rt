@@ -3,6 +3,7 @@
 #![tactic(auto)]
 
 mod measuring;
+mod message;
 mod over_mutex;
 mod over_queue;
 mod receiver;

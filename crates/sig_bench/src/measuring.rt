@@ -2,7 +2,7 @@
 
 use crate::over_mutex::over_mutex;
 use crate::over_queue::over_queue;
-use crate::way::WAYS;
+use crate::way::{WAYS, Way};
 use crate::work::Work;
 use std::alloc::{AllocError, Global};
 use std::io;
@@ -36,17 +36,22 @@ pub fn measure<R: Threads + Wait + Clock + Print + Sync>(
     println!(rt; "{} {} {got} {nanos} {}.{:02}", work.way.word(), work.senders, rate / 100, rate % 100)
 }
 
+// A run that takes next to no time.
+fn sample(way: Way, apart: bool) -> Work {
+    Work {
+        way,
+        senders: 3,
+        each: 200,
+        apart,
+    }
+}
+
 /// Sends some signals each way, with pids of each kind, and prints how many came. Fails as `measure`
 /// does.
 pub fn check<R: Threads + Wait + Clock + Print + Sync>(rt: &R, alloc: Global) -> io::Result<()> {
     for way in WAYS {
-        for step in [1, 8] {
-            let work = Work {
-                way,
-                senders: 3,
-                each: 200,
-                step,
-            };
+        for apart in [false, true] {
+            let work = sample(way, apart);
             let got = perform(rt, alloc, work)?;
             println!(rt; "{} {} {got}", way.word(), work.senders)?;
         }

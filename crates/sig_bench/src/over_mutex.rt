@@ -1,9 +1,9 @@
 //! Signals through a list under a mutex.
 
+use crate::message::message;
 use crate::receiver::PAUSE;
 use crate::work::Work;
 use sig_kinds::Signal;
-use sig_relay::message;
 use sig_terms::Pid;
 use std::alloc::Global;
 use std::mem;
@@ -21,10 +21,10 @@ fn send<R: Wait>(
     each: u32,
     missing: &AtomicU64,
 ) {
-    for serial in 0..each {
-        let signal = message(from, Pid(0), serial as u64 + 1, serial as u64);
+    for number in 0..each {
+        let signal = message(from, number as u64 + 1);
         if list.lock(rt).push(signal).is_err() {
-            missing.fetch_add((each - serial) as u64, Ordering::SeqCst);
+            missing.fetch_add((each - number) as u64, Ordering::SeqCst);
             break;
         }
     }

@@ -1,15 +1,15 @@
 //! Signals through the shared queue.
-ghost use Rattle.std.specs.Prelude.{◌≡◌, ◌∷◌, ℕ, [], true, replicate, IfOk};
-ghost use Rattle.sig_layout.specs.Sets.{has};
+ghost use Rattle.std.specs.Prelude.{◌≡◌, [], true, replicate, IfOk};
 ghost use Rattle.sig_layout.specs.Policies.{IsPolicy};
-ghost use Rattle.sig_layout.specs.Openings.{IsSetup};
+ghost use Rattle.sig_layout.specs.Views.{first_seat};
+ghost use Rattle.sig_bench.specs.Messages.{receiver, IsOpen};
 
+use crate::message::RECEIVER;
 use crate::receiver::Receiver;
 use crate::sender::Sender;
 use crate::work::Work;
 use sig_layout::{Numbers, Opening, Policy, Senders};
 use sig_queue::{QSeat, SigQueue};
-use sig_relay::{Line, only};
 use sig_terms::Pid;
 use std::alloc::{AllocError, Global};
 use std::sync::Wait;
@@ -18,19 +18,19 @@ use std::thread;
 use std::thread::Threads;
 use std::time::Clock;
 
-// All pids that a sender can have. The process 0 receives, and each sender's numbers are from 1 on.
+// For all pids that a sender can have. Each sender's numbers are from 1 on.
 fn opening(alloc: Global) -> Result<Opening, AllocError>
-    ensures { IfOk result (λ o. (o.receiver.0 ≡ 0) × (o.count ≡ 256) × (o.first ≡ replicate 256 1)) }
+    ensures { IfOk result (λ o. (o.receiver ≡ receiver) × (o.count ≡ 256) × (o.first ≡ replicate 256 1)) }
 {
     let first = vec![in alloc; 1u64; 256]?;
     Ok(Opening {
-        receiver: Pid(0),
+        receiver: RECEIVER,
         count: 256,
         first: Numbers::from_vec(first),
     })
 }
 
-// A sender for each pid of the set, whose seat is split off.
+// A sender for each of these pids, whose seat is split off.
 fn senders_of<'q>(
     alloc: Global,
     queue: &'q SigQueue,
@@ -38,29 +38,24 @@ fn senders_of<'q>(
     pids: Senders,
 ) -> Result<Vec<Sender<'q>>, AllocError>
     requires own { seat.old.queue ≡ queue.now.id }
-    requires role { seat.old.knows.role ≡ true }
-    requires fresh { (seat.old.knows.put ≡ []) × (seat.old.knows.taken ≡ []) }
-    requires senders { (seat.old.knows.senders ≡ pids) × (queue.now.setup.senders ≡ pids) }
-    requires opening { (queue.now.setup.opening.receiver.0 ≡ 0) × (queue.now.setup.opening.count ≡ 256) × (queue.now.setup.opening.first ≡ replicate 256 1) }
+    requires open { IsOpen queue.now.setup }
+    requires all { queue.now.setup.senders ≡ pids }
+    requires fresh { seat.old.knows ≡ first_seat pids }
     ensures own { seat.new.queue ≡ queue.now.id }
     ensures role { seat.new.knows.role ≡ true }
-    ensures fresh { seat.new.knows.taken ≡ [] }
+    ensures none_taken { seat.new.knows.taken ≡ [] }
 {
     let mut senders = Vec::new(alloc);
     let mut left = pids;
     for _ in 0..256u32 {
         let least = left.least();
-        if least == 256 {
+        if least >= 256 {
             break;
         }
-        let line = Line {
-            from: Pid(least as u32),
-            to: Pid(0),
-            first: 1,
-        };
-        let one = only(line.from);
+        let pid = Pid(least as u32);
+        let one = Senders::none().with(pid);
         let part = queue.split(seat, one, false);
-        senders.push(Sender::new(queue, part, line))?;
+        senders.push(Sender::new(queue, part, pid))?;
         left = left.minus(one);
     }
     Ok(senders)

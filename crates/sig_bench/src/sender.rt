@@ -1,10 +1,11 @@
-ghost use Rattle.std.specs.Prelude.{◌≡◌, ◌+◌, ◌<◌, ◌^◌, ◌-◌, length, true};
+ghost use Rattle.std.specs.Prelude.{◌≡◌, ◌+◌, ◌<◌, ◌^◌, ◌-◌, [], length, true};
 ghost use Rattle.sig_layout.specs.Sets.{has};
 ghost use Rattle.sig_layout.specs.Sent.{putter, of};
-ghost use Rattle.sig_relay.specs.Relays.{Puts, Sender as Sends};
+ghost use Rattle.sig_bench.specs.Messages.{IsOpen};
 
+use crate::message::message;
 use sig_queue::{Offer, QSeat, SigQueue};
-use sig_relay::{Line, offer_message};
+use sig_terms::Pid;
 use std::sync::atomic::{AtomicU64, Ordering};
 use std::thread;
 
@@ -13,25 +14,28 @@ use std::thread;
 pub struct Sender<'q> {
     queue: &'q SigQueue,
     seat: QSeat,
-    line: Line,
+    from: Pid,
     put: u64,
     ghost own: { seat.queue ≡ queue.now.id },
-    ghost sends: { Sends queue.now.setup line },
-    ghost first: { line.first ≡ 1 },
-    ghost can: { has seat.knows.senders line.from.0 ≡ true },
-    ghost counted: { put ≡ length (of putter line.from.0 seat.knows.put) },
+    ghost open: { IsOpen queue.now.setup },
+    ghost known: { has queue.now.setup.senders from.0 ≡ true },
+    ghost can: { has seat.knows.senders from.0 ≡ true },
+    ghost counted: { put ≡ length (of putter from.0 seat.knows.put) },
 }
 
 impl<'q> Sender<'q> {
     /// A sender of a seat that has put nothing.
-    pub fn new(queue: &'q SigQueue, seat: QSeat, line: Line) -> Sender<'q>
-        requires puts { Puts queue.now line seat }
-        requires first { line.first ≡ 1 }
+    pub fn new(queue: &'q SigQueue, seat: QSeat, from: Pid) -> Sender<'q>
+        requires own { seat.queue ≡ queue.now.id }
+        requires open { IsOpen queue.now.setup }
+        requires known { has queue.now.setup.senders from.0 ≡ true }
+        requires can { has seat.knows.senders from.0 ≡ true }
+        requires none_put { seat.knows.put ≡ [] }
     {
         Sender {
             queue,
             seat,
-            line,
+            from,
             put: 0,
         }
     }
@@ -40,8 +44,8 @@ impl<'q> Sender<'q> {
     fn offer(&mut self) -> Offer
         requires { self.old.put < 2 ^ 64 - 1 }
     {
-        let number = self.put + 1;
-        let offer = offer_message(self.queue, &mut self.seat, self.line, number, self.put);
+        let signal = message(self.from, self.put + 1);
+        let offer = self.queue.offer(&mut self.seat, signal);
         if let Offer::Put { .. } = offer {
             self.put += 1;
         }

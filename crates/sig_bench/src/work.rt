@@ -1,4 +1,4 @@
-ghost use Rattle.std.specs.Prelude.{◌≡◌, ◌≤◌, ◌*◌, IfSome};
+ghost use Rattle.std.specs.Prelude.{◌≡◌, ◌≤◌, ◌<◌, ◌*◌, IfSome};
 
 use crate::way::Way;
 use sig_layout::Senders;
@@ -18,10 +18,10 @@ pub struct Work {
     pub senders: u32,
     /// How many signals each of them sends.
     pub each: u32,
-    /// How far the pids of two neighbours are from each other.
-    pub step: u32,
-    ghost senders_few: { senders ≤ 8 },
-    ghost step_short: { step ≤ 8 },
+    /// Whether the senders' pids are 8 apart, so that their buffers are in other cache lines. Else they
+    /// are neighbours.
+    pub apart: bool,
+    ghost few: { senders ≤ 8 },
 }
 
 impl Work {
@@ -30,7 +30,11 @@ impl Work {
         requires { sender < 8 }
         ensures { result.0 < 256 }
     {
-        Pid(1 + sender * self.step)
+        if self.apart {
+            Pid(8 * sender)
+        } else {
+            Pid(sender)
+        }
     }
 
     /// The pids of all senders.
@@ -60,19 +64,17 @@ fn number_of(text: &str, most: u32) -> Option<u32>
     }
 }
 
-// How far two pids are from each other. Two that are 8 apart have buffers in other cache lines.
-fn step_of(text: &str) -> Option<u32>
-    ensures { IfSome result (λ n. (1 ≤ n) × (n ≤ 8)) }
-{
+// Whether the text asks for pids that are apart.
+fn apart_of(text: &str) -> Option<bool> {
     match text {
-        "neighbours" => Some(1),
-        "apart" => Some(8),
+        "apart" => Some(true),
+        "neighbours" => Some(false),
         _ => None,
     }
 }
 
-/// What these words ask for: the way, the count of senders, the signals of each, and whether their pids
-/// are neighbours. `None` where they ask for nothing.
+/// What these words ask for: the way, the count of senders, the signals of each, and whether the pids
+/// are apart. `None` where there are other words, or more or fewer.
 pub fn work_of(words: &[String]) -> Option<Work> {
     if words.len() != 4 {
         return None;
@@ -80,11 +82,11 @@ pub fn work_of(words: &[String]) -> Option<Work> {
     let way = Way::of(words[0].as_str())?;
     let senders = number_of(words[1].as_str(), MOST_SENDERS)?;
     let each = number_of(words[2].as_str(), MOST_SIGNALS)?;
-    let step = step_of(words[3].as_str())?;
+    let apart = apart_of(words[3].as_str())?;
     Some(Work {
         way,
         senders,
         each,
-        step,
+        apart,
     })
 }
