@@ -1,2 +1,3 @@
 mod Offers
 mod Splits
+mod Opens

@@ -38,7 +38,7 @@ fn senders_of<'q>(
     pids: Senders,
 ) -> Result<Vec<Sender<'q>>, AllocError>
     requires own { seat.old.queue ≡ queue.now.id }
-    requires open { IsOpen queue.now.setup }
+    requires opened { IsOpen queue.now.setup }
     requires all { queue.now.setup.senders ≡ pids }
     requires fresh { seat.old.knows ≡ first_seat pids }
     ensures own { seat.new.queue ≡ queue.now.id }
