@@ -22,14 +22,14 @@ use Rattle.sig_bench.specs.Messages.{message, IsOpen}
 -- the next message may be put
 pub next_of : (z : Setup) (from : Pid) (n : ℕ) (put : List Item) → IsOpen z → has z.senders from.0 ≡ true → n ≡ length (of putter from.0 put) → IsNext z put (message from (n + 1))
 next_of z from n put opened known counted = let small = has_below z.senders from.0 known in let count = opened.count in record {
-      carried = record {
-        from = known;
-        to = sym opened.to;
-        early = omega arith;
-        below = record { from = omega arith; to = omega arith; kind = int_names (IsNameBelow z.opening.count) _ };
-      };
-      number = let first = ap (λ (l : List ℕ). get_or l from.0 0) opened.first ∙ get_or-replicate 256 from.0 1 0 small in omega arith;
-    }
+  carried = record {
+    from = known;
+    to = sym opened.to;
+    early = omega arith;
+    below = record { from = omega arith; to = omega arith; kind = int_names (IsNameBelow z.opening.count) _ };
+  };
+  number = let first = ap (λ (l : List ℕ). get_or l from.0 0) opened.first ∙ get_or-replicate 256 from.0 1 0 small in omega arith;
+}
 
 one_more : (put : List Item) (i : Item) → length (of putter (putter i) (put ++ i ∷ [])) ≡ length (of putter (putter i) put) + 1
 one_more put i = ap length (of-append putter (putter i) put (i ∷ []))

@@ -33,7 +33,13 @@ pub fn measure<R: Threads + Wait + Clock + Print + Sync>(
     let got = perform(rt, alloc, work)?;
     let nanos = start.elapsed(rt)?.as_nanos().max(1);
     let rate = got as u128 * 100_000 / nanos;
-    println!(rt; "{} {} {got} {nanos} {}.{:02}", work.way.word(), work.senders, rate / 100, rate % 100)
+    println!(rt;
+        "{} {} {got} {nanos} {}.{:02}",
+        work.way.word(),
+        work.senders,
+        rate / 100,
+        rate % 100
+    )
 }
 
 // A run that takes next to no time.

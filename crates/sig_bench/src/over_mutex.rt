@@ -6,21 +6,14 @@ use crate::work::Work;
 use sig_kinds::Signal;
 use sig_terms::Pid;
 use std::alloc::Global;
-use std::mem;
 use std::sync::atomic::{AtomicU64, Ordering};
 use std::sync::{Mutex, Wait};
-use std::thread;
 use std::thread::Threads;
 use std::time::{Clock, Duration};
+use std::{mem, thread};
 
 // Puts so many messages. How many it couldn't put for want of memory is added to `missing`.
-fn send<R: Wait>(
-    rt: &R,
-    list: &Mutex<Vec<Signal>>,
-    from: Pid,
-    each: u32,
-    missing: &AtomicU64,
-) {
+fn send<R: Wait>(rt: &R, list: &Mutex<Vec<Signal>>, from: Pid, each: u32, missing: &AtomicU64) {
     for number in 0..each {
         let signal = message(from, number as u64 + 1);
         if list.lock(rt).push(signal).is_err() {

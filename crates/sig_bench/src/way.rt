@@ -20,13 +20,7 @@ pub enum Way {
 }
 
 /// All ways.
-pub const WAYS: [Way; 5] = [
-    Way::Never,
-    Way::Always,
-    Way::Auto,
-    Way::Churn,
-    Way::Mutex,
-];
+pub const WAYS: [Way; 5] = [Way::Never, Way::Always, Way::Auto, Way::Churn, Way::Mutex];
 
 impl Way {
     /// The word for it.
