@@ -1,0 +1,3 @@
+mod Offers
+mod Splits
+mod Opens
