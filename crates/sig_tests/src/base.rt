@@ -1,81 +1,93 @@
+//! What is read and written up to a limit and past a fault, and the size of a counter.
+
 ghost use Rattle.std.specs.Prelude.{◌≡◌, ◌<◌};
 
 use sig_base::*;
+use std::alloc::{AllocError, Global};
 use std::io;
 use std::io::{Read, Write};
 use std::marker::Brand;
 use std::sync::ledger::{Blank, Ledger};
-use std::test::Fail;
 
 const TEXT: &[u8] = b"abcdefghijklmnopqrstuvwxy";
 
-#[test]
-fn reads_up_to_the_limit(rt: HostRuntime) -> Result<(), Fail> {
-    let alloc = rt.alloc();
-    for (piece, limit, answer, count) in [
-        (1, 25, ReadAll::Whole, 25),
-        (7, 26, ReadAll::Whole, 25),
-        (10, 25, ReadAll::Whole, 25),
-        (10, 24, ReadAll::TooLong, 25),
-        (10, 9, ReadAll::TooLong, 10),
-        (10, 0, ReadAll::TooLong, 1),
-    ] {
-        let mut source = MemorySource::new(TEXT.to_vec(alloc)?, piece);
-        let mut into = Vec::new(alloc);
-        assert_eq!(rt;
-            read_all(&mut source, limit, &mut into),
-            answer,
-            "{piece}, {limit}"
-        );
-        assert_eq!(rt; into.as_slice(), &TEXT[..count], "{piece}, {limit}");
+/// The first ten bytes of the text.
+const FRONT: &[u8] = b"abcdefghij";
+
+/// The others.
+const REST: &[u8] = b"klmnopqrstuvwxy";
+
+/// Whether the source, read up to the limit, gives this answer and these bytes.
+fn gives<S: Source>(
+    source: &mut S,
+    limit: u8,
+    into: &mut Vec<u8>,
+    answer: ReadAll,
+    bytes: &[u8],
+) -> bool {
+    into.clear();
+    read_all(source, limit as usize, into) == answer && into.as_slice() == bytes
+}
+
+/// How many bytes of the text come at a call, the limit, what reading answers, and what it gives.
+const READS: [(usize, u8, ReadAll, &[u8]); 6] = [
+    (1, 25, ReadAll::Whole, TEXT),
+    (7, 26, ReadAll::Whole, TEXT),
+    (10, 25, ReadAll::Whole, TEXT),
+    (10, 24, ReadAll::TooLong, TEXT),
+    (10, 9, ReadAll::TooLong, FRONT),
+    (10, 0, ReadAll::TooLong, b"a"),
+];
+
+/// The text, so many bytes of which come at a call, at least one.
+fn text_in_pieces(alloc: Global, piece: usize) -> Result<MemorySource, AllocError> {
+    let bytes = TEXT.to_vec(alloc)?;
+    Ok(MemorySource::new(bytes, piece.max(1)))
+}
+
+/// The place of the first of these reads that goes another way.
+fn first_other_read(alloc: Global, into: &mut Vec<u8>) -> Result<Option<usize>, AllocError> {
+    for (place, (piece, limit, answer, bytes)) in READS.iter().enumerate() {
+        let mut source = text_in_pieces(alloc, *piece)?;
+        if !gives(&mut source, *limit, into, *answer, bytes) {
+            return Ok(Some(place));
+        }
     }
-    Ok(())
+    Ok(None)
 }
 
 #[test]
-fn reads_on_after_a_fault(rt: HostRuntime) -> Result<(), Fail> {
-    let alloc = rt.alloc();
-    let mut source = FailingSource::new(TEXT.to_vec(alloc)?, 10, [2].to_vec(alloc)?);
-    let mut into = Vec::new(alloc);
-    assert_eq!(rt; read_all(&mut source, 100, &mut into), ReadAll::ReadFault);
-    assert_eq!(rt; into.as_slice(), &TEXT[..10]);
-    let mut rest = Vec::new(alloc);
-    assert_eq!(rt; read_all(&mut source, 100, &mut rest), ReadAll::Whole);
-    assert_eq!(rt; rest.as_slice(), &TEXT[10..]);
-    Ok(())
+fn reads_up_to_the_limit(rt: HostRuntime) {
+    let mut into = Vec::new(rt.alloc());
+    assert_eq!(rt; first_other_read(rt.alloc(), &mut into), Ok(None));
 }
 
-#[test]
-fn writes_until_full(rt: HostRuntime) -> Result<(), Fail> {
-    for (room, answer, count) in [
-        (30, Written::Whole, 25),
-        (25, Written::Whole, 25),
-        (24, Written::WriteFault { written: 24 }, 24),
-        (0, Written::WriteFault { written: 0 }, 0),
-    ] {
-        let mut sink = MemorySink::with_room(rt.alloc(), room)?;
-        assert_eq!(rt; write_whole(&mut sink, TEXT), answer, "{room}");
-        assert_eq!(rt; sink.held(), &TEXT[..count], "{room}");
+/// For how many bytes there is room, what writing the text answers, and what is held then.
+const WRITES: [(usize, Written, &[u8]); 4] = [
+    (30, Written::Whole, TEXT),
+    (25, Written::Whole, TEXT),
+    (
+        24,
+        Written::WriteFault { written: 24 },
+        b"abcdefghijklmnopqrstuvwx",
+    ),
+    (0, Written::WriteFault { written: 0 }, b""),
+];
+
+/// The place of the first of these writes that goes another way.
+fn first_other_write(alloc: Global) -> Result<Option<usize>, AllocError> {
+    for (place, (room, answer, held)) in WRITES.iter().enumerate() {
+        let mut sink = MemorySink::with_room(alloc, *room)?;
+        if write_whole(&mut sink, TEXT) != *answer || sink.held() != *held {
+            return Ok(Some(place));
+        }
     }
-    Ok(())
+    Ok(None)
 }
 
 #[test]
-fn writes_on_after_a_fault(rt: HostRuntime) -> Result<(), Fail> {
-    let alloc = rt.alloc();
-    let mut sink = FailingSink::with_room(alloc, 35, 10, [2].to_vec(alloc)?)?;
-    assert_eq!(rt;
-        write_whole(&mut sink, TEXT),
-        Written::WriteFault { written: 10 }
-    );
-    assert_eq!(rt; sink.held(), &TEXT[..10]);
-    assert_eq!(rt; write_whole(&mut sink, &TEXT[10..]), Written::Whole);
-    assert_eq!(rt; sink.held(), TEXT);
-    assert_eq!(rt;
-        write_whole(&mut sink, TEXT),
-        Written::WriteFault { written: 10 }
-    );
-    Ok(())
+fn writes_until_full(rt: HostRuntime) {
+    assert_eq!(rt; first_other_write(rt.alloc()), Ok(None));
 }
 
 // Gives and takes at most 10 bytes a call. Its second call fails.
@@ -118,55 +130,82 @@ impl Write for Device {
     }
 }
 
-#[test]
-fn reads_from_std(rt: HostRuntime) -> Result<(), Fail> {
-    let alloc = rt.alloc();
+/// Whether the source fails after ten bytes, and gives the others then.
+fn gives_the_rest<S: Source>(source: &mut S, into: &mut Vec<u8>) -> bool {
+    gives(source, 100, into, ReadAll::ReadFault, FRONT)
+        && gives(source, 100, into, ReadAll::Whole, REST)
+}
+
+/// Whether a source in memory that fails, and a device under std's, give the rest after a fault.
+fn sources_give_the_rest(alloc: Global) -> Result<bool, AllocError> {
     let mut into = Vec::new(alloc);
-    assert_eq!(rt;
-        read_all(&mut StdSource::new(TEXT), 100, &mut into),
-        ReadAll::Whole
-    );
-    assert_eq!(rt; into.as_slice(), TEXT);
-    let mut source = StdSource::new(Device {
-        bytes: TEXT.to_vec(alloc)?,
-        calls: 0,
-    });
-    let mut front = Vec::new(alloc);
-    assert_eq!(rt; read_all(&mut source, 100, &mut front), ReadAll::ReadFault);
-    assert_eq!(rt; front.as_slice(), &TEXT[..10]);
-    let mut rest = Vec::new(alloc);
-    assert_eq!(rt; read_all(&mut source, 100, &mut rest), ReadAll::Whole);
-    assert_eq!(rt; rest.as_slice(), &TEXT[10..]);
-    Ok(())
+    let mut source = FailingSource::new(TEXT.to_vec(alloc)?, 10, [2].to_vec(alloc)?);
+    let first = gives_the_rest(&mut source, &mut into);
+    let bytes = TEXT.to_vec(alloc)?;
+    let mut device = StdSource::new(Device { bytes, calls: 0 });
+    Ok(first && gives_the_rest(&mut device, &mut into))
 }
 
 #[test]
-fn writes_to_std(rt: HostRuntime) -> Result<(), Fail> {
-    let alloc = rt.alloc();
-    let mut out = Vec::new(alloc);
-    assert_eq!(rt;
-        write_whole(&mut StdSink::new(&mut out), TEXT),
-        Written::Whole
+fn reads_on_after_a_fault(rt: HostRuntime) {
+    assert_eq!(rt; sources_give_the_rest(rt.alloc()), Ok(true));
+}
+
+#[test]
+fn reads_from_std(rt: HostRuntime) {
+    let mut into = Vec::new(rt.alloc());
+    assert!(rt;
+        gives(
+            &mut StdSource::new(TEXT),
+            100,
+            &mut into,
+            ReadAll::Whole,
+            TEXT
+        )
     );
-    assert_eq!(rt; out.as_slice(), TEXT);
-    let mut device = Device {
-        bytes: Vec::new(alloc),
-        calls: 0,
-    };
-    let mut sink = StdSink::new(&mut device);
-    assert_eq!(rt;
-        write_whole(&mut sink, TEXT),
-        Written::WriteFault { written: 10 }
-    );
-    assert_eq!(rt; write_whole(&mut sink, &TEXT[10..]), Written::Whole);
-    assert_eq!(rt; device.bytes.as_slice(), TEXT);
+}
+
+/// Whether the sink takes so many bytes of the text before a fault.
+fn faults_after<O: Sink>(sink: &mut O, written: usize) -> bool {
+    write_whole(sink, TEXT) == Written::WriteFault { written }
+}
+
+/// Whether the sink in memory takes ten bytes before a fault, then the rest, and ten when it gets full.
+fn takes_the_rest(sink: &mut FailingSink) -> bool {
+    faults_after(sink, 10)
+        && sink.held() == FRONT
+        && write_whole(sink, REST) == Written::Whole
+        && sink.held() == TEXT
+        && faults_after(sink, 10)
+}
+
+/// The same of one that has room for 35 bytes, and whose second call fails.
+fn sink_takes_the_rest(alloc: Global) -> Result<bool, AllocError> {
+    let mut sink = FailingSink::with_room(alloc, 35, 10, [2].to_vec(alloc)?)?;
+    Ok(takes_the_rest(&mut sink))
+}
+
+/// Whether the sink takes ten bytes before a fault, and then the rest.
+fn goes_on<O: Sink>(sink: &mut O) -> bool {
+    faults_after(sink, 10) && write_whole(sink, REST) == Written::Whole
+}
+
+#[test]
+fn writes_on_after_a_fault(rt: HostRuntime) {
+    assert_eq!(rt; sink_takes_the_rest(rt.alloc()), Ok(true));
+    let bytes = Vec::new(rt.alloc());
+    let mut device = Device { bytes, calls: 0 };
+    assert!(rt; goes_on(&mut StdSink::new(&mut device)));
+    assert!(rt; device.bytes.as_slice() == TEXT);
+}
+
+#[test]
+fn writes_to_std(rt: HostRuntime) {
+    let mut out = Vec::new(rt.alloc());
+    assert!(rt; write_whole(&mut StdSink::new(&mut out), TEXT) == Written::Whole);
+    assert!(rt; out.as_slice() == TEXT);
     let mut room = [0; 4];
-    let mut full = StdSink::new(room.as_mut_slice());
-    assert_eq!(rt;
-        write_whole(&mut full, TEXT),
-        Written::WriteFault { written: 4 }
-    );
-    Ok(())
+    assert!(rt; faults_after(&mut StdSink::new(room.as_mut_slice()), 4));
 }
 
 // The bytes that a counter of its own takes after two steps, with an open gate between them.
@@ -184,5 +223,5 @@ fn bytes_of_two_steps<L: Ledger>(blank: Blank) -> usize
 
 #[test]
 fn counts_steps_past_an_open_gate(rt: HostRuntime) {
-    assert_eq!(rt; bytes_of_two_steps::<Brand>(Blank::new(1)), 0);
+    assert!(rt; bytes_of_two_steps::<Brand>(Blank::new(1)) == 0);
 }

@@ -2,35 +2,41 @@
 
 use sig_inner::{Append, Inner};
 use sig_terms::{Pid, Ref, Term};
-use std::test::Fail;
+use std::alloc::{AllocError, Global};
 
-fn append(queue: &mut Inner, number: i64) -> Result<(), Fail> {
-    if 1000 <= queue.next_arrival() {
-        return Err("too many messages".into());
-    }
-    queue.room()?;
-    match queue.append(Term::Int(number)) {
-        Append::Added => Ok(()),
-        Append::Memory { message: _ } => Err("no memory".into()),
+/// Whether there was room for the integer, as the last of fewer than a thousand messages.
+fn appends(queue: &mut Inner, number: i64) -> bool {
+    queue.next_arrival() < 1000
+        && queue.room().is_ok()
+        && matches!(queue.append(Term::Int(number)), Append::Added)
+}
+
+/// Whether the first message, which is taken out, came as the one of this number and is this integer.
+fn takes(queue: &mut Inner, arrival: u64, number: i64) -> bool {
+    match queue.pop_front() {
+        Some((arrived, message)) => arrived == arrival && message.same(&Term::Int(number)),
+        None => false,
     }
 }
 
-#[test]
-fn numbers_go_on(rt: HostRuntime) -> Result<(), Fail> {
-    let mut queue = Inner::open(rt.alloc(), Pid(0))?;
-    append(&mut queue, 10)?;
-    append(&mut queue, 11)?;
-    assert_eq!(rt; (queue.len(), queue.owner()), (2, Pid(0)));
-    assert!(rt;
-        queue
-            .pop_front()
-            .is_some_and(|front| front.0 == 1 && front.1.same(&Term::Int(10)))
-    );
+/// Whether the numbers go on after the queue was emptied.
+fn go_on(queue: &mut Inner) -> bool {
+    let two = appends(queue, 10) && appends(queue, 11) && queue.len() == 2;
+    let first = takes(queue, 1, 10);
     queue.empty();
-    assert!(rt; queue.is_empty() && queue.pop_front().is_none());
-    append(&mut queue, 12)?;
-    assert!(rt; queue.pop_front().is_some_and(|front| front.0 == 3));
-    Ok(())
+    let none = queue.is_empty() && queue.pop_front().is_none();
+    two && first && none && appends(queue, 12) && takes(queue, 3, 12)
+}
+
+/// The same of a new queue, which tells its owner too.
+fn go_on_anew(alloc: Global) -> Result<bool, AllocError> {
+    let mut queue = Inner::open(alloc, Pid(7))?;
+    Ok(queue.owner() == Pid(7) && go_on(&mut queue))
+}
+
+#[test]
+fn numbers_go_on(rt: HostRuntime) {
+    assert_eq!(rt; go_on_anew(rt.alloc()), Ok(true));
 }
 
 fn made(owner: u32, serial: u64) -> Ref {
@@ -40,43 +46,72 @@ fn made(owner: u32, serial: u64) -> Ref {
     }
 }
 
-/// A bind needs a reserve, and a reference that the process made since then.
-#[test]
-fn binds_answer(rt: HostRuntime) -> Result<(), Fail> {
-    let rows: [(Option<u64>, Ref, bool); 5] = [
-        (None, made(0, 5), false),
-        (Some(5), made(1, 5), false),
-        (Some(5), made(0, 4), false),
-        (Some(5), made(0, 5), true),
-        (Some(5), made(0, 6), true),
-    ];
-    for (reserve, reference, answer) in rows {
-        let mut queue = Inner::open(rt.alloc(), Pid(0))?;
-        if let Some(serial) = reserve {
-            queue.reserve(serial);
+/// A reserve, the owner and the serial of a reference, and whether it is bound then. A bind needs a
+/// reserve, and a reference that the process made since then.
+const BINDS: [(Option<u64>, u32, u64, bool); 5] = [
+    (None, 0, 5, false),
+    (Some(5), 1, 5, false),
+    (Some(5), 0, 4, false),
+    (Some(5), 0, 5, true),
+    (Some(5), 0, 6, true),
+];
+
+/// Whether the first bind and the first clear answer so, and the second ones that there is none.
+fn answers(queue: &mut Inner, reference: Ref, answer: bool) -> bool {
+    queue.bind(reference) == answer
+        && !queue.bind(reference)
+        && queue.clear(reference) == answer
+        && !queue.clear(reference)
+}
+
+/// The place of the first of the rows that answers otherwise.
+fn first_other_bind(alloc: Global) -> Result<Option<usize>, AllocError> {
+    for (place, (reserve, owner, serial, answer)) in BINDS.iter().enumerate() {
+        let mut queue = Inner::open(alloc, Pid(0))?;
+        if let Some(reserved) = reserve {
+            queue.reserve(*reserved);
         }
-        assert_eq!(rt; queue.bind(reference), answer, "{reserve:?}, {reference:?}");
-        assert!(rt; !queue.bind(reference), "{reserve:?}, {reference:?}");
-        assert_eq!(rt;
-            queue.clear(reference),
-            answer,
-            "{reserve:?}, {reference:?}"
-        );
-        assert!(rt; !queue.clear(reference), "{reserve:?}, {reference:?}");
+        if !answers(&mut queue, made(*owner, *serial), *answer) {
+            return Ok(Some(place));
+        }
     }
-    Ok(())
+    Ok(None)
+}
+
+#[test]
+fn binds_answer(rt: HostRuntime) {
+    assert_eq!(rt; first_other_bind(rt.alloc()), Ok(None));
+}
+
+/// Reserves and binds the serials 1 to 9. It tells the first that isn't bound.
+fn first_unbound(queue: &mut Inner) -> Option<u64> {
+    for serial in 1..10 {
+        queue.reserve(serial);
+        if !queue.bind(made(0, serial)) {
+            return Some(serial);
+        }
+    }
+    None
+}
+
+/// The first of these serials that is cleared though it is the oldest, or isn't though it is another.
+fn first_other_clear(queue: &mut Inner) -> Option<u64> {
+    for serial in 1..10 {
+        if queue.clear(made(0, serial)) == (serial == 1) {
+            return Some(serial);
+        }
+    }
+    None
+}
+
+/// The first serials of either kind in a new queue.
+fn first_of_nine(alloc: Global) -> Result<(Option<u64>, Option<u64>), AllocError> {
+    let mut queue = Inner::open(alloc, Pid(0))?;
+    Ok((first_unbound(&mut queue), first_other_clear(&mut queue)))
 }
 
 /// Of nine marks the oldest is gone.
 #[test]
-fn eight_marks_are_kept(rt: HostRuntime) -> Result<(), Fail> {
-    let mut queue = Inner::open(rt.alloc(), Pid(0))?;
-    for serial in 1..10 {
-        queue.reserve(serial);
-        assert!(rt; queue.bind(made(0, serial)), "{serial}");
-    }
-    for serial in 1..10 {
-        assert_eq!(rt; queue.clear(made(0, serial)), serial != 1, "{serial}");
-    }
-    Ok(())
+fn eight_marks_are_kept(rt: HostRuntime) {
+    assert_eq!(rt; first_of_nine(rt.alloc()), Ok((None, None)));
 }

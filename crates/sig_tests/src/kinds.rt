@@ -2,7 +2,7 @@
 
 use sig_kinds::*;
 use sig_terms::{Pid, Ref, Term};
-use std::test::Fail;
+use std::alloc::{AllocError, Global};
 
 fn numbered(number: u64) -> Signal {
     Signal {
@@ -16,20 +16,35 @@ fn numbered(number: u64) -> Signal {
     }
 }
 
+/// Pushes copies of signals with these numbers. It tells whether there was memory for all.
+fn push_copies(alloc: Global, signals: &mut Signals, numbers: &[u64]) -> Result<bool, AllocError> {
+    for number in numbers {
+        let signal = numbered(*number).copy(alloc)?;
+        if !matches!(signals.push(signal), Push::Added) {
+            return Ok(false);
+        }
+    }
+    Ok(true)
+}
+
+/// Whether the signals leave with these numbers, and there are no others.
+fn leave(signals: &mut Signals, numbers: &[u64]) -> bool {
+    for number in numbers {
+        let Some(signal) = signals.pop_front() else {
+            return false;
+        };
+        if signal.number != *number {
+            return false;
+        }
+    }
+    signals.is_empty()
+}
+
 #[test]
-fn signals_leave_in_the_order_of_their_coming(rt: HostRuntime) -> Result<(), Fail> {
-    let alloc = rt.alloc();
-    let mut signals = Signals::new(alloc);
-    for number in [1u64, 2, 3] {
-        let signal = numbered(number).copy(alloc)?;
-        assert!(rt; matches!(signals.push(signal), Push::Added));
-    }
-    for number in [1u64, 2, 3] {
-        let first = signals.pop_front();
-        assert!(rt; first.is_some_and(|s| s.number == number), "{number}");
-    }
-    assert!(rt; signals.is_empty());
-    Ok(())
+fn signals_leave_in_the_order_of_their_coming(rt: HostRuntime) {
+    let mut signals = Signals::new(rt.alloc());
+    assert!(rt; push_copies(rt.alloc(), &mut signals, &[1, 2, 3]) == Ok(true));
+    assert!(rt; leave(&mut signals, &[1, 2, 3]));
 }
 
 /// All that a kind says: its word, its number, its reference, and the integer that is its term.
@@ -56,9 +71,18 @@ fn said(kind: &Kind) -> Said {
     }
 }
 
+/// The place of the first of the kinds whose copy says something else.
+fn first_other_copy(alloc: Global, rows: &[(Kind, Said)]) -> Result<Option<usize>, AllocError> {
+    for (place, (kind, expected)) in rows.iter().enumerate() {
+        if said(&kind.copy(alloc)?) != *expected {
+            return Ok(Some(place));
+        }
+    }
+    Ok(None)
+}
+
 #[test]
-fn each_kind_is_copied(rt: HostRuntime) -> Result<(), Fail> {
-    let alloc = rt.alloc();
+fn each_kind_is_copied(rt: HostRuntime) {
     let owner = Pid(5);
     let reference = Ref { owner, serial: 7 };
     let rows: [(Kind, Said); 9] = [
@@ -99,35 +123,37 @@ fn each_kind_is_copied(rt: HostRuntime) -> Result<(), Fail> {
             ("down", 0, Some(reference), Some(8)),
         ),
     ];
-    for (kind, expected) in rows {
-        let copy = kind.copy(alloc)?;
-        assert_eq!(rt; said(&copy), expected);
-    }
-    Ok(())
+    assert_eq!(rt; first_other_copy(rt.alloc(), &rows), Ok(None));
 }
 
-#[test]
-fn signals_move_behind_the_others(rt: HostRuntime) -> Result<(), Fail> {
-    let alloc = rt.alloc();
-    let mut signals = Signals::new(alloc);
-    let mut others = Signals::new(alloc);
-    assert!(rt; matches!(signals.push(numbered(1)), Push::Added));
-    for number in [2u64, 3] {
-        assert!(rt; matches!(others.push(numbered(number)), Push::Added));
-    }
-    signals.append(&mut others)?;
+/// Moves the others behind the signals, and adds two more.
+fn move_behind(signals: &mut Signals, others: &mut Signals) -> Result<(), AllocError> {
+    signals.append(others)?;
     signals.room(2)?;
     signals.add(numbered(4));
     signals.add(numbered(5));
-    assert!(rt; others.is_empty());
-    assert!(rt; signals.len() == 5);
-    for place in 0usize..5 {
-        assert!(rt;
-            signals
-                .get(place)
-                .is_some_and(|s| s.number == place as u64 + 1),
-            "{place}"
-        );
-    }
     Ok(())
+}
+
+/// Whether the signals stand with these numbers, and there are no others.
+fn stand(signals: &Signals, numbers: &[u64]) -> bool {
+    for (place, number) in numbers.iter().enumerate() {
+        let Some(signal) = signals.get(place) else {
+            return false;
+        };
+        if signal.number != *number {
+            return false;
+        }
+    }
+    signals.len() == numbers.len()
+}
+
+#[test]
+fn signals_move_behind_the_others(rt: HostRuntime) {
+    let mut signals = Signals::new(rt.alloc());
+    let mut others = Signals::new(rt.alloc());
+    assert!(rt; push_copies(rt.alloc(), &mut signals, &[1]) == Ok(true));
+    assert!(rt; push_copies(rt.alloc(), &mut others, &[2, 3]) == Ok(true));
+    assert!(rt; move_behind(&mut signals, &mut others).is_ok());
+    assert!(rt; others.is_empty() && stand(&signals, &[1, 2, 3, 4, 5]));
 }

@@ -8,15 +8,14 @@ ghost use Rattle.std.specs.Prelude.{◌≡◌, ◌+◌, ◌<◌, ◌≤◌, ◌^
 
 use sig_links::*;
 use sig_terms::Pid;
-use std::alloc::Global;
-use std::test::Fail;
+use std::alloc::{AllocError, Global};
 
 fn digit(number: u64) -> u8 {
     b'0' + (number % 10) as u8
 }
 
 /// `link` after `room`, which can't be refused memory.
-fn linked_in_room(links: &mut Links, peer: Pid) -> Result<bool, Fail> {
+fn linked_in_room(links: &mut Links, peer: Pid) -> Result<bool, AllocError> {
     links.room()?;
     let Ok(sends) = links.link(peer) else {
         unreachable!();
@@ -24,7 +23,7 @@ fn linked_in_room(links: &mut Links, peer: Pid) -> Result<bool, Fail> {
     Ok(sends)
 }
 
-fn called(links: &mut Links, sign: u8, peer: Pid) -> Result<u8, Fail>
+fn called(links: &mut Links, sign: u8, peer: Pid) -> Result<u8, AllocError>
     requires { links.old.links.next_id < 2 ^ 63 }
     ensures { links.new.links.next_id ≤ links.old.links.next_id + 1 }
 {
@@ -40,7 +39,7 @@ fn called(links: &mut Links, sign: u8, peer: Pid) -> Result<u8, Fail>
 }
 
 /// The answers to these calls.
-fn answers(alloc: Global, links: &mut Links, calls: &[&[u8; 2]]) -> Result<Vec<u8>, Fail>
+fn answers(alloc: Global, links: &mut Links, calls: &[&[u8; 2]]) -> Result<Vec<u8>, AllocError>
     requires { links.old.links.next_id < 2 ^ 62 }
     ensures { links.new.links.next_id ≤ links.old.links.next_id + 1000 }
 {
@@ -56,7 +55,7 @@ fn answers(alloc: Global, links: &mut Links, calls: &[&[u8; 2]]) -> Result<Vec<u
 }
 
 /// The active peers, one after another.
-fn active_peers(alloc: Global, links: &Links) -> Result<Vec<u8>, Fail> {
+fn active_peers(alloc: Global, links: &Links) -> Result<Vec<u8>, AllocError> {
     let mut peers = Vec::new(alloc);
     let mut after = None;
     for _ in 0..10 {
@@ -70,7 +69,7 @@ fn active_peers(alloc: Global, links: &Links) -> Result<Vec<u8>, Fail> {
 }
 
 /// Each peer from which an id is awaited, with the id.
-fn awaited_ids(alloc: Global, links: &Links) -> Result<Vec<u8>, Fail> {
+fn awaited_ids(alloc: Global, links: &Links) -> Result<Vec<u8>, AllocError> {
     let mut ids = Vec::new(alloc);
     for peer in 0u32..10 {
         if let Some(id) = links.awaited(Pid(peer)) {
@@ -109,83 +108,95 @@ const RULES: [(&[&[u8; 2]], &[u8], &[u8], &[u8]); 18] = [
     (&[b"+1", b"-1", b"e1"], b"y1n", b"", b"11"),
 ];
 
-#[test]
-fn rules_hold_line_by_line(rt: HostRuntime) -> Result<(), Fail> {
-    let alloc = rt.alloc();
-    for (calls, answered, active, awaited) in &RULES {
+/// Whether the calls are answered so.
+fn are_answered(
+    alloc: Global,
+    links: &mut Links,
+    calls: &[&[u8; 2]],
+    answered: &[u8],
+) -> Result<bool, AllocError>
+    requires { links.old.links.next_id < 2 ^ 62 }
+    ensures { links.new.links.next_id ≤ links.old.links.next_id + 1000 }
+{
+    Ok(answers(alloc, links, calls)?.as_slice() == answered)
+}
+
+/// Whether these are the active peers, and the peers and ids that are awaited.
+fn leave(alloc: Global, links: &Links, active: &[u8], awaited: &[u8]) -> Result<bool, AllocError> {
+    let peers = active_peers(alloc, links)?.as_slice() == active;
+    let ids = awaited_ids(alloc, links)?.as_slice() == awaited;
+    Ok(peers && ids)
+}
+
+/// The place of the first of the rules that doesn't hold.
+fn first_broken(alloc: Global) -> Result<Option<usize>, AllocError> {
+    for (place, (calls, answered, active, awaited)) in RULES.iter().enumerate() {
         let mut links = Links::open(alloc, Pid(0));
-        let got = answers(alloc, &mut links, calls)?;
-        assert_eq!(rt; got.as_slice(), *answered, "{calls:?}");
-        let peers = active_peers(alloc, &links)?;
-        assert_eq!(rt; peers.as_slice(), *active, "{calls:?}");
-        let ids = awaited_ids(alloc, &links)?;
-        assert_eq!(rt; ids.as_slice(), *awaited, "{calls:?}");
+        let told = are_answered(alloc, &mut links, calls, answered)?;
+        if !told || !leave(alloc, &links, active, awaited)? {
+            return Ok(Some(place));
+        }
     }
-    Ok(())
+    Ok(None)
 }
 
 #[test]
-fn both_unlink_at_once_and_one_links_again(rt: HostRuntime) -> Result<(), Fail> {
-    let alloc = rt.alloc();
-    let mut a = Links::open(alloc, Pid(0));
-    let mut b = Links::open(alloc, Pid(1));
-    assert!(rt; a.link(Pid(1))? && b.on_link(Pid(0))?);
-    assert_eq!(rt; a.unlink(Pid(1))?, Some(1));
-    assert_eq!(rt; b.unlink(Pid(0))?, Some(1));
-    assert!(rt; a.link(Pid(1))?);
-    assert!(rt; !b.on_unlink(Pid(0)));
-    assert!(rt; !b.on_link(Pid(0))?);
-    assert!(rt; a.on_unlink(Pid(1)));
-    assert!(rt; a.on_ack(Pid(1), 1) && b.on_ack(Pid(0), 1));
+fn rules_hold_line_by_line(rt: HostRuntime) {
+    assert_eq!(rt; first_broken(rt.alloc()), Ok(None));
+}
+
+/// Whether a process that links again sees the other's unlink as one of the older link.
+fn cross(a: &mut Links, b: &mut Links) -> Result<bool, AllocError>
+    requires a { a.old.links.next_id < 2 ^ 62 }
+    requires b { b.old.links.next_id < 2 ^ 62 }
+{
+    let linked = a.link(Pid(1))? && b.on_link(Pid(0))?;
+    let ids = a.unlink(Pid(1))? == Some(1) && b.unlink(Pid(0))? == Some(1);
+    let again = a.link(Pid(1))? && !b.on_unlink(Pid(0)) && !b.on_link(Pid(0))?;
+    let ended = a.on_unlink(Pid(1)) && a.on_ack(Pid(1), 1) && b.on_ack(Pid(0), 1);
+    Ok(linked && ids && again && ended)
+}
+
+#[test]
+fn both_unlink_at_once_and_one_links_again(rt: HostRuntime) {
+    let mut a = Links::open(rt.alloc(), Pid(0));
+    let mut b = Links::open(rt.alloc(), Pid(1));
+    assert!(rt; cross(&mut a, &mut b) == Ok(true));
     assert!(rt; !a.active(Pid(1)) && a.awaited(Pid(1)).is_none());
     assert!(rt; !b.active(Pid(0)) && b.awaited(Pid(0)).is_none());
-    Ok(())
 }
 
 #[test]
-fn active_peers_ascend(rt: HostRuntime) -> Result<(), Fail> {
+fn active_peers_ascend(rt: HostRuntime) {
     let alloc = rt.alloc();
     let mut links = Links::open(alloc, Pid(0));
     assert!(rt; links.next_active(None).is_none());
     let calls: [&[u8; 2]; 4] = [b"+9", b"+2", b"l5", b"+2"];
-    assert_eq!(rt;
-        answers(alloc, &mut links, &calls)?.as_slice(),
-        b"yyyn".as_slice()
-    );
-    assert_eq!(rt; active_peers(alloc, &links)?.as_slice(), b"259".as_slice());
+    assert!(rt; are_answered(alloc, &mut links, &calls, b"yyyn") == Ok(true));
+    assert!(rt; leave(alloc, &links, b"259", b"") == Ok(true));
     assert!(rt; links.next_active(Some(Pid(3))) == Some(Pid(5)));
     assert!(rt; links.next_active(Some(Pid(9))).is_none());
     assert!(rt; links.next_active(Some(Pid(u32::MAX))).is_none());
-    Ok(())
 }
 
 #[test]
-fn room_is_made_ahead(rt: HostRuntime) -> Result<(), Fail> {
+fn room_is_made_ahead(rt: HostRuntime) {
     let alloc = rt.alloc();
     let mut links = Links::open(alloc, Pid(0));
-    assert!(rt; linked_in_room(&mut links, Pid(2))?);
-    assert!(rt; linked_in_room(&mut links, Pid(1))?);
-    assert!(rt; !linked_in_room(&mut links, Pid(2))?);
-    assert_eq!(rt; active_peers(alloc, &links)?.as_slice(), b"12".as_slice());
-    Ok(())
+    assert!(rt; linked_in_room(&mut links, Pid(2)) == Ok(true));
+    assert!(rt; linked_in_room(&mut links, Pid(1)) == Ok(true));
+    assert!(rt; linked_in_room(&mut links, Pid(2)) == Ok(false));
+    assert!(rt; leave(alloc, &links, b"12", b"") == Ok(true));
 }
 
 #[test]
-fn the_next_id_outlives_the_links(rt: HostRuntime) -> Result<(), Fail> {
+fn the_next_id_outlives_the_links(rt: HostRuntime) {
     let alloc = rt.alloc();
     let mut links = Links::open(alloc, Pid(0));
     let before: [&[u8; 2]; 3] = [b"+1", b"-1", b"+2"];
-    assert_eq!(rt;
-        answers(alloc, &mut links, &before)?.as_slice(),
-        b"y1y".as_slice()
-    );
+    assert!(rt; are_answered(alloc, &mut links, &before, b"y1y") == Ok(true));
     links.empty();
-    assert!(rt; active_peers(alloc, &links)?.is_empty());
-    assert!(rt; awaited_ids(alloc, &links)?.is_empty());
+    assert!(rt; leave(alloc, &links, b"", b"") == Ok(true));
     let after: [&[u8; 2]; 3] = [b"l1", b"+2", b"-2"];
-    assert_eq!(rt;
-        answers(alloc, &mut links, &after)?.as_slice(),
-        b"yy2".as_slice()
-    );
-    Ok(())
+    assert!(rt; are_answered(alloc, &mut links, &after, b"yy2") == Ok(true));
 }

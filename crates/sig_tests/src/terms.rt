@@ -3,7 +3,6 @@
 use sig_lists::Sequence;
 use sig_terms::*;
 use std::alloc::{AllocError, Global};
-use std::test::Fail;
 
 /// Bytes, and whether they make an atom and a name.
 const WORDS: [(&[u8], bool, bool); 8] = [
@@ -80,14 +79,16 @@ const NO_TEXTS: [&[u8]; 34] = [
     b"a\n",
 ];
 
-/// What stands in front, what is repeated and how often, what stands behind, and whether that can be read.
-const LONG: [(&[u8], &[u8], usize, &[u8], bool); 6] = [
-    (b"", b"a", 255, b"", true),
-    (b"", b"a", 256, b"", false),
-    (b"'", b" ", 255, b"'", true),
-    (b"'", b" ", 256, b"'", false),
-    (b"[0", b",0", 1027, b"]", true),
-    (b"[0", b",0", 1028, b"]", false),
+/// Pieces of a text with how often each stands, and whether that can be read.
+const LONG: [(&[(&[u8], usize)], bool); 8] = [
+    (&[(b"a", 255)], true),
+    (&[(b"a", 256)], false),
+    (&[(b"'", 1), (b" ", 255), (b"'", 1)], true),
+    (&[(b"'", 1), (b" ", 256), (b"'", 1)], false),
+    (&[(b"[0", 1), (b",0", 1027), (b"]", 1)], true),
+    (&[(b"[0", 1), (b",0", 1028), (b"]", 1)], false),
+    (&[(b"[", 65), (b"]", 65)], true),
+    (&[(b"[", 66), (b"]", 66)], false),
 ];
 
 /// Bytes, and how many of them at the front are a text, as many as can be.
@@ -122,44 +123,162 @@ const HOLDING: [(&[u8], bool); 6] = [
     (b"[]", false),
 ];
 
-#[test]
-fn bytes_make_atoms_and_names(rt: HostRuntime) -> Result<(), Fail> {
-    let alloc = rt.alloc();
-    for (bytes, is_atom, is_name) in &WORDS {
-        assert_eq!(rt; Atom::new(alloc, bytes)?.is_some(), *is_atom, "{bytes:?}");
-        assert_eq!(rt; Name::new(alloc, bytes)?.is_some(), *is_name, "{bytes:?}");
+/// The place of the first of the words that makes an atom or a name where it shouldn't, or none.
+fn first_other_word(alloc: Global) -> Result<Option<usize>, AllocError> {
+    for (place, (bytes, is_atom, is_name)) in WORDS.iter().enumerate() {
+        let atom = Atom::new(alloc, bytes)?.is_some();
+        let name = Name::new(alloc, bytes)?.is_some();
+        if atom != *is_atom || name != *is_name {
+            return Ok(Some(place));
+        }
     }
-    Ok(())
+    Ok(None)
 }
 
 #[test]
-fn terms_print_their_texts(rt: HostRuntime) -> Result<(), Fail> {
-    let alloc = rt.alloc();
-    let mut items = Sequence::new(alloc);
-    for bytes in [b"ok".as_slice(), b"Big", b""] {
-        items.add(Term::Atom(Atom::new(alloc, bytes)?.ok_or("no atom")?))?;
-    }
+fn bytes_make_atoms_and_names(rt: HostRuntime) {
+    assert_eq!(rt; first_other_word(rt.alloc()), Ok(None));
+}
+
+/// Adds atoms, and a term of each other kind but a tuple.
+fn add_kinds(alloc: Global, items: &mut Sequence<Term>) -> Result<(), AllocError> {
+    items.add(Term::plain_atom(alloc, b"ok")?)?;
+    items.add(Term::plain_atom(alloc, b"Big")?)?;
+    items.add(Term::plain_atom(alloc, b"")?)?;
     items.add(Term::Int(i64::MIN))?;
     items.add(Term::Pid(Pid(4294967295)))?;
     let owner = Pid(0);
     items.add(Term::Ref(Ref { owner, serial: 7 }))?;
     items.add(Term::List(Sequence::new(alloc)))?;
-    let tuple = Term::Tuple(items);
-    let copy = tuple.copy(alloc)?;
-    assert!(rt; copy.same(&tuple));
-    assert!(rt; !copy.same(&Term::Int(0)));
-    let mut text = Vec::new(alloc);
-    copy.print(&mut text)?;
-    assert!(rt;
-        text.as_slice()
-            == b"{ok,'Big','',-9223372036854775808,<4294967295>,#Ref<0.7>,[]}".as_slice()
-    );
     Ok(())
+}
+
+/// Whether the term prints this text.
+fn prints(alloc: Global, term: &Term, text: &[u8]) -> Result<bool, AllocError> {
+    let mut printed = Vec::new(alloc);
+    term.print(&mut printed)?;
+    Ok(printed.as_slice() == text)
+}
+
+/// Whether a copy of the term is the same, isn't the integer 0, and prints this text.
+fn copy_prints(alloc: Global, term: &Term, text: &[u8]) -> Result<bool, AllocError> {
+    let copy = term.copy(alloc)?;
+    let same = copy.same(term) && !copy.same(&Term::Int(0));
+    let printed = prints(alloc, &copy, text);
+    Ok(printed? && same)
+}
+
+/// Whether a tuple with a term of each kind prints its text.
+fn kinds_print(alloc: Global) -> Result<bool, AllocError> {
+    let mut items = Sequence::new(alloc);
+    add_kinds(alloc, &mut items)?;
+    let text = b"{ok,'Big','',-9223372036854775808,<4294967295>,#Ref<0.7>,[]}";
+    copy_prints(alloc, &Term::Tuple(items), text)
+}
+
+#[test]
+fn terms_print_their_texts(rt: HostRuntime) {
+    assert_eq!(rt; kinds_print(rt.alloc()), Ok(true));
+}
+
+/// Whether the term has so many nodes and this depth, and prints this text.
+fn is_so(
+    alloc: Global,
+    term: &Term,
+    nodes: u64,
+    depth: u64,
+    text: &[u8],
+) -> Result<bool, AllocError> {
+    Ok(prints(alloc, term, text)? && term.size() == nodes && term.depth() == depth)
+}
+
+/// The place of the first of the texts that is read as another term.
+fn first_other_text(alloc: Global) -> Result<Option<usize>, ReadTerm> {
+    for (place, (bytes, nodes, depth)) in TEXTS.iter().enumerate() {
+        let term = read(alloc, bytes)?;
+        if !is_so(alloc, &term, *nodes, *depth, bytes)? {
+            return Ok(Some(place));
+        }
+    }
+    Ok(None)
+}
+
+#[test]
+fn texts_are_read_and_printed_again(rt: HostRuntime) {
+    assert_eq!(rt; first_other_text(rt.alloc()), Ok(None));
+}
+
+/// Whether the bytes are read as this term.
+fn reads_as(alloc: Global, bytes: &[u8], term: &Term) -> bool {
+    match read(alloc, bytes) {
+        Ok(found) => found.same(term),
+        Err(_) => false,
+    }
+}
+
+#[test]
+fn read_gives_the_term(rt: HostRuntime) {
+    let alloc = rt.alloc();
+    let owner = Pid(12);
+    let reference = Ref { owner, serial: 34 };
+    assert!(rt; reads_as(alloc, b"-9223372036854775808", &Term::Int(i64::MIN)));
+    assert!(rt; reads_as(alloc, b"9223372036854775807", &Term::Int(i64::MAX)));
+    assert!(rt; reads_as(alloc, b"<12>", &Term::Pid(owner)));
+    assert!(rt; reads_as(alloc, b"#Ref<12.34>", &Term::Ref(reference)));
+    assert!(rt; reads_as(alloc, b"[]", &Term::List(Sequence::new(alloc))));
+    assert!(rt; reads_as(alloc, b"{}", &Term::Tuple(Sequence::new(alloc))));
+}
+
+/// Whether the atom is known by its bytes, and read from its text.
+fn two_words_are_known(alloc: Global) -> Result<bool, AllocError> {
+    let atom = Term::plain_atom(alloc, b"Two words")?;
+    Ok(atom.is_atom(b"Two words") && reads_as(alloc, b"'Two words'", &atom))
+}
+
+#[test]
+fn an_atom_is_known_by_its_bytes(rt: HostRuntime) {
+    assert_eq!(rt; two_words_are_known(rt.alloc()), Ok(true));
 }
 
 /// Whether the bytes are refused.
 fn is_bad(alloc: Global, bytes: &[u8]) -> bool {
     matches!(read(alloc, bytes), Err(ReadTerm::BadTerm))
+}
+
+#[test]
+fn read_refuses_what_is_no_text(rt: HostRuntime) {
+    let alloc = rt.alloc();
+    for bytes in &NO_TEXTS {
+        assert!(rt; is_bad(alloc, bytes), "{bytes:?}");
+    }
+}
+
+/// Appends the piece so often.
+fn repeat(text: &mut Vec<u8>, piece: &[u8], times: usize) -> Result<(), AllocError> {
+    for _ in 0..times {
+        text.extend_from_slice(piece)?;
+    }
+    Ok(())
+}
+
+/// The pieces one after another, each as often as it says.
+fn text_of(alloc: Global, pieces: &[(&[u8], usize)]) -> Result<Vec<u8>, AllocError> {
+    let mut text = Vec::new(alloc);
+    for (piece, times) in pieces {
+        repeat(&mut text, piece, *times)?;
+    }
+    Ok(text)
+}
+
+/// The place of the first of the long texts that is read where it shouldn't be, or isn't.
+fn first_other_long(alloc: Global) -> Result<Option<usize>, AllocError> {
+    for (place, (pieces, fits)) in LONG.iter().enumerate() {
+        let text = text_of(alloc, pieces)?;
+        if is_bad(alloc, text.as_slice()) == *fits {
+            return Ok(Some(place));
+        }
+    }
+    Ok(None)
 }
 
 /// How many bytes the longest front that is a text has, if there is one.
@@ -170,116 +289,39 @@ fn front_length(alloc: Global, bytes: &[u8]) -> Option<usize> {
     }
 }
 
-/// `before`, then `count` times `middle`, then `after`.
-fn repeated(
-    alloc: Global,
-    before: &[u8],
-    middle: &[u8],
-    count: usize,
-    after: &[u8],
-) -> Result<Vec<u8>, AllocError> {
-    let mut text = Vec::from_slice(alloc, before)?;
-    for _ in 0..count {
-        text.extend_from_slice(middle)?;
-    }
-    text.extend_from_slice(after)?;
-    Ok(text)
-}
-
-/// A text of an empty list in lists, of this depth.
-fn nested(alloc: Global, depth: usize) -> Result<Vec<u8>, AllocError> {
-    let mut text = repeated(alloc, b"", b"[", depth, b"")?;
-    for _ in 0..depth {
-        text.extend_from_slice(b"]")?;
-    }
-    Ok(text)
+/// How many of 300 letters are taken as an atom.
+fn front_of_letters(alloc: Global) -> Result<Option<usize>, AllocError> {
+    let long = text_of(alloc, &[(b"a", 300)])?;
+    Ok(front_length(alloc, long.as_slice()))
 }
 
 #[test]
-fn texts_are_read_and_printed_again(rt: HostRuntime) -> Result<(), Fail> {
-    let alloc = rt.alloc();
-    for (bytes, nodes, depth) in &TEXTS {
-        let term = read(alloc, bytes)?;
-        assert_eq!(rt; term.size(), *nodes, "{bytes:?}");
-        assert_eq!(rt; term.depth(), *depth, "{bytes:?}");
-        let mut text = Vec::new(alloc);
-        term.print(&mut text)?;
-        assert!(rt; text.as_slice() == *bytes, "{bytes:?}");
-    }
-    Ok(())
-}
-
-/// Whether the bytes are read as this term.
-fn reads_as(alloc: Global, bytes: &[u8], term: Term) -> Result<bool, ReadTerm> {
-    Ok(read(alloc, bytes)?.same(&term))
+fn read_stops_at_its_limits(rt: HostRuntime) {
+    assert_eq!(rt; first_other_long(rt.alloc()), Ok(None));
+    assert_eq!(rt; front_of_letters(rt.alloc()), Ok(Some(255)));
 }
 
 #[test]
-fn read_gives_the_term(rt: HostRuntime) -> Result<(), Fail> {
-    let alloc = rt.alloc();
-    let owner = Pid(12);
-    let reference = Ref { owner, serial: 34 };
-    assert!(rt; reads_as(alloc, b"-9223372036854775808", Term::Int(i64::MIN))?);
-    assert!(rt; reads_as(alloc, b"9223372036854775807", Term::Int(i64::MAX))?);
-    assert!(rt; reads_as(alloc, b"<12>", Term::Pid(owner))?);
-    assert!(rt; reads_as(alloc, b"#Ref<12.34>", Term::Ref(reference))?);
-    assert!(rt; reads_as(alloc, b"[]", Term::List(Sequence::new(alloc)))?);
-    assert!(rt; reads_as(alloc, b"{}", Term::Tuple(Sequence::new(alloc)))?);
-    Ok(())
-}
-
-#[test]
-fn an_atom_is_known_by_its_bytes(rt: HostRuntime) -> Result<(), Fail> {
-    let alloc = rt.alloc();
-    let atom = Term::plain_atom(alloc, b"Two words")?;
-    assert!(rt; atom.is_atom(b"Two words"));
-    assert!(rt; read(alloc, b"'Two words'")?.same(&atom));
-    Ok(())
-}
-
-#[test]
-fn read_refuses_what_is_no_text(rt: HostRuntime) -> Result<(), Fail> {
-    let alloc = rt.alloc();
-    for bytes in &NO_TEXTS {
-        assert!(rt; is_bad(alloc, bytes), "{bytes:?}");
-    }
-    Ok(())
-}
-
-#[test]
-fn read_stops_at_its_limits(rt: HostRuntime) -> Result<(), Fail> {
-    let alloc = rt.alloc();
-    for (before, middle, count, after, fits) in &LONG {
-        let text = repeated(alloc, before, middle, *count, after)?;
-        assert_eq!(rt; is_bad(alloc, text.as_slice()), !*fits, "{count}");
-    }
-    let long = repeated(alloc, b"", b"a", 300, b"")?;
-    assert_eq!(rt; front_length(alloc, long.as_slice()), Some(255));
-    for (depth, fits) in [(65, true), (66, false)] {
-        let text = nested(alloc, depth)?;
-        assert_eq!(rt; is_bad(alloc, text.as_slice()), !fits, "{depth}");
-    }
-    Ok(())
-}
-
-#[test]
-fn read_front_takes_the_longest(rt: HostRuntime) -> Result<(), Fail> {
+fn read_front_takes_the_longest(rt: HostRuntime) {
     let alloc = rt.alloc();
     for (bytes, used) in &FRONTS {
-        assert_eq!(rt; front_length(alloc, bytes), *used, "{bytes:?}");
+        assert!(rt; front_length(alloc, bytes) == *used, "{bytes:?}");
     }
-    Ok(())
+}
+
+/// The place of the first of the texts that holds the reference where it shouldn't, or doesn't.
+fn first_other_holding(alloc: Global, held: Ref) -> Result<Option<usize>, ReadTerm> {
+    for (place, (bytes, holds)) in HOLDING.iter().enumerate() {
+        if read(alloc, bytes)?.holds_ref(held) != *holds {
+            return Ok(Some(place));
+        }
+    }
+    Ok(None)
 }
 
 #[test]
-fn references_are_found_inside(rt: HostRuntime) -> Result<(), Fail> {
-    let alloc = rt.alloc();
-    let held = Ref {
-        owner: Pid(1),
-        serial: 2,
-    };
-    for (bytes, holds) in &HOLDING {
-        assert_eq!(rt; read(alloc, bytes)?.holds_ref(held), *holds, "{bytes:?}");
-    }
-    Ok(())
+fn references_are_found_inside(rt: HostRuntime) {
+    let owner = Pid(1);
+    let held = Ref { owner, serial: 2 };
+    assert_eq!(rt; first_other_holding(rt.alloc(), held), Ok(None));
 }

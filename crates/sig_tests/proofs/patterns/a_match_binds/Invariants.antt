@@ -1,4 +1,0 @@
-use Rattle.sig_tests.proofs.patterns.a_match_binds.Given as goal
-
-abbrev pub ghosts-bound_by : goal.ghosts-bound_by
-ghosts-bound_by g a = record { name = a.blank.name; parts = a.blank.parts }
