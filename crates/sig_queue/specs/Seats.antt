@@ -1,5 +1,5 @@
 -- What contracts see of queues and of the tokens of one queue, and what is true of each.
-use Rattle.std.specs.Prelude.{◌≡◌, ℕ, ◌≤◌, Bool, false, List, [], ◌∷◌}
+use Rattle.std.specs.Prelude.{◌≡◌, ◌≤◌, false, [], ◌∷◌}
 use Rattle.atomic_table.specs.Seated.{TableId}
 use Rattle.sig_layout.specs.declared.setup.Setup.{Setup}
 use Rattle.sig_queue.specs.declared.kept.Kept.{Kept}
