@@ -3,21 +3,20 @@ ghost use Rattle.std.specs.List.{flat_map};
 ghost use Rattle.sig_terms.specs.TermText.{reference_text};
 ghost use Rattle.sig_terms.specs.Words.{is_token};
 ghost use Rattle.sig_record.specs.Putting.{IsPut};
+ghost use Rattle.sig_record.specs.Phrases.{truth_text, link_text, IsNarrow, IsWide, IsStoredRef};
+ghost use Rattle.sig_record.specs.EventRows.{did_text, outcome_text};
+ghost use Rattle.sig_record.specs.KindRows.{kind_text};
 ghost use Rattle.sig_record.specs.RecordText.{
-  did_text,
-  outcome_text,
   event_text,
   left_text,
-  link_text,
-  kind_text,
   queued_text,
   state_text,
   head_text,
   report_text,
   record_text,
 };
-ghost use Rattle.sig_record.specs.ReadableRecord.{IsNarrow, IsWide, IsReadableRef, IsReadableDid};
 ghost use Rattle.sig_record.specs.StoredRecord.{
+  IsStoredDid,
   IsStoredOutcome,
   IsStoredEvent,
   IsStoredLeft,
@@ -27,7 +26,7 @@ ghost use Rattle.sig_record.specs.StoredRecord.{
   IsStoredReport,
   IsStoredRecord,
 };
-ghost use Rattle.sig_record.specs.SizedRecord.{CanBeReread};
+ghost use Rattle.sig_record.specs.ReadableRecord.{CanBeReread};
 
 use crate::record::Record;
 use crate::report::{Left, Report};
@@ -67,19 +66,21 @@ fn put_pid(into: &mut Vec<u8>, word: &[u8], pid: Pid) -> Result<(), AllocError>
 
 fn put_did(into: &mut Vec<u8>, did: &Did) -> Result<(), AllocError>
     ensures text { IsPut into.old.items into.new.items (did_text did.now) result }
-    ensures stored { OnOk result (IsReadableDid did.now) }
+    ensures stored { OnOk result (IsStoredDid did.now) }
 {
     match did {
-        Did::Exec { place } => {
-            put_numbered(into, b" exec ", u64::from(*place))?;
-            put(into, b" ")
-        }
+        Did::Exec { place } => put_numbered(into, b"exec ", u64::from(*place)),
         Did::From { from, number } => {
-            put_pid(into, b" from ", *from)?;
-            put_numbered(into, b" ", *number)?;
-            put(into, b" ")
+            put_pid(into, b"from ", *from)?;
+            put_numbered(into, b" ", *number)
         }
     }
+}
+
+fn truth_word(truth: bool) -> &'static [u8]
+    ensures { result.now ≡ truth_text truth }
+{
+    if truth { b"true" } else { b"false" }
 }
 
 fn put_outcome(into: &mut Vec<u8>, outcome: &Outcome) -> Result<(), AllocError>
@@ -98,8 +99,10 @@ fn put_outcome(into: &mut Vec<u8>, outcome: &Outcome) -> Result<(), AllocError>
             value.print(into)
         }
         Outcome::Done => put(into, b"done"),
-        Outcome::Answered { value: true } => put(into, b"answered true"),
-        Outcome::Answered { value: false } => put(into, b"answered false"),
+        Outcome::Answered { value } => {
+            put(into, b"answered ")?;
+            put(into, truth_word(*value))
+        }
         Outcome::Took {
             clause,
             looked,
@@ -135,7 +138,9 @@ fn put_event(into: &mut Vec<u8>, event: &Event) -> Result<(), AllocError>
     ensures stored { OnOk result (IsStoredEvent event.now) }
 {
     put_number(into, event.stamp)?;
+    put(into, b" ")?;
     put_did(into, &event.did)?;
+    put(into, b" ")?;
     put_outcome(into, &event.outcome)?;
     put(into, b"\n")
 }
@@ -177,12 +182,12 @@ fn put_lefts(into: &mut Vec<u8>, lefts: &[Left]) -> Result<(), AllocError>
 fn link_word(linked: bool) -> &'static [u8]
     ensures { result.now ≡ link_text linked }
 {
-    if linked { b"linked " } else { b"plain " }
+    if linked { b"linked" } else { b"plain" }
 }
 
 fn put_reference(into: &mut Vec<u8>, word: &[u8], reference: Ref) -> Result<(), AllocError>
     ensures text { IsPut into.old.items into.new.items (word.now ++ reference_text reference) result }
-    ensures stored { OnOk result (IsReadableRef reference) }
+    ensures stored { OnOk result (IsStoredRef reference) }
 {
     put(into, word)?;
     reference.print(into)
@@ -210,6 +215,7 @@ fn put_kind(into: &mut Vec<u8>, kind: &Kind) -> Result<(), AllocError>
         Kind::Exit { reason, linked } => {
             put(into, b"exit ")?;
             put(into, link_word(*linked))?;
+            put(into, b" ")?;
             reason.print(into)
         }
         Kind::Down { reference, reason } => {
