@@ -1,6 +1,6 @@
 -- The laws of phrases: what is written by a table is read by it again, and nothing else is. What is read can lie in memory, and its
 -- terms are no larger than what is read.
-use Rattle.std.proofs.Common.{◌≡◌, ℕ, Bool, true, false, List, [], ◌∷◌, ◌++◌, Option, Some, None, refl, sym, ap, subst, ◌∙◌, append_assoc}
+use Rattle.std.proofs.Common.{◌≡◌, ℕ, Bool, true, false, List, [], ◌∷◌, ◌++◌, Some, None, refl, sym, ap, subst, ◌∙◌, append_assoc}
 use Rattle.std.specs.Prelude.{IfSome, codes}
 use Rattle.std.proofs.lemmas.List.{append-nil}
 use Rattle.std.proofs.lemmas.Option.{IfSome_then}
@@ -11,7 +11,7 @@ use Rattle.sig_terms.proofs.TokenReads.{Stops}
 use Rattle.sig_model.specs.TermSizes.{IsKeptTerm}
 use Rattle.sig_record.specs.Phrases.{Field, a_narrow, a_wide, a_reference, a_term, a_truth, a_link, Said, AllSaid, choice_text, said_text, values, values_text, choice_front, said_front, fields_front, IsStoredSaid, IsStoredValue, terms_of, Each, Row, Phrase, says, phrase_text, IsStoredPhrase, row_front, rows_front}
 use Rattle.sig_record.specs.SizedRecord.{IsSizedPhrase}
-use Rattle.sig_record.proofs.ReaderLaws.{IsReadAs, Law, Anything, after_again, joined_law, behind_law, stopped_law, word_found, alone_found, made_again}
+use Rattle.sig_record.proofs.ReaderLaws.{IsReadAs, Law, after_again, joined_law, behind_law, stopped_law, word_found, alone_found, made_again}
 use Rattle.sig_record.proofs.PieceLaws.{narrow_law, wide_law, term_law, ref_law}
 
 -- ---- fields
@@ -25,9 +25,9 @@ choice_law one other apart = record {
   again = λ b rest k stop. chosen_again b rest;
 }
   where
-  chosen_again : (b : Bool) (rest : List ℕ) → choice_front one other (choice_text one other b ++ rest) ≡ Some (b, rest)
-  chosen_again true rest = rw (after_again one rest) refl
-  chosen_again false rest = rw (apart rest, after_again other rest) refl
+    chosen_again : (b : Bool) (rest : List ℕ) → choice_front one other (choice_text one other b ++ rest) ≡ Some (b, rest)
+    chosen_again true rest = rw (after_again one rest) refl
+    chosen_again false rest = rw (apart rest, after_again other rest) refl
 
 -- can be read
 abbrev IsReadableSaid : (f : Field) → Said f → Type 0
@@ -131,13 +131,13 @@ readable (f ∷ fs) x s k =
     let later : AreStored fs x.1 = each_later IsStoredValue (f, x.0) (values fs x.1) s in
     more f fs x first k (λ l. readable fs x.1 later l)
   where
-  more : (f : Field) (fs : List Field) (x : AllSaid (f ∷ fs)) → IsStoredSaid f x.0 → AreKept (f ∷ fs) x → (AreKept fs x.1 → AreReadable fs x.1) → AreReadable (f ∷ fs) x
-  more a_term fs x s k rest = (readable_term x.0 s (each_first IsKeptTerm x.0 (terms_of (values fs x.1)) k), rest (each_later IsKeptTerm x.0 (terms_of (values fs x.1)) k))
-  more a_narrow fs x s k rest = (s, rest k)
-  more a_wide fs x s k rest = (s, rest k)
-  more a_reference fs x s k rest = (s, rest k)
-  more a_truth fs x s k rest = (tt, rest k)
-  more a_link fs x s k rest = (tt, rest k)
+    more : (f : Field) (fs : List Field) (x : AllSaid (f ∷ fs)) → IsStoredSaid f x.0 → AreKept (f ∷ fs) x → (AreKept fs x.1 → AreReadable fs x.1) → AreReadable (f ∷ fs) x
+    more a_term fs x s k rest = (readable_term x.0 s (each_first IsKeptTerm x.0 (terms_of (values fs x.1)) k), rest (each_later IsKeptTerm x.0 (terms_of (values fs x.1)) k))
+    more a_narrow fs x s k rest = (s, rest k)
+    more a_wide fs x s k rest = (s, rest k)
+    more a_reference fs x s k rest = (s, rest k)
+    more a_truth fs x s k rest = (tt, rest k)
+    more a_link fs x s k rest = (tt, rest k)
 
 -- ---- tables
 

@@ -61,7 +61,7 @@ ended = record { word = codes "ended"; fields = a_term ∷ []; make = λ x. outc
 abbrev pub kept : Row Outcome
 kept = record { word = codes "kept"; fields = a_term ∷ []; make = λ x. outcome.Kept x.0 }
 
--- a word alone
+-- of signals that were handled
 abbrev pub dropped : Row Outcome
 dropped = record { word = codes "dropped"; fields = []; make = λ x. outcome.Dropped }
 

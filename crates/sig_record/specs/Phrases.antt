@@ -1,6 +1,6 @@
 -- Phrases of a record (this project's own): a word, and fields behind it, each behind a space. A table has a row for each word; by
 -- its rows a value is written, and read back.
-use Rattle.std.specs.Prelude.{ℕ, ◌<◌, ◌-◌, ◌^◌, List, [], ◌∷◌, ◌++◌, Bool, true, false, Option, Some, None, codes, decimal}
+use Rattle.std.specs.Prelude.{ℕ, ◌<◌, ◌-◌, ◌^◌, List, [], ◌∷◌, ◌++◌, Bool, true, false, Some, None, codes, decimal}
 use Rattle.sig_terms.specs.TermText.{term_text, reference_text}
 use Rattle.sig_terms.specs.Tokens.{◌>>=◌, number_at, reference_at, after_text}
 use Rattle.sig_terms.specs.Fronts.{term_at}

@@ -1,7 +1,7 @@
 //! Readers of what an event did, of how it went, and of what a signal says. Each reads what stands
 //! behind its word.
 
-ghost use Rattle.std.specs.Prelude.{◌≡◌, codes};
+ghost use Rattle.std.specs.Prelude.{◌≡◌};
 ghost use Rattle.std.specs.Option.{option_map};
 ghost use Rattle.sig_terms.specs.Fronts.{Gives};
 ghost use Rattle.sig_record.specs.Phrases.{row_front, rows_front};

@@ -1,4 +1,4 @@
-ghost use Rattle.std.specs.Prelude.{◌≡◌, ◌++◌, OnOk, OnErr, All, true, decimal};
+ghost use Rattle.std.specs.Prelude.{◌≡◌, ◌++◌, OnOk, OnErr, All, true, codes, decimal};
 ghost use Rattle.std.specs.List.{flat_map};
 ghost use Rattle.sig_terms.specs.TermText.{reference_text};
 ghost use Rattle.sig_terms.specs.Words.{is_token};
@@ -132,14 +132,22 @@ fn put_outcome(into: &mut Vec<u8>, outcome: &Outcome) -> Result<(), AllocError>
     }
 }
 
+/// The event's stamp, and what the process did.
+fn put_act(into: &mut Vec<u8>, event: &Event) -> Result<(), AllocError>
+    ensures text { IsPut into.old.items into.new.items (decimal event.now.stamp ++ codes " " ++ did_text event.now.did) result }
+    ensures stored { OnOk result (IsWide event.now.stamp × IsStoredDid event.now.did) }
+{
+    put_number(into, event.stamp)?;
+    put(into, b" ")?;
+    put_did(into, &event.did)
+}
+
 #[tactic(auto, unfolding(crate::specs::RecordText::event_text))]
 fn put_event(into: &mut Vec<u8>, event: &Event) -> Result<(), AllocError>
     ensures text { IsPut into.old.items into.new.items (event_text event.now) result }
     ensures stored { OnOk result (IsStoredEvent event.now) }
 {
-    put_number(into, event.stamp)?;
-    put(into, b" ")?;
-    put_did(into, &event.did)?;
+    put_act(into, event)?;
     put(into, b" ")?;
     put_outcome(into, &event.outcome)?;
     put(into, b"\n")
