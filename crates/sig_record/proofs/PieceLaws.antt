@@ -11,7 +11,6 @@ use Rattle.sig_terms.specs.Readable.{IsReadable}
 use Rattle.sig_terms.specs.Tokens.{◌>>=◌, number_at, reference_at, after_text}
 use Rattle.sig_terms.specs.Fronts.{term_at}
 use Rattle.sig_terms.specs.declared.term.Term.{Term}
-use Rattle.sig_terms.specs.declared.reference.Ref.{Ref}
 use Rattle.sig_terms.specs.declared.reading.TheConstants.{READ_DEPTH, READ_NODES}
 use Rattle.sig_terms.proofs.Choices.{by_test, if_bind, both_true}
 use Rattle.sig_terms.proofs.TokenTexts.{number_text, after_text_is, reference_at_text}
