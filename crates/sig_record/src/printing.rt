@@ -1,6 +1,7 @@
 ghost use Rattle.std.specs.Prelude.{◌≡◌, ◌++◌, OnOk, OnErr, All, true, codes, decimal};
 ghost use Rattle.std.specs.List.{flat_map};
-ghost use Rattle.sig_terms.specs.TermText.{reference_text};
+ghost use Rattle.sig_terms.specs.TermText.{term_text, reference_text};
+ghost use Rattle.sig_terms.specs.Readable.{IsTerm};
 ghost use Rattle.sig_terms.specs.Words.{is_token};
 ghost use Rattle.sig_record.specs.Putting.{IsPut};
 ghost use Rattle.sig_record.specs.Phrases.{truth_text, link_text, IsNarrow, IsWide, IsStoredRef};
@@ -33,7 +34,7 @@ use crate::report::{Left, Report};
 use itoa::Buffer;
 use sig_kinds::{Kind, Signal};
 use sig_model::{Did, Event, Outcome, State};
-use sig_terms::{Name, Pid, Ref};
+use sig_terms::{Name, Pid, Ref, Term};
 use std::alloc::AllocError;
 
 fn put(into: &mut Vec<u8>, text: &[u8]) -> Result<(), AllocError>
@@ -64,6 +65,14 @@ fn put_pid(into: &mut Vec<u8>, word: &[u8], pid: Pid) -> Result<(), AllocError>
     put_numbered(into, word, u64::from(pid.0))
 }
 
+fn put_term(into: &mut Vec<u8>, word: &[u8], term: &Term) -> Result<(), AllocError>
+    ensures text { IsPut into.old.items into.new.items (word.now ++ term_text term.now) result }
+    ensures stored { OnOk result (IsTerm term.now) }
+{
+    put(into, word)?;
+    term.print(into)
+}
+
 fn put_did(into: &mut Vec<u8>, did: &Did) -> Result<(), AllocError>
     ensures text { IsPut into.old.items into.new.items (did_text did.now) result }
     ensures stored { OnOk result (IsStoredDid did.now) }
@@ -89,15 +98,10 @@ fn put_outcome(into: &mut Vec<u8>, outcome: &Outcome) -> Result<(), AllocError>
 {
     match outcome {
         Outcome::Sent { to, message } => {
-            put(into, b"sent ")?;
-            to.print(into)?;
-            put(into, b" ")?;
-            message.print(into)
+            put_term(into, b"sent ", to)?;
+            put_term(into, b" ", message)
         }
-        Outcome::Set { value } => {
-            put(into, b"set ")?;
-            value.print(into)
-        }
+        Outcome::Set { value } => put_term(into, b"set ", value),
         Outcome::Done => put(into, b"done"),
         Outcome::Answered { value } => {
             put(into, b"answered ")?;
@@ -110,18 +114,11 @@ fn put_outcome(into: &mut Vec<u8>, outcome: &Outcome) -> Result<(), AllocError>
         } => {
             put_numbered(into, b"took ", u64::from(*clause))?;
             put_numbered(into, b" ", *looked)?;
-            put(into, b" ")?;
-            message.print(into)
+            put_term(into, b" ", message)
         }
         Outcome::After { looked } => put_numbered(into, b"after ", *looked),
-        Outcome::Ended { reason } => {
-            put(into, b"ended ")?;
-            reason.print(into)
-        }
-        Outcome::Kept { message } => {
-            put(into, b"kept ")?;
-            message.print(into)
-        }
+        Outcome::Ended { reason } => put_term(into, b"ended ", reason),
+        Outcome::Kept { message } => put_term(into, b"kept ", message),
         Outcome::Dropped => put(into, b"dropped"),
         Outcome::Linked => put(into, b"linked"),
         Outcome::Unlinked => put(into, b"unlinked"),
@@ -206,14 +203,10 @@ fn put_kind(into: &mut Vec<u8>, kind: &Kind) -> Result<(), AllocError>
     ensures stored { OnOk result (IsStoredKind kind.now) }
 {
     match kind {
-        Kind::Message { term } => {
-            put(into, b"message ")?;
-            term.print(into)
-        }
+        Kind::Message { term } => put_term(into, b"message ", term),
         Kind::AliasMessage { reference, term } => {
             put_reference(into, b"alias ", *reference)?;
-            put(into, b" ")?;
-            term.print(into)
+            put_term(into, b" ", term)
         }
         Kind::Link => put(into, b"link"),
         Kind::Unlink { id } => put_numbered(into, b"unlink ", *id),
@@ -223,13 +216,11 @@ fn put_kind(into: &mut Vec<u8>, kind: &Kind) -> Result<(), AllocError>
         Kind::Exit { reason, linked } => {
             put(into, b"exit ")?;
             put(into, link_word(*linked))?;
-            put(into, b" ")?;
-            reason.print(into)
+            put_term(into, b" ", reason)
         }
         Kind::Down { reference, reason } => {
             put_reference(into, b"down ", *reference)?;
-            put(into, b" ")?;
-            reason.print(into)
+            put_term(into, b" ", reason)
         }
     }
 }
