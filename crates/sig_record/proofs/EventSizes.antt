@@ -16,6 +16,7 @@ use Rattle.sig_model.specs.declared.event.Event.{Event}
 use Rattle.sig_model.specs.ProcessState.{ProcessState}
 use Rattle.sig_model.specs.Bodies.{Body}
 use Rattle.sig_model.specs.Executing.{executing}
+use Rattle.sig_model.specs.Handling.{handling}
 use Rattle.sig_model.specs.Finishing.{finished_exec}
 use Rattle.sig_model.specs.Machine.{execution_of, rules_with, rules_of, opening_of}
 use Rattle.sig_model.specs.TermSizes.{KindSizes, TableSizes, BodySizes, term_sizes}
@@ -24,6 +25,7 @@ use Rattle.sig_model.proofs.HandlingLemmas.{handling_sizes}
 use Rattle.sig_model.proofs.Lookups.{mapped_tells}
 use Rattle.sig_model.proofs.SizeLaw.{sizes_everywhere}
 use Rattle.sig_record.specs.SizedRecord.{IsSizedEvent}
+use Rattle.sig_record.proofs.PhraseRows.{told_outcome}
 
 exec_told : (pid : ℕ) (o : Option Declared) (s : ProcessState) (effect : Effect ProcessState Signal Event) → execution_of pid o s ≡ Some effect → TableSizes s.tables
     → IsSizedEvent effect.event
@@ -31,7 +33,7 @@ exec_told pid None s effect e k = cc
 exec_told pid (Some p) s effect e k =
     let w : (body : Body) × (executing p s ≡ Some body) × (finished_exec pid s body ≡ effect) = mapped_tells (finished_exec pid s) (executing p s) effect e in
     subst (λ (x : Effect ProcessState Signal Event). IsSizedEvent x.event) w.2
-    (MatchOption-at_some (Unit {0}) BodySizes w.0 w.1 (executing_sizes p s k)).outcome
+    (told_outcome w.0.outcome (MatchOption-at_some (Unit {0}) BodySizes w.0 w.1 (executing_sizes p s k)).outcome)
 
 module _ (turns : ℕ) (part : ℕ → Option Declared) where
   -- one event
@@ -44,7 +46,8 @@ module _ (turns : ℕ) (part : ℕ → Option Declared) where
   step_told m (Handles p f) r h e =
       let d : DidHandle (rules_with turns part) m p f (slice_get m.procs p) (m.queued f p) r = did_handle (rules_with turns part) m p f (slice_get m.procs p) (m.queued f p) r e in
       let fine : KindSizes d.signal.kind = All-head (λ (x : Signal). KindSizes x.kind) d.signal d.rest (subst (λ z. All (λ (x : Signal). KindSizes x.kind) z) d.oldest (h.signals f p)) in
-      subst (λ (z : Applied ProcessState Signal Event). IsSizedEvent z.event) (sym d.is) (handling_sizes p d.state d.signal (h.states p d.state d.at) fine).outcome
+      let sizes : BodySizes (handling p d.state d.signal) = handling_sizes p d.state d.signal (h.states p d.state d.at) fine in
+      subst (λ (z : Applied ProcessState Signal Event). IsSizedEvent z.event) (sym d.is) (told_outcome (handling p d.state d.signal).outcome sizes.outcome)
 
 module _ (script : Program) where
   abbrev TellsSized : At Event → Type 0

@@ -16,6 +16,8 @@ pub mod CountedCrews
 pub mod RunLemmas
 pub mod ReaderLaws
 pub mod PieceLaws
+pub mod PhraseLaws
+pub mod PhraseRows
 pub mod ManyLaws
 pub mod LineLaws
 pub mod RecordLaws

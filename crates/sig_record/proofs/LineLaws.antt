@@ -1,38 +1,54 @@
 -- The laws of a record's lines, and of the lines of one kind.
 use Rattle.std.proofs.Common.{◌≡◌, ℕ, ◌-◌, ◌^◌, true, false, cond, not, List, [], ◌∷◌, ◌++◌, length, Some, None, refl, sym, ap, ◌∙◌, append_assoc, arith, length-append, zero-le}
-use Rattle.std.specs.Prelude.{IfSome, All, codes, decimal, slice_get, ◌==◌}
+use Rattle.std.specs.Prelude.{All, codes, decimal, slice_get, ◌==◌}
 use Rattle.std.specs.List.{flat_map}
 use Rattle.std.specs.List.Sorted.{IsSortedBy}
 use Rattle.std.proofs.lemmas.Bool.{not-true, not_from_false}
 use Rattle.std.proofs.lemmas.List.Elements.{All-nil, All-cons, All-head, All-tail}
 use Rattle.std.proofs.lemmas.Option.{none-some}
 use Rattle.sig_terms.specs.Words.{is_digit}
-use Rattle.sig_terms.specs.TermText.{term_text}
 use Rattle.sig_terms.specs.Tokens.{number_at, digits_on}
 use Rattle.sig_kinds.specs.declared.signal.Kind.{Kind}
 use Rattle.sig_kinds.specs.declared.signal.Signal.{Signal}
 use Rattle.sig_model.specs.declared.event.Event.{Event}
 use Rattle.sig_model.specs.declared.state.State.{State}
-use Rattle.sig_model.specs.declared.state.State.TheVariants as state
 use Rattle.sig_record.specs.declared.report.Left.{Left}
 use Rattle.sig_record.specs.Sorting.{is_lower}
-use Rattle.sig_record.specs.RecordText.{did_text, outcome_text, event_text, left_text, queued_text, state_text, head_text}
-use Rattle.sig_record.specs.Readers.{ended}
-use Rattle.sig_record.specs.RecordFronts.{term_front, pid_of, event_front, left_front, signal_of, signal_front, may_follow, queued_front, state_front, head_front, begins_by_digit, begins_by, events_front, lefts_front, all_queued_front}
-use Rattle.sig_record.specs.ReadableRecord.{is_process_name, IsNarrow, IsReadableEvent, IsReadableLeft, IsReadableSignal, IsReadableState}
+use Rattle.sig_record.specs.Phrases.{IsNarrow}
+use Rattle.sig_record.specs.EventRows.{pid_of, did_text, outcome_text}
+use Rattle.sig_record.specs.RecordText.{event_text, left_text, queued_text, state_text, head_text}
+use Rattle.sig_record.specs.RecordFronts.{is_process_name, event_front, left_front, signal_of, signal_front, may_follow, queued_front, state_front, head_front, begins_by_digit, begins_by, events_front, lefts_front, all_queued_front}
+use Rattle.sig_record.specs.StoredRecord.{IsStoredEvent, IsStoredLeft, IsStoredSignal, IsStoredState}
+use Rattle.sig_record.specs.SizedRecord.{IsSizedEvent, IsSizedLeft, IsSizedSignal, IsSizedState}
 use Rattle.sig_record.proofs.Chains.{Chain, chain_from, adjacent_from}
-use Rattle.sig_record.proofs.ReaderLaws.{IsReadAs, Law, Anything, joined_law, spaced_law, ended_law, behind_law, read_as_law, passing_law, word_found, alone_found, made_again}
-use Rattle.sig_record.proofs.PieceLaws.{narrow_law, wide_law, term_law, name_law, did_law, did_stops, outcome_law, kind_law}
+use Rattle.sig_record.proofs.ReaderLaws.{Law, Anything, spaced_law, ended_law, behind_law, read_as_law, passing_law}
+use Rattle.sig_record.proofs.PieceLaws.{narrow_law, wide_law, term_law, name_law}
+use Rattle.sig_record.proofs.PhraseLaws.{kept_term, readable_term}
+use Rattle.sig_record.proofs.PhraseRows.{did_law, did_sized, outcome_law, kind_law, standing_law}
 use Rattle.sig_record.proofs.ManyLaws.{Fits, many_law}
-use Rattle.sig_terms.specs.Readable.{IsReadable}
+
+-- ---- what can be read lies in memory, and its terms are no larger than what is read
+
+abbrev pub IsReadableEvent : Event → Type 0
+IsReadableEvent e = IsStoredEvent e × IsSizedEvent e
+
+abbrev pub IsReadableLeft : Left → Type 0
+IsReadableLeft l = IsStoredLeft l × IsSizedLeft l
+
+abbrev pub IsReadableSignal : Signal → Type 0
+IsReadableSignal s = IsStoredSignal s × IsSizedSignal s
+
+abbrev pub IsReadableState : State → Type 0
+IsReadableState s = IsStoredState s × IsSizedState s
 
 -- ---- events
 
 pub event_law : Law Anything event_text IsReadableEvent event_front
 unfolding event_text event_front
 event_law =
-    read_as_law (ended_law (codes "\n") (λ rest. refl) (joined_law (joined_law wide_law did_law (λ d rest k stop. did_stops d rest)) outcome_law (λ o rest k stop. tt)))
-    (λ x. record { stamp = x.0.0; did = x.0.1; outcome = x.1 }) (λ e. ((e.stamp, e.did), e.outcome)) event_text IsReadableEvent (λ e k. refl) (λ x. refl) (λ x k. k) (λ e k. k)
+    read_as_law (ended_law (codes "\n") (λ rest. refl) (spaced_law (spaced_law wide_law did_law) outcome_law))
+    (λ x. record { stamp = x.0.0; did = x.0.1; outcome = x.1 }) (λ e. ((e.stamp, e.did), e.outcome)) event_text IsReadableEvent (λ e k. refl) (λ x. refl)
+    (λ x k. (((k.0.0, k.0.1.0), k.1.0), k.1.1)) (λ e k. ((k.0.0.0, (k.0.0.1, did_sized e.did)), (k.0.1, k.1)))
 
 digit_first : (most : ℕ) (bytes : List ℕ) (x : ℕ × List ℕ) → number_at most bytes ≡ Some x → begins_by_digit bytes ≡ true
 digit_first most [] x e = absurd (none-some x e)
@@ -42,15 +58,15 @@ digit_first most (b ∷ bs) x e =
       | false ↦ λ h. absurd (none-some x h)
     ] e
 
-event_parts : (a b c d rest : List ℕ) → (a ++ b ++ c ++ d) ++ rest ≡ a ++ (b ++ (c ++ (d ++ rest)))
-event_parts a b c d rest = simp append_assoc
+event_parts : (a b c rest : List ℕ) → (a ++ codes " " ++ b ++ codes " " ++ c ++ codes "\n") ++ rest ≡ a ++ (codes " " ++ (b ++ (codes " " ++ (c ++ (codes "\n" ++ rest)))))
+event_parts a b c rest = simp append_assoc
 
 event_begins : (e : Event) (rest : List ℕ) → IsReadableEvent e → begins_by_digit (event_text e ++ rest) ≡ true
 unfolding event_text
 event_begins e rest k =
-    let behind : List ℕ = did_text e.did ++ (outcome_text e.outcome ++ (codes "\n" ++ rest)) in
-    ap begins_by_digit (event_parts (decimal e.stamp) (did_text e.did) (outcome_text e.outcome) (codes "\n") rest)
-    ∙ digit_first (2 ^ 64 - 1) (decimal e.stamp ++ behind) (e.stamp, behind) (wide_law.again e.stamp behind k.0.0 (did_stops e.did (outcome_text e.outcome ++ (codes "\n" ++ rest))))
+    let behind : List ℕ = codes " " ++ (did_text e.did ++ (codes " " ++ (outcome_text e.outcome ++ (codes "\n" ++ rest)))) in
+    ap begins_by_digit (event_parts (decimal e.stamp) (did_text e.did) (outcome_text e.outcome) rest)
+    ∙ digit_first (2 ^ 64 - 1) (decimal e.stamp ++ behind) (e.stamp, behind) (wide_law.again e.stamp behind k.0.0.0 refl)
 
 pub events_law : Law (λ rest. begins_by_digit rest ≡ false) (flat_map event_text) (Fits (λ _ e. IsReadableEvent e) []) events_front
 events_law = many_law begins_by_digit (λ _. event_front) event_text (λ _ e. IsReadableEvent e) (λ _. event_law) refl (λ _ e rest k. event_begins e rest k)
@@ -61,7 +77,8 @@ pub left_law : Law Anything left_text IsReadableLeft left_front
 unfolding left_text left_front
 left_law =
     read_as_law (behind_law (codes "left ") (ended_law (codes "\n") (λ rest. refl) (spaced_law wide_law term_law)))
-    (λ x. record { arrival = x.0; message = x.1 }) (λ l. (l.arrival, l.message)) left_text IsReadableLeft (λ l k. refl) (λ x. refl) (λ x k. k) (λ l k. k)
+    (λ x. record { arrival = x.0; message = x.1 }) (λ l. (l.arrival, l.message)) left_text IsReadableLeft (λ l k. refl) (λ x. refl)
+    (λ x k. ((k.0, k.1.term), kept_term x.1 k.1)) (λ l k. (k.0.0, readable_term l.message k.0.1 k.1))
 
 left_begins : (l : Left) (rest : List ℕ) → begins_by (codes "left ") (left_text l ++ rest) ≡ true
 unfolding left_text
@@ -87,7 +104,8 @@ pub signal_law : (pid : ℕ) → Law Anything queued_text (GoesTo pid) (signal_f
 unfolding queued_text signal_front
 signal_law pid =
     read_as_law (behind_law (codes "queued ") (ended_law (codes "\n") (λ rest. refl) (spaced_law (spaced_law (spaced_law narrow_law wide_law) wide_law) kind_law)))
-    (signal_of pid) parts_of_signal queued_text (GoesTo pid) (λ s k. same_signal pid s k.1) (λ x. refl) (λ x k. (k, refl)) (λ s k. k.0)
+    (signal_of pid) parts_of_signal queued_text (GoesTo pid) (λ s k. same_signal pid s k.1) (λ x. refl)
+    (λ x k. (((k.0, k.1.0), k.1.1), refl)) (λ s k. (k.0.0.0, (k.0.0.1, k.0.1)))
 
 -- behind these, the signal may stand
 abbrev pub QueuedBehind : ℕ → List Signal → Signal → Type 0
@@ -150,24 +168,8 @@ signals_fit pid (x ∷ xs) readable to rising = (
 
 -- ---- states, and heads
 
-end_law : Law Anything (λ t. term_text t ++ codes "\n") IsReadable (ended (codes "\n") term_front)
-end_law = ended_law (codes "\n") (λ rest. refl) term_law
-
-state_found : (bytes : List ℕ) → IfSome (state_front bytes) (IsReadAs state_text IsReadableState bytes)
-unfolding state_front
-state_found bytes =
-    word_found state_text IsReadableState (codes "state ended ") end_law state.Ended (λ x. refl) (λ x k. k) bytes _
-    (alone_found state_text IsReadableState (codes "state waiting\n") state.Waiting refl tt bytes _
-    (alone_found state_text IsReadableState (codes "state cut\n") state.Cut refl tt bytes None tt))
-
-state_again : (s : State) (rest : List ℕ) → IsReadableState s → state_front (state_text s ++ rest) ≡ Some (s, rest)
-unfolding state_front
-state_again (state.Ended reason) rest k = made_again end_law state.Ended reason rest k tt
-state_again state.Waiting rest k = refl
-state_again state.Cut rest k = refl
-
 pub state_law : Law Anything state_text IsReadableState state_front
-state_law = record { found = state_found; again = λ s rest k stop. state_again s rest k }
+state_law = ended_law (codes "\n") (λ rest. refl) standing_law
 
 pub head_law : (pid : ℕ) → Law Anything (λ (x : ℕ × List ℕ). head_text x.0 x.1) (λ (x : ℕ × List ℕ). (IsNarrow x.0 × (is_process_name x.1 ≡ true)) × ((x.0 == pid) ≡ true)) (head_front pid)
 unfolding head_front

@@ -1,5 +1,5 @@
 -- The laws of a process's part, and of a record.
-use Rattle.std.proofs.Common.{◌≡◌, ℕ, zero, suc, ◌+◌, true, false, cond, List, [], ◌∷◌, ◌++◌, length, Option, Some, None, refl, sym, ap, subst, ◌∙◌, arith, length-append, add-zero, zero-add}
+use Rattle.std.proofs.Common.{◌≡◌, ℕ, zero, suc, ◌+◌, ◌&&◌, true, false, cond, List, [], ◌∷◌, ◌++◌, length, Option, Some, None, refl, sym, ap, subst, ◌∙◌, arith, length-append, add-zero, zero-add}
 use Rattle.std.specs.Prelude.{◌≢◌, IfSome, All, codes, slice_get, ◌==◌}
 use Rattle.std.specs.List.{flat_map}
 use Rattle.std.proofs.lemmas.Bool.Decides.{Decides-eqb}
@@ -7,7 +7,8 @@ use Rattle.std.proofs.lemmas.List.{append-nil}
 use Rattle.std.proofs.lemmas.List.Elements.{All-nil, All-cons, All-head, All-tail}
 use Rattle.std.proofs.lemmas.Option.{none-some, same_Some}
 use Rattle.sig_terms.specs.Tokens.{◌>>=◌}
-use Rattle.sig_terms.proofs.Choices.{by_test, if_bind}
+use Rattle.sig_terms.specs.Words.{is_name, is_token}
+use Rattle.sig_terms.proofs.Choices.{by_test, if_bind, both_true}
 use Rattle.sig_kinds.specs.declared.signal.Signal.{Signal}
 use Rattle.sig_model.specs.declared.event.Event.{Event}
 use Rattle.sig_model.specs.declared.state.State.{State}
@@ -17,12 +18,16 @@ use Rattle.sig_record.specs.declared.report.Report.{Report}
 use Rattle.sig_record.specs.Records.{IsReport}
 use Rattle.sig_record.specs.RecordText.{left_text, queued_text, state_text, report_text, record_text}
 use Rattle.sig_record.specs.Readers.{behind}
-use Rattle.sig_record.specs.RecordFronts.{begins_by_digit, begins_by, report_of_parts, report_front, reports_front, record_in}
-use Rattle.sig_record.specs.ReadableRecord.{IsReadableEvent, IsReadableLeft, IsReadableReport, IsReadableRecord}
+use Rattle.sig_record.specs.Phrases.{IsNarrow}
+use Rattle.sig_record.specs.RecordFronts.{is_process_name, begins_by_digit, begins_by, report_of_parts, report_front, reports_front, record_in}
+use Rattle.sig_record.specs.StoredRecord.{IsStoredEvent, IsStoredLeft, IsStoredSignal, IsStoredReport}
+use Rattle.sig_record.specs.SizedRecord.{IsSizedEvent, IsSizedLeft, IsSizedSignal, IsSizedReport}
+use Rattle.sig_record.specs.ReadableRecord.{IsReadableRecord}
 use Rattle.sig_record.proofs.ReaderLaws.{IsReadAs, Law, Anything, joined_law, behind_law, read_as_law, stopped_law}
 use Rattle.sig_record.proofs.TermFronts.{if_some_at}
 use Rattle.sig_record.proofs.ManyLaws.{Fits, many_law, fits_all, all_fits}
-use Rattle.sig_record.proofs.LineLaws.{events_law, lefts_law, all_queued_law, readable_signals, signals_to, signals_rise, signals_fit, state_law, head_law}
+use Rattle.sig_record.proofs.Stored.{both, one_of, other_of}
+use Rattle.sig_record.proofs.LineLaws.{IsReadableEvent, IsReadableLeft, IsReadableSignal, IsReadableState, QueuedBehind, events_law, lefts_law, all_queued_law, readable_signals, signals_to, signals_rise, signals_fit, state_law, head_law}
 
 -- ---- what follows the lines of one kind
 
@@ -52,11 +57,42 @@ state_stops state.Cut rest = ((refl, refl), refl)
 
 -- ---- a process's part
 
+abbrev pub IsReadableReport : Report → Type 0
+IsReadableReport r = IsStoredReport r × IsSizedReport r
+
 abbrev pub ReportAt : ℕ → Report → Type 0
 ReportAt pid r = IsReport pid r × IsReadableReport r
 
 abbrev parts_of : Report → ((((ℕ × List ℕ) × List Event) × List Left) × List Signal) × State
 parts_of r = (((((r.pid.0, r.name), r.events), r.left), r.queued), r.state)
+
+abbrev PartsAt : ℕ → ((((ℕ × List ℕ) × List Event) × List Left) × List Signal) × State → Type 0
+PartsAt pid x =
+    ((((((IsNarrow x.0.0.0.0.0 × (is_process_name x.0.0.0.0.1 ≡ true)) × ((x.0.0.0.0.0 == pid) ≡ true)) × Fits (λ _ e. IsReadableEvent e) [] x.0.0.0.1) × Fits (λ _ l. IsReadableLeft l) [] x.0.0.1)
+    × Fits (QueuedBehind pid) [] x.0.1) × IsReadableState x.1)
+
+readable_parts : (pid : ℕ) (x : ((((ℕ × List ℕ) × List Event) × List Left) × List Signal) × State) → PartsAt pid x → IsReadableReport (report_of_parts x)
+readable_parts pid x k =
+    let name = both_true (is_name x.0.0.0.0.1) (is_token x.0.0.0.0.1) k.0.0.0.0.0.1 in
+    let events : All IsReadableEvent x.0.0.0.1 = fits_all IsReadableEvent [] x.0.0.0.1 k.0.0.0.1 in
+    let left : All IsReadableLeft x.0.0.1 = fits_all IsReadableLeft [] x.0.0.1 k.0.0.1 in
+    let queued : All IsReadableSignal x.0.1 = readable_signals pid [] x.0.1 k.0.1 in (
+      record {
+        pid = k.0.0.0.0.0.0;
+        name = name.1;
+        events = one_of IsStoredEvent IsSizedEvent x.0.0.0.1 events;
+        left = one_of IsStoredLeft IsSizedLeft x.0.0.1 left;
+        queued = one_of IsStoredSignal IsSizedSignal x.0.1 queued;
+        state = k.1.0;
+      },
+      record {
+        name = name.0;
+        events = other_of IsStoredEvent IsSizedEvent x.0.0.0.1 events;
+        left = other_of IsStoredLeft IsSizedLeft x.0.0.1 left;
+        queued = other_of IsStoredSignal IsSizedSignal x.0.1 queued;
+        state = k.1.1;
+      },
+    )
 
 pub report_law : (pid : ℕ) → Law Anything report_text (ReportAt pid) (report_front pid)
 unfolding report_text report_front
@@ -69,19 +105,17 @@ report_law pid =
     report_of_parts parts_of report_text (ReportAt pid) (λ r k. refl) (λ x. refl)
     (λ x k. let same : x.0.0.0.0.0 ≡ pid = (Decides-eqb x.0.0.0.0.0 pid).0 k.0.0.0.0.1 in (
       record { process = same; to = signals_to pid [] x.0.1 k.0.1; rising = signals_rise pid x.0.1 k.0.1 },
-      record {
-        pid = k.0.0.0.0.0.0;
-        name = k.0.0.0.0.0.1;
-        events = fits_all IsReadableEvent [] x.0.0.0.1 k.0.0.0.1;
-        left = fits_all IsReadableLeft [] x.0.0.1 k.0.0.1;
-        queued = readable_signals pid [] x.0.1 k.0.1;
-        state = k.1;
-      },
+      readable_parts pid x k,
     ))
     (λ r k.
     let i = k.0 in
-    let p = k.1 in
-    (((((((p.pid, p.name), (Decides-eqb r.pid.0 pid).1 i.process), all_fits IsReadableEvent [] r.events p.events), all_fits IsReadableLeft [] r.left p.left), signals_fit pid r.queued p.queued i.to i.rising), p.state)))
+    let s = k.1.0 in
+    let z = k.1.1 in
+    let name : is_process_name r.name ≡ true = ap (λ b. b && is_token r.name) z.name ∙ s.name in
+    let events : All IsReadableEvent r.events = both IsStoredEvent IsSizedEvent r.events s.events z.events in
+    let left : All IsReadableLeft r.left = both IsStoredLeft IsSizedLeft r.left s.left z.left in
+    let queued : All IsReadableSignal r.queued = both IsStoredSignal IsSizedSignal r.queued s.queued z.queued in
+    (((((((s.pid, name), (Decides-eqb r.pid.0 pid).1 i.process), all_fits IsReadableEvent [] r.events events), all_fits IsReadableLeft [] r.left left), signals_fit pid r.queued queued i.to i.rising), (s.state, z.state))))
 
 report_begins : (r : Report) (rest : List ℕ) → begins_by (codes "process ") (report_text r ++ rest) ≡ true
 unfolding report_text
@@ -120,7 +154,13 @@ fits_of_record before (x ∷ rs) kept each = (
 )
 
 from_zero : (rs : List Report) → Fits ReportBehind [] rs → IsReadableRecord rs
-from_zero rs fits = record { kept = λ i r e. subst (λ (n : ℕ). IsReport n r) (zero-add i) (record_of_fits [] rs fits i r e); each = readable_of_fits [] rs fits }
+from_zero rs fits =
+    let each : All IsReadableReport rs = readable_of_fits [] rs fits in
+    record {
+      kept = λ i r e. subst (λ (n : ℕ). IsReport n r) (zero-add i) (record_of_fits [] rs fits i r e);
+      stored = one_of IsStoredReport IsSizedReport rs each;
+      sized = other_of IsStoredReport IsSizedReport rs each;
+    }
 
 whole_law : Law (λ rest. begins_by (codes "process ") rest ≡ false) record_text (Fits ReportBehind []) (behind (codes "sigrecord 1\n") reports_front)
 whole_law = behind_law (codes "sigrecord 1\n") reports_law
@@ -145,7 +185,8 @@ record_found bytes =
 pub record_again : (rs : List Report) → IsReadableRecord rs → record_in (record_text rs) ≡ Some rs
 unfolding record_in
 record_again rs readable =
-    let fits : Fits ReportBehind [] rs = fits_of_record [] rs (λ i r e. subst (λ (n : ℕ). IsReport n r) (sym (zero-add i)) (readable.kept i r e)) readable.each in
+    let each : All IsReadableReport rs = both IsStoredReport IsSizedReport rs readable.stored readable.sized in
+    let fits : Fits ReportBehind [] rs = fits_of_record [] rs (λ i r e. subst (λ (n : ℕ). IsReport n r) (sym (zero-add i)) (readable.kept i r e)) each in
     let read : behind (codes "sigrecord 1\n") reports_front (record_text rs ++ []) ≡ Some (rs, []) = whole_law.again rs [] fits refl in
     ap record_in (sym (append-nil (record_text rs))) ∙ ap (λ (o : Option (List Report × List ℕ)). o >>= λ x. cond (length x.1 == 0) (Some x.0) None) read
 

@@ -7,8 +7,6 @@ use Rattle.std.proofs.lemmas.Option.{slice_get-map, slice_get_within, get_or_fro
 use Rattle.std.proofs.lemmas.List.Elements.{All-nil, All-cons, All-head, All-tail, All-append, All-weaker, All-map, All-get_or}
 use Rattle.sig_terms.specs.Words.{is_name}
 use Rattle.sig_terms.specs.declared.term.Term.{Term}
-use Rattle.sig_kinds.specs.declared.signal.Kind.{Kind}
-use Rattle.sig_kinds.specs.declared.signal.Kind.TheVariants.{Message, AliasMessage, Exit, Down}
 use Rattle.sig_kinds.specs.declared.signal.Signal.{Signal}
 use Rattle.sig_script.specs.Scripts.{Declared, Program}
 use Rattle.sig_runs.specs.Machine.{Machine, At, IsRun}
@@ -31,7 +29,7 @@ use Rattle.sig_record.specs.declared.merging.MergedAt.{MergedAt}
 use Rattle.sig_record.specs.Merging.{IsMerged}
 use Rattle.sig_record.specs.RecordOf.{left_of, report_of, record_of}
 use Rattle.sig_record.specs.RunRecord.{events_listed, queued_for}
-use Rattle.sig_record.specs.SizedRecord.{AreNames, IsSizedEvent, IsSizedLeft, IsSizedKind, IsSizedSignal, IsSizedState, IsSizedReport, IsSizedRecord}
+use Rattle.sig_record.specs.SizedRecord.{AreNames, IsSizedEvent, IsSizedLeft, IsSizedSignal, IsSizedState, IsSizedReport, IsSizedRecord}
 use Rattle.sig_record.specs.Records.{IsRecord}
 use Rattle.sig_record.specs.RecordText.{record_text}
 use Rattle.sig_record.specs.RecordFronts.{record_in}
@@ -41,7 +39,7 @@ use Rattle.sig_record.proofs.CountedCrews.{crew_counted}
 use Rattle.sig_record.proofs.CountedLemmas.{counted_in_order}
 use Rattle.sig_record.proofs.RecordLaws.{record_again}
 use Rattle.sig_record.proofs.RecordLemmas.{record_kept, same_record}
-use Rattle.sig_record.proofs.SizedReads.{record_reads}
+use Rattle.sig_record.proofs.PhraseRows.{small_kind}
 use Rattle.sig_record.proofs.EventSizes.{run_told}
 use Rattle.sig_record.proofs.KeySorting.{order_of}
 use Rattle.sig_record.proofs.RunLemmas.{machine, has_queued, states_alike, plain_run, told_by, merged_order}
@@ -54,13 +52,6 @@ by_all P p (a ∷ later) h =
     let rest : All P (events_by p later) = by_all P p later (All-tail (λ (b : At Event). P b.event) a later h) in
     cond_both (a.pid == p) (a.event ∷ events_by p later) (events_by p later) (All P)
     (λ e. All-cons P a.event (events_by p later) (All-head (λ (b : At Event). P b.event) a later h) rest) (λ e. rest)
-
-small_kind : (k : Kind) → KindSizes k → IsSizedKind k
-small_kind (Message t) h = small_kept t h
-small_kind (AliasMessage r t) h = small_kept t h
-small_kind (Exit t linked) h = small_kept t h
-small_kind (Down r t) h = small_kept t h
-small_kind _ h = tt
 
 state_sized : (end : Option Term) (cut : Bool) → IfSome end IsSmallTerm → IsSizedState (state_of end cut)
 state_sized (Some reason) cut h = small_kept reason h
@@ -127,7 +118,7 @@ module _ (script : Program) (crew : List Running) (law : IsLawfulCrew script cre
 
   -- so it can be read where it lies in memory
   pub record_readable : AreNames script → IsStoredRecord (record_of crew) → IsReadableRecord (record_of crew)
-  record_readable names stored = record_reads (record_of crew) kept stored (record_sized names)
+  record_readable names stored = record { kept = kept; stored = stored; sized = record_sized names }
 
   pub record_reread : AreNames script → IsStoredRecord (record_of crew) → record_in (record_text (record_of crew)) ≡ Some (record_of crew)
   record_reread names stored = record_again (record_of crew) (record_readable names stored)

@@ -15,7 +15,7 @@ use Rattle.sig_terms.specs.declared.reading.TheConstants.{READ_DEPTH, READ_NODES
 use Rattle.sig_terms.proofs.FrontTexts.{IsFound, term_found}
 use Rattle.sig_terms.proofs.FrontReads.{reads}
 use Rattle.sig_terms.proofs.WholeReads.{readable_at, one_term}
-use Rattle.sig_record.specs.RecordFronts.{term_front}
+use Rattle.sig_record.specs.Phrases.{term_front}
 
 pub if_some_at : {A : Type 0} (P : A → Type 0) (o : Option A) (x : A) → o ≡ Some x → IfSome o P → P x
 if_some_at P None x e h = absurd (none-some x e)

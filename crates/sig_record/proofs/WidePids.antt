@@ -3,8 +3,8 @@ use Rattle.std.proofs.Common.{◌≡◌, ℕ, ◌^◌, ◌≤◌, List, Option, 
 use Rattle.std.specs.Prelude.{IfSome, ◌==◌, true}
 use Rattle.std.proofs.lemmas.Bool.Decides.{Decides-eqb}
 use Rattle.sig_record.specs.RecordText.{head_text}
-use Rattle.sig_record.specs.RecordFronts.{head_front, report_front}
-use Rattle.sig_record.specs.ReadableRecord.{IsNarrow, is_process_name}
+use Rattle.sig_record.specs.Phrases.{IsNarrow}
+use Rattle.sig_record.specs.RecordFronts.{is_process_name, head_front, report_front}
 use Rattle.sig_record.proofs.ReaderLaws.{IsReadAs}
 use Rattle.sig_record.proofs.LineLaws.{head_law}
 

@@ -5,6 +5,9 @@ pub mod Merging
 pub mod Keys
 pub mod SettledRecord
 pub mod RunRecord
+pub mod Phrases
+pub mod EventRows
+pub mod KindRows
 pub mod RecordText
 pub mod Putting
 pub mod Readers

@@ -3,40 +3,42 @@
 use Rattle.std.specs.Prelude.{◌≡◌, List, All, true}
 use Rattle.sig_terms.specs.Words.{is_name}
 use Rattle.sig_kinds.specs.declared.signal.Kind.{Kind}
-use Rattle.sig_kinds.specs.declared.signal.Kind.TheVariants.{Message, AliasMessage, Exit, Down}
 use Rattle.sig_kinds.specs.declared.signal.Signal.{Signal}
 use Rattle.sig_script.specs.Scripts.{Declared, Program}
+use Rattle.sig_model.specs.declared.event.Outcome.{Outcome}
 use Rattle.sig_model.specs.declared.event.Event.{Event}
 use Rattle.sig_model.specs.declared.state.State.{State}
-use Rattle.sig_model.specs.declared.state.State.TheVariants as state
-use Rattle.sig_model.specs.TermSizes.{IsKeptTerm, OutcomeSizes}
+use Rattle.sig_model.specs.TermSizes.{IsKeptTerm}
 use Rattle.sig_record.specs.declared.report.Left.{Left}
 use Rattle.sig_record.specs.declared.report.Report.{Report}
-use Rattle.sig_record.specs.ReadableRecord.{IsReadableRecord}
+use Rattle.sig_record.specs.Phrases.{Phrase, terms_of, Each}
+use Rattle.sig_record.specs.EventRows.{outcome_phrase, state_phrase}
+use Rattle.sig_record.specs.KindRows.{kind_phrase}
 
 -- the name of each process of the script is a name token
 abbrev pub AreNames : Program → Type 0
 AreNames script = All (λ (d : Declared). is_name d.name ≡ true) script.procs
 
+abbrev pub IsSizedPhrase : Phrase → Type 0
+IsSizedPhrase p = Each IsKeptTerm (terms_of p.values)
+
+abbrev pub IsSizedOutcome : Outcome → Type 0
+IsSizedOutcome o = IsSizedPhrase (outcome_phrase o)
+
 abbrev pub IsSizedEvent : Event → Type 0
-IsSizedEvent e = OutcomeSizes e.outcome
+IsSizedEvent e = IsSizedOutcome e.outcome
 
 abbrev pub IsSizedLeft : Left → Type 0
 IsSizedLeft l = IsKeptTerm l.message
 
 abbrev pub IsSizedKind : Kind → Type 0
-IsSizedKind (Message term) = IsKeptTerm term
-IsSizedKind (AliasMessage reference term) = IsKeptTerm term
-IsSizedKind (Exit reason linked) = IsKeptTerm reason
-IsSizedKind (Down reference reason) = IsKeptTerm reason
-IsSizedKind _ = Unit {0}
+IsSizedKind k = IsSizedPhrase (kind_phrase k)
 
 abbrev pub IsSizedSignal : Signal → Type 0
 IsSizedSignal s = IsSizedKind s.kind
 
 abbrev pub IsSizedState : State → Type 0
-IsSizedState (state.Ended reason) = IsKeptTerm reason
-IsSizedState _ = Unit {0}
+IsSizedState s = IsSizedPhrase (state_phrase s)
 
 pub record IsSizedReport (r : Report) : Type 0 where
   pub name : is_name r.name ≡ true
@@ -47,7 +49,3 @@ pub record IsSizedReport (r : Report) : Type 0 where
 
 abbrev pub IsSizedRecord : List Report → Type 0
 IsSizedRecord reports = All IsSizedReport reports
-
--- a reader takes the record, where its names are name tokens and its terms no larger than what is read
-unfoldable pub CanBeReread : List Report → Type 0
-CanBeReread reports = IsSizedRecord reports → IsReadableRecord reports

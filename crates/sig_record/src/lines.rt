@@ -1,16 +1,14 @@
 //! Readers of a record's lines.
 
-ghost use Rattle.std.specs.Prelude.{◌≡◌, codes, length};
+ghost use Rattle.std.specs.Prelude.{◌≡◌, length};
 ghost use Rattle.std.specs.Option.{option_map};
 ghost use Rattle.sig_terms.specs.Fronts.{Gives};
-ghost use Rattle.sig_model.specs.declared.state.State.TheVariants.{Ended};
-ghost use Rattle.sig_record.specs.Readers.{read_as, spaced, ended};
+ghost use Rattle.sig_record.specs.Readers.{spaced};
 ghost use Rattle.sig_record.specs.Sorting.{is_lower};
 ghost use Rattle.sig_record.specs.Refusing.{Yields};
+ghost use Rattle.sig_record.specs.Phrases.{narrow, wide, row_front};
+ghost use Rattle.sig_record.specs.EventRows.{has_ended, standing_front};
 ghost use Rattle.sig_record.specs.RecordFronts.{
-  narrow,
-  wide,
-  term_front,
   event_front,
   left_front,
   signal_front,
@@ -20,8 +18,8 @@ ghost use Rattle.sig_record.specs.RecordFronts.{
   head_front,
 };
 
-use crate::outcomes::{kind, outcome};
-use crate::pieces::{after, did, name, narrow, term, two_numbers, wide};
+use crate::outcomes::{did, kind, outcome};
+use crate::pieces::{after, name, narrow, term, term_field, two_numbers, wide};
 use crate::refusal::Refusal;
 use crate::report::Left;
 use sig_kinds::Signal;
@@ -34,7 +32,9 @@ fn event(alloc: Global, bytes: &[u8]) -> Result<(Event, &[u8]), ReadTerm>
     ensures { Gives (λ x. (x.0, x.1.now)) result (event_front bytes.now) }
 {
     let (stamp, rest) = wide(bytes).ok_or(ReadTerm::BadTerm)?;
+    let rest = after(b" ", rest).ok_or(ReadTerm::BadTerm)?;
     let (did, rest) = did(rest).ok_or(ReadTerm::BadTerm)?;
+    let rest = after(b" ", rest).ok_or(ReadTerm::BadTerm)?;
     let (outcome, rest) = outcome(alloc, rest)?;
     let rest = after(b"\n", rest).ok_or(ReadTerm::BadTerm)?;
     let event = Event {
@@ -120,28 +120,35 @@ fn queued<'a>(
     }
 }
 
-fn ended_state(alloc: Global, bytes: &[u8]) -> Result<(State, &[u8]), ReadTerm>
-    ensures { Gives (λ x. (x.0, x.1.now)) result (read_as Ended (ended (codes "\n") term_front) bytes.now) }
+fn ended(alloc: Global, bytes: &[u8]) -> Result<(State, &[u8]), ReadTerm>
+    ensures { Gives (λ x. (x.0, x.1.now)) result (row_front has_ended bytes.now) }
 {
-    let (reason, rest) = term(alloc, bytes)?;
-    let rest = after(b"\n", rest).ok_or(ReadTerm::BadTerm)?;
+    let (reason, rest) = term_field(alloc, bytes)?;
     Ok((State::Ended { reason }, rest))
 }
 
-#[tactic(auto, unfolding(crate::specs::RecordFronts::state_front))]
-fn state(alloc: Global, bytes: &[u8]) -> Result<(State, &[u8]), ReadTerm>
-    ensures { Gives (λ x. (x.0, x.1.now)) result (state_front bytes.now) }
+#[tactic(auto, unfolding(crate::specs::EventRows::standing_front))]
+fn standing(alloc: Global, bytes: &[u8]) -> Result<(State, &[u8]), ReadTerm>
+    ensures { Gives (λ x. (x.0, x.1.now)) result (standing_front bytes.now) }
 {
-    if let Some(rest) = after(b"state ended ", bytes) {
-        return ended_state(alloc, rest);
+    if let Some(rest) = after(b"state ended", bytes) {
+        return ended(alloc, rest);
     }
-    if let Some(rest) = after(b"state waiting\n", bytes) {
+    if let Some(rest) = after(b"state waiting", bytes) {
         return Ok((State::Waiting, rest));
     }
-    if let Some(rest) = after(b"state cut\n", bytes) {
+    if let Some(rest) = after(b"state cut", bytes) {
         return Ok((State::Cut, rest));
     }
     Err(ReadTerm::BadTerm)
+}
+
+fn state(alloc: Global, bytes: &[u8]) -> Result<(State, &[u8]), ReadTerm>
+    ensures { Gives (λ x. (x.0, x.1.now)) result (state_front bytes.now) }
+{
+    let (state, end) = standing(alloc, bytes)?;
+    let rest = after(b"\n", end).ok_or(ReadTerm::BadTerm)?;
+    Ok((state, rest))
 }
 
 #[tactic(auto, unfolding(crate::specs::RecordFronts::head_front))]

@@ -1,16 +1,15 @@
-//! Readers of a line's parts: numbers, terms, references, names, and what a process did.
+//! Readers of a line's parts: numbers, terms, references, names, and fields, which stand behind a space.
 
-ghost use Rattle.std.specs.Prelude.{◌≡◌, ◌≤◌, IfSome, codes, length};
+ghost use Rattle.std.specs.Prelude.{◌≡◌, ◌≤◌, IfSome, length};
 ghost use Rattle.std.specs.Option.{option_map};
 ghost use Rattle.std.specs.List.{prefix_len};
 ghost use Rattle.sig_terms.specs.Words.{is_name_byte};
 ghost use Rattle.sig_terms.specs.Tokens.{digits_on, number_at, after_text, reference_at};
 ghost use Rattle.sig_terms.specs.Fronts.{Gives};
-ghost use Rattle.sig_model.specs.declared.event.Did.TheVariants.{Exec, From};
-ghost use Rattle.sig_record.specs.Readers.{read_as, spaced, ended};
-ghost use Rattle.sig_record.specs.RecordFronts.{narrow, wide, term_front, ref_front, name_front, pid_of, did_front};
+ghost use Rattle.sig_record.specs.Readers.{spaced};
+ghost use Rattle.sig_record.specs.Phrases.{a_narrow, a_wide, a_reference, a_term, narrow, wide, term_front, ref_front, choice_front, field_front};
+ghost use Rattle.sig_record.specs.RecordFronts.{name_front};
 
-use sig_model::Did;
 use sig_terms::bytes::{follows_in_name, is_digit_byte, spells_name};
 use sig_terms::{Name, Pid, ReadTerm, Ref, Term, read_front};
 use std::alloc::Global;
@@ -132,36 +131,45 @@ pub(crate) fn two_numbers(bytes: &[u8]) -> Option<((u32, u64), &[u8])>
     Some(((first, second), rest))
 }
 
-/// The place of an execution, and the space behind it.
-fn execution(bytes: &[u8]) -> Option<(Did, &[u8])>
-    ensures { option_map (λ x. (x.0, x.1.now)) result ≡ read_as Exec (ended (codes " ") narrow) bytes.now }
+/// The first of the two words, or the second.
+pub(crate) fn choice<'a>(one: &[u8], other: &[u8], bytes: &'a [u8]) -> Option<(bool, &'a [u8])>
+    ensures { option_map (λ x. (x.0, x.1.now)) result ≡ choice_front one.now other.now bytes.now }
 {
-    let (place, rest) = narrow(bytes)?;
-    let rest = after(b" ", rest)?;
-    Some((Did::Exec { place }, rest))
+    if let Some(rest) = after(one, bytes) {
+        return Some((true, rest));
+    }
+    let rest = after(other, bytes)?;
+    Some((false, rest))
 }
 
-/// The sender and the number of a signal that was handled, and the space behind them.
-fn handling(bytes: &[u8]) -> Option<(Did, &[u8])>
-    ensures { option_map (λ x. (x.0, x.1.now)) result
-        ≡ read_as (λ x. From (pid_of x.0) x.1) (ended (codes " ") (spaced narrow wide)) bytes.now }
+/// A number of 32 bits, as a field.
+pub(crate) fn narrow_field(bytes: &[u8]) -> Option<(u32, &[u8])>
+    ensures { option_map (λ x. (x.0, x.1.now)) result ≡ field_front a_narrow bytes.now }
 {
-    let ((from, number), rest) = two_numbers(bytes)?;
-    let rest = after(b" ", rest)?;
-    let from = Pid(from);
-    Some((Did::From { from, number }, rest))
+    let rest = after(b" ", bytes)?;
+    narrow(rest)
 }
 
-/// What a process did.
-#[tactic(auto, unfolding(crate::specs::RecordFronts::did_front))]
-pub(crate) fn did(bytes: &[u8]) -> Option<(Did, &[u8])>
-    ensures { option_map (λ x. (x.0, x.1.now)) result ≡ did_front bytes.now }
+/// A number of 64 bits, as a field.
+pub(crate) fn wide_field(bytes: &[u8]) -> Option<(u64, &[u8])>
+    ensures { option_map (λ x. (x.0, x.1.now)) result ≡ field_front a_wide bytes.now }
 {
-    if let Some(rest) = after(b" exec ", bytes) {
-        return execution(rest);
-    }
-    if let Some(rest) = after(b" from ", bytes) {
-        return handling(rest);
-    }
-    None
+    let rest = after(b" ", bytes)?;
+    wide(rest)
+}
+
+/// A reference, as a field.
+pub(crate) fn reference_field(bytes: &[u8]) -> Option<(Ref, &[u8])>
+    ensures { option_map (λ x. (x.0, x.1.now)) result ≡ field_front a_reference bytes.now }
+{
+    let rest = after(b" ", bytes)?;
+    reference(rest)
+}
+
+/// A term, as a field.
+pub(crate) fn term_field(alloc: Global, bytes: &[u8]) -> Result<(Term, &[u8]), ReadTerm>
+    ensures { Gives (λ x. (x.0, x.1.now)) result (field_front a_term bytes.now) }
+{
+    let rest = after(b" ", bytes).ok_or(ReadTerm::BadTerm)?;
+    term(alloc, rest)
 }

@@ -1,23 +1,23 @@
-ghost use Rattle.std.specs.Prelude.{◌≡◌, ◌++◌, OnOk, OnErr, All, true, decimal};
+ghost use Rattle.std.specs.Prelude.{◌≡◌, ◌++◌, OnOk, OnErr, All, true, codes, decimal};
 ghost use Rattle.std.specs.List.{flat_map};
-ghost use Rattle.sig_terms.specs.TermText.{reference_text};
+ghost use Rattle.sig_terms.specs.TermText.{term_text, reference_text};
+ghost use Rattle.sig_terms.specs.Readable.{IsTerm};
 ghost use Rattle.sig_terms.specs.Words.{is_token};
 ghost use Rattle.sig_record.specs.Putting.{IsPut};
+ghost use Rattle.sig_record.specs.Phrases.{truth_text, link_text, IsNarrow, IsWide, IsStoredRef};
+ghost use Rattle.sig_record.specs.EventRows.{did_text, outcome_text};
+ghost use Rattle.sig_record.specs.KindRows.{kind_text};
 ghost use Rattle.sig_record.specs.RecordText.{
-  did_text,
-  outcome_text,
   event_text,
   left_text,
-  link_text,
-  kind_text,
   queued_text,
   state_text,
   head_text,
   report_text,
   record_text,
 };
-ghost use Rattle.sig_record.specs.ReadableRecord.{IsNarrow, IsWide, IsReadableRef, IsReadableDid};
 ghost use Rattle.sig_record.specs.StoredRecord.{
+  IsStoredDid,
   IsStoredOutcome,
   IsStoredEvent,
   IsStoredLeft,
@@ -27,14 +27,14 @@ ghost use Rattle.sig_record.specs.StoredRecord.{
   IsStoredReport,
   IsStoredRecord,
 };
-ghost use Rattle.sig_record.specs.SizedRecord.{CanBeReread};
+ghost use Rattle.sig_record.specs.ReadableRecord.{CanBeReread};
 
 use crate::record::Record;
 use crate::report::{Left, Report};
 use itoa::Buffer;
 use sig_kinds::{Kind, Signal};
 use sig_model::{Did, Event, Outcome, State};
-use sig_terms::{Name, Pid, Ref};
+use sig_terms::{Name, Pid, Ref, Term};
 use std::alloc::AllocError;
 
 fn put(into: &mut Vec<u8>, text: &[u8]) -> Result<(), AllocError>
@@ -65,21 +65,31 @@ fn put_pid(into: &mut Vec<u8>, word: &[u8], pid: Pid) -> Result<(), AllocError>
     put_numbered(into, word, u64::from(pid.0))
 }
 
+fn put_term(into: &mut Vec<u8>, word: &[u8], term: &Term) -> Result<(), AllocError>
+    ensures text { IsPut into.old.items into.new.items (word.now ++ term_text term.now) result }
+    ensures stored { OnOk result (IsTerm term.now) }
+{
+    put(into, word)?;
+    term.print(into)
+}
+
 fn put_did(into: &mut Vec<u8>, did: &Did) -> Result<(), AllocError>
     ensures text { IsPut into.old.items into.new.items (did_text did.now) result }
-    ensures stored { OnOk result (IsReadableDid did.now) }
+    ensures stored { OnOk result (IsStoredDid did.now) }
 {
     match did {
-        Did::Exec { place } => {
-            put_numbered(into, b" exec ", u64::from(*place))?;
-            put(into, b" ")
-        }
+        Did::Exec { place } => put_numbered(into, b"exec ", u64::from(*place)),
         Did::From { from, number } => {
-            put_pid(into, b" from ", *from)?;
-            put_numbered(into, b" ", *number)?;
-            put(into, b" ")
+            put_pid(into, b"from ", *from)?;
+            put_numbered(into, b" ", *number)
         }
     }
+}
+
+fn truth_word(truth: bool) -> &'static [u8]
+    ensures { result.now ≡ truth_text truth }
+{
+    if truth { b"true" } else { b"false" }
 }
 
 fn put_outcome(into: &mut Vec<u8>, outcome: &Outcome) -> Result<(), AllocError>
@@ -88,18 +98,15 @@ fn put_outcome(into: &mut Vec<u8>, outcome: &Outcome) -> Result<(), AllocError>
 {
     match outcome {
         Outcome::Sent { to, message } => {
-            put(into, b"sent ")?;
-            to.print(into)?;
-            put(into, b" ")?;
-            message.print(into)
+            put_term(into, b"sent ", to)?;
+            put_term(into, b" ", message)
         }
-        Outcome::Set { value } => {
-            put(into, b"set ")?;
-            value.print(into)
-        }
+        Outcome::Set { value } => put_term(into, b"set ", value),
         Outcome::Done => put(into, b"done"),
-        Outcome::Answered { value: true } => put(into, b"answered true"),
-        Outcome::Answered { value: false } => put(into, b"answered false"),
+        Outcome::Answered { value } => {
+            put(into, b"answered ")?;
+            put(into, truth_word(*value))
+        }
         Outcome::Took {
             clause,
             looked,
@@ -107,18 +114,11 @@ fn put_outcome(into: &mut Vec<u8>, outcome: &Outcome) -> Result<(), AllocError>
         } => {
             put_numbered(into, b"took ", u64::from(*clause))?;
             put_numbered(into, b" ", *looked)?;
-            put(into, b" ")?;
-            message.print(into)
+            put_term(into, b" ", message)
         }
         Outcome::After { looked } => put_numbered(into, b"after ", *looked),
-        Outcome::Ended { reason } => {
-            put(into, b"ended ")?;
-            reason.print(into)
-        }
-        Outcome::Kept { message } => {
-            put(into, b"kept ")?;
-            message.print(into)
-        }
+        Outcome::Ended { reason } => put_term(into, b"ended ", reason),
+        Outcome::Kept { message } => put_term(into, b"kept ", message),
         Outcome::Dropped => put(into, b"dropped"),
         Outcome::Linked => put(into, b"linked"),
         Outcome::Unlinked => put(into, b"unlinked"),
@@ -129,13 +129,23 @@ fn put_outcome(into: &mut Vec<u8>, outcome: &Outcome) -> Result<(), AllocError>
     }
 }
 
+/// The event's stamp, and what the process did.
+fn put_act(into: &mut Vec<u8>, event: &Event) -> Result<(), AllocError>
+    ensures text { IsPut into.old.items into.new.items (decimal event.now.stamp ++ codes " " ++ did_text event.now.did) result }
+    ensures stored { OnOk result (IsWide event.now.stamp × IsStoredDid event.now.did) }
+{
+    put_number(into, event.stamp)?;
+    put(into, b" ")?;
+    put_did(into, &event.did)
+}
+
 #[tactic(auto, unfolding(crate::specs::RecordText::event_text))]
 fn put_event(into: &mut Vec<u8>, event: &Event) -> Result<(), AllocError>
     ensures text { IsPut into.old.items into.new.items (event_text event.now) result }
     ensures stored { OnOk result (IsStoredEvent event.now) }
 {
-    put_number(into, event.stamp)?;
-    put_did(into, &event.did)?;
+    put_act(into, event)?;
+    put(into, b" ")?;
     put_outcome(into, &event.outcome)?;
     put(into, b"\n")
 }
@@ -177,12 +187,12 @@ fn put_lefts(into: &mut Vec<u8>, lefts: &[Left]) -> Result<(), AllocError>
 fn link_word(linked: bool) -> &'static [u8]
     ensures { result.now ≡ link_text linked }
 {
-    if linked { b"linked " } else { b"plain " }
+    if linked { b"linked" } else { b"plain" }
 }
 
 fn put_reference(into: &mut Vec<u8>, word: &[u8], reference: Ref) -> Result<(), AllocError>
     ensures text { IsPut into.old.items into.new.items (word.now ++ reference_text reference) result }
-    ensures stored { OnOk result (IsReadableRef reference) }
+    ensures stored { OnOk result (IsStoredRef reference) }
 {
     put(into, word)?;
     reference.print(into)
@@ -193,14 +203,10 @@ fn put_kind(into: &mut Vec<u8>, kind: &Kind) -> Result<(), AllocError>
     ensures stored { OnOk result (IsStoredKind kind.now) }
 {
     match kind {
-        Kind::Message { term } => {
-            put(into, b"message ")?;
-            term.print(into)
-        }
+        Kind::Message { term } => put_term(into, b"message ", term),
         Kind::AliasMessage { reference, term } => {
             put_reference(into, b"alias ", *reference)?;
-            put(into, b" ")?;
-            term.print(into)
+            put_term(into, b" ", term)
         }
         Kind::Link => put(into, b"link"),
         Kind::Unlink { id } => put_numbered(into, b"unlink ", *id),
@@ -210,12 +216,11 @@ fn put_kind(into: &mut Vec<u8>, kind: &Kind) -> Result<(), AllocError>
         Kind::Exit { reason, linked } => {
             put(into, b"exit ")?;
             put(into, link_word(*linked))?;
-            reason.print(into)
+            put_term(into, b" ", reason)
         }
         Kind::Down { reference, reason } => {
             put_reference(into, b"down ", *reference)?;
-            put(into, b" ")?;
-            reason.print(into)
+            put_term(into, b" ", reason)
         }
     }
 }
