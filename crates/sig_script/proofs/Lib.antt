@@ -33,3 +33,6 @@ pub mod CleanLines
 pub mod PrintLemmas
 pub mod LabelTextLemmas
 pub mod GeneratedLemmas
+pub mod OtherPhrases
+pub mod OtherForms
+pub mod OtherWalks
