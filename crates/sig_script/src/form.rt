@@ -32,7 +32,7 @@ use crate::line::{read_tokens, text_of};
 use crate::names::{take_name, take_target, take_variable};
 use crate::number::read_count;
 use crate::phrases::take_phrase;
-use crate::token::{Token, TokenKind};
+use crate::token::{Token, TokenKind, Tokens};
 use sig_kinds::AliasMode;
 use sig_patterns::{Expr, Pattern, Var};
 use sig_terms::Name;
@@ -506,17 +506,18 @@ fn read_said(
 }
 
 /// What a line says behind what was read so far, or what is wrong with it. A line without tokens
-/// says nothing.
+/// says nothing. The room of the list of tokens is used again.
 #[tactic(auto, unfolding(crate::specs::Forms::said))]
 pub fn read_line(
     alloc: Global,
     known: &Known,
     draft: &Draft,
+    tokens: &mut Tokens,
     line: &[u8],
 ) -> Result<Option<Form>, Stop>
     requires { IsFewKnown known.now }
     ensures { Gives (λ f. f) result (said known.now draft.now line.now) }
 {
-    let tokens = read_tokens(alloc, line)?;
+    read_tokens(alloc, tokens, line)?;
     read_said(alloc, known, draft, line, tokens.as_slice())
 }

@@ -8,7 +8,7 @@ use crate::fault::Stop;
 use crate::known::Known;
 use crate::line::first_line;
 use crate::reader::ScriptError;
-use crate::token::is_blank_byte;
+use crate::token::{Tokens, is_blank_byte};
 use sig_lists::Sequence;
 use std::alloc::{AllocError, Global};
 
@@ -21,13 +21,19 @@ fn may_name(line: &[u8]) -> bool {
 }
 
 /// Line `n` behind what was read so far, where it may name a process or a label.
-fn note_line(alloc: Global, draft: &mut Draft, n: u64, line: &[u8]) -> Result<(), Stop>
+fn note_line(
+    alloc: Global,
+    draft: &mut Draft,
+    n: u64,
+    tokens: &mut Tokens,
+    line: &[u8],
+) -> Result<(), Stop>
     requires few { n < 2 ^ 31 }
     requires fit { IsFit n draft.old }
     ensures { OnOk result (IsFit (n + 1) draft.new) }
 {
     if may_name(line) {
-        take_line(alloc, &Known::Any, draft, n, line)
+        take_line(alloc, &Known::Any, draft, n, tokens, line)
     } else {
         Ok(())
     }
@@ -44,11 +50,12 @@ pub fn guess_names(alloc: Global, bytes: &[u8]) -> Result<Known, AllocError>
         procs: Sequence::new(alloc),
         section: Section::Before,
     };
+    let mut tokens = Sequence::new(alloc);
     let mut n: u64 = 2;
     let mut at = 0;
     while at < bytes.len() {
         let line = first_line(&bytes[at..]);
-        match note_line(alloc, &mut draft, n, line) {
+        match note_line(alloc, &mut draft, n, &mut tokens, line) {
             Ok(()) => {}
             Err(Stop::Fault(_)) => return Ok(Known::Any),
             Err(Stop::Memory) => return Err(AllocError),

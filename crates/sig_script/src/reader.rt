@@ -65,11 +65,12 @@ fn read_lines(alloc: Global, known: &Known, bytes: &[u8]) -> Result<DraftScript,
         procs: Sequence::new(alloc),
         section: Section::Before,
     };
+    let mut tokens = Sequence::new(alloc);
     let mut n: u64 = 2;
     let mut at = 0;
     while at < bytes.len() {
         let line = first_line(&bytes[at..]);
-        match take_line(alloc, known, &mut draft, n, line) {
+        match take_line(alloc, known, &mut draft, n, &mut tokens, line) {
             Ok(()) => {}
             Err(Stop::Fault(kind)) => return Err(ScriptError::Fault { line: n, kind }),
             Err(Stop::Memory) => return Err(ScriptError::Memory),
@@ -108,8 +109,9 @@ fn are_header_tokens(line: &[u8], tokens: &[Token]) -> bool
 fn is_header_line(alloc: Global, line: &[u8]) -> Result<bool, AllocError>
     ensures { IfOk result (λ yes. yes ≡ is_header (tokens_of line.now) line.now) }
 {
-    match read_tokens(alloc, line) {
-        Ok(tokens) => Ok(are_header_tokens(line, tokens.as_slice())),
+    let mut tokens = Sequence::new(alloc);
+    match read_tokens(alloc, &mut tokens, line) {
+        Ok(()) => Ok(are_header_tokens(line, tokens.as_slice())),
         Err(Stop::Fault(_)) => Ok(false),
         Err(Stop::Memory) => Err(AllocError),
     }
