@@ -1,11 +1,9 @@
 -- What a line says where the names are known, and where the same names have other pids and other places.
-use Rattle.std.proofs.Common.{◌≡◌, ℕ, List, [], ◌∷◌, length, map, Bool, true, false, if◌then◌else◌, Option, Some, None, Result, Ok, Err, refl, sym, ◌∙◌, ap}
+use Rattle.std.proofs.Common.{◌≡◌, ℕ, List, [], ◌∷◌, length, map, false, Option, Some, None, Ok, refl, ap}
 use Rattle.std.specs.Option.{option_map, is_some}
 use Rattle.std.proofs.lemmas.List.{length-map}
-use Rattle.sig_patterns.specs.declared.pattern.Pattern.{Pattern}
 use Rattle.sig_script.specs.declared.instruction.After.{After}
 use Rattle.sig_script.specs.declared.instruction.Instr.{Instr}
-use Rattle.sig_script.specs.declared.token.TokenKind.{TokenKind}
 use Rattle.sig_script.specs.declared.token.Token.{Token}
 use Rattle.sig_script.specs.declared.known.Known.{Known}
 use Rattle.sig_script.specs.declared.keyword.Verb.{Verb}
@@ -18,7 +16,7 @@ use Rattle.sig_script.specs.declared.draft.Draft.{Draft}
 use Rattle.sig_script.specs.declared.form.Form.{Form}
 use Rattle.sig_script.specs.declared.form.Form.TheVariants as form
 use Rattle.sig_script.specs.Scripts.{Declared}
-use Rattle.sig_script.specs.Faults.{◌>>=◌, on_ok}
+use Rattle.sig_script.specs.Faults.{on_ok}
 use Rattle.sig_script.specs.Tokens.{text}
 use Rattle.sig_script.specs.Names.{pid_of, label_of, name_at, variable_at}
 use Rattle.sig_script.specs.Signs.{is_arrow}

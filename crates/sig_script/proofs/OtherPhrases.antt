@@ -11,7 +11,6 @@ use Rattle.sig_patterns.specs.declared.pattern.Pattern.TheVariants as pattern
 use Rattle.sig_patterns.specs.declared.pattern.Pattern.TheOpen as layer
 use Rattle.sig_patterns.specs.declared.pattern.Pattern.TheFolds.{fold-roll-Pattern}
 use Rattle.sig_patterns.specs.declared.building.TheConstants.{MOST_NODES, MOST_DEPTH}
-use Rattle.sig_script.specs.declared.fault.FaultKind.{FaultKind}
 use Rattle.sig_script.specs.declared.known.Known.{Known}
 use Rattle.sig_script.specs.declared.token.Sign as signs
 use Rattle.sig_script.specs.declared.token.Sign.TheVariants.{CloseBrace, CloseBracket}

@@ -9,7 +9,6 @@ use Rattle.sig_patterns.specs.declared.clause.Clause.{Clause}
 use Rattle.sig_patterns.specs.declared.pattern.Pattern.{Pattern}
 use Rattle.sig_patterns.specs.declared.var.Var.{Var}
 use Rattle.sig_script.specs.declared.label.Label.{Label}
-use Rattle.sig_script.specs.declared.instruction.After.{After}
 use Rattle.sig_script.specs.declared.instruction.Instr.{Instr}
 use Rattle.sig_script.specs.declared.instruction.Instr.TheVariants as instr
 use Rattle.sig_script.specs.declared.fault.FaultKind.{FaultKind}
@@ -23,10 +22,10 @@ use Rattle.sig_script.specs.declared.form.Form.{Form}
 use Rattle.sig_script.specs.declared.form.Form.TheVariants as form
 use Rattle.sig_script.specs.declared.script.TheConstants.{DEFAULT_TURNS, MOST_PROCESSES, MOST_TURNS}
 use Rattle.sig_script.specs.Scripts.{Declared, Program, IsWithin, IsSound}
-use Rattle.sig_script.specs.Faults.{Fault, ◌>>=◌, on_ok}
+use Rattle.sig_script.specs.Faults.{Fault, ◌>>=◌}
 use Rattle.sig_script.specs.Names.{pid_of, labels_at, label_of, label_names, Named, named, names_within, AreItsNames}
 use Rattle.sig_script.specs.Forms.{said}
-use Rattle.sig_script.specs.Drafts.{blank, open_proc, all_procs, program_of, begun, labelled, with_instr, is_marked, with_clause, taken_at}
+use Rattle.sig_script.specs.Drafts.{blank, open_proc, all_procs, begun, labelled, with_instr, is_marked, with_clause, taken_at}
 use Rattle.sig_script.specs.Grammar.{located, finished, taken_if, line_taken, body, walk, walk_twice}
 use Rattle.sig_script.proofs.BoundLemmas.{procs_within, script_sound}
 use Rattle.sig_script.proofs.LabelLemmas.{next, position-cons}
@@ -104,13 +103,13 @@ module _ (f g : ℕ → ℕ) where
   begun-sees d name =
       let seen : Declared → Declared = proc_seen f g in
       let next : List Declared → Result Draft FaultKind = λ ps.
-          if list_any (λ (p : Declared). bytes_eq p.name name) ps then Err DuplicateName
-          else if nat_le MOST_PROCESSES (length ps) then Err TooManyProcesses
-          else Ok (record { turns = d.turns; procs = ps; section = Outside (record { name = name; labels = []; instrs = [] }) }) in
+      if list_any (λ (p : Declared). bytes_eq p.name name) ps then Err DuplicateName
+      else if nat_le MOST_PROCESSES (length ps) then Err TooManyProcesses
+      else Ok (record { turns = d.turns; procs = ps; section = Outside (record { name = name; labels = []; instrs = [] }) }) in
       let here : Sees (draft_seen f g) (begun d name) (next (map seen (all_procs d))) =
-          rw (any-same f g name (all_procs d), length-map (all_procs d) seen)
-          (sees-if (draft_seen f g) (list_any (λ (p : Declared). bytes_eq p.name name) (all_procs d)) _ _ _ _ tt
-          (sees-if (draft_seen f g) (nat_le MOST_PROCESSES (length (all_procs d))) _ _ _ _ tt refl)) in
+      rw (any-same f g name (all_procs d), length-map (all_procs d) seen)
+      (sees-if (draft_seen f g) (list_any (λ (p : Declared). bytes_eq p.name name) (all_procs d)) _ _ _ _ tt
+      (sees-if (draft_seen f g) (nat_le MOST_PROCESSES (length (all_procs d))) _ _ _ _ tt refl)) in
       subst (λ ps. Sees (draft_seen f g) (begun d name) (next ps)) (sym (all-seen d.procs d.section)) here
 
   labelled-sees : (p : Declared) (name : List ℕ) → Sees (proc_seen f g) (labelled p name) (labelled (proc_seen f g p) name)

@@ -1,4 +1,4 @@
-use Rattle.std.proofs.Common.{◌^◌, ◌≤◌, length, subst, sym, ap, ◌∙◌, arith, Ok}
+use Rattle.std.proofs.Common.{◌^◌, ◌≤◌, length, sym, ap, ◌∙◌, arith, Ok}
 use Rattle.sig_script.specs.Lines.{lines_of}
 use Rattle.sig_script.specs.Scripts.{Program}
 use Rattle.sig_script.proofs.BoundLemmas.{few_lines}
