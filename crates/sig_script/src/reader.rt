@@ -193,10 +193,12 @@ fn read_body(alloc: Global, bytes: &[u8]) -> Result<Script, ScriptError>
     requires { length bytes.now < 2 ^ 30 }
     ensures { IsReading (walk_twice (lines_of bytes.now)) result }
 {
-    let names = guess_names(alloc, bytes)?;
-    match read_once(alloc, &names, bytes)? {
-        Some(script) => Ok(script),
-        None => read_twice(alloc, bytes),
+    match guess_names(alloc, bytes)? {
+        Known::Any => read_twice(alloc, bytes),
+        names => match read_once(alloc, &names, bytes)? {
+            Some(script) => Ok(script),
+            None => read_twice(alloc, bytes),
+        },
     }
 }
 
