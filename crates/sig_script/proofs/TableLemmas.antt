@@ -43,4 +43,4 @@ AreOrderly (_ ∷ os) = AreOrderly os
 
 pub orderly : (v : Verb) → AreOrderly (operands_of v)
 orderly verb.Stop = tt
-orderly _ = first_of (tt, refl, ((omega arith, refl), refl))
+orderly _ = grind arith
