@@ -37,7 +37,7 @@ use Rattle.sig_script.specs.Phrases.{Read, Spelling, behind, elements, closed, i
 use Rattle.sig_script.specs.Expressions.{expr_enclosing, expr_spelling, expr_of}
 use Rattle.sig_script.specs.PatternTexts.{pattern_signed, pattern_enclosing, pattern_spelling, pattern_of}
 use Rattle.sig_script.specs.Forms.{word_at, mode_of, operand_at, all_said, tokens_of, keyword_of, may_stand, ends, target_at, arrow_of, count_from, turns_of, whole_name, marker_of, on_of, instr_of, form_of, form_behind, said_by, said}
-use Rattle.sig_script.proofs.TableLemmas.{spoken_again}
+use Rattle.sig_script.proofs.TableLemmas.{spoken_again, instr_as}
 use Rattle.sig_script.proofs.PidLemmas.{int_pids, atom_pids, var_pids, pid_pids, tuple_pids, list_pids, any_pattern_pids, bind_pattern_pids, pin_pattern_pids, int_pattern_pids, atom_pattern_pids, pid_pattern_pids, tuple_pattern_pids, list_pattern_pids, nested_pids}
 use Rattle.sig_patterns.specs.declared.building.TheConstants.{MOST_NODES, MOST_DEPTH}
 
@@ -310,9 +310,9 @@ module _ (s : Program) (here : ℕ) (line : List ℕ) where
       ((no-clauses, h.1, h.2, tt), (h.0, All-nil (λ (c : Clause). IsPatternBelow (length s.procs) c.pattern)))
 
   instr-meant : (v : Verb) (ts : List Token) → Holds IsMeantInstr (instr_of (Among s) here v line ts)
-  unfolding instr_of
   instr-meant v ts =
-      holds-on_ok (AreMeant (operands_of v)) IsMeantInstr (instr_by v) (all_said (Among s) here line (operands_of v) ts) (operands-meant (operands_of v) ts) (λ x h. made-meant v x h)
+      subst (Holds IsMeantInstr) (sym (instr_as (Among s) here v line ts))
+      (holds-on_ok (AreMeant (operands_of v)) IsMeantInstr (instr_by v) (all_said (Among s) here line (operands_of v) ts) (operands-meant (operands_of v) ts) (λ x h. made-meant v x h))
 
   abbrev IsMeantHere : Form → Type 0
   IsMeantHere f = IsMeantForm (length s.procs) (length (labels_at here s.procs)) f

@@ -1,6 +1,6 @@
 -- The lines of the canonical text, by the words with which they begin.
-use Rattle.std.proofs.Common.{◌≡◌, ◌≢◌, ℕ, ◌<◌, ◌≤◌, Bool, true, false, List, [], ◌∷◌, ◌++◌, length, map, refl, ap, arith}
-use Rattle.std.specs.Prelude.{All, IfSome, Option, Some, option_map, Result, codes, decimal}
+use Rattle.std.proofs.Common.{◌≡◌, ◌≢◌, ℕ, ◌<◌, ◌≤◌, Bool, true, false, List, [], ◌∷◌, ◌++◌, length, map, refl, ap, ◌∙◌, arith}
+use Rattle.std.specs.Prelude.{All, IfSome, Option, Some, option_map, codes, decimal}
 use Rattle.std.specs.List.{concat}
 use Rattle.std.proofs.lemmas.List.Elements.{All-head, All-tail}
 use Rattle.sig_kinds.specs.declared.alias_mode.AliasMode.TheVariants as alias_mode
@@ -15,15 +15,14 @@ use Rattle.sig_script.specs.declared.keyword.Verb.{Verb}
 use Rattle.sig_script.specs.declared.keyword.Keyword.TheVariants as keyword
 use Rattle.sig_script.specs.declared.form.Form.TheVariants as form
 use Rattle.sig_script.specs.declared.script.TheConstants.{MOST_TURNS}
-use Rattle.sig_script.specs.declared.fault.FaultKind.{FaultKind}
 use Rattle.sig_script.specs.Instructions.{Operand, an_expr, a_variable, a_label, a_switch, a_mode, a_flag, AllSaid, word_of, operands_of, instr_by, Spoken, Says, Receives, spoken}
 use Rattle.sig_script.specs.Parts.{said_exprs, said_vars, said_labels, said_mode, exprs_in, vars_in, targets_in, mode_by}
 use Rattle.sig_script.specs.Scripts.{IsLawful}
 use Rattle.sig_script.specs.Faults.{on_ok}
-use Rattle.sig_script.specs.Forms.{instr_of, form_of}
+use Rattle.sig_script.specs.Forms.{form_of}
 use Rattle.sig_script.specs.ScriptText.{name_of_place, spaced, after_blank, expr_text, pattern_text, switch_text, target_text, marker_text, clause_line, said_texts, spoken_lines, instr_lines, label_line, turns_line}
 use Rattle.sig_script.specs.ReadableScript.{IsNameToken, IsVariableToken, IsReadableExpr, IsReadablePattern, IsReadableInstr}
-use Rattle.sig_script.proofs.TableLemmas.{made_of, word_means, word_named, AreOrderly, orderly}
+use Rattle.sig_script.proofs.TableLemmas.{made_of, instr_as, word_means, word_named, AreOrderly, orderly}
 use Rattle.sig_script.proofs.Seen.{Reads, expr_seen, pattern_seen, all_seen, spoken_seen, instr_seen}
 use Rattle.sig_script.proofs.FormReads.{no_rest, rest_made, AreOperands, no_operands, operand_on, expr_operand, variable_operand, label_operand, switch_read, mode_rest, flag_rest, name_rest, turns_rest, arrow_rest, marker_rest, clause_rest, IsFormLine}
 
@@ -154,7 +153,7 @@ module _ (known : Known) (here : ℕ) (names labels : List (List ℕ)) (f g : �
 
   spoken_form : (s : Spoken) → receives s ≡ false → All IsExpr (exprs_in s) → All IsVariableToken (vars_in s) → All IsLabel (targets_in s) → mode_by s ≢ Some alias_mode.Reply →
       IsInstrLine known here (spoken_lines names labels s) (made_of (spoken_seen f g s))
-  unfolding form_of instr_of
+  unfolding form_of
   spoken_form (Says v x) other es vs ls mode =
       let os : List Operand = operands_of v in
       let i : Instr = instr_by v (all_seen f g os x) in
@@ -170,7 +169,7 @@ module _ (known : Known) (here : ℕ) (names labels : List (List ℕ)) (f g : �
           named = word_named v;
           means = word_means v;
           rest = rest_made (operands_again os x (orderly v) es vs ls mode) (form_of known here (keyword.Do v)) (form.Do i)
-              (λ line ts found. ap (λ (r : Result (AllSaid os) FaultKind). on_ok form.Do (on_ok (instr_by v) r)) found);
+              (λ line ts found. ap (on_ok form.Do) (instr_as known here v line ts ∙ ap (on_ok (instr_by v)) found));
         };
       }
   spoken_form (Receives using clauses after) other es vs ls mode = absurd cc

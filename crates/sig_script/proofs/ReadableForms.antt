@@ -23,7 +23,7 @@ use Rattle.sig_script.specs.Names.{label_of, name_at, variable_at}
 use Rattle.sig_script.specs.PatternTexts.{pattern_of}
 use Rattle.sig_script.specs.Forms.{operand_at, all_said, mode_of, flag_of, switch_of, word_at, tokens_of, keyword_of, may_stand, ends, arrow_of, count_from, turns_of, whole_name, marker_of, on_of, instr_of, form_of, form_behind, said_by, said}
 use Rattle.sig_script.specs.ReadableScript.{IsNameToken, IsVariableToken, IsReadableExpr, IsReadablePattern, IsReadableInstr}
-use Rattle.sig_script.proofs.TableLemmas.{spoken_again}
+use Rattle.sig_script.proofs.TableLemmas.{spoken_again, instr_as}
 use Rattle.sig_script.proofs.BoundTermLemmas.{Holds, anything, holds-if, holds-on_ok, holds-then, holds-ends}
 use Rattle.sig_script.proofs.WordLemmas.{AreWords, tokens-words}
 use Rattle.sig_script.proofs.ReadablePhrases.{holds-weaker, name-read, variable-read, expr-read, pattern-read}
@@ -104,9 +104,9 @@ module _ (s : Program) (here : ℕ) (line : List ℕ) where
       }
 
   instr-read : (v : Verb) (ts : List Token) → AreWords line ts → Holds IsReadable (instr_of (Among s) here v line ts)
-  unfolding instr_of
   instr-read v ts w =
-      holds-on_ok (AreReadable (operands_of v)) IsReadable (instr_by v) (all_said (Among s) here line (operands_of v) ts) (operands-read (operands_of v) ts w) (λ x h. made-read v x h)
+      subst (Holds IsReadable) (sym (instr_as (Among s) here v line ts))
+      (holds-on_ok (AreReadable (operands_of v)) IsReadable (instr_by v) (all_said (Among s) here line (operands_of v) ts) (operands-read (operands_of v) ts w) (λ x h. made-read v x h))
 
   abbrev IsForm : Form → Type 0
   IsForm f = IsReadableForm count f

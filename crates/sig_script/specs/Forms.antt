@@ -14,6 +14,7 @@ use Rattle.sig_script.specs.declared.token.Token.{Token}
 use Rattle.sig_script.specs.declared.token.Cut.{Cut}
 use Rattle.sig_script.specs.declared.known.Known.{Known}
 use Rattle.sig_script.specs.declared.keyword.Verb.{Verb}
+use Rattle.sig_script.specs.declared.keyword.Verb.TheVariants as verb
 use Rattle.sig_script.specs.declared.keyword.Keyword.{Keyword}
 use Rattle.sig_script.specs.declared.keyword.Keyword.TheVariants as keyword
 use Rattle.sig_script.specs.declared.draft.Section.{Section}
@@ -147,8 +148,9 @@ abbrev pub all_said : Known → ℕ → List ℕ → (os : List Operand) → Lis
 all_said known here line [] ts = ends tt ts
 all_said known here line (o ∷ os) ts = operand_at known here line o ts >>= λ x. on_ok (λ xs. (x.0, xs)) (all_said known here line os x.1)
 
--- the instruction behind its word
+-- The instruction that a word and the operands behind it say. A first word stands by itself, so that each is looked at by itself.
 unfoldable pub instr_of : Known → ℕ → Verb → List ℕ → List Token → Result Instr FaultKind
+instr_of known here verb.Stop line ts = on_ok (instr_by verb.Stop) (all_said known here line (operands_of verb.Stop) ts)
 instr_of known here v line ts = on_ok (instr_by v) (all_said known here line (operands_of v) ts)
 
 -- a name, and nothing behind it

@@ -1,5 +1,5 @@
 -- The table of the instructions: of each that is no receive its word, the operands behind the word, and the instruction that they say.
-use Rattle.std.specs.Prelude.{ℕ, List, [], ◌∷◌, Bool, true, false, codes, Option}
+use Rattle.std.specs.Prelude.{ℕ, List, [], ◌∷◌, Bool, codes, Option}
 use Rattle.sig_kinds.specs.declared.alias_mode.AliasMode.{AliasMode}
 use Rattle.sig_patterns.specs.declared.clause.Clause.{Clause}
 use Rattle.sig_patterns.specs.declared.var.Var.{Var}
