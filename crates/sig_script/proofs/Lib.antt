@@ -8,6 +8,7 @@ pub mod FitLemmas
 pub mod PhraseLemmas
 pub mod NestLemmas
 pub mod ReaderLemmas
+pub mod TableLemmas
 pub mod BoundTermLemmas
 pub mod BoundLemmas
 pub mod WordLemmas

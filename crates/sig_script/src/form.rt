@@ -1,6 +1,7 @@
 ghost use Rattle.std.specs.Prelude.{◌≡◌, ◌∷◌, [], length, IfOk};
 ghost use Rattle.sig_script.specs.Faults.{Gives};
 ghost use Rattle.sig_script.specs.Tokens.{AreWellSpelled};
+ghost use Rattle.sig_script.specs.Instructions.{Operand};
 ghost use Rattle.sig_script.specs.Forms.{
   may_stand,
   ends,
@@ -10,7 +11,6 @@ ghost use Rattle.sig_script.specs.Forms.{
   switch_of,
   mode_of,
   flag_of,
-  Operand,
   all_said,
   whole_name,
   marker_of,
@@ -258,7 +258,7 @@ fn one_variable(alloc: Global, line: &[u8], tokens: &[Token]) -> Result<Var, Sto
 }
 
 /// What stands behind `monitor`: the variable, the process, and the mode of the alias.
-#[tactic(auto, unfolding(crate::specs::Forms::instr_of, crate::specs::Forms::made_of))]
+#[tactic(auto, unfolding(crate::specs::Forms::instr_of))]
 fn read_monitor(alloc: Global, known: &Known, line: &[u8], tokens: &[Token]) -> Result<Instr, Stop>
     requires known { IsFewKnown known.now }
     requires spelled { AreWellSpelled line.now tokens.now }
@@ -271,7 +271,7 @@ fn read_monitor(alloc: Global, known: &Known, line: &[u8], tokens: &[Token]) -> 
 }
 
 /// What stands behind `demonitor`: the reference, and whether `flush` does.
-#[tactic(auto, unfolding(crate::specs::Forms::instr_of, crate::specs::Forms::made_of))]
+#[tactic(auto, unfolding(crate::specs::Forms::instr_of))]
 fn read_demonitor(
     alloc: Global,
     known: &Known,
@@ -288,7 +288,7 @@ fn read_demonitor(
 }
 
 /// What stands behind `alias`: the variable, and whether `reply` does.
-#[tactic(auto, unfolding(crate::specs::Forms::instr_of, crate::specs::Forms::made_of))]
+#[tactic(auto, unfolding(crate::specs::Forms::instr_of))]
 fn read_alias(alloc: Global, line: &[u8], tokens: &[Token]) -> Result<Instr, Stop>
     requires { AreWellSpelled line.now tokens.now }
     ensures { Gives (λ i. i) result (instr_of Known.Any 0 Verb.Alias line.now tokens.now) }
@@ -341,7 +341,7 @@ fn read_on(
 }
 
 /// The instruction of the verb, of the process with this place among the processes.
-#[tactic(auto, unfolding(crate::specs::Forms::instr_of, crate::specs::Forms::made_of))]
+#[tactic(auto, unfolding(crate::specs::Forms::instr_of))]
 fn read_instr(
     alloc: Global,
     known: &Known,
