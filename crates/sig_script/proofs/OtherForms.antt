@@ -1,13 +1,11 @@
 -- What a line says where the names are known, and where the same names have other pids and other places.
-use Rattle.std.proofs.Common.{◌≡◌, ℕ, List, [], ◌∷◌, length, map, false, Option, Some, None, Ok, refl, ap}
+use Rattle.std.proofs.Common.{◌≡◌, ℕ, List, [], ◌∷◌, length, map, false, Option, Some, None, Ok, refl, sym, ap, subst}
 use Rattle.std.specs.Option.{option_map, is_some}
 use Rattle.std.proofs.lemmas.List.{length-map}
 use Rattle.sig_script.specs.declared.instruction.After.{After}
-use Rattle.sig_script.specs.declared.instruction.Instr.{Instr}
 use Rattle.sig_script.specs.declared.token.Token.{Token}
 use Rattle.sig_script.specs.declared.known.Known.{Known}
 use Rattle.sig_script.specs.declared.keyword.Verb.{Verb}
-use Rattle.sig_script.specs.declared.keyword.Verb.TheVariants as verb
 use Rattle.sig_script.specs.declared.keyword.Keyword.{Keyword}
 use Rattle.sig_script.specs.declared.keyword.Keyword.TheVariants as keyword
 use Rattle.sig_script.specs.declared.draft.Section.{Section}
@@ -21,8 +19,10 @@ use Rattle.sig_script.specs.Tokens.{text}
 use Rattle.sig_script.specs.Names.{pid_of, label_of, name_at, variable_at}
 use Rattle.sig_script.specs.Signs.{is_arrow}
 use Rattle.sig_script.specs.PatternTexts.{pattern_of}
-use Rattle.sig_script.specs.Forms.{Operand, an_expr, a_variable, a_label, a_switch, a_mode, a_flag, Said, AllSaid, switch_at, word_at, mode_of, flag_of, operand_at, all_said, made_of, tokens_of, keyword_of, may_stand, ends, target_at, arrow_of, count_from, turns_of, whole_name, marker_of, on_of, instr_of, form_of, form_behind, said_by, said}
-use Rattle.sig_script.proofs.Seen.{expr_seen, pattern_seen, clause_seen, after_seen, instr_seen}
+use Rattle.sig_script.specs.Instructions.{Operand, an_expr, a_variable, a_label, a_switch, a_mode, a_flag, operands_of, instr_by, Spoken}
+use Rattle.sig_script.specs.Forms.{switch_at, word_at, mode_of, flag_of, operand_at, all_said, tokens_of, keyword_of, may_stand, ends, target_at, arrow_of, count_from, turns_of, whole_name, marker_of, on_of, instr_of, form_of, form_behind, said_by, said}
+use Rattle.sig_script.proofs.TableLemmas.{made_of, spoken_again, instr_as}
+use Rattle.sig_script.proofs.Seen.{pattern_seen, clause_seen, after_seen, said_seen, all_seen, spoken_seen, instr_seen}
 use Rattle.sig_script.proofs.OtherPhrases.{Sees, sees-same, sees-if, sees-on_ok, sees-then, first_seen, expr_of-sees, pattern_of-sees}
 
 -- a form, and what was read so far, with other pids, by f, and other places of labels, by g
@@ -46,19 +46,6 @@ section_seen f g (Inside p using clauses after) = Inside (proc_seen f g p) using
 
 abbrev pub draft_seen : (ℕ → ℕ) → (ℕ → ℕ) → Draft → Draft
 draft_seen f g d = record { turns = d.turns; procs = map (proc_seen f g) d.procs; section = section_seen f g d.section }
-
--- what operands say, seen so
-abbrev said_seen : (ℕ → ℕ) → (ℕ → ℕ) → (o : Operand) → Said o → Said o
-said_seen f g an_expr x = expr_seen f x
-said_seen f g a_variable x = x
-said_seen f g a_label x = g x
-said_seen f g a_switch x = x
-said_seen f g a_mode x = x
-said_seen f g (a_flag flag) x = x
-
-abbrev all_seen : (ℕ → ℕ) → (ℕ → ℕ) → (os : List Operand) → AllSaid os → AllSaid os
-all_seen f g [] x = x
-all_seen f g (o ∷ os) x = (said_seen f g o x.0, all_seen f g os x.1)
 
 -- nothing behind what was said
 ends-see : {A B : Type 0} (m : A → B) (x : A) (y : B) (ts : List Token) → y ≡ m x → Sees m (ends x ts) (ends y ts)
@@ -101,16 +88,13 @@ module _ (f g : ℕ → ℕ) (known other : Known) (seen : AreSeen f g known oth
         (λ x. sees-on_ok (all_seen f g os) (all_seen f g (o ∷ os)) (λ xs. (x.0, xs)) (λ xs. (said_seen f g o x.0, xs)) (all_said known here line os x.1) (all_said other here line os x.1)
         (operands-see os x.1) (λ xs. refl))
 
-    made-sees : (os : List Operand) (make : AllSaid os → Instr) (ts : List Token) → ((x : AllSaid os) → make (all_seen f g os x) ≡ instr_seen f g (make x)) →
-        Sees (instr_seen f g) (made_of known here line os make ts) (made_of other here line os make ts)
-    unfolding made_of
-    made-sees os make ts same = sees-on_ok (all_seen f g os) (instr_seen f g) make make (all_said known here line os ts) (all_said other here line os ts) (operands-see os ts) same
-
-    -- a first verb stands here so that each is looked at by itself
     instr-sees : (v : Verb) (ts : List Token) → Sees (instr_seen f g) (instr_of known here v line ts) (instr_of other here v line ts)
-    unfolding instr_of
-    instr-sees verb.Stop ts = made-sees _ _ ts (λ x. refl)
-    instr-sees _ ts = made-sees _ _ ts (λ x. refl)
+    instr-sees v ts =
+        let os : List Operand = operands_of v in
+        let made = sees-on_ok (all_seen f g os) (instr_seen f g) (instr_by v) (instr_by v) (all_said known here line os ts) (all_said other here line os ts) (operands-see os ts)
+            (λ x. ap (λ (s : Spoken). made_of (spoken_seen f g s)) (sym (spoken_again v x))) in
+        subst (λ r. Sees (instr_seen f g) r (instr_of other here v line ts)) (sym (instr_as known here v line ts))
+        (subst (Sees (instr_seen f g) (on_ok (instr_by v) (all_said known here line os ts))) (sym (instr_as other here v line ts)) made)
 
     turns-see : (ts : List Token) → Sees (form_seen f g) (turns_of line ts) (turns_of line ts)
     turns-see [] = tt
