@@ -1,7 +1,7 @@
 -- The bounds that hold while a text is walked, and of the scripts that the walks give.
 use Rattle.std.proofs.Common.{◌≡◌, ℕ, suc, ◌+◌, ◌<◌, ◌≤◌, List, [], ◌∷◌, ◌++◌, length, All, Bool, true, false, if◌then◌else◌, ◌==◌, nat_le, Option, Some, None, Result, Ok, Err, refl, sym, ◌∙◌, ap, subst, arith, length-append, ◌^◌, le_refl, map, zero, get_or, IfSome}
 use Rattle.std.specs.Option.{option_map_or}
-use Rattle.std.specs.Prelude.{filter_map, option_to_list}
+use Rattle.std.specs.Prelude.{filter_map, option_to_list, OnOk}
 use Rattle.std.specs.List.{list_any, cons_option}
 use Rattle.std.specs.Str.{bytes_eq}
 use Rattle.std.proofs.lemmas.Bool.Decides.{nat_tests}
@@ -28,7 +28,8 @@ use Rattle.sig_script.specs.declared.form.Form.{Form}
 use Rattle.sig_script.specs.declared.form.Form.TheVariants as form
 use Rattle.sig_script.specs.Scripts.{Declared, Program, AreMarked, IsLawful, IsPlace, AreRising, IsWithin, IsExprBelow, IsPatternBelow, IsInstrBelow, IsSound}
 use Rattle.sig_script.specs.Parts.{targets_of}
-use Rattle.sig_script.specs.Faults.{Fault, ◌>>=◌, on_ok}
+use Rattle.sig_script.specs.declared.fault.Stop.{Stop}
+use Rattle.sig_script.specs.Faults.{Fault, ◌>>=◌, on_ok, Gives}
 use Rattle.sig_script.specs.Lines.{lines_of, onto_first}
 use Rattle.sig_script.specs.Tokens.{text}
 use Rattle.sig_script.specs.Names.{labels_at}
@@ -53,7 +54,7 @@ small_later n p h = record { instrs = omega (arith, h.instrs); labels = omega (a
 all-later : (n : ℕ) (ps : List Declared) → All (IsSmall n) ps → All (IsSmall (n + 1)) ps
 all-later n ps h = All-weaker (IsSmall n) (IsSmall (n + 1)) (small_later n) ps h
 
-fit_later : (n : ℕ) (d : Draft) → IsFit n d → IsFit (n + 1) d
+pub fit_later : (n : ℕ) (d : Draft) → IsFit n d → IsFit (n + 1) d
 fit_later n d h = record { few = h.few; small = all-later n (all_procs d) h.small }
 
 pub fit_blank : (n : ℕ) → IsFit n blank
@@ -127,6 +128,11 @@ fit_line known n d line h = holds-then (λ _. Unit {0}) (IsFit (n + 1)) (taken_i
 pub fit_taken : (known : Known) (n : ℕ) (d e : Draft) (line : List ℕ) → IsFit n d → line_taken known d line ≡ Ok e → IsFit (n + 1) e
 fit_taken known n d e line h taken =
     holds-of (IsFit (n + 1)) (line_taken known d line) e (fit_line known n d line h) taken
+
+-- the same where a reader has read the line
+pub fit_read : (known : Known) (n : ℕ) (d e : Draft) (line : List ℕ) (r : Result (Unit {0}) Stop) → IsFit n d → Gives (λ _. e) r (line_taken known d line) → OnOk r (IsFit (n + 1) e)
+fit_read known n d e line (Ok u) h taken = fit_taken known n d e line h taken
+fit_read known n d e line (Err stop) h taken = tt
 
 -- bodies: what holds before each line, and of the script behind the last
 pub holds-located : {A B : Type 0} (P : A → Type 0) (Q : B → Type 0) (n : ℕ) (f : A → Result B Fault) (r : Result A FaultKind) →

@@ -1,8 +1,8 @@
 -- What a line says where the names are those of a script: each pid is that of a process, and each target a label of its own.
-use Rattle.std.proofs.Common.{◌≡◌, ◌≢◌, ℕ, ℤ, zero, suc, ◌<◌, ◌^◌, List, [], ◌∷◌, ◌++◌, length, drop, position, ok_or, All, IfSome, Bool, true, false, if◌then◌else◌, Option, Some, None, Result, Ok, Err, refl, subst, arith, codes}
+use Rattle.std.proofs.Common.{◌≡◌, ◌≢◌, ℕ, ℤ, zero, suc, ◌<◌, ◌^◌, List, [], ◌∷◌, ◌++◌, length, drop, position, ok_or, All, IfSome, Bool, true, false, if◌then◌else◌, Option, Some, None, Result, Ok, Err, refl, sym, subst, arith, codes}
 use Rattle.std.specs.Str.{bytes_eq}
 use Rattle.std.proofs.lemmas.List.Quantifiers.{position-Some}
-use Rattle.std.proofs.lemmas.List.Elements.{All-nil, All-cons, All-head, All-push}
+use Rattle.std.proofs.lemmas.List.Elements.{All-nil, All-cons, All-push}
 use Rattle.sig_kinds.specs.declared.alias_mode.AliasMode.{AliasMode}
 use Rattle.sig_kinds.specs.declared.alias_mode.AliasMode.TheVariants as alias_mode
 use Rattle.sig_patterns.specs.declared.clause.Clause.{Clause}
@@ -20,13 +20,14 @@ use Rattle.sig_script.specs.declared.token.TokenKind.TheVariants.{Name, Variable
 use Rattle.sig_script.specs.declared.token.Token.{Token}
 use Rattle.sig_script.specs.declared.known.Known.TheVariants.{Among}
 use Rattle.sig_script.specs.declared.keyword.Verb.{Verb}
-use Rattle.sig_script.specs.declared.keyword.Verb.TheVariants as verb
 use Rattle.sig_script.specs.declared.keyword.Keyword.{Keyword}
 use Rattle.sig_script.specs.declared.keyword.Keyword.TheVariants as keyword
 use Rattle.sig_script.specs.declared.draft.Draft.{Draft}
 use Rattle.sig_script.specs.declared.form.Form.{Form}
 use Rattle.sig_script.specs.declared.form.Form.TheVariants as form
-use Rattle.sig_script.specs.Scripts.{Declared, Program, IsLawful, IsExprBelow, IsPatternBelow, IsInstrBelow}
+use Rattle.sig_script.specs.Instructions.{Operand, an_expr, a_label, a_mode, AllSaid, operands_of, instr_by}
+use Rattle.sig_script.specs.Parts.{said_exprs, said_labels, said_mode, exprs_in, targets_in, mode_by, clauses_in, using_in}
+use Rattle.sig_script.specs.Scripts.{Declared, Program, AreMarked, IsLawful, IsExprBelow, IsPatternBelow, IsInstrBelow}
 use Rattle.sig_script.specs.Faults.{◌>>=◌, on_ok}
 use Rattle.sig_script.specs.Tokens.{text, unquoted}
 use Rattle.sig_script.specs.Numbers.{int_of}
@@ -35,7 +36,8 @@ use Rattle.sig_script.specs.Signs.{is_open_brace, is_open_bracket, is_arrow, is_
 use Rattle.sig_script.specs.Phrases.{Read, Spelling, behind, elements, closed, is_before_tail, ending, bracketed, single, phrase_by, phrase_front, phrase_at, phrase_of}
 use Rattle.sig_script.specs.Expressions.{expr_enclosing, expr_spelling, expr_of}
 use Rattle.sig_script.specs.PatternTexts.{pattern_signed, pattern_enclosing, pattern_spelling, pattern_of}
-use Rattle.sig_script.specs.Forms.{Operand, an_expr, a_label, a_mode, word_at, mode_of, AllSaid, operand_at, all_said, made_of, tokens_of, keyword_of, may_stand, ends, target_at, arrow_of, count_from, turns_of, whole_name, marker_of, on_of, instr_of, form_of, form_behind, said_by, said}
+use Rattle.sig_script.specs.Forms.{word_at, mode_of, operand_at, all_said, tokens_of, keyword_of, may_stand, ends, target_at, arrow_of, count_from, turns_of, whole_name, marker_of, on_of, instr_of, form_of, form_behind, said_by, said}
+use Rattle.sig_script.proofs.TableLemmas.{spoken_again, instr_as}
 use Rattle.sig_script.proofs.PidLemmas.{int_pids, atom_pids, var_pids, pid_pids, tuple_pids, list_pids, any_pattern_pids, bind_pattern_pids, pin_pattern_pids, int_pattern_pids, atom_pattern_pids, pid_pattern_pids, tuple_pattern_pids, list_pattern_pids, nested_pids}
 use Rattle.sig_patterns.specs.declared.building.TheConstants.{MOST_NODES, MOST_DEPTH}
 
@@ -273,39 +275,23 @@ module _ (s : Program) (here : ℕ) (line : List ℕ) where
   abbrev IsBelow : Expr × List Token → Type 0
   IsBelow x = IsExprBelow (length s.procs) x.0
 
-  -- the expressions, the labels and the modes among operands
-  abbrev exprs_in : (os : List Operand) → AllSaid os → List Expr
-  exprs_in [] x = []
-  exprs_in (an_expr ∷ os) x = x.0 ∷ exprs_in os x.1
-  exprs_in (_ ∷ os) x = exprs_in os x.1
-
-  abbrev labels_in : (os : List Operand) → AllSaid os → List ℕ
-  labels_in [] x = []
-  labels_in (a_label ∷ os) x = x.0 ∷ labels_in os x.1
-  labels_in (_ ∷ os) x = labels_in os x.1
-
-  abbrev modes_in : (os : List Operand) → AllSaid os → List (Option AliasMode)
-  modes_in [] x = []
-  modes_in (a_mode ∷ os) x = x.0 ∷ modes_in os x.1
-  modes_in (_ ∷ os) x = modes_in os x.1
-
   abbrev AreMeant : (os : List Operand) → AllSaid os → Type 0
-  AreMeant os x = All (IsExprBelow (length s.procs)) (exprs_in os x) × All IsLabel (labels_in os x) × All IsMonitorMode (modes_in os x)
+  AreMeant os x = All (IsExprBelow (length s.procs)) (said_exprs os x) × All IsLabel (said_labels os x) × IsMonitorMode (said_mode os x)
 
   operands-meant : (os : List Operand) (ts : List Token) → Holds (AreMeant os) (all_said (Among s) here line os ts)
-  operands-meant [] ts = holds-ends (AreMeant []) tt ts (All-nil (IsExprBelow (length s.procs)), All-nil IsLabel, All-nil IsMonitorMode)
+  operands-meant [] ts = holds-ends (AreMeant []) tt ts (All-nil (IsExprBelow (length s.procs)), All-nil IsLabel, no-mode)
   operands-meant (an_expr ∷ os) ts =
       holds-then IsBelow (AreMeant (an_expr ∷ os)) (λ x. on_ok (λ xs. (x.0, xs)) (all_said (Among s) here line os x.1)) (expr_of (Among s) line ts) (expr_of-below s line ts)
       (λ x h. holds-on_ok (AreMeant os) (AreMeant (an_expr ∷ os)) (λ xs. (x.0, xs)) (all_said (Among s) here line os x.1) (operands-meant os x.1)
-      (λ xs k. (All-cons (IsExprBelow (length s.procs)) x.0 (exprs_in os xs) h k.0, k.1, k.2)))
+      (λ xs k. (All-cons (IsExprBelow (length s.procs)) x.0 (said_exprs os xs) h k.0, k.1, k.2)))
   operands-meant (a_label ∷ os) ts =
       holds-then (λ (x : ℕ × List Token). IsLabel x.0) (AreMeant (a_label ∷ os)) (λ x. on_ok (λ xs. (x.0, xs)) (all_said (Among s) here line os x.1)) (target_at (Among s) here line ts) (target-below ts)
       (λ x h. holds-on_ok (AreMeant os) (AreMeant (a_label ∷ os)) (λ xs. (x.0, xs)) (all_said (Among s) here line os x.1) (operands-meant os x.1)
-      (λ xs k. (k.0, All-cons IsLabel x.0 (labels_in os xs) h k.1, k.2)))
+      (λ xs k. (k.0, All-cons IsLabel x.0 (said_labels os xs) h k.1, k.2)))
   operands-meant (a_mode ∷ os) ts =
       holds-then (λ (x : Option AliasMode × List Token). IsMonitorMode x.0) (AreMeant (a_mode ∷ os)) (λ x. on_ok (λ xs. (x.0, xs)) (all_said (Among s) here line os x.1)) (word_at None mode_of line ts) (mode-meant line ts)
       (λ x h. holds-on_ok (AreMeant os) (AreMeant (a_mode ∷ os)) (λ xs. (x.0, xs)) (all_said (Among s) here line os x.1) (operands-meant os x.1)
-      (λ xs k. (k.0, k.1, All-cons IsMonitorMode x.0 (modes_in os xs) h k.2)))
+      (λ xs k. (k.0, k.1, h)))
   operands-meant (o ∷ os) ts =
       holds-then (λ _. Unit {0}) (AreMeant (o ∷ os)) (λ x. on_ok (λ xs. (x.0, xs)) (all_said (Among s) here line os x.1)) (operand_at (Among s) here line o ts) (anything (operand_at (Among s) here line o ts))
       (λ x _. holds-on_ok (AreMeant os) (AreMeant (o ∷ os)) (λ xs. (x.0, xs)) (all_said (Among s) here line os x.1) (operands-meant os x.1) (λ xs k. k))
@@ -316,18 +302,17 @@ module _ (s : Program) (here : ℕ) (line : List ℕ) where
   no-clauses : length {A = Clause} [] < 2 ^ 32
   no-clauses = omega arith
 
-  made-meant : (os : List Operand) (make : AllSaid os → Instr) (ts : List Token) → ((x : AllSaid os) → AreMeant os x → IsMeantInstr (make x)) →
-      Holds IsMeantInstr (made_of (Among s) here line os make ts)
-  unfolding made_of
-  made-meant os make ts h = holds-on_ok (AreMeant os) IsMeantInstr make (all_said (Among s) here line os ts) (operands-meant os ts) h
+  -- An instruction has the expressions, the labels and the mode of its operands, and no marker and no clauses.
+  made-meant : (v : Verb) (x : AllSaid (operands_of v)) → AreMeant (operands_of v) x → IsMeantInstr (instr_by v x)
+  made-meant v x h =
+      subst (λ t. ((length (clauses_in t) < 2 ^ 32) × All IsLabel (targets_in t) × IsMonitorMode (mode_by t) × AreMarked (using_in t) (clauses_in t))
+          × (All (IsExprBelow (length s.procs)) (exprs_in t) × All (λ (c : Clause). IsPatternBelow (length s.procs) c.pattern) (clauses_in t))) (sym (spoken_again v x))
+      ((no-clauses, h.1, h.2, tt), (h.0, All-nil (λ (c : Clause). IsPatternBelow (length s.procs) c.pattern)))
 
-  -- An instruction has the expressions and the labels of its operands, and no marker and no clauses. A first verb stands here so that each is looked at by itself.
   instr-meant : (v : Verb) (ts : List Token) → Holds IsMeantInstr (instr_of (Among s) here v line ts)
-  unfolding instr_of
-  instr-meant verb.Stop ts = made-meant _ _ ts (λ x h. ((no-clauses, h.1, no-mode, tt), (h.0, All-nil (λ (c : Clause). IsPatternBelow (length s.procs) c.pattern))))
-  instr-meant verb.Monitor ts =
-      made-meant _ _ ts (λ x h. ((no-clauses, h.1, All-head IsMonitorMode x.1.1.0 [] h.2, tt), (h.0, All-nil (λ (c : Clause). IsPatternBelow (length s.procs) c.pattern))))
-  instr-meant _ ts = made-meant _ _ ts (λ x h. ((no-clauses, h.1, no-mode, tt), (h.0, All-nil (λ (c : Clause). IsPatternBelow (length s.procs) c.pattern))))
+  instr-meant v ts =
+      subst (Holds IsMeantInstr) (sym (instr_as (Among s) here v line ts))
+      (holds-on_ok (AreMeant (operands_of v)) IsMeantInstr (instr_by v) (all_said (Among s) here line (operands_of v) ts) (operands-meant (operands_of v) ts) (λ x h. made-meant v x h))
 
   abbrev IsMeantHere : Form → Type 0
   IsMeantHere f = IsMeantForm (length s.procs) (length (labels_at here s.procs)) f

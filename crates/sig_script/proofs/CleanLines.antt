@@ -116,7 +116,7 @@ receive_clean names labels reads (instr.Receive using clauses after) it readable
           (after_clean names labels reads after (after_targets clauses after_ones (length labels) targets)))
           (refl, tt),
     )
-receive_clean names labels reads (instr.Send to message) it readable lawful = absurd cc
+receive_clean names labels reads instr.Stop it readable lawful = absurd cc
 receive_clean names labels reads _ it readable lawful = absurd cc
 
 instr_clean : (names labels : List (List ℕ)) → IsPlain names labels → (i : Instr) → IsReadableInstr (length names) i → IsLawful (length labels) i → AreClean (instr_lines names labels i)

@@ -27,7 +27,8 @@ use Rattle.sig_script.specs.Names.{label_of, name_at, variable_at}
 use Rattle.sig_script.specs.Tokens.{cut_of, text, is_token_in_range}
 use Rattle.sig_script.specs.Expressions.{expr_spelling}
 use Rattle.sig_script.specs.PatternTexts.{pattern_spelling}
-use Rattle.sig_script.specs.Forms.{checked, tokens_of, keyword_of, may_stand, ends, target_at, arrow_of, count_from, turns_of, switch_of, word_at, mode_of, flag_of, Operand, an_expr, a_variable, a_label, a_switch, a_mode, a_flag, Said, AllSaid, operand_at, all_said, whole_name, marker_of, on_of, form_of, form_behind, said_by, said}
+use Rattle.sig_script.specs.Instructions.{Operand, an_expr, a_variable, a_label, a_switch, a_mode, a_flag, Said, AllSaid}
+use Rattle.sig_script.specs.Forms.{checked, tokens_of, keyword_of, may_stand, ends, target_at, arrow_of, count_from, turns_of, switch_of, word_at, mode_of, flag_of, operand_at, all_said, whole_name, marker_of, on_of, form_of, form_behind, said_by, said}
 use Rattle.sig_script.specs.ScriptText.{name_of_place, expr_text, after_blank, flag_text, mode_text, switch_text, target_text, marker_text, pattern_text}
 use Rattle.sig_script.specs.ReadableScript.{IsNameToken, IsVariableToken, IsReadableExpr, IsReadablePattern}
 use Rattle.sig_script.proofs.Seen.{Reads, expr_seen, pattern_seen}
@@ -123,7 +124,7 @@ label_operand known here word n named found = record {
       ∙ ap (λ (r : Result ℕ FaultKind). on_ok (λ m. (m, tokens_at end rest)) r) found;
 }
 
-pub switch_operand : (known : Known) (here : ℕ) (word : List ℕ) (on : Bool) → IsNameToken word → switch_of word ≡ Ok on → IsOperand known here a_switch word on
+switch_operand : (known : Known) (here : ℕ) (word : List ℕ) (on : Bool) → IsNameToken word → switch_of word ≡ Ok on → IsOperand known here a_switch word on
 switch_operand known here word on named found = record {
   cut = word_is_cut word (name_word word named);
   again = λ line rest at end there place stops.
@@ -157,20 +158,20 @@ flag_operand known here flag named =
 last_operand : (known : Known) (here : ℕ) (o : Operand) (a : List ℕ) (x : Said o) → IsOperand known here o a x → AreOperands known here (o ∷ []) (concat (after_blank a ∷ [])) (x, tt)
 last_operand known here o a x p = operand_on known here o [] a [] x tt p (no_operands known here)
 
-pub mode_rest : (known : Known) (here : ℕ) (mode : Option AliasMode) → mode ≢ Some alias_mode.Reply → AreOperands known here (a_mode ∷ []) (concat (map after_blank (mode_text mode))) (mode, tt)
+pub mode_rest : (known : Known) (here : ℕ) (mode : Option AliasMode) → mode ≢ Some alias_mode.Reply → AreOperands known here (a_mode ∷ []) (concat (map after_blank (mode_text mode []))) (mode, tt)
 mode_rest known here None other = no_rest (λ line ts. all_said known here line (a_mode ∷ []) ts) (None, tt) (λ line. refl)
 mode_rest known here (Some alias_mode.Explicit) other = last_operand known here a_mode (codes "explicit_unalias") (Some alias_mode.Explicit) (mode_operand known here (codes "explicit_unalias") (Some alias_mode.Explicit) (omega arith, refl) refl)
 mode_rest known here (Some alias_mode.Demonitor) other = last_operand known here a_mode (codes "demonitor") (Some alias_mode.Demonitor) (mode_operand known here (codes "demonitor") (Some alias_mode.Demonitor) (omega arith, refl) refl)
 mode_rest known here (Some alias_mode.ReplyDemonitor) other = last_operand known here a_mode (codes "reply_demonitor") (Some alias_mode.ReplyDemonitor) (mode_operand known here (codes "reply_demonitor") (Some alias_mode.ReplyDemonitor) (omega arith, refl) refl)
 mode_rest known here (Some alias_mode.Reply) other = absurd (other refl)
 
-pub flag_rest : (known : Known) (here : ℕ) (flag : List ℕ) → IsNameToken flag → (on : Bool) → AreOperands known here (a_flag flag ∷ []) (concat (map after_blank (flag_text flag on))) (on, tt)
+pub flag_rest : (known : Known) (here : ℕ) (flag : List ℕ) → IsNameToken flag → (on : Bool) → AreOperands known here (a_flag flag ∷ []) (concat (map after_blank (flag_text flag on []))) (on, tt)
 flag_rest known here flag named true = last_operand known here (a_flag flag) flag true (flag_operand known here flag named)
 flag_rest known here flag named false = no_rest (λ line ts. all_said known here line (a_flag flag ∷ []) ts) (false, tt) (λ line. refl)
 
-pub switch_rest : (known : Known) (here : ℕ) (on : Bool) → AreOperands known here (a_switch ∷ []) (concat (map after_blank (switch_text on ∷ []))) (on, tt)
-switch_rest known here true = last_operand known here a_switch (codes "on") true (switch_operand known here (codes "on") true (omega arith, refl) refl)
-switch_rest known here false = last_operand known here a_switch (codes "off") false (switch_operand known here (codes "off") false (omega arith, refl) refl)
+pub switch_read : (known : Known) (here : ℕ) (on : Bool) → IsOperand known here a_switch (switch_text on) on
+switch_read known here true = switch_operand known here (codes "on") true (omega arith, refl) refl
+switch_read known here false = switch_operand known here (codes "off") false (omega arith, refl) refl
 
 -- ---- other rests
 

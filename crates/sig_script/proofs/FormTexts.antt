@@ -1,29 +1,30 @@
 -- The lines of the canonical text, by the words with which they begin.
-use Rattle.std.proofs.Common.{◌≡◌, ℕ, ◌<◌, ◌≤◌, Bool, true, false, List, [], ◌∷◌, ◌++◌, length, map, refl, ap, ◌∙◌, arith}
+use Rattle.std.proofs.Common.{◌≡◌, ◌≢◌, ℕ, ◌<◌, ◌≤◌, Bool, true, false, List, [], ◌∷◌, ◌++◌, length, map, refl, ap, ◌∙◌, arith}
 use Rattle.std.specs.Prelude.{All, IfSome, Option, Some, option_map, codes, decimal}
 use Rattle.std.specs.List.{concat}
 use Rattle.std.proofs.lemmas.List.Elements.{All-head, All-tail}
+use Rattle.sig_kinds.specs.declared.alias_mode.AliasMode.TheVariants as alias_mode
 use Rattle.sig_patterns.specs.declared.clause.Clause.{Clause}
 use Rattle.sig_patterns.specs.declared.var.Var.{Var}
 use Rattle.sig_patterns.specs.declared.expression.Expr.{Expr}
 use Rattle.sig_script.specs.declared.label.Label.{Label}
 use Rattle.sig_script.specs.declared.instruction.After.{After}
 use Rattle.sig_script.specs.declared.instruction.Instr.{Instr}
-use Rattle.sig_script.specs.declared.instruction.Instr.TheVariants as instr
 use Rattle.sig_script.specs.declared.known.Known.{Known}
 use Rattle.sig_script.specs.declared.keyword.Verb.{Verb}
-use Rattle.sig_script.specs.declared.keyword.Verb.TheVariants as verb
 use Rattle.sig_script.specs.declared.keyword.Keyword.TheVariants as keyword
 use Rattle.sig_script.specs.declared.form.Form.TheVariants as form
 use Rattle.sig_script.specs.declared.script.TheConstants.{MOST_TURNS}
-use Rattle.sig_script.specs.declared.token.Token.{Token}
+use Rattle.sig_script.specs.Instructions.{Operand, an_expr, a_variable, a_label, a_switch, a_mode, a_flag, AllSaid, word_of, operands_of, instr_by, Spoken, Says, Receives, spoken}
+use Rattle.sig_script.specs.Parts.{said_exprs, said_vars, said_labels, said_mode, exprs_in, vars_in, targets_in, mode_by}
 use Rattle.sig_script.specs.Scripts.{IsLawful}
 use Rattle.sig_script.specs.Faults.{on_ok}
-use Rattle.sig_script.specs.Forms.{keyword_of, Operand, an_expr, a_variable, a_label, a_switch, a_mode, a_flag, AllSaid, all_said, made_of, instr_of, form_of}
-use Rattle.sig_script.specs.ScriptText.{name_of_place, spaced, after_blank, expr_text, pattern_text, target_text, marker_text, clause_line, instr_lines, label_line, turns_line}
+use Rattle.sig_script.specs.Forms.{form_of}
+use Rattle.sig_script.specs.ScriptText.{name_of_place, spaced, after_blank, expr_text, pattern_text, switch_text, target_text, marker_text, clause_line, said_texts, spoken_lines, instr_lines, label_line, turns_line}
 use Rattle.sig_script.specs.ReadableScript.{IsNameToken, IsVariableToken, IsReadableExpr, IsReadablePattern, IsReadableInstr}
-use Rattle.sig_script.proofs.Seen.{Reads, expr_seen, pattern_seen, instr_seen}
-use Rattle.sig_script.proofs.FormReads.{no_rest, rest_made, AreOperands, no_operands, operand_on, expr_operand, variable_operand, label_operand, mode_rest, flag_rest, switch_rest, name_rest, turns_rest, arrow_rest, marker_rest, clause_rest, IsFormLine}
+use Rattle.sig_script.proofs.TableLemmas.{made_of, instr_as, word_means, word_named, AreOrderly, orderly}
+use Rattle.sig_script.proofs.Seen.{Reads, expr_seen, pattern_seen, all_seen, spoken_seen, instr_seen}
+use Rattle.sig_script.proofs.FormReads.{no_rest, rest_made, AreOperands, no_operands, operand_on, expr_operand, variable_operand, label_operand, switch_read, mode_rest, flag_rest, name_rest, turns_rest, arrow_rest, marker_rest, clause_rest, IsFormLine}
 
 -- ---- lines that are no instructions
 
@@ -115,94 +116,64 @@ pub record IsInstrLine (known : Known) (here : ℕ) (lines : List (List ℕ)) (i
   pub verb : Verb
   pub form : IsFormLine known here line (keyword.Do verb) (form.Do i)
 
--- what the table says of a word
-abbrev Makes : Known → ℕ → Verb → (os : List Operand) → (AllSaid os → Instr) → Type 0
-Makes known here v os make = (line : List ℕ) (ts : List Token) → instr_of known here v line ts ≡ on_ok make (all_said known here line os ts)
-
-do_line : (known : Known) (here : ℕ) (front : List ℕ) (v : Verb) (os : List Operand) (make : AllSaid os → Instr) (bytes : List ℕ) (xs : AllSaid os) → IsNameToken front → keyword_of front ≡ Some (keyword.Do v) →
-    Makes known here v os make → AreOperands known here os bytes xs → IsInstrLine known here ((front ++ bytes) ∷ []) (make xs)
-unfolding form_of
-do_line known here front v os make bytes xs named means by rest = record {
-  line = front ++ bytes;
-  is = refl;
-  verb = v;
-  form = record {
-    front = front;
-    bytes = bytes;
-    is = refl;
-    named = named;
-    means = means;
-    rest = rest_made rest (form_of known here (keyword.Do v)) (form.Do (make xs)) (λ line ts found. ap (on_ok form.Do) (by line ts ∙ ap (on_ok make) found));
-  };
-}
+abbrev receives : Spoken → Bool
+receives (Says v x) = false
+receives (Receives using clauses after) = true
 
 abbrev pub is_receive : Instr → Bool
-is_receive (instr.Receive using clauses after) = true
-is_receive _ = false
+is_receive i = receives (spoken i)
 
-first_expr : (n : ℕ) (e : Expr) (es : List Expr) → All (IsReadableExpr n) (e ∷ es) → IsReadableExpr n e
-first_expr n e es h = All-head (IsReadableExpr n) e es h
+module _ (known : Known) (here : ℕ) (names labels : List (List ℕ)) (f g : ℕ → ℕ) (reads : Reads known here names labels f g) where
+  abbrev IsExpr : Expr → Type 0
+  IsExpr e = IsReadableExpr (length names) e
 
-second_expr : (n : ℕ) (e d : Expr) → All (IsReadableExpr n) (e ∷ d ∷ []) → IsReadableExpr n d
-second_expr n e d h = All-head (IsReadableExpr n) d [] (All-tail (IsReadableExpr n) e (d ∷ []) h)
+  abbrev IsLabel : ℕ → Type 0
+  IsLabel n = n < length labels
 
-first_var : (x : Var) → All (λ (v : Var). IsVariableToken v.0) (x ∷ []) → IsVariableToken x.0
-first_var x h = All-head (λ (v : Var). IsVariableToken v.0) x [] h
+  -- what operands say is read back from its texts
+  operands_again : (os : List Operand) (x : AllSaid os) → AreOrderly os → All IsExpr (said_exprs os x) → All IsVariableToken (said_vars os x) → All IsLabel (said_labels os x) → said_mode os x ≢ Some alias_mode.Reply →
+      AreOperands known here os (concat (map after_blank (said_texts names labels os x))) (all_seen f g os x)
+  operands_again [] x ordered es vs ls mode = no_operands known here
+  operands_again (an_expr ∷ os) x ordered es vs ls mode =
+      operand_on known here an_expr os (expr_text names x.0) _ (expr_seen f x.0) (all_seen f g os x.1)
+      (expr_operand known here names labels f g reads x.0 (All-head IsExpr x.0 (said_exprs os x.1) es)) (operands_again os x.1 ordered (All-tail IsExpr x.0 (said_exprs os x.1) es) vs ls mode)
+  operands_again (a_variable ∷ os) x ordered es vs ls mode =
+      operand_on known here a_variable os x.0 _ x.0 (all_seen f g os x.1)
+      (variable_operand known here x.0 (All-head IsVariableToken x.0 (said_vars os x.1) vs)) (operands_again os x.1 ordered es (All-tail IsVariableToken x.0 (said_vars os x.1) vs) ls mode)
+  operands_again (a_label ∷ os) x ordered es vs ls mode =
+      let place = reads.places x.0 (All-head IsLabel x.0 (said_labels os x.1) ls) in
+      operand_on known here a_label os (name_of_place labels x.0) _ (g x.0) (all_seen f g os x.1)
+      (label_operand known here (name_of_place labels x.0) (g x.0) place.0 place.1) (operands_again os x.1 ordered es vs (All-tail IsLabel x.0 (said_labels os x.1) ls) mode)
+  operands_again (a_switch ∷ os) x ordered es vs ls mode =
+      operand_on known here a_switch os (switch_text x.0) _ x.0 (all_seen f g os x.1) (switch_read known here x.0) (operands_again os x.1 ordered es vs ls mode)
+  operands_again (a_mode ∷ []) x ordered es vs ls mode = mode_rest known here x.0 mode
+  operands_again (a_flag word ∷ []) x ordered es vs ls mode = flag_rest known here word ordered.0 x.0
+  operands_again (a_mode ∷ o ∷ os) x ordered es vs ls mode = absurd cc
+  operands_again (a_flag word ∷ o ∷ os) x ordered es vs ls mode = let last : (o ∷ os) ≡ [] = ordered.1 in absurd cc
 
-pub instr_form : (known : Known) (here : ℕ) (names labels : List (List ℕ)) (f g : ℕ → ℕ) → Reads known here names labels f g → (i : Instr) → is_receive i ≡ false → IsReadableInstr (length names) i → IsLawful (length labels) i →
-    IsInstrLine known here (instr_lines names labels i) (instr_seen f g i)
-unfolding instr_lines instr_of made_of
-instr_form known here names labels f g reads (instr.Send to message) other readable lawful =
-    do_line known here (codes "send") verb.Send (an_expr ∷ an_expr ∷ []) (λ x. instr.Send x.0 x.1.0) _ (expr_seen f to, (expr_seen f message, tt)) (omega arith, refl) refl (λ line ts. refl)
-    (operand_on known here an_expr (an_expr ∷ []) (expr_text names to) _ (expr_seen f to) (expr_seen f message, tt) (expr_operand known here names labels f g reads to (first_expr (length names) to (message ∷ []) readable.exprs))
-    (operand_on known here an_expr [] (expr_text names message) [] (expr_seen f message) tt (expr_operand known here names labels f g reads message (second_expr (length names) to message readable.exprs)) (no_operands known here)))
-instr_form known here names labels f g reads (instr.Set x value) other readable lawful =
-    do_line known here (codes "set") verb.Set (a_variable ∷ an_expr ∷ []) (λ x. instr.Set (record { 0 = x.0 }) x.1.0) _ (x.0, (expr_seen f value, tt)) (omega arith, refl) refl (λ line ts. refl)
-    (operand_on known here a_variable (an_expr ∷ []) x.0 _ x.0 (expr_seen f value, tt) (variable_operand known here x.0 (first_var x readable.vars))
-    (operand_on known here an_expr [] (expr_text names value) [] (expr_seen f value) tt (expr_operand known here names labels f g reads value (first_expr (length names) value [] readable.exprs)) (no_operands known here)))
-instr_form known here names labels f g reads (instr.MakeRef x) other readable lawful =
-    do_line known here (codes "make_ref") verb.MakeRef (a_variable ∷ []) (λ x. instr.MakeRef (record { 0 = x.0 })) _ (x.0, tt) (omega arith, refl) refl (λ line ts. refl)
-    (operand_on known here a_variable [] x.0 [] x.0 tt (variable_operand known here x.0 (first_var x readable.vars)) (no_operands known here))
-instr_form known here names labels f g reads (instr.Link peer) other readable lawful =
-    do_line known here (codes "link") verb.Link (an_expr ∷ []) (λ x. instr.Link x.0) _ (expr_seen f peer, tt) (omega arith, refl) refl (λ line ts. refl)
-    (operand_on known here an_expr [] (expr_text names peer) [] (expr_seen f peer) tt (expr_operand known here names labels f g reads peer (first_expr (length names) peer [] readable.exprs)) (no_operands known here))
-instr_form known here names labels f g reads (instr.Unlink peer) other readable lawful =
-    do_line known here (codes "unlink") verb.Unlink (an_expr ∷ []) (λ x. instr.Unlink x.0) _ (expr_seen f peer, tt) (omega arith, refl) refl (λ line ts. refl)
-    (operand_on known here an_expr [] (expr_text names peer) [] (expr_seen f peer) tt (expr_operand known here names labels f g reads peer (first_expr (length names) peer [] readable.exprs)) (no_operands known here))
-instr_form known here names labels f g reads (instr.Monitor x target mode) other readable lawful =
-    do_line known here (codes "monitor") verb.Monitor (a_variable ∷ an_expr ∷ a_mode ∷ []) (λ x. instr.Monitor (record { 0 = x.0 }) x.1.0 x.1.1.0) _ (x.0, (expr_seen f target, (mode, tt))) (omega arith, refl) refl (λ line ts. refl)
-    (operand_on known here a_variable (an_expr ∷ a_mode ∷ []) x.0 _ x.0 (expr_seen f target, (mode, tt)) (variable_operand known here x.0 (first_var x readable.vars))
-    (operand_on known here an_expr (a_mode ∷ []) (expr_text names target) _ (expr_seen f target) (mode, tt) (expr_operand known here names labels f g reads target (first_expr (length names) target [] readable.exprs)) (mode_rest known here mode lawful.2)))
-instr_form known here names labels f g reads (instr.Demonitor reference flush) other readable lawful =
-    do_line known here (codes "demonitor") verb.Demonitor (an_expr ∷ a_flag (codes "flush") ∷ []) (λ x. instr.Demonitor x.0 x.1.0) _ (expr_seen f reference, (flush, tt)) (omega arith, refl) refl (λ line ts. refl)
-    (operand_on known here an_expr (a_flag (codes "flush") ∷ []) (expr_text names reference) _ (expr_seen f reference) (flush, tt) (expr_operand known here names labels f g reads reference (first_expr (length names) reference [] readable.exprs)) (flag_rest known here (codes "flush") (omega arith, refl) flush))
-instr_form known here names labels f g reads (instr.Alias x reply) other readable lawful =
-    do_line known here (codes "alias") verb.Alias (a_variable ∷ a_flag (codes "reply") ∷ []) (λ x. instr.Alias (record { 0 = x.0 }) x.1.0) _ (x.0, (reply, tt)) (omega arith, refl) refl (λ line ts. refl)
-    (operand_on known here a_variable (a_flag (codes "reply") ∷ []) x.0 _ x.0 (reply, tt) (variable_operand known here x.0 (first_var x readable.vars)) (flag_rest known here (codes "reply") (omega arith, refl) reply))
-instr_form known here names labels f g reads (instr.Unalias reference) other readable lawful =
-    do_line known here (codes "unalias") verb.Unalias (an_expr ∷ []) (λ x. instr.Unalias x.0) _ (expr_seen f reference, tt) (omega arith, refl) refl (λ line ts. refl)
-    (operand_on known here an_expr [] (expr_text names reference) [] (expr_seen f reference) tt (expr_operand known here names labels f g reads reference (first_expr (length names) reference [] readable.exprs)) (no_operands known here))
-instr_form known here names labels f g reads (instr.Exit reason) other readable lawful =
-    do_line known here (codes "exit") verb.Exit (an_expr ∷ []) (λ x. instr.Exit x.0) _ (expr_seen f reason, tt) (omega arith, refl) refl (λ line ts. refl)
-    (operand_on known here an_expr [] (expr_text names reason) [] (expr_seen f reason) tt (expr_operand known here names labels f g reads reason (first_expr (length names) reason [] readable.exprs)) (no_operands known here))
-instr_form known here names labels f g reads (instr.ExitTo target reason) other readable lawful =
-    do_line known here (codes "exit_to") verb.ExitTo (an_expr ∷ an_expr ∷ []) (λ x. instr.ExitTo x.0 x.1.0) _ (expr_seen f target, (expr_seen f reason, tt)) (omega arith, refl) refl (λ line ts. refl)
-    (operand_on known here an_expr (an_expr ∷ []) (expr_text names target) _ (expr_seen f target) (expr_seen f reason, tt) (expr_operand known here names labels f g reads target (first_expr (length names) target (reason ∷ []) readable.exprs))
-    (operand_on known here an_expr [] (expr_text names reason) [] (expr_seen f reason) tt (expr_operand known here names labels f g reads reason (second_expr (length names) target reason readable.exprs)) (no_operands known here)))
-instr_form known here names labels f g reads (instr.Trap on) other readable lawful =
-    do_line known here (codes "trap") verb.Trap (a_switch ∷ []) (λ x. instr.Trap x.0) _ (on, tt) (omega arith, refl) refl (λ line ts. refl) (switch_rest known here on)
-instr_form known here names labels f g reads instr.Reserve other readable lawful =
-    do_line known here (codes "reserve") verb.Reserve [] (λ x. instr.Reserve) [] tt (omega arith, refl) refl (λ line ts. refl) (no_operands known here)
-instr_form known here names labels f g reads (instr.Bind x) other readable lawful =
-    do_line known here (codes "bind") verb.Bind (a_variable ∷ []) (λ x. instr.Bind (record { 0 = x.0 })) _ (x.0, tt) (omega arith, refl) refl (λ line ts. refl)
-    (operand_on known here a_variable [] x.0 [] x.0 tt (variable_operand known here x.0 (first_var x readable.vars)) (no_operands known here))
-instr_form known here names labels f g reads (instr.Clear x) other readable lawful =
-    do_line known here (codes "clear") verb.Clear (a_variable ∷ []) (λ x. instr.Clear (record { 0 = x.0 })) _ (x.0, tt) (omega arith, refl) refl (λ line ts. refl)
-    (operand_on known here a_variable [] x.0 [] x.0 tt (variable_operand known here x.0 (first_var x readable.vars)) (no_operands known here))
-instr_form known here names labels f g reads (instr.Goto label) other readable lawful =
-    let place = reads.places label (All-head (λ n. n < length labels) label [] lawful.1) in
-    do_line known here (codes "goto") verb.Goto (a_label ∷ []) (λ x. instr.Goto x.0) _ (g label, tt) (omega arith, refl) refl (λ line ts. refl)
-    (operand_on known here a_label [] (name_of_place labels label) [] (g label) tt (label_operand known here (name_of_place labels label) (g label) place.0 place.1) (no_operands known here))
-instr_form known here names labels f g reads instr.Stop other readable lawful =
-    do_line known here (codes "stop") verb.Stop [] (λ x. instr.Stop) [] tt (omega arith, refl) refl (λ line ts. refl) (no_operands known here)
-instr_form known here names labels f g reads (instr.Receive using clauses after) other readable lawful = absurd cc
+  spoken_form : (s : Spoken) → receives s ≡ false → All IsExpr (exprs_in s) → All IsVariableToken (vars_in s) → All IsLabel (targets_in s) → mode_by s ≢ Some alias_mode.Reply →
+      IsInstrLine known here (spoken_lines names labels s) (made_of (spoken_seen f g s))
+  unfolding form_of
+  spoken_form (Says v x) other es vs ls mode =
+      let os : List Operand = operands_of v in
+      let i : Instr = instr_by v (all_seen f g os x) in
+      let line : List ℕ = spaced (word_of v) (said_texts names labels os x) in
+      record {
+        line = line;
+        is = refl;
+        verb = v;
+        form = record {
+          front = word_of v;
+          bytes = concat (map after_blank (said_texts names labels os x));
+          is = refl;
+          named = word_named v;
+          means = word_means v;
+          rest = rest_made (operands_again os x (orderly v) es vs ls mode) (form_of known here (keyword.Do v)) (form.Do i)
+              (λ line ts found. ap (on_ok form.Do) (instr_as known here v line ts ∙ ap (on_ok (instr_by v)) found));
+        };
+      }
+  spoken_form (Receives using clauses after) other es vs ls mode = absurd cc
+
+  pub instr_form : (i : Instr) → is_receive i ≡ false → IsReadableInstr (length names) i → IsLawful (length labels) i → IsInstrLine known here (instr_lines names labels i) (instr_seen f g i)
+  unfolding instr_lines
+  instr_form i other readable lawful = spoken_form (spoken i) other readable.exprs readable.vars lawful.1 lawful.2

@@ -8,6 +8,7 @@ pub mod FitLemmas
 pub mod PhraseLemmas
 pub mod NestLemmas
 pub mod ReaderLemmas
+pub mod TableLemmas
 pub mod BoundTermLemmas
 pub mod BoundLemmas
 pub mod WordLemmas
@@ -33,3 +34,6 @@ pub mod CleanLines
 pub mod PrintLemmas
 pub mod LabelTextLemmas
 pub mod GeneratedLemmas
+pub mod OtherPhrases
+pub mod OtherForms
+pub mod OtherWalks

@@ -3,9 +3,9 @@ use Rattle.std.proofs.Common.{◌≡◌, ℕ, ◌≤◌, List, ◌++◌, take, l
 use Rattle.std.proofs.lemmas.List.{take-take, take_at}
 use Rattle.std.specs.List.{flat_map}
 use Rattle.sig_script.specs.declared.instruction.Instr.{Instr}
-use Rattle.sig_script.specs.declared.instruction.Instr.TheVariants as instr
+use Rattle.sig_script.specs.Instructions.{Spoken, Says, Receives, spoken}
 use Rattle.sig_script.specs.Scripts.{Declared}
-use Rattle.sig_script.specs.ScriptText.{instr_lines, turns_line, procs_lines, script_lines, script_text, line_text}
+use Rattle.sig_script.specs.ScriptText.{spoken_lines, instr_lines, turns_line, procs_lines, script_lines, script_text, line_text}
 use Rattle.sig_script.specs.Printing.{first_of, rest_of}
 
 -- the front of what stands in front
@@ -26,27 +26,15 @@ front_behind a b piece m c p e q =
     front-on a m c (front-on a b m p (ap (take (length b)) e ∙ take_at b piece (length b) refl)) q
 
 -- an instruction's lines are its first and those behind it
+lines_split : (names labels : List (List ℕ)) (s : Spoken) →
+    flat_map line_text (spoken_lines names labels s) ≡ line_text (first_of (spoken_lines names labels s)) ++ flat_map line_text (rest_of (spoken_lines names labels s))
+lines_split names labels (Says v x) = refl
+lines_split names labels (Receives using clauses after) = refl
+
 pub instr_split : (names labels : List (List ℕ)) (i : Instr) →
     flat_map line_text (instr_lines names labels i) ≡ line_text (first_of (instr_lines names labels i)) ++ flat_map line_text (rest_of (instr_lines names labels i))
 unfolding instr_lines
-instr_split names labels (instr.Send to message) = refl
-instr_split names labels (instr.Set x value) = refl
-instr_split names labels (instr.MakeRef x) = refl
-instr_split names labels (instr.Link peer) = refl
-instr_split names labels (instr.Unlink peer) = refl
-instr_split names labels (instr.Monitor x target mode) = refl
-instr_split names labels (instr.Demonitor reference flush) = refl
-instr_split names labels (instr.Alias x reply) = refl
-instr_split names labels (instr.Unalias reference) = refl
-instr_split names labels (instr.Exit reason) = refl
-instr_split names labels (instr.ExitTo target reason) = refl
-instr_split names labels (instr.Trap on) = refl
-instr_split names labels instr.Reserve = refl
-instr_split names labels (instr.Bind x) = refl
-instr_split names labels (instr.Clear x) = refl
-instr_split names labels (instr.Goto label) = refl
-instr_split names labels instr.Stop = refl
-instr_split names labels (instr.Receive using clauses after) = refl
+instr_split names labels i = lines_split names labels (spoken i)
 
 -- three parts, one behind another
 pub three_put : (a b c d x y z whole : List ℕ) → b ≡ a ++ x → c ≡ b ++ y → d ≡ c ++ z → whole ≡ (x ++ y) ++ z → d ≡ a ++ whole

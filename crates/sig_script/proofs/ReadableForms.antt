@@ -1,28 +1,29 @@
 -- What a line says is readable.
-use Rattle.std.proofs.Common.{ℕ, List, [], ◌∷◌, length, All, IfSome, Bool, false, Option, Some, None, Result, codes}
+use Rattle.std.proofs.Common.{◌≡◌, ℕ, List, [], ◌∷◌, length, All, IfSome, Bool, false, Option, Some, None, Result, codes, sym, subst}
 use Rattle.std.proofs.lemmas.List.Elements.{All-nil, All-cons}
 use Rattle.sig_patterns.specs.declared.clause.Clause.{Clause}
 use Rattle.sig_patterns.specs.declared.var.Var.{Var}
-use Rattle.sig_patterns.specs.declared.expression.Expr.{Expr}
 use Rattle.sig_patterns.specs.declared.pattern.Pattern.{Pattern}
 use Rattle.sig_script.specs.declared.instruction.Instr.{Instr}
 use Rattle.sig_script.specs.declared.fault.FaultKind.{FaultKind}
 use Rattle.sig_script.specs.declared.token.Token.{Token}
 use Rattle.sig_script.specs.declared.known.Known.TheVariants.{Among}
 use Rattle.sig_script.specs.declared.keyword.Verb.{Verb}
-use Rattle.sig_script.specs.declared.keyword.Verb.TheVariants as verb
 use Rattle.sig_script.specs.declared.keyword.Keyword.{Keyword}
 use Rattle.sig_script.specs.declared.keyword.Keyword.TheVariants as keyword
 use Rattle.sig_script.specs.declared.draft.Draft.{Draft}
 use Rattle.sig_script.specs.declared.form.Form.{Form}
 use Rattle.sig_script.specs.declared.form.Form.TheVariants as form
+use Rattle.sig_script.specs.Instructions.{Operand, an_expr, a_variable, a_label, a_switch, a_mode, a_flag, Said, AllSaid, operands_of, instr_by, Says, spoken}
+use Rattle.sig_script.specs.Parts.{said_exprs, said_vars, exprs_in, vars_in, clauses_in, using_in}
 use Rattle.sig_script.specs.Scripts.{Program}
 use Rattle.sig_script.specs.Faults.{◌>>=◌, on_ok}
 use Rattle.sig_script.specs.Tokens.{text}
 use Rattle.sig_script.specs.Names.{label_of, name_at, variable_at}
 use Rattle.sig_script.specs.PatternTexts.{pattern_of}
-use Rattle.sig_script.specs.Forms.{Operand, an_expr, a_variable, a_label, a_switch, a_mode, a_flag, Said, AllSaid, operand_at, all_said, made_of, mode_of, flag_of, switch_of, word_at, tokens_of, keyword_of, may_stand, ends, arrow_of, count_from, turns_of, whole_name, marker_of, on_of, instr_of, form_of, form_behind, said_by, said}
+use Rattle.sig_script.specs.Forms.{operand_at, all_said, mode_of, flag_of, switch_of, word_at, tokens_of, keyword_of, may_stand, ends, arrow_of, count_from, turns_of, whole_name, marker_of, on_of, instr_of, form_of, form_behind, said_by, said}
 use Rattle.sig_script.specs.ReadableScript.{IsNameToken, IsVariableToken, IsReadableExpr, IsReadablePattern, IsReadableInstr}
+use Rattle.sig_script.proofs.TableLemmas.{spoken_again, instr_as}
 use Rattle.sig_script.proofs.BoundTermLemmas.{Holds, anything, holds-if, holds-on_ok, holds-then, holds-ends}
 use Rattle.sig_script.proofs.WordLemmas.{AreWords, tokens-words}
 use Rattle.sig_script.proofs.ReadablePhrases.{holds-weaker, name-read, variable-read, expr-read, pattern-read}
@@ -78,58 +79,34 @@ module _ (s : Program) (here : ℕ) (line : List ℕ) where
       holds-then (IsFront o) (AreReadable (o ∷ os)) (λ x. on_ok (λ xs. (x.0, xs)) (all_said (Among s) here line os x.1)) (operand_at (Among s) here line o ts) (operand-read o ts h)
       (λ x k. holds-on_ok (AreReadable os) (AreReadable (o ∷ os)) (λ xs. (x.0, xs)) (all_said (Among s) here line os x.1) (operands-read os x.1 k.1) (λ xs l. (k.0, l)))
 
+  -- the parts of operands
+  exprs-read : (os : List Operand) (x : AllSaid os) → AreReadable os x → All (IsReadableExpr count) (said_exprs os x)
+  exprs-read [] x h = All-nil (IsReadableExpr count)
+  exprs-read (an_expr ∷ os) x h = All-cons (IsReadableExpr count) x.0 (said_exprs os x.1) h.0 (exprs-read os x.1 h.1)
+  exprs-read (_ ∷ os) x h = exprs-read os x.1 h.1
+
+  vars-read : (os : List Operand) (x : AllSaid os) → AreReadable os x → All IsVariableToken (said_vars os x)
+  vars-read [] x h = All-nil IsVariableToken
+  vars-read (a_variable ∷ os) x h = All-cons IsVariableToken x.0 (said_vars os x.1) h.0 (vars-read os x.1 h.1)
+  vars-read (_ ∷ os) x h = vars-read os x.1 h.1
+
   abbrev IsReadable : Instr → Type 0
   IsReadable i = IsReadableInstr count i
 
-  made-read : (os : List Operand) (make : AllSaid os → Instr) (ts : List Token) → AreWords line ts → ((x : AllSaid os) → AreReadable os x → IsReadable (make x)) →
-      Holds IsReadable (made_of (Among s) here line os make ts)
-  unfolding made_of
-  made-read os make ts h k = holds-on_ok (AreReadable os) IsReadable make (all_said (Among s) here line os ts) (operands-read os ts h) k
-
-  -- the parts of an instruction
-  abbrev IsExpr : Expr → Type 0
-  IsExpr e = IsReadableExpr count e
-
-  abbrev IsVar : Var → Type 0
-  IsVar x = IsVariableToken x.0
-
-  no-exprs : All IsExpr []
-  no-exprs = All-nil IsExpr
-
-  one-expr : (e : Expr) → IsExpr e → All IsExpr (e ∷ [])
-  one-expr e h = All-cons IsExpr e [] h no-exprs
-
-  two-exprs : (a b : Expr) → IsExpr a → IsExpr b → All IsExpr (a ∷ b ∷ [])
-  two-exprs a b h k = All-cons IsExpr a (b ∷ []) h (one-expr b k)
-
-  no-clauses : All (λ (c : Clause). IsReadablePattern count c.pattern) []
-  no-clauses = All-nil (λ (c : Clause). IsReadablePattern count c.pattern)
-
-  no-vars : All IsVar []
-  no-vars = All-nil IsVar
-
-  one-var : (x : List ℕ) → IsVariableToken x → All IsVar (record { 0 = x } ∷ [])
-  one-var x h = All-cons IsVar (record { 0 = x }) [] h no-vars
+  made-read : (v : Verb) (x : AllSaid (operands_of v)) → AreReadable (operands_of v) x → IsReadable (instr_by v x)
+  made-read v x h =
+      let same : Says v x ≡ spoken (instr_by v x) = sym (spoken_again v x) in
+      record {
+        exprs = subst (λ s. All (IsReadableExpr count) (exprs_in s)) same (exprs-read (operands_of v) x h);
+        clauses = subst (λ s. All (λ (c : Clause). IsReadablePattern count c.pattern) (clauses_in s)) same (All-nil (λ (c : Clause). IsReadablePattern count c.pattern));
+        vars = subst (λ s. All IsVariableToken (vars_in s)) same (vars-read (operands_of v) x h);
+        using = subst (λ s. IfSome (using_in s) (λ y. IsVariableToken y.0)) same tt;
+      }
 
   instr-read : (v : Verb) (ts : List Token) → AreWords line ts → Holds IsReadable (instr_of (Among s) here v line ts)
-  unfolding instr_of
-  instr-read verb.Send ts w = made-read _ _ ts w (λ x h. record { exprs = two-exprs x.0 x.1.0 h.0 h.1.0; clauses = no-clauses; vars = no-vars; using = tt })
-  instr-read verb.Set ts w = made-read _ _ ts w (λ x h. record { exprs = one-expr x.1.0 h.1.0; clauses = no-clauses; vars = one-var x.0 h.0; using = tt })
-  instr-read verb.MakeRef ts w = made-read _ _ ts w (λ x h. record { exprs = no-exprs; clauses = no-clauses; vars = one-var x.0 h.0; using = tt })
-  instr-read verb.Link ts w = made-read _ _ ts w (λ x h. record { exprs = one-expr x.0 h.0; clauses = no-clauses; vars = no-vars; using = tt })
-  instr-read verb.Unlink ts w = made-read _ _ ts w (λ x h. record { exprs = one-expr x.0 h.0; clauses = no-clauses; vars = no-vars; using = tt })
-  instr-read verb.Monitor ts w = made-read _ _ ts w (λ x h. record { exprs = one-expr x.1.0 h.1.0; clauses = no-clauses; vars = one-var x.0 h.0; using = tt })
-  instr-read verb.Demonitor ts w = made-read _ _ ts w (λ x h. record { exprs = one-expr x.0 h.0; clauses = no-clauses; vars = no-vars; using = tt })
-  instr-read verb.Alias ts w = made-read _ _ ts w (λ x h. record { exprs = no-exprs; clauses = no-clauses; vars = one-var x.0 h.0; using = tt })
-  instr-read verb.Unalias ts w = made-read _ _ ts w (λ x h. record { exprs = one-expr x.0 h.0; clauses = no-clauses; vars = no-vars; using = tt })
-  instr-read verb.Exit ts w = made-read _ _ ts w (λ x h. record { exprs = one-expr x.0 h.0; clauses = no-clauses; vars = no-vars; using = tt })
-  instr-read verb.ExitTo ts w = made-read _ _ ts w (λ x h. record { exprs = two-exprs x.0 x.1.0 h.0 h.1.0; clauses = no-clauses; vars = no-vars; using = tt })
-  instr-read verb.Trap ts w = made-read _ _ ts w (λ x h. record { exprs = no-exprs; clauses = no-clauses; vars = no-vars; using = tt })
-  instr-read verb.Reserve ts w = made-read _ _ ts w (λ x h. record { exprs = no-exprs; clauses = no-clauses; vars = no-vars; using = tt })
-  instr-read verb.Bind ts w = made-read _ _ ts w (λ x h. record { exprs = no-exprs; clauses = no-clauses; vars = one-var x.0 h.0; using = tt })
-  instr-read verb.Clear ts w = made-read _ _ ts w (λ x h. record { exprs = no-exprs; clauses = no-clauses; vars = one-var x.0 h.0; using = tt })
-  instr-read verb.Goto ts w = made-read _ _ ts w (λ x h. record { exprs = no-exprs; clauses = no-clauses; vars = no-vars; using = tt })
-  instr-read verb.Stop ts w = made-read _ _ ts w (λ x h. record { exprs = no-exprs; clauses = no-clauses; vars = no-vars; using = tt })
+  instr-read v ts w =
+      subst (Holds IsReadable) (sym (instr_as (Among s) here v line ts))
+      (holds-on_ok (AreReadable (operands_of v)) IsReadable (instr_by v) (all_said (Among s) here line (operands_of v) ts) (operands-read (operands_of v) ts w) (λ x h. made-read v x h))
 
   abbrev IsForm : Form → Type 0
   IsForm f = IsReadableForm count f

@@ -118,7 +118,7 @@ module _ (count : ℕ) (turns : Option ℕ) (procs : List Declared) where
 
   receive-good : (using : Option Var) (clauses : List Clause) (after : Option After) → All (λ (c : Clause). IsReadablePattern count c.pattern) clauses → IfSome using (λ x. IsVariableToken x.0) →
       IsReadableInstr count (instr.Receive using clauses after)
-  receive-good using clauses after h k = record { exprs = All-nil _; clauses = h; vars = All-nil (λ (x : Var). IsVariableToken x.0); using = k }
+  receive-good using clauses after h k = record { exprs = All-nil _; clauses = h; vars = All-nil IsVariableToken; using = k }
 
   taken_at-good : (section : Section) (f : Form) → AreDistinct (names (procs ++ open_proc section)) → All (IsGood count) (procs ++ open_proc section) → IsGoodReceive count section →
       IsReadableForm count f → Holds (IsGoodDraft count) (taken_at (record { turns = turns; procs = procs; section = section }) section f)

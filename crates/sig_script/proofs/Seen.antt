@@ -1,5 +1,5 @@
 -- What a reader makes of a script's parts, where it gives a pid and the place of a label as other numbers.
-use Rattle.std.specs.Prelude.{◌≡◌, ◌<◌, ℕ, List, length, map, option_map, Ok}
+use Rattle.std.specs.Prelude.{◌≡◌, ◌<◌, ℕ, List, [], ◌∷◌, length, map, option_map, Ok}
 use Rattle.sig_patterns.specs.declared.clause.Clause.{Clause}
 use Rattle.sig_patterns.specs.declared.expression.Expr.{Expr}
 use Rattle.sig_patterns.specs.declared.expression.Expr.TheVariants as expr
@@ -14,10 +14,11 @@ use Rattle.sig_patterns.specs.declared.pattern.Pattern.TheFolds.{fold-Pattern}
 use Rattle.sig_script.specs.declared.known.Known.{Known}
 use Rattle.sig_script.specs.declared.instruction.After.{After}
 use Rattle.sig_script.specs.declared.instruction.Instr.{Instr}
-use Rattle.sig_script.specs.declared.instruction.Instr.TheVariants as instr
+use Rattle.sig_script.specs.Instructions.{Operand, an_expr, a_label, Said, AllSaid, operands_of, Spoken, Says, Receives, spoken}
 use Rattle.sig_script.specs.ScriptText.{name_of_place}
 use Rattle.sig_script.specs.ReadableScript.{IsNameToken}
 use Rattle.sig_script.specs.Names.{pid_of, label_of}
+use Rattle.sig_script.proofs.TableLemmas.{made_of}
 
 -- the second walk gives each number as it is, and the first gives 0
 abbrev pub kept : ℕ → ℕ
@@ -59,26 +60,23 @@ clause_seen f g c = record { pattern = pattern_seen f c.pattern; target = option
 abbrev pub after_seen : (ℕ → ℕ) → After → After
 after_seen g a = record { target = option_map g a.target }
 
--- an instruction with other pids, by f, and other places of labels, by g
+-- what an operand says, with other pids, by f, and other places of labels, by g
+abbrev pub said_seen : (ℕ → ℕ) → (ℕ → ℕ) → (o : Operand) → Said o → Said o
+said_seen f g an_expr e = expr_seen f e
+said_seen f g a_label n = g n
+said_seen f g _ x = x
+
+-- the same of operands, and of an instruction
+abbrev pub all_seen : (ℕ → ℕ) → (ℕ → ℕ) → (os : List Operand) → AllSaid os → AllSaid os
+all_seen f g [] x = tt
+all_seen f g (o ∷ os) x = (said_seen f g o x.0, all_seen f g os x.1)
+
+abbrev pub spoken_seen : (ℕ → ℕ) → (ℕ → ℕ) → Spoken → Spoken
+spoken_seen f g (Says v x) = Says v (all_seen f g (operands_of v) x)
+spoken_seen f g (Receives using clauses after) = Receives using (map (clause_seen f g) clauses) (option_map (after_seen g) after)
+
 abbrev pub instr_seen : (ℕ → ℕ) → (ℕ → ℕ) → Instr → Instr
-instr_seen f g (instr.Send to message) = instr.Send (expr_seen f to) (expr_seen f message)
-instr_seen f g (instr.Set x value) = instr.Set x (expr_seen f value)
-instr_seen f g (instr.MakeRef x) = instr.MakeRef x
-instr_seen f g (instr.Link peer) = instr.Link (expr_seen f peer)
-instr_seen f g (instr.Unlink peer) = instr.Unlink (expr_seen f peer)
-instr_seen f g (instr.Monitor x target mode) = instr.Monitor x (expr_seen f target) mode
-instr_seen f g (instr.Demonitor reference flush) = instr.Demonitor (expr_seen f reference) flush
-instr_seen f g (instr.Alias x reply) = instr.Alias x reply
-instr_seen f g (instr.Unalias reference) = instr.Unalias (expr_seen f reference)
-instr_seen f g (instr.Exit reason) = instr.Exit (expr_seen f reason)
-instr_seen f g (instr.ExitTo target reason) = instr.ExitTo (expr_seen f target) (expr_seen f reason)
-instr_seen f g (instr.Trap on) = instr.Trap on
-instr_seen f g instr.Reserve = instr.Reserve
-instr_seen f g (instr.Bind x) = instr.Bind x
-instr_seen f g (instr.Clear x) = instr.Clear x
-instr_seen f g (instr.Goto label) = instr.Goto (g label)
-instr_seen f g instr.Stop = instr.Stop
-instr_seen f g (instr.Receive using clauses after) = instr.Receive using (map (clause_seen f g) clauses) (option_map (after_seen g) after)
+instr_seen f g i = made_of (spoken_seen f g (spoken i))
 
 -- The processes and the labels of a process have these names, and a reader that knows so much gives the pids of the processes as
 -- f says, and the places of the labels as g says.

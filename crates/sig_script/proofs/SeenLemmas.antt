@@ -23,14 +23,15 @@ use Rattle.sig_script.specs.declared.label.Label.{Label}
 use Rattle.sig_script.specs.declared.fault.FaultKind.TheVariants.{UnknownProcess, UnknownLabel}
 use Rattle.sig_script.specs.declared.instruction.After.{After}
 use Rattle.sig_script.specs.declared.instruction.Instr.{Instr}
-use Rattle.sig_script.specs.declared.instruction.Instr.TheVariants as instr
 use Rattle.sig_script.specs.declared.known.Known.TheVariants.{Any, Among}
+use Rattle.sig_script.specs.Instructions.{Operand, an_expr, Said, AllSaid, operands_of, Spoken, Says, Receives, spoken}
 use Rattle.sig_script.specs.Scripts.{Declared, Program}
 use Rattle.sig_script.specs.Names.{labels_at}
 use Rattle.sig_script.specs.ScriptText.{name_of_place, names_of}
 use Rattle.sig_script.specs.ReadableScript.{IsNameToken, AreDistinct}
 use Rattle.sig_script.proofs.LabelLemmas.{next, position-cons}
-use Rattle.sig_script.proofs.Seen.{kept, zeroed, expr_seen, expr_seen_step, pattern_seen, pattern_seen_step, clause_seen, after_seen, instr_seen, Reads}
+use Rattle.sig_script.proofs.TableLemmas.{made_of, made_again}
+use Rattle.sig_script.proofs.Seen.{kept, zeroed, expr_seen, expr_seen_step, pattern_seen, pattern_seen_step, clause_seen, after_seen, said_seen, all_seen, spoken_seen, instr_seen, Reads}
 
 -- ---- what a reader gives for a name
 
@@ -137,25 +138,20 @@ after_kept : (after : Option After) → option_map (after_seen kept) after ≡ a
 after_kept None = refl
 after_kept (Some a) = let same : after_seen kept a ≡ a = rw (target_kept a.target) refl in ap (λ (x : After). Some x) same
 
+said_kept : (o : Operand) (x : Said o) → said_seen kept kept o x ≡ x
+said_kept an_expr e = expr_kept e
+said_kept _ x = refl
+
+all_kept : (os : List Operand) (x : AllSaid os) → all_seen kept kept os x ≡ x
+all_kept [] x = refl
+all_kept (o ∷ os) x = rw (said_kept o x.0, all_kept os x.1) refl
+
+spoken_kept : (s : Spoken) → spoken_seen kept kept s ≡ s
+spoken_kept (Says v x) = ap (Says v) (all_kept (operands_of v) x)
+spoken_kept (Receives using clauses after) = rw (clauses_kept clauses, after_kept after) refl
+
 pub instr_kept : (i : Instr) → instr_seen kept kept i ≡ i
-instr_kept (instr.Send to message) = rw (expr_kept to, expr_kept message) refl
-instr_kept (instr.Set x value) = ap (instr.Set x) (expr_kept value)
-instr_kept (instr.MakeRef x) = refl
-instr_kept (instr.Link peer) = ap instr.Link (expr_kept peer)
-instr_kept (instr.Unlink peer) = ap instr.Unlink (expr_kept peer)
-instr_kept (instr.Monitor x target mode) = ap (λ (e : Expr). instr.Monitor x e mode) (expr_kept target)
-instr_kept (instr.Demonitor reference flush) = ap (λ (e : Expr). instr.Demonitor e flush) (expr_kept reference)
-instr_kept (instr.Alias x reply) = refl
-instr_kept (instr.Unalias reference) = ap instr.Unalias (expr_kept reference)
-instr_kept (instr.Exit reason) = ap instr.Exit (expr_kept reason)
-instr_kept (instr.ExitTo target reason) = rw (expr_kept target, expr_kept reason) refl
-instr_kept (instr.Trap on) = refl
-instr_kept instr.Reserve = refl
-instr_kept (instr.Bind x) = refl
-instr_kept (instr.Clear x) = refl
-instr_kept (instr.Goto label) = refl
-instr_kept instr.Stop = refl
-instr_kept (instr.Receive using clauses after) = rw (clauses_kept clauses, after_kept after) refl
+instr_kept i = ap made_of (spoken_kept (spoken i)) ∙ made_again i
 
 -- ---- the pinned variables are the same in both walks
 

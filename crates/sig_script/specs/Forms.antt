@@ -1,13 +1,11 @@
 -- What a line says: its word, and what stands behind it.
 use Rattle.std.specs.Prelude.{ℕ, List, [], ◌∷◌, Bool, true, false, not, is_some, is_none, codes, ok_or, length, if◌then◌else◌, Option, Some, None, option_map, Result, Ok, Err}
-use Rattle.std.specs.List.{list_all}
+use Rattle.std.specs.List.{list_all, find}
 use Rattle.std.specs.Str.{bytes_eq}
 use Rattle.sig_kinds.specs.declared.alias_mode.AliasMode.{AliasMode}
 use Rattle.sig_kinds.specs.declared.alias_mode.AliasMode.TheVariants as alias_mode
-use Rattle.sig_patterns.specs.declared.expression.Expr.{Expr}
 use Rattle.sig_patterns.specs.declared.var.Var.{Var}
 use Rattle.sig_script.specs.declared.instruction.Instr.{Instr}
-use Rattle.sig_script.specs.declared.instruction.Instr.TheVariants as instr
 use Rattle.sig_script.specs.declared.fault.FaultKind.{FaultKind}
 use Rattle.sig_script.specs.declared.fault.FaultKind.TheVariants.{Syntax, IntRange}
 use Rattle.sig_script.specs.declared.token.TokenKind.{TokenKind}
@@ -24,6 +22,7 @@ use Rattle.sig_script.specs.declared.draft.Section.TheVariants.{Before, Outside,
 use Rattle.sig_script.specs.declared.draft.Draft.{Draft}
 use Rattle.sig_script.specs.declared.form.Form.{Form}
 use Rattle.sig_script.specs.declared.form.Form.TheVariants as form
+use Rattle.sig_script.specs.Instructions.{Operand, an_expr, a_variable, a_label, a_switch, a_mode, a_flag, Said, AllSaid, verbs, word_of, operands_of, instr_by}
 use Rattle.sig_script.specs.Faults.{◌>>=◌, on_ok}
 use Rattle.sig_script.specs.Numbers.{count_of}
 use Rattle.sig_script.specs.Tokens.{text, cut_of, is_token_in_range}
@@ -43,25 +42,7 @@ tokens_of line = checked line (cut_of 0 0 line)
 
 -- the word of an instruction that is no receive
 abbrev pub verb_of : List ℕ → Option Verb
-verb_of word =
-    if bytes_eq word (codes "send") then Some verb.Send
-    else if bytes_eq word (codes "set") then Some verb.Set
-    else if bytes_eq word (codes "make_ref") then Some verb.MakeRef
-    else if bytes_eq word (codes "link") then Some verb.Link
-    else if bytes_eq word (codes "unlink") then Some verb.Unlink
-    else if bytes_eq word (codes "monitor") then Some verb.Monitor
-    else if bytes_eq word (codes "demonitor") then Some verb.Demonitor
-    else if bytes_eq word (codes "alias") then Some verb.Alias
-    else if bytes_eq word (codes "unalias") then Some verb.Unalias
-    else if bytes_eq word (codes "exit") then Some verb.Exit
-    else if bytes_eq word (codes "exit_to") then Some verb.ExitTo
-    else if bytes_eq word (codes "trap") then Some verb.Trap
-    else if bytes_eq word (codes "reserve") then Some verb.Reserve
-    else if bytes_eq word (codes "bind") then Some verb.Bind
-    else if bytes_eq word (codes "clear") then Some verb.Clear
-    else if bytes_eq word (codes "goto") then Some verb.Goto
-    else if bytes_eq word (codes "stop") then Some verb.Stop
-    else None
+verb_of word = find (λ v. bytes_eq word (word_of v)) verbs
 
 -- the word with which a line begins
 abbrev pub keyword_of : List ℕ → Option Keyword
@@ -153,29 +134,6 @@ mode_of word =
 abbrev pub flag_of : List ℕ → List ℕ → Result Bool FaultKind
 flag_of flag word = if bytes_eq word flag then Ok true else Err Syntax
 
--- what may stand behind the word of an instruction; a mode and a flag may be left out
-pub data Operand : Type 0 where
-  an_expr : Operand
-  a_variable : Operand
-  a_label : Operand
-  a_switch : Operand
-  a_mode : Operand
-  a_flag : List ℕ → Operand
-
--- what an operand says
-abbrev pub Said : Operand → Type 0
-Said an_expr = Expr
-Said a_variable = List ℕ
-Said a_label = ℕ
-Said a_switch = Bool
-Said a_mode = Option AliasMode
-Said (a_flag flag) = Bool
-
--- what operands say, one after another
-abbrev pub AllSaid : List Operand → Type 0
-AllSaid [] = Unit {0}
-AllSaid (o ∷ os) = Said o × AllSaid os
-
 -- an operand at the front of the tokens, and the tokens behind it
 abbrev pub operand_at : Known → ℕ → List ℕ → (o : Operand) → List Token → Result (Said o × List Token) FaultKind
 operand_at known here line an_expr ts = expr_of known line ts
@@ -190,31 +148,10 @@ abbrev pub all_said : Known → ℕ → List ℕ → (os : List Operand) → Lis
 all_said known here line [] ts = ends tt ts
 all_said known here line (o ∷ os) ts = operand_at known here line o ts >>= λ x. on_ok (λ xs. (x.0, xs)) (all_said known here line os x.1)
 
--- the instruction that is made of what these operands say
-unfoldable pub made_of : Known → ℕ → List ℕ → (os : List Operand) → (AllSaid os → Instr) → List Token → Result Instr FaultKind
-made_of known here line os make ts = on_ok make (all_said known here line os ts)
-
--- the table of the instructions that are no receives: the operands behind the word, and the instruction
+-- The instruction that a word and the operands behind it say. A first word stands by itself, so that each is looked at by itself.
 unfoldable pub instr_of : Known → ℕ → Verb → List ℕ → List Token → Result Instr FaultKind
-instr_of known here verb.Send line ts = made_of known here line (an_expr ∷ an_expr ∷ []) (λ x. instr.Send x.0 x.1.0) ts
-instr_of known here verb.Set line ts = made_of known here line (a_variable ∷ an_expr ∷ []) (λ x. instr.Set (record { 0 = x.0 }) x.1.0) ts
-instr_of known here verb.MakeRef line ts = made_of known here line (a_variable ∷ []) (λ x. instr.MakeRef (record { 0 = x.0 })) ts
-instr_of known here verb.Link line ts = made_of known here line (an_expr ∷ []) (λ x. instr.Link x.0) ts
-instr_of known here verb.Unlink line ts = made_of known here line (an_expr ∷ []) (λ x. instr.Unlink x.0) ts
-instr_of known here verb.Monitor line ts =
-    made_of known here line (a_variable ∷ an_expr ∷ a_mode ∷ []) (λ x. instr.Monitor (record { 0 = x.0 }) x.1.0 x.1.1.0) ts
-instr_of known here verb.Demonitor line ts = made_of known here line (an_expr ∷ a_flag (codes "flush") ∷ []) (λ x. instr.Demonitor x.0 x.1.0) ts
-instr_of known here verb.Alias line ts =
-    made_of known here line (a_variable ∷ a_flag (codes "reply") ∷ []) (λ x. instr.Alias (record { 0 = x.0 }) x.1.0) ts
-instr_of known here verb.Unalias line ts = made_of known here line (an_expr ∷ []) (λ x. instr.Unalias x.0) ts
-instr_of known here verb.Exit line ts = made_of known here line (an_expr ∷ []) (λ x. instr.Exit x.0) ts
-instr_of known here verb.ExitTo line ts = made_of known here line (an_expr ∷ an_expr ∷ []) (λ x. instr.ExitTo x.0 x.1.0) ts
-instr_of known here verb.Trap line ts = made_of known here line (a_switch ∷ []) (λ x. instr.Trap x.0) ts
-instr_of known here verb.Reserve line ts = made_of known here line [] (λ x. instr.Reserve) ts
-instr_of known here verb.Bind line ts = made_of known here line (a_variable ∷ []) (λ x. instr.Bind (record { 0 = x.0 })) ts
-instr_of known here verb.Clear line ts = made_of known here line (a_variable ∷ []) (λ x. instr.Clear (record { 0 = x.0 })) ts
-instr_of known here verb.Goto line ts = made_of known here line (a_label ∷ []) (λ x. instr.Goto x.0) ts
-instr_of known here verb.Stop line ts = made_of known here line [] (λ x. instr.Stop) ts
+instr_of known here verb.Stop line ts = on_ok (instr_by verb.Stop) (all_said known here line (operands_of verb.Stop) ts)
+instr_of known here v line ts = on_ok (instr_by v) (all_said known here line (operands_of v) ts)
 
 -- a name, and nothing behind it
 abbrev pub whole_name : List ℕ → List Token → Result (List ℕ) FaultKind

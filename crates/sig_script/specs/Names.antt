@@ -1,5 +1,5 @@
 -- The names in a line: those of the processes behind `@`, those of labels, and variables.
-use Rattle.std.specs.Prelude.{ℕ, List, [], ◌∷◌, position, slice_get, ok_or, Result, Ok, Err}
+use Rattle.std.specs.Prelude.{◌≡◌, ℕ, List, [], ◌∷◌, map, position, slice_get, ok_or, Result, Ok, Err}
 use Rattle.std.specs.Option.{option_map_or}
 use Rattle.std.specs.Str.{bytes_eq}
 use Rattle.sig_script.specs.declared.label.Label.{Label}
@@ -10,7 +10,7 @@ use Rattle.sig_script.specs.declared.token.TokenKind.TheVariants.{Name, Variable
 use Rattle.sig_script.specs.declared.token.Token.{Token}
 use Rattle.sig_script.specs.declared.known.Known.{Known}
 use Rattle.sig_script.specs.declared.known.Known.TheVariants.{Any, Among}
-use Rattle.sig_script.specs.Scripts.{Declared}
+use Rattle.sig_script.specs.Scripts.{Declared, Program}
 use Rattle.sig_script.specs.Faults.{on_ok}
 use Rattle.sig_script.specs.Tokens.{text}
 
@@ -45,3 +45,23 @@ name_at line (t ∷ ts) = on_ok (λ name. (name, ts)) (name_of t.kind (text line
 abbrev pub variable_at : List ℕ → List Token → Result (List ℕ × List Token) FaultKind
 variable_at line [] = Err Syntax
 variable_at line (t ∷ ts) = on_ok (λ name. (name, ts)) (variable_of t.kind (text line t))
+
+-- the names of labels
+abbrev pub label_names : List Label → List (List ℕ)
+label_names labels = map (λ (l : Label). l.name) labels
+
+-- the name of a process, and those of its labels
+pub record Named : Type 0 where
+  pub name : List ℕ
+  pub labels : List (List ℕ)
+
+abbrev pub named : Declared → Named
+named p = record { name = p.name; labels = label_names p.labels }
+
+-- the names of processes, each with those of its labels
+abbrev pub names_within : List Declared → List Named
+names_within procs = map named procs
+
+-- the names that are known are those of the script
+abbrev pub AreItsNames : Known → Program → Type 0
+AreItsNames known s = (names : Program) × (known ≡ Among names) × (names_within names.procs ≡ names_within s.procs)

@@ -7,7 +7,6 @@ use Rattle.sig_terms.specs.Readable.{is_wide}
 use Rattle.sig_terms.specs.declared.bytes.TheConstants.{MOST_WORD_BYTES}
 use Rattle.sig_patterns.specs.declared.building.TheConstants.{MOST_NODES, MOST_DEPTH}
 use Rattle.sig_patterns.specs.declared.clause.Clause.{Clause}
-use Rattle.sig_patterns.specs.declared.var.Var.{Var}
 use Rattle.sig_patterns.specs.declared.expression.Expr.{Expr}
 use Rattle.sig_patterns.specs.declared.expression.Expr.TheOpen.{Expr-F}
 use Rattle.sig_patterns.specs.declared.expression.Expr.TheOpen as expression
@@ -18,8 +17,7 @@ use Rattle.sig_patterns.specs.declared.pattern.Pattern.TheOpen as pattern
 use Rattle.sig_patterns.specs.declared.pattern.Pattern.TheFolds.{fold-Pattern}
 use Rattle.sig_script.specs.declared.label.Label.{Label}
 use Rattle.sig_script.specs.declared.instruction.Instr.{Instr}
-use Rattle.sig_script.specs.declared.instruction.Instr.TheVariants as instr
-use Rattle.sig_script.specs.Parts.{exprs_of, clauses_of, using_of}
+use Rattle.sig_script.specs.Parts.{exprs_of, vars_of, clauses_of, using_of}
 use Rattle.sig_script.specs.Scripts.{Declared, Program, IsWithin, IsSound}
 
 -- a name token
@@ -116,21 +114,11 @@ pub record IsReadablePattern (count : ℕ) (p : Pattern) : Type 0 where
   pub nodes : pattern_nodes p ≤ MOST_NODES
   pub depth : pattern_depth p ≤ MOST_DEPTH
 
--- the variable that an instruction sets, makes or names
-abbrev pub vars_of : Instr → List Var
-vars_of (instr.Set x value) = x ∷ []
-vars_of (instr.MakeRef x) = x ∷ []
-vars_of (instr.Monitor x target mode) = x ∷ []
-vars_of (instr.Alias x reply) = x ∷ []
-vars_of (instr.Bind x) = x ∷ []
-vars_of (instr.Clear x) = x ∷ []
-vars_of _ = []
-
 -- an instruction that lines may hold
 pub record IsReadableInstr (count : ℕ) (i : Instr) : Type 0 where
   pub exprs : All (IsReadableExpr count) (exprs_of i)
   pub clauses : All (λ (c : Clause). IsReadablePattern count c.pattern) (clauses_of i)
-  pub vars : All (λ (x : Var). IsVariableToken x.0) (vars_of i)
+  pub vars : All IsVariableToken (vars_of i)
   pub using : IfSome (using_of i) (λ x. IsVariableToken x.0)
 
 -- no two are equal

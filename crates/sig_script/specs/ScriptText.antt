@@ -20,7 +20,7 @@ use Rattle.sig_terms.specs.TermText.{atom_text, joined}
 use Rattle.sig_script.specs.declared.label.Label.{Label}
 use Rattle.sig_script.specs.declared.instruction.After.{After}
 use Rattle.sig_script.specs.declared.instruction.Instr.{Instr}
-use Rattle.sig_script.specs.declared.instruction.Instr.TheVariants as instr
+use Rattle.sig_script.specs.Instructions.{Operand, an_expr, a_variable, a_label, a_switch, a_mode, a_flag, Said, AllSaid, word_of, operands_of, Spoken, Says, Receives, spoken}
 use Rattle.sig_script.specs.Scripts.{Declared, Program}
 
 -- the name at this place, from 0; every place that a script names has one
@@ -79,17 +79,17 @@ after_blank text = codes " " ++ text
 abbrev pub spaced : List ℕ → List (List ℕ) → List ℕ
 spaced word texts = word ++ concat (map after_blank texts)
 
--- nothing, or a word
-abbrev pub flag_text : List ℕ → Bool → List (List ℕ)
-flag_text word true = word ∷ []
-flag_text word false = []
+-- nothing or a word, in front of other texts
+abbrev pub flag_text : List ℕ → Bool → List (List ℕ) → List (List ℕ)
+flag_text word true rest = word ∷ rest
+flag_text word false rest = rest
 
-abbrev pub mode_text : Option AliasMode → List (List ℕ)
-mode_text None = []
-mode_text (Some alias_mode.Explicit) = codes "explicit_unalias" ∷ []
-mode_text (Some alias_mode.Demonitor) = codes "demonitor" ∷ []
-mode_text (Some alias_mode.ReplyDemonitor) = codes "reply_demonitor" ∷ []
-mode_text (Some alias_mode.Reply) = codes "reply" ∷ []
+abbrev pub mode_text : Option AliasMode → List (List ℕ) → List (List ℕ)
+mode_text None rest = rest
+mode_text (Some alias_mode.Explicit) rest = codes "explicit_unalias" ∷ rest
+mode_text (Some alias_mode.Demonitor) rest = codes "demonitor" ∷ rest
+mode_text (Some alias_mode.ReplyDemonitor) rest = codes "reply_demonitor" ∷ rest
+mode_text (Some alias_mode.Reply) rest = codes "reply" ∷ rest
 
 abbrev pub switch_text : Bool → List ℕ
 switch_text true = codes "on"
@@ -111,29 +111,29 @@ abbrev pub after_lines : List (List ℕ) → Option After → List (List ℕ)
 after_lines labels None = []
 after_lines labels (Some a) = spaced (codes "after") (target_text labels a.target) ∷ []
 
--- The lines of an instruction, where the processes and the labels of its process have these names: a receive has several, and
--- any other instruction has one.
-unfoldable pub instr_lines : List (List ℕ) → List (List ℕ) → Instr → List (List ℕ)
-instr_lines names labels (instr.Send to message) = spaced (codes "send") (expr_text names to ∷ expr_text names message ∷ []) ∷ []
-instr_lines names labels (instr.Set x value) = spaced (codes "set") (x.0 ∷ expr_text names value ∷ []) ∷ []
-instr_lines names labels (instr.MakeRef x) = spaced (codes "make_ref") (x.0 ∷ []) ∷ []
-instr_lines names labels (instr.Link peer) = spaced (codes "link") (expr_text names peer ∷ []) ∷ []
-instr_lines names labels (instr.Unlink peer) = spaced (codes "unlink") (expr_text names peer ∷ []) ∷ []
-instr_lines names labels (instr.Monitor x target mode) = spaced (codes "monitor") (x.0 ∷ expr_text names target ∷ mode_text mode) ∷ []
-instr_lines names labels (instr.Demonitor reference flush) =
-    spaced (codes "demonitor") (expr_text names reference ∷ flag_text (codes "flush") flush) ∷ []
-instr_lines names labels (instr.Alias x reply) = spaced (codes "alias") (x.0 ∷ flag_text (codes "reply") reply) ∷ []
-instr_lines names labels (instr.Unalias reference) = spaced (codes "unalias") (expr_text names reference ∷ []) ∷ []
-instr_lines names labels (instr.Exit reason) = spaced (codes "exit") (expr_text names reason ∷ []) ∷ []
-instr_lines names labels (instr.ExitTo target reason) = spaced (codes "exit_to") (expr_text names target ∷ expr_text names reason ∷ []) ∷ []
-instr_lines names labels (instr.Trap on) = spaced (codes "trap") (switch_text on ∷ []) ∷ []
-instr_lines names labels instr.Reserve = codes "reserve" ∷ []
-instr_lines names labels (instr.Bind x) = spaced (codes "bind") (x.0 ∷ []) ∷ []
-instr_lines names labels (instr.Clear x) = spaced (codes "clear") (x.0 ∷ []) ∷ []
-instr_lines names labels (instr.Goto label) = spaced (codes "goto") (name_of_place labels label ∷ []) ∷ []
-instr_lines names labels instr.Stop = codes "stop" ∷ []
-instr_lines names labels (instr.Receive using clauses after) =
+-- the text of what an operand says, in front of the texts of those behind it
+abbrev pub said_text : List (List ℕ) → List (List ℕ) → (o : Operand) → Said o → List (List ℕ) → List (List ℕ)
+said_text names labels an_expr e rest = expr_text names e ∷ rest
+said_text names labels a_variable x rest = x ∷ rest
+said_text names labels a_label n rest = name_of_place labels n ∷ rest
+said_text names labels a_switch on rest = switch_text on ∷ rest
+said_text names labels a_mode mode rest = mode_text mode rest
+said_text names labels (a_flag word) on rest = flag_text word on rest
+
+-- the texts of what operands say
+abbrev pub said_texts : List (List ℕ) → List (List ℕ) → (os : List Operand) → AllSaid os → List (List ℕ)
+said_texts names labels [] x = []
+said_texts names labels (o ∷ os) x = said_text names labels o x.0 (said_texts names labels os x.1)
+
+-- a receive has several lines, and any other instruction has one
+abbrev pub spoken_lines : List (List ℕ) → List (List ℕ) → Spoken → List (List ℕ)
+spoken_lines names labels (Says v x) = spaced (word_of v) (said_texts names labels (operands_of v) x) ∷ []
+spoken_lines names labels (Receives using clauses after) =
     spaced (codes "receive") (marker_text using) ∷ map (clause_line names labels) clauses ++ after_lines labels after ++ codes "end" ∷ []
+
+-- the lines of an instruction, where the processes and the labels of its process have these names
+unfoldable pub instr_lines : List (List ℕ) → List (List ℕ) → Instr → List (List ℕ)
+instr_lines names labels i = spoken_lines names labels (spoken i)
 
 abbrev pub label_line : Label → List ℕ
 label_line l = spaced (codes "label") (l.name ∷ [])

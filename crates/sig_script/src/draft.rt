@@ -18,6 +18,7 @@ use crate::label::Label;
 use crate::label_table::LabelTable;
 use crate::reader::ScriptError;
 use crate::script::{DEFAULT_TURNS, MOST_PROCESSES, MOST_TURNS};
+use crate::token::Tokens;
 use sig_lists::Sequence;
 use sig_patterns::{Clause, Clauses, Pattern, Var, pins};
 use sig_terms::Name;
@@ -280,12 +281,13 @@ fn take_form(alloc: Global, draft: &mut Draft, n: u64, form: Form) -> Result<(),
 }
 
 /// Line `n` behind what was read so far, or what is wrong with it. What was read is of no use
-/// behind a line that is wrong.
+/// behind a line that is wrong. The room of the list of tokens is used again.
 pub fn take_line(
     alloc: Global,
     known: &Known,
     draft: &mut Draft,
     n: u64,
+    tokens: &mut Tokens,
     line: &[u8],
 ) -> Result<(), Stop>
     requires known { IsFewKnown known.now }
@@ -293,7 +295,7 @@ pub fn take_line(
     requires fit { IsFit n draft.old }
     ensures { Gives (λ u. draft.new) result (line_taken known.now draft.old line.now) }
 {
-    match read_line(alloc, known, draft, line)? {
+    match read_line(alloc, known, draft, tokens, line)? {
         Some(form) => take_form(alloc, draft, n, form),
         None => Ok(()),
     }

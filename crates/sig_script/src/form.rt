@@ -1,6 +1,7 @@
 ghost use Rattle.std.specs.Prelude.{◌≡◌, ◌∷◌, [], length, IfOk};
 ghost use Rattle.sig_script.specs.Faults.{Gives};
 ghost use Rattle.sig_script.specs.Tokens.{AreWellSpelled};
+ghost use Rattle.sig_script.specs.Instructions.{Operand};
 ghost use Rattle.sig_script.specs.Forms.{
   may_stand,
   ends,
@@ -10,7 +11,6 @@ ghost use Rattle.sig_script.specs.Forms.{
   switch_of,
   mode_of,
   flag_of,
-  Operand,
   all_said,
   whole_name,
   marker_of,
@@ -32,7 +32,7 @@ use crate::line::{read_tokens, text_of};
 use crate::names::{take_name, take_target, take_variable};
 use crate::number::read_count;
 use crate::phrases::take_phrase;
-use crate::token::{Token, TokenKind};
+use crate::token::{Token, TokenKind, Tokens};
 use sig_kinds::AliasMode;
 use sig_patterns::{Expr, Pattern, Var};
 use sig_terms::Name;
@@ -258,7 +258,7 @@ fn one_variable(alloc: Global, line: &[u8], tokens: &[Token]) -> Result<Var, Sto
 }
 
 /// What stands behind `monitor`: the variable, the process, and the mode of the alias.
-#[tactic(auto, unfolding(crate::specs::Forms::instr_of, crate::specs::Forms::made_of))]
+#[tactic(auto, unfolding(crate::specs::Forms::instr_of))]
 fn read_monitor(alloc: Global, known: &Known, line: &[u8], tokens: &[Token]) -> Result<Instr, Stop>
     requires known { IsFewKnown known.now }
     requires spelled { AreWellSpelled line.now tokens.now }
@@ -271,7 +271,7 @@ fn read_monitor(alloc: Global, known: &Known, line: &[u8], tokens: &[Token]) -> 
 }
 
 /// What stands behind `demonitor`: the reference, and whether `flush` does.
-#[tactic(auto, unfolding(crate::specs::Forms::instr_of, crate::specs::Forms::made_of))]
+#[tactic(auto, unfolding(crate::specs::Forms::instr_of))]
 fn read_demonitor(
     alloc: Global,
     known: &Known,
@@ -288,7 +288,7 @@ fn read_demonitor(
 }
 
 /// What stands behind `alias`: the variable, and whether `reply` does.
-#[tactic(auto, unfolding(crate::specs::Forms::instr_of, crate::specs::Forms::made_of))]
+#[tactic(auto, unfolding(crate::specs::Forms::instr_of))]
 fn read_alias(alloc: Global, line: &[u8], tokens: &[Token]) -> Result<Instr, Stop>
     requires { AreWellSpelled line.now tokens.now }
     ensures { Gives (λ i. i) result (instr_of Known.Any 0 Verb.Alias line.now tokens.now) }
@@ -341,7 +341,7 @@ fn read_on(
 }
 
 /// The instruction of the verb, of the process with this place among the processes.
-#[tactic(auto, unfolding(crate::specs::Forms::instr_of, crate::specs::Forms::made_of))]
+#[tactic(auto, unfolding(crate::specs::Forms::instr_of))]
 fn read_instr(
     alloc: Global,
     known: &Known,
@@ -506,17 +506,18 @@ fn read_said(
 }
 
 /// What a line says behind what was read so far, or what is wrong with it. A line without tokens
-/// says nothing.
+/// says nothing. The room of the list of tokens is used again.
 #[tactic(auto, unfolding(crate::specs::Forms::said))]
 pub fn read_line(
     alloc: Global,
     known: &Known,
     draft: &Draft,
+    tokens: &mut Tokens,
     line: &[u8],
 ) -> Result<Option<Form>, Stop>
     requires { IsFewKnown known.now }
     ensures { Gives (λ f. f) result (said known.now draft.now line.now) }
 {
-    let tokens = read_tokens(alloc, line)?;
+    read_tokens(alloc, tokens, line)?;
     read_said(alloc, known, draft, line, tokens.as_slice())
 }

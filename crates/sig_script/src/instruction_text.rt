@@ -97,14 +97,14 @@ fn put_var_and(
 
 /// Appends a blank and the word, where it stands.
 fn put_flag(into: &mut Vec<u8>, word: &[u8], stands: bool) -> Result<(), AllocError>
-    ensures { IsPut into.old.items into.new.items (concat (map after_blank (flag_text word.now stands))) result }
+    ensures { IsPut into.old.items into.new.items (concat (map after_blank (flag_text word.now stands []))) result }
 {
     if stands { put_word(into, word) } else { Ok(()) }
 }
 
 /// Appends a blank and the mode's word, where there is one.
 fn put_mode(into: &mut Vec<u8>, mode: &Option<AliasMode>) -> Result<(), AllocError>
-    ensures { IsPut into.old.items into.new.items (concat (map after_blank (mode_text mode.now))) result }
+    ensures { IsPut into.old.items into.new.items (concat (map after_blank (mode_text mode.now []))) result }
 {
     match mode {
         None => Ok(()),
@@ -122,7 +122,7 @@ fn put_monitor(
     target: &Expr,
     mode: &Option<AliasMode>,
 ) -> Result<(), AllocError>
-    ensures { IsPut into.old.items into.new.items (spaced (codes "monitor") (var.now.0 ∷ expr_text (names_of procs.now) target.now ∷ mode_text mode.now)) result }
+    ensures { IsPut into.old.items into.new.items (spaced (codes "monitor") (var.now.0 ∷ expr_text (names_of procs.now) target.now ∷ mode_text mode.now [])) result }
 {
     put_var_and(into, procs, b"monitor", var, target)?;
     put_mode(into, mode)
@@ -134,14 +134,14 @@ fn put_demonitor(
     reference: &Expr,
     flush: bool,
 ) -> Result<(), AllocError>
-    ensures { IsPut into.old.items into.new.items (spaced (codes "demonitor") (expr_text (names_of procs.now) reference.now ∷ flag_text (codes "flush") flush)) result }
+    ensures { IsPut into.old.items into.new.items (spaced (codes "demonitor") (expr_text (names_of procs.now) reference.now ∷ flag_text (codes "flush") flush [])) result }
 {
     put_one(into, procs, b"demonitor", reference)?;
     put_flag(into, b"flush", flush)
 }
 
 fn put_alias(into: &mut Vec<u8>, var: &Var, reply: bool) -> Result<(), AllocError>
-    ensures { IsPut into.old.items into.new.items (spaced (codes "alias") (var.now.0 ∷ flag_text (codes "reply") reply)) result }
+    ensures { IsPut into.old.items into.new.items (spaced (codes "alias") (var.now.0 ∷ flag_text (codes "reply") reply [])) result }
 {
     put_var(into, b"alias", var)?;
     put_flag(into, b"reply", reply)

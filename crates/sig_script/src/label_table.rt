@@ -71,6 +71,13 @@ impl LabelTable {
         })
     }
 
+    /// The labels, in the order of their lines.
+    pub fn labels(&self) -> &[Label]
+        ensures { result.now ≡ self.now }
+    {
+        self.labels.as_slice()
+    }
+
     /// The labels alone.
     pub fn into_labels(self) -> Labels
         ensures { result ≡ self }

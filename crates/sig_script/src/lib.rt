@@ -8,6 +8,7 @@ mod expressions;
 mod fault;
 mod form;
 mod generating;
+mod guess;
 mod instruction;
 mod instruction_text;
 mod keyword;
@@ -25,6 +26,7 @@ mod printing;
 mod process;
 mod putting;
 mod reader;
+mod same_names;
 mod script;
 mod token;
 

@@ -5,7 +5,9 @@ ghost use Rattle.std.specs.Prelude.{
   length,
   take_while,
   not,
+  [],
   IfOk,
+  OnOk,
 };
 ghost use Rattle.std.specs.List.{list_all};
 ghost use Rattle.sig_script.specs.Faults.{Gives};
@@ -17,9 +19,7 @@ use crate::number::fits_in_range;
 use crate::token::{Cut, Token, TokenKind, Tokens, is_blank_byte, token_at};
 use sig_lists::Sequence;
 use std::alloc::{AllocError, Global};
-
-// Most lines have fewer tokens, so that they are added without growing the list.
-const USUAL_TOKENS: usize = 16;
+use std::mem::replace;
 
 fn line_len(bytes: &[u8]) -> usize
     ensures len { result ≡ length (take_while (λ b. not (b == 10)) bytes.now) }
@@ -37,12 +37,13 @@ pub fn first_line(bytes: &[u8]) -> &[u8]
     &bytes[..n]
 }
 
-/// The tokens of a line up to the first place at which none stands.
-fn cut_line(alloc: Global, line: &[u8]) -> Result<Cut, AllocError>
+/// The tokens of a line up to the first place at which none stands, in the room of an empty list.
+fn cut_line(room: Tokens, line: &[u8]) -> Result<Cut, AllocError>
+    requires { room ≡ [] }
     ensures cut { IfOk result (λ cut. cut ≡ cut_of 0 0 line.now) }
     ensures known { IfOk result (λ cut. AreTokens line.now cut.tokens) }
 {
-    let mut tokens = Sequence::from_vec(Vec::with_capacity(alloc, USUAL_TOKENS)?);
+    let mut tokens = room;
     let mut at = 0;
     while at < line.len() {
         let b = line[at];
@@ -106,17 +107,21 @@ fn all_fit(line: &[u8], tokens: &[Token]) -> bool
     true
 }
 
-/// The tokens of a line, or what is wrong with them.
-pub fn read_tokens(alloc: Global, line: &[u8]) -> Result<Tokens, Stop>
-    ensures tokens { Gives (λ ts. ts) result (tokens_of line.now) }
-    ensures spelled { IfOk result (λ ts. AreWellSpelled line.now ts) }
+/// The tokens of a line, or what is wrong with them. They replace those in the list, whose room is
+/// used again.
+pub fn read_tokens(alloc: Global, into: &mut Tokens, line: &[u8]) -> Result<(), Stop>
+    ensures tokens { Gives (λ u. into.new) result (tokens_of line.now) }
+    ensures spelled { OnOk result (AreWellSpelled line.now into.new) }
 {
-    let cut = cut_line(alloc, line)?;
+    let mut room = replace(into, Sequence::new(alloc)).into_vec();
+    room.clear();
+    let cut = cut_line(Sequence::from_vec(room), line)?;
     if !all_fit(line, cut.tokens.as_slice()) {
         return Err(Stop::Fault(FaultKind::IntRange));
     }
     if cut.stop.is_some() {
         return Err(Stop::Fault(FaultKind::Syntax));
     }
-    Ok(cut.tokens)
+    *into = cut.tokens;
+    Ok(())
 }

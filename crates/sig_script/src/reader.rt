@@ -1,4 +1,4 @@
-ghost use Rattle.std.specs.Prelude.{◌≡◌, ◌+◌, ◌<◌, ◌^◌, length, IfOk, drop, All};
+ghost use Rattle.std.specs.Prelude.{◌≡◌, ◌+◌, ◌<◌, ◌^◌, length, IfOk, IfSome, Ok, drop, All};
 ghost use Rattle.sig_script.specs.Lines.{lines_of};
 ghost use Rattle.sig_script.specs.Tokens.{AreWellSpelled};
 ghost use Rattle.sig_script.specs.Forms.{tokens_of};
@@ -11,7 +11,7 @@ ghost use Rattle.sig_script.specs.Grammar.{
   script_of_lines,
   script_of,
 };
-ghost use Rattle.sig_script.specs.Scripts.{IsWithin};
+ghost use Rattle.sig_script.specs.Scripts.{IsWithin, IsSound};
 ghost use Rattle.sig_script.specs.Fitting.{IsFewKnown};
 ghost use Rattle.sig_script.specs.Reading.{IsReading};
 ghost use Rattle.sig_script.specs.declared.reader.ScriptError.TheVariants.{Memory};
@@ -19,10 +19,12 @@ ghost use Rattle.sig_script.specs.declared.reader.ScriptError.TheVariants.{Memor
 use crate::draft::{Draft, Section, finish, take_line};
 use crate::drafted::{DraftProcs, DraftScript};
 use crate::fault::{FaultKind, Stop};
+use crate::guess::guess_names;
 use crate::known::Known;
 use crate::line::{first_line, read_tokens, text_of};
 use crate::number::spells_one;
 use crate::process::{Proc, Procs};
+use crate::same_names::are_its_names;
 use crate::script::Script;
 use crate::token::{Token, TokenKind};
 use sig_lists::Sequence;
@@ -63,11 +65,12 @@ fn read_lines(alloc: Global, known: &Known, bytes: &[u8]) -> Result<DraftScript,
         procs: Sequence::new(alloc),
         section: Section::Before,
     };
+    let mut tokens = Sequence::new(alloc);
     let mut n: u64 = 2;
     let mut at = 0;
     while at < bytes.len() {
         let line = first_line(&bytes[at..]);
-        match take_line(alloc, known, &mut draft, n, line) {
+        match take_line(alloc, known, &mut draft, n, &mut tokens, line) {
             Ok(()) => {}
             Err(Stop::Fault(kind)) => return Err(ScriptError::Fault { line: n, kind }),
             Err(Stop::Memory) => return Err(ScriptError::Memory),
@@ -106,8 +109,9 @@ fn are_header_tokens(line: &[u8], tokens: &[Token]) -> bool
 fn is_header_line(alloc: Global, line: &[u8]) -> Result<bool, AllocError>
     ensures { IfOk result (λ yes. yes ≡ is_header (tokens_of line.now) line.now) }
 {
-    match read_tokens(alloc, line) {
-        Ok(tokens) => Ok(are_header_tokens(line, tokens.as_slice())),
+    let mut tokens = Sequence::new(alloc);
+    match read_tokens(alloc, &mut tokens, line) {
+        Ok(()) => Ok(are_header_tokens(line, tokens.as_slice())),
         Err(Stop::Fault(_)) => Ok(false),
         Err(Stop::Memory) => Err(AllocError),
     }
@@ -140,6 +144,19 @@ fn seal_procs(alloc: Global, drafts: DraftProcs) -> Result<Procs, AllocError>
     Ok(Sequence::from_vec(procs))
 }
 
+/// The script, whose bounds are known.
+fn seal(alloc: Global, draft: DraftScript) -> Result<Script, AllocError>
+    requires within { All IsWithin draft.procs }
+    requires sound { IsSound draft }
+    ensures { IfOk result (λ script. script ≡ draft) }
+{
+    let procs = seal_procs(alloc, draft.procs)?;
+    Ok(Script {
+        turns: draft.turns,
+        procs,
+    })
+}
+
 /// Both walks over the lines after the first.
 #[tactic(auto, using(crate::proofs::BoundLemmas::few_known, crate::proofs::BoundLemmas::few_lines))]
 fn read_twice(alloc: Global, bytes: &[u8]) -> Result<Script, ScriptError>
@@ -148,11 +165,41 @@ fn read_twice(alloc: Global, bytes: &[u8]) -> Result<Script, ScriptError>
 {
     let first = read_lines(alloc, &Known::Any, bytes)?;
     let second = read_lines(alloc, &Known::Among(first), bytes)?;
-    let procs = seal_procs(alloc, second.procs)?;
-    Ok(Script {
-        turns: second.turns,
-        procs,
-    })
+    Ok(seal(alloc, second)?)
+}
+
+/// The script of one walk, where the names that it was given are those that it has found.
+fn read_once(alloc: Global, known: &Known, bytes: &[u8]) -> Result<Option<Script>, AllocError>
+    requires short { length bytes.now < 2 ^ 30 }
+    requires known { IsFewKnown known.now }
+    ensures { IfOk result (λ script. IfSome script (λ s. walk_twice (lines_of bytes.now) ≡ Ok s)) }
+{
+    match read_lines(alloc, known, bytes) {
+        Ok(script) => {
+            if are_its_names(known, &script) {
+                Ok(Some(seal(alloc, script)?))
+            } else {
+                Ok(None)
+            }
+        }
+        Err(ScriptError::Fault { .. }) => Ok(None),
+        Err(ScriptError::Memory) => Err(AllocError),
+    }
+}
+
+/// The script of the lines after the first. Most are read by one walk, since their names are guessed
+/// before; a text whose names were guessed wrong, or with a line that is refused, is walked twice.
+fn read_body(alloc: Global, bytes: &[u8]) -> Result<Script, ScriptError>
+    requires { length bytes.now < 2 ^ 30 }
+    ensures { IsReading (walk_twice (lines_of bytes.now)) result }
+{
+    match guess_names(alloc, bytes)? {
+        Known::Any => read_twice(alloc, bytes),
+        names => match read_once(alloc, &names, bytes)? {
+            Some(script) => Ok(script),
+            None => read_twice(alloc, bytes),
+        },
+    }
 }
 
 /// The script of the text, or the first line that is refused.
@@ -171,7 +218,7 @@ fn read_text(alloc: Global, bytes: &[u8]) -> Result<Script, ScriptError>
     if !is_header_line(alloc, first)? {
         return Err(header);
     }
-    read_twice(alloc, behind_line(bytes, first))
+    read_body(alloc, behind_line(bytes, first))
 }
 
 /// Reads the text of a script: the script that it spells. `Fault` exactly where it spells none, with

@@ -16,4 +16,4 @@ returns c =
     let rest : walk_twice (lines_of c.behind_line.result.now) ≡ script_of_lines (lines_of c.args.bytes.now) =
     ap (λ (xs : List ℕ). walk_twice (lines_of xs)) c.behind_line.ensures
     ∙ sym (after_header c.args.bytes.now c.first_line-first.result.now (sym c.if-is_empty.ensures) c.first_line-first.ensures.line (sym c.in_ok-is_header_line.ensures ∙ c.if-not-branch.false)) in
-    rw rest at c.read_twice.ensures
+    rw rest at c.read_body.ensures
