@@ -306,7 +306,7 @@ module _ (s : Program) (here : ℕ) (line : List ℕ) where
   made-meant : (v : Verb) (x : AllSaid (operands_of v)) → AreMeant (operands_of v) x → IsMeantInstr (instr_by v x)
   made-meant v x h =
       subst (λ t. ((length (clauses_in t) < 2 ^ 32) × All IsLabel (targets_in t) × IsMonitorMode (mode_by t) × AreMarked (using_in t) (clauses_in t))
-          × (All (IsExprBelow (length s.procs)) (exprs_in t) × All (λ (c : Clause). IsPatternBelow (length s.procs) c.pattern) (clauses_in t))) (sym (spoken_again v x))
+      × (All (IsExprBelow (length s.procs)) (exprs_in t) × All (λ (c : Clause). IsPatternBelow (length s.procs) c.pattern) (clauses_in t))) (sym (spoken_again v x))
       ((no-clauses, h.1, h.2, tt), (h.0, All-nil (λ (c : Clause). IsPatternBelow (length s.procs) c.pattern)))
 
   instr-meant : (v : Verb) (ts : List Token) → Holds IsMeantInstr (instr_of (Among s) here v line ts)
