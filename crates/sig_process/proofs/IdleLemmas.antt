@@ -13,7 +13,7 @@ use Rattle.sig_script.specs.declared.instruction.Instr.TheVariants as instr
 use Rattle.sig_script.specs.Scripts.{Declared}
 use Rattle.sig_model.specs.Executing.{using_ref, IsWaiting}
 use Rattle.sig_process.specs.declared.progress.Progress.{Progress}
-use Rattle.sig_process.specs.Planning.{is_bare_receive}
+use Rattle.sig_process.specs.Idling.{is_bare_receive}
 use Rattle.sig_process.specs.Progressing.{state_of}
 use Rattle.sig_process.specs.Soundness.{IsSaved}
 

@@ -37,8 +37,3 @@ noproc_answer (Some reference) = kind.Down reference noproc
 abbrev pub is_receive : Option Instr → Bool
 is_receive (Some (instr.Receive using clauses after)) = true
 is_receive _ = false
-
--- it is one without `after`
-abbrev pub is_bare_receive : Option Instr → Bool
-is_bare_receive (Some (instr.Receive using clauses None)) = true
-is_bare_receive _ = false

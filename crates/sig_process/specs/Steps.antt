@@ -1,7 +1,7 @@
 -- What an execution answers, and what a handling leads to.
-use Rattle.std.specs.Prelude.{◌≡◌, [], length, Some, None, is_some, if◌then◌else◌}
+use Rattle.std.specs.Prelude.{◌≡◌, length, Some, None, is_some, if◌then◌else◌}
 use Rattle.sig_model.specs.Executing.{IsWaiting}
-use Rattle.sig_model.specs.Running.{Running, exec_next, exec_next_whole, handle_next}
+use Rattle.sig_model.specs.Running.{exec_next, exec_next_whole, handle_next}
 use Rattle.sig_process.specs.declared.executing.Exec.{Exec}
 use Rattle.sig_process.specs.declared.executing.Exec.TheVariants.{Stepped, Waiting}
 use Rattle.sig_process.specs.Standing.{Standing}
@@ -21,10 +21,3 @@ IsWholeExec before after Waiting = exec_next_whole before.running ≡ None
 -- The next signal was handled. The saved place stays, but at the end of the process (Processes, Receiving Signals).
 abbrev pub IsHandled : Standing → Standing → Type 0
 IsHandled before after = (handle_next before.running ≡ Some after.running) × (after.saved ≡ (if is_some after.running.state.tables.end then 0 else before.saved))
-
--- no signal waits for the process or lies in its outbox, and it can't go on by itself
-pub record IsIdle (r : Running) : Type 0 where
-  pub own : r.own ≡ []
-  pub taken_in : r.taken_in ≡ []
-  pub outbox : r.outbox ≡ []
-  pub still : exec_next r ≡ None

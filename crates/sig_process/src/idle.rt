@@ -3,10 +3,9 @@
 ghost use Rattle.std.specs.Prelude.{◌≡◌, ◌-◌, ◌≤◌, slice_get, option_copied, true, None};
 ghost use Rattle.sig_model.specs.Executing.{IsWaiting};
 ghost use Rattle.sig_model.specs.Running.{exec_next};
-ghost use Rattle.sig_process.specs.Planning.{is_bare_receive};
+ghost use Rattle.sig_process.specs.Idling.{is_bare_receive, IsIdle};
 ghost use Rattle.sig_process.specs.Progressing.{state_of};
 ghost use Rattle.sig_process.specs.Soundness.{IsSaved};
-ghost use Rattle.sig_process.specs.Steps.{IsIdle};
 
 use crate::process::Process;
 use crate::progress::Progress;

@@ -8,8 +8,8 @@ use Rattle.sig_kinds.specs.declared.signal.Signal.{Signal}
 use Rattle.sig_model.specs.Running.{Running}
 use Rattle.sig_model.specs.OneWorker.{handle_all, exec_or_stay, visited, deliver_all, settled_visit, visit_at, visit, events_at, has_moved}
 use Rattle.sig_model.proofs.ReachLemmas.{set_here}
+use Rattle.sig_process.specs.Idling.{IsIdle}
 use Rattle.sig_process.specs.Standing.{Standing, runnings_of}
-use Rattle.sig_process.specs.Steps.{IsIdle}
 use Rattle.sig_workers.proofs.RunLemmas.{handle_none}
 
 -- the process stays as it is

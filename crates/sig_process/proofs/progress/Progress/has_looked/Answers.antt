@@ -1,7 +1,7 @@
 use Rattle.std.proofs.Common.{◌-◌, refl, sym, ap, ◌∙◌, arith, length, ◌≤◌}
 use Rattle.std.specs.Prelude.{slice_get}
 use Rattle.sig_inner.specs.Receiving.{passed}
-use Rattle.sig_process.specs.Planning.{is_bare_receive}
+use Rattle.sig_process.specs.Idling.{is_bare_receive}
 use Rattle.sig_process.proofs.IdleLemmas.{looked_waits}
 use Rattle.sig_process.proofs.progress.Progress.has_looked.Goals as goal
 
