@@ -1,9 +1,11 @@
 -- A visit of a process that has nothing to do.
 use Rattle.std.proofs.Common.{◌≡◌, ℕ, List, [], length, Bool, true, false, Some, refl, sym, ap, ◌∙◌}
 use Rattle.std.specs.Prelude.{slice_get, slice_set, unwrap_or, not, ◌==◌}
+use Rattle.std.specs.Borrow.{Bor}
 use Rattle.std.specs.Option.{option_map}
+use Rattle.std.specs.Slice.{IsItemAt}
 use Rattle.std.proofs.lemmas.Bool.{eqb-false}
-use Rattle.std.proofs.lemmas.Option.{slice_get-map}
+use Rattle.std.proofs.lemmas.Option.{slice_get-map, slice_get-get_or}
 use Rattle.sig_kinds.specs.declared.signal.Signal.{Signal}
 use Rattle.sig_model.specs.Running.{Running}
 use Rattle.sig_model.specs.OneWorker.{handle_all, exec_or_stay, visited, deliver_all, settled_visit, visit_at, visit, events_at, has_moved}
@@ -33,6 +35,10 @@ idle_visit : (crew : List Running) (at : ℕ) (r : Running) → slice_get crew a
 unfolding visit
 idle_visit crew at r there idle =
     ap (λ o. visit_at at o crew) there ∙ ap (λ v. settled_visit at v crew) (idle_visited r idle) ∙ idle_settled crew at r there idle.outbox
+
+-- the process that is lent
+pub lent : (procs : List Standing) (at : ℕ) (p : Bor Standing) → IsItemAt procs at (Some p) → slice_get procs at ≡ Some p.now
+lent procs at p e = slice_get-get_or procs at p.now e.3.0 ∙ ap Some (sym e.1)
 
 -- so the crew stays as it is
 pub idle_stays : (procs : List Standing) (at : ℕ) (p : Standing) → slice_get procs at ≡ Some p → IsIdle p.running → visit at (runnings_of procs) ≡ runnings_of procs

@@ -132,7 +132,6 @@ fn count_events(procs: &[Process], at: usize) -> usize
 }
 
 /// Whether the process at this place has nothing to do.
-#[tactic(auto, using(crate::proofs::IdleLemmas::idle_stays))]
 fn is_idle_at(procs: &[Process], at: usize) -> bool
     ensures { result ≡ true → visit at (runnings_of procs.now) ≡ runnings_of procs.now }
 {
