@@ -107,14 +107,14 @@ fn run_record<R: Threads + Wait + Sync, G: Gate>(
     rt: &R,
     alloc: Global,
     settings: Settings,
-    script: &Script,
+    script: Script,
     gate: &G,
 ) -> Result<Record, AllocError>
     requires { IsInRange settings }
-    ensures { IfOk result (IsRecordOf settings.workers script.now) }
+    ensures { IfOk result (IsRecordOf settings.workers script) }
 {
     prove!(script.count() as usize <= MOST_PROCESSES);
-    let crew = Crew::open(alloc, script)?;
+    let crew = Crew::start(alloc, script)?;
     let crew = run_crew(rt, alloc, settings, crew, gate)?;
     a_lawful_crew_tells_a_run();
     let given = Record::gather(alloc, crew)?;
@@ -137,12 +137,12 @@ fn run_texts<R: Threads + Wait + Sync, G: Gate>(
     rt: &R,
     alloc: Global,
     settings: Settings,
-    script: &Script,
+    script: Script,
     asked: bool,
     gate: &G,
 ) -> Result<Texts, AllocError>
     requires { IsInRange settings }
-    ensures { IfOk result (AreTexts settings.workers script.now asked) }
+    ensures { IfOk result (AreTexts settings.workers script asked) }
 {
     let given = run_record(rt, alloc, settings, script, gate)?;
     let summary = summary_of(alloc, &given, asked)?;
@@ -171,13 +171,13 @@ fn run_script<R: Threads + Wait + Sync, O: Sink, G: Gate>(
     rt: &R,
     alloc: Global,
     settings: Settings,
-    script: &Script,
+    script: Script,
     asked: bool,
     out: &mut O,
     gate: &G,
 ) -> Ending
     requires { IsInRange settings }
-    ensures { IsScriptRun settings.workers script.now asked (writing (O.held out.old) (O.held out.new) (O.faults out.old) (O.faults out.new))
+    ensures { IsScriptRun settings.workers script asked (writing (O.held out.old) (O.held out.new) (O.faults out.old) (O.faults out.new))
         result.status (text_in result.summary) }
 {
     match run_texts(rt, alloc, settings, script, asked, gate) {
@@ -202,7 +202,7 @@ fn run_generated<R: Threads + Wait + Sync, O: Sink, G: Gate>(
         result.status (text_in result.summary) }
 {
     match generate(alloc, calls) {
-        Ok(script) => run_script(rt, alloc, settings, &script, true, out, gate),
+        Ok(script) => run_script(rt, alloc, settings, script, true, out, gate),
         Err(_) => Ending::short(Status::Memory),
     }
 }
@@ -223,7 +223,7 @@ fn run_source<R: Threads + Wait + Sync, S: Source, O: Sink, G: Gate>(
         result.status (text_in result.summary) }
 {
     match read_source(alloc, script) {
-        Ok(script) => run_script(rt, alloc, settings, &script, false, out, gate),
+        Ok(script) => run_script(rt, alloc, settings, script, false, out, gate),
         Err(status) => Ending::short(status),
     }
 }

@@ -5,7 +5,7 @@ use Rattle.std.specs.List.{IsItemAtMut}
 use Rattle.std.specs.Borrow.{MutBor}
 use Rattle.std.specs.List.{list_any}
 use Rattle.std.specs.Option.{option_map}
-use Rattle.std.proofs.lemmas.List.{append-nil, drop_more, drop_all, length-map, map-append, map-set}
+use Rattle.std.proofs.lemmas.List.{append-nil, drop_more, drop_all, length-append, length-map, map-append, map-set}
 use Rattle.std.proofs.lemmas.List.Elements.{All-push}
 use Rattle.std.proofs.lemmas.Option.{slice_get-map, slice_get_within, get_or_from_slice_get, slice_get-get_or}
 use Rattle.sig_script.specs.Scripts.{Declared}
@@ -48,6 +48,21 @@ pub opened_more : (procs : List Declared) (pid count turns : ℕ) (d : Declared)
 opened_more procs pid count turns d p before lt is =
     ap (λ rs. rs ++ opened_from (pid + 1) count turns (drop (pid + 1) procs)) (map-append (λ (q : Standing). q.running) before (p ∷ []))
     ∙ opened_at procs pid count turns (slice_get procs pid) _ p.running (runnings_of before) (slice_get-get_or procs pid d lt) refl is
+
+-- one more process is opened, and one part of the script less is left
+pub started_more : (count turns pid n t : ℕ) (d : Declared) (left whole : List Declared) (p : Standing) (before after : List Standing) (all : List Running) →
+    p.running ≡ opened pid n t d → pid ≡ length before → n ≡ count → t ≡ turns → after ≡ before ++ p ∷ [] → whole ≡ d ∷ left →
+    runnings_of before ++ opened_from (length before) count turns whole ≡ all → runnings_of after ++ opened_from (length after) count turns left ≡ all
+started_more count turns pid n t d left whole p before after all is at same turned grown step e =
+    let len : length after ≡ length before + 1 = ap length grown ∙ length-append before (p ∷ []) in
+    ap (λ k. runnings_of after ++ opened_from k count turns left) len
+    ∙ ap (λ (ps : List Standing). runnings_of ps ++ opened_from (length before + 1) count turns left) grown
+    ∙ ap (λ rs. rs ++ opened_from (length before + 1) count turns left) (map-append (λ (q : Standing). q.running) before (p ∷ []))
+    ∙ append_assoc (runnings_of before) (p.running ∷ []) (opened_from (length before + 1) count turns left)
+    ∙ ap (λ (q : Running). runnings_of before ++ q ∷ opened_from (length before + 1) count turns left)
+        (is ∙ ap (λ k. opened k n t d) at ∙ ap (λ k. opened (length before) k t d) same ∙ ap (λ k. opened (length before) count k d) turned)
+    ∙ ap (λ (ds : List Declared). runnings_of before ++ opened_from (length before) count turns ds) (sym step)
+    ∙ e
 
 pub keeping_more : (before : List Standing) (p : Standing) → All IsKeeping (runnings_of before) → IsKeeping p.running → All IsKeeping (runnings_of (before ++ p ∷ []))
 keeping_more before p h k =

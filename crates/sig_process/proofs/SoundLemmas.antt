@@ -41,26 +41,23 @@ use Rattle.sig_process.proofs.SavedPlace.{unsaved_none, unsaved_passes}
 pub unsaved : (i : Option Instr) (p : Progress) → is_saved p.tables.inner.queue.last ≡ false → IsSaved i p
 unsaved i p e = record { none = unsaved_passes i p.tables.inner.queue p.tables.env e; ended = λ _. unsaved_none p.tables.inner.queue.last e }
 
--- the process that a script opens
-pub opened_sound : (script : Program) (pid count turns : ℕ) (d proc : Declared) (p : Progress) → IsSoundScript script → pid < length script.procs → count ≡ length script.procs →
-    slice_get script.procs pid ≡ Some d → proc ≡ d → IsWithin proc → running_of pid count turns proc p ≡ opened pid count turns proc → p.tables.inner.queue ≡ no_queue pid →
-    IsSound pid count turns proc p
-opened_sound script pid count turns d proc p sound lt same there copy within is queue =
+-- the process as its part of a script opens it
+pub opened_sound : (pid count turns : ℕ) (proc : Declared) (p : Progress) → pid < count → IsWithin proc → IsProcBelow count proc →
+    running_of pid count turns proc p ≡ opened pid count turns proc → p.tables.inner.queue ≡ no_queue pid → IsSound pid count turns proc p
+opened_sound pid count turns proc p lt within below is queue = record {
+  keeps = subst IsKeeping (sym is) (opened_keeps pid count turns proc lt within below);
+  owner = ap (λ (q : InnerQueue). q.owner) queue;
+  saved = unsaved (slice_get proc.instrs (p.counts.place - 1)) p (ap (λ (q : InnerQueue). is_saved q.last) queue);
+}
+
+-- the pids in a script's processes
+pub pids_below : (script : Program) (pid count : ℕ) (d proc : Declared) → IsSoundScript script → slice_get script.procs pid ≡ Some d → proc ≡ d → count ≡ length script.procs →
+    IsProcBelow count proc
+pids_below script pid count d proc sound there copy same =
     let procs : List Declared = script.procs in
     let below : IsProcBelow (length procs) d =
     subst (IsProcBelow (length procs)) (get_or_from_slice_get procs pid d d there) (sound.pids pid d (slice_get_within procs pid d there)) in
-    record {
-      keeps = subst IsKeeping (sym is) (opened_keeps pid count turns proc (subst (λ n. pid < n) (sym same) lt) within (subst (λ n. IsProcBelow n proc) (sym same) (subst (IsProcBelow (length procs)) (sym copy) below)));
-      owner = ap (λ (q : InnerQueue). q.owner) queue;
-      saved = unsaved (slice_get proc.instrs (p.counts.place - 1)) p (ap (λ (q : InnerQueue). is_saved q.last) queue);
-    }
-
-pub opened_is : (o : Option Declared) (pid count n turns : ℕ) (d proc : Declared) (r : Running) → o ≡ Some d → proc ≡ d → count ≡ n → r ≡ opened pid count turns proc →
-    IfSome o (λ d. r ≡ opened pid n turns d)
-opened_is None pid count n turns d proc r there copy same is = tt
-opened_is (Some e) pid count n turns d proc r there copy same is =
-    let at : e ≡ d = cc in
-    is ∙ ap (λ k. opened pid k turns proc) same ∙ ap (λ (q : Declared). opened pid n turns q) (copy ∙ sym at)
+    subst (λ n. IsProcBelow n proc) (sym same) (subst (IsProcBelow (length procs)) (sym copy) below)
 
 module _ (pid count turns : ℕ) (proc : Declared) where
   abbrev runs : Progress → Running

@@ -9,3 +9,4 @@ pub mod Steps
 pub mod Tests
 pub mod PartsOf
 pub mod Lending
+pub mod Idling

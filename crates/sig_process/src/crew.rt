@@ -52,6 +52,24 @@ impl Crew {
         Ok(Crew { procs })
     }
 
+    /// The same processes, to which the parts of the script are moved. The error is want of memory.
+    pub fn start(alloc: Global, script: Script) -> Result<Crew, AllocError>
+        ensures opened { IfOk result (λ c. c ≡ opened_crew script) }
+        ensures clear { IfOk result IsClear }
+        ensures placed { IfOk result IsPlaced }
+        ensures lawful { IfOk result (IsLawfulCrew script) }
+    {
+        let count = script.count();
+        let turns = script.turns();
+        let mut procs = Vec::new(alloc);
+        for proc in script.procs.into_vec() {
+            let pid = Pid(procs.len() as u32);
+            let process = Process::start(alloc, pid, count, turns, proc)?;
+            procs.push(process)?;
+        }
+        Ok(Crew { procs })
+    }
+
     /// The process of this pid. `None` exactly where there is none.
     pub fn get_mut(&mut self, pid: Pid) -> Option<&mut Process>
         ensures* lends { sem 𝓛 (LendsProcess self.entry pid.0 result) }

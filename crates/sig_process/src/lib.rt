@@ -7,6 +7,7 @@ mod crew;
 mod ending;
 mod executing;
 mod handling;
+mod idle;
 mod parts;
 mod plan;
 mod planning;

@@ -1,6 +1,6 @@
 ghost use Rattle.std.specs.Prelude.{ℕ, ◌≡◌, ◌+◌, ◌<◌, ◌≤◌, true, length, IfOk, IfSome, MatchResult, slice_get, replicate};
 ghost use Rattle.sig_inner.specs.InnerQueue.{opened as no_queue};
-ghost use Rattle.sig_script.specs.Scripts.{Declared};
+ghost use Rattle.sig_script.specs.Scripts.{Declared, IsProcBelow};
 ghost use Rattle.sig_model.specs.ProcessState.{is_cut};
 ghost use Rattle.sig_model.specs.Executing.{SkipsNone};
 ghost use Rattle.sig_model.specs.Keeping.{IsKeeping};
@@ -102,14 +102,31 @@ impl Process {
         let Some(proc) = script.proc(pid.0) else {
             unreachable!()
         };
-        let count = script.count();
-        let progress = beginning(alloc, pid, count)?;
         let proc = proc.copy(alloc)?;
+        Process::start(alloc, pid, script.count(), script.turns(), proc)
+    }
+
+    /// The process of this pid, one of so many, as its part of the script opens it: at its first
+    /// instruction, with all else empty.
+    pub(crate) fn start(
+        alloc: Global,
+        pid: Pid,
+        count: u32,
+        turns: u32,
+        proc: Proc,
+    ) -> Result<Process, AllocError>
+        requires pid { pid.0 < count }
+        requires below { IsProcBelow count proc }
+        ensures opened { IfOk result (λ p. p.running ≡ opened pid.0 count turns proc) }
+        ensures keeps { IfOk result (λ p. IsKeeping p.running) }
+        ensures saved { IfOk result (λ p. p.saved ≡ 0) }
+    {
         prove!(1 <= proc.count() + 1);
+        let progress = beginning(alloc, pid, count)?;
         Ok(Process {
             pid,
             count,
-            turns: script.turns(),
+            turns,
             proc,
             progress,
         })

@@ -7,6 +7,7 @@ pub mod Going
 pub mod PutLemmas
 pub mod FetchLemmas
 pub mod VisitLemmas
+pub mod IdleLemmas
 pub mod PartLemmas
 pub mod PassLemmas
 pub mod JoinLemmas

@@ -1,4 +1,4 @@
-ghost use Rattle.std.specs.Prelude.{◌≡◌, ◌<◌, [], length, All, OnOk, IfOk, IfSome, slice_get, slice_set, Some, vec_len};
+ghost use Rattle.std.specs.Prelude.{◌≡◌, ◌<◌, [], length, true, All, OnOk, IfOk, IfSome, slice_get, slice_set, Some, vec_len};
 ghost use Rattle.sig_model.specs.Keeping.{IsArriving, IsPlaced};
 ghost use Rattle.sig_model.specs.OneWorker.{handle_all, exec_or_stay, visited, deliver_all, deliver_to, visit, events_at, has_moved};
 ghost use Rattle.sig_process.specs.Standing.{runnings_of};
@@ -131,7 +131,19 @@ fn count_events(procs: &[Process], at: usize) -> usize
     }
 }
 
-/// Visits the process at this place, and tells whether that had an event.
+/// Whether the process at this place has nothing to do.
+fn is_idle_at(procs: &[Process], at: usize) -> bool
+    ensures { result ≡ true → visit at (runnings_of procs.now) ≡ runnings_of procs.now }
+{
+    match procs.get(at) {
+        None => false,
+        Some(process) => process.is_idle(),
+    }
+}
+
+/// Visits the process at this place, and tells whether that had an event. One that has nothing to do
+/// is passed over.
+#[tactic(auto, using(crate::proofs::IdleLemmas::not_moved))]
 pub(crate) fn visit_counted<L: Ledger>(
     procs: &mut Vec<Process>,
     at: usize,
@@ -144,6 +156,9 @@ pub(crate) fn visit_counted<L: Ledger>(
     ensures moved { IfOk result (λ moved. moved ≡ has_moved at (runnings_of procs.old.items) (runnings_of procs.new.items)) }
     ensures len { vec_len procs.new ≡ vec_len procs.old }
 {
+    if is_idle_at(procs.as_slice(), at) {
+        return Ok(false);
+    }
     let before = count_events(procs.as_slice(), at);
     visit_one(procs, at, steps)?;
     let after = count_events(procs.as_slice(), at);

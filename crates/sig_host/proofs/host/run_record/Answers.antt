@@ -4,16 +4,16 @@ use Rattle.sig_model.specs.OneWorker.{RunsTo}
 use Rattle.sig_host.proofs.host.run_record.Goals as goal
 
 pub run_crew-requires-clause-lawful : goal.run_crew-requires-clause-lawful
-run_crew-requires-clause-lawful g c κs out = (c.args.script.now, c.count.ensures.sound, c.in_ok-crew.ensures.lawful)
+run_crew-requires-clause-lawful g c κs out = (c.args.script, c.count.ensures.sound, c.in_ok-crew.ensures.lawful)
 
 pub returns : goal.returns
 returns g c =
     let before = c.in_ok-crew.ensures.lawful in
-    let after = c.in_ok-crew-2.ensures.lawful c.args.script.now before in
+    let after = c.in_ok-crew-2.ensures.lawful c.args.script before in
     let last : List Running = c.in_ok-crew-2.crew in
     record {
       machine = _;
-      run = c.in_ok-given.ensures.run c.args.script.now after;
-      settled = c.a_lawful_crew_tells_a_run.ensures.settled c.args.script.now _ after c.in_ok-crew-2.ensures.clear (c.in_ok-crew-2.ensures.settled c.args.script.now before);
-      alone = λ one. (last, subst (λ (crew : List Running). RunsTo crew last) c.in_ok-crew.ensures.opened (c.in_ok-crew-2.ensures.alone one), c.in_ok-given.ensures.lawful c.args.script.now after);
+      run = c.in_ok-given.ensures.run c.args.script after;
+      settled = c.a_lawful_crew_tells_a_run.ensures.settled c.args.script _ after c.in_ok-crew-2.ensures.clear (c.in_ok-crew-2.ensures.settled c.args.script before);
+      alone = λ one. (last, subst (λ (crew : List Running). RunsTo crew last) c.in_ok-crew.ensures.opened (c.in_ok-crew-2.ensures.alone one), c.in_ok-given.ensures.lawful c.args.script after);
     }
