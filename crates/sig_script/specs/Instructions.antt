@@ -33,65 +33,42 @@ abbrev pub AllSaid : List Operand → Type 0
 AllSaid [] = Unit {0}
 AllSaid (o ∷ os) = Said o × AllSaid os
 
--- ---- the table
+-- a row of the table: the word of an instruction, the operands behind the word, and the instruction that is made of what they say
+pub record Row : Type 0 where
+  pub word : List ℕ
+  pub operands : List Operand
+  pub make : AllSaid operands → Instr
+
+abbrev row : (word : List ℕ) (operands : List Operand) → (AllSaid operands → Instr) → Row
+row word operands make = record { word = word; operands = operands; make = make }
+
+abbrev pub row_of : Verb → Row
+row_of verb.Send = row (codes "send") (an_expr ∷ an_expr ∷ []) (λ x. instr.Send x.0 x.1.0)
+row_of verb.Set = row (codes "set") (a_variable ∷ an_expr ∷ []) (λ x. instr.Set (record { 0 = x.0 }) x.1.0)
+row_of verb.MakeRef = row (codes "make_ref") (a_variable ∷ []) (λ x. instr.MakeRef (record { 0 = x.0 }))
+row_of verb.Link = row (codes "link") (an_expr ∷ []) (λ x. instr.Link x.0)
+row_of verb.Unlink = row (codes "unlink") (an_expr ∷ []) (λ x. instr.Unlink x.0)
+row_of verb.Monitor = row (codes "monitor") (a_variable ∷ an_expr ∷ a_mode ∷ []) (λ x. instr.Monitor (record { 0 = x.0 }) x.1.0 x.1.1.0)
+row_of verb.Demonitor = row (codes "demonitor") (an_expr ∷ a_flag (codes "flush") ∷ []) (λ x. instr.Demonitor x.0 x.1.0)
+row_of verb.Alias = row (codes "alias") (a_variable ∷ a_flag (codes "reply") ∷ []) (λ x. instr.Alias (record { 0 = x.0 }) x.1.0)
+row_of verb.Unalias = row (codes "unalias") (an_expr ∷ []) (λ x. instr.Unalias x.0)
+row_of verb.Exit = row (codes "exit") (an_expr ∷ []) (λ x. instr.Exit x.0)
+row_of verb.ExitTo = row (codes "exit_to") (an_expr ∷ an_expr ∷ []) (λ x. instr.ExitTo x.0 x.1.0)
+row_of verb.Trap = row (codes "trap") (a_switch ∷ []) (λ x. instr.Trap x.0)
+row_of verb.Reserve = row (codes "reserve") [] (λ x. instr.Reserve)
+row_of verb.Bind = row (codes "bind") (a_variable ∷ []) (λ x. instr.Bind (record { 0 = x.0 }))
+row_of verb.Clear = row (codes "clear") (a_variable ∷ []) (λ x. instr.Clear (record { 0 = x.0 }))
+row_of verb.Goto = row (codes "goto") (a_label ∷ []) (λ x. instr.Goto x.0)
+row_of verb.Stop = row (codes "stop") [] (λ x. instr.Stop)
 
 abbrev pub word_of : Verb → List ℕ
-word_of verb.Send = codes "send"
-word_of verb.Set = codes "set"
-word_of verb.MakeRef = codes "make_ref"
-word_of verb.Link = codes "link"
-word_of verb.Unlink = codes "unlink"
-word_of verb.Monitor = codes "monitor"
-word_of verb.Demonitor = codes "demonitor"
-word_of verb.Alias = codes "alias"
-word_of verb.Unalias = codes "unalias"
-word_of verb.Exit = codes "exit"
-word_of verb.ExitTo = codes "exit_to"
-word_of verb.Trap = codes "trap"
-word_of verb.Reserve = codes "reserve"
-word_of verb.Bind = codes "bind"
-word_of verb.Clear = codes "clear"
-word_of verb.Goto = codes "goto"
-word_of verb.Stop = codes "stop"
+word_of v = (row_of v).word
 
 abbrev pub operands_of : Verb → List Operand
-operands_of verb.Send = an_expr ∷ an_expr ∷ []
-operands_of verb.Set = a_variable ∷ an_expr ∷ []
-operands_of verb.MakeRef = a_variable ∷ []
-operands_of verb.Link = an_expr ∷ []
-operands_of verb.Unlink = an_expr ∷ []
-operands_of verb.Monitor = a_variable ∷ an_expr ∷ a_mode ∷ []
-operands_of verb.Demonitor = an_expr ∷ a_flag (codes "flush") ∷ []
-operands_of verb.Alias = a_variable ∷ a_flag (codes "reply") ∷ []
-operands_of verb.Unalias = an_expr ∷ []
-operands_of verb.Exit = an_expr ∷ []
-operands_of verb.ExitTo = an_expr ∷ an_expr ∷ []
-operands_of verb.Trap = a_switch ∷ []
-operands_of verb.Reserve = []
-operands_of verb.Bind = a_variable ∷ []
-operands_of verb.Clear = a_variable ∷ []
-operands_of verb.Goto = a_label ∷ []
-operands_of verb.Stop = []
+operands_of v = (row_of v).operands
 
--- the instruction that a word and its operands say
 abbrev pub instr_by : (v : Verb) → AllSaid (operands_of v) → Instr
-instr_by verb.Send x = instr.Send x.0 x.1.0
-instr_by verb.Set x = instr.Set (record { 0 = x.0 }) x.1.0
-instr_by verb.MakeRef x = instr.MakeRef (record { 0 = x.0 })
-instr_by verb.Link x = instr.Link x.0
-instr_by verb.Unlink x = instr.Unlink x.0
-instr_by verb.Monitor x = instr.Monitor (record { 0 = x.0 }) x.1.0 x.1.1.0
-instr_by verb.Demonitor x = instr.Demonitor x.0 x.1.0
-instr_by verb.Alias x = instr.Alias (record { 0 = x.0 }) x.1.0
-instr_by verb.Unalias x = instr.Unalias x.0
-instr_by verb.Exit x = instr.Exit x.0
-instr_by verb.ExitTo x = instr.ExitTo x.0 x.1.0
-instr_by verb.Trap x = instr.Trap x.0
-instr_by verb.Reserve x = instr.Reserve
-instr_by verb.Bind x = instr.Bind (record { 0 = x.0 })
-instr_by verb.Clear x = instr.Clear (record { 0 = x.0 })
-instr_by verb.Goto x = instr.Goto x.0
-instr_by verb.Stop x = instr.Stop
+instr_by v x = (row_of v).make x
 
 -- an instruction as its lines say it: a word and what its operands say, or a receive
 pub data Spoken : Type 0 where
