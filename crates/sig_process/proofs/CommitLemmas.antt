@@ -1,10 +1,12 @@
 -- What an execution leaves, from what its steps leave.
-use Rattle.std.proofs.Common.{◌≡◌, ℕ, ◌+◌, List, ◌++◌, map, Bool, true, false, Option, Some, None, refl, sym, ap, ◌∙◌}
+use Rattle.std.proofs.Common.{◌≡◌, ℕ, ◌+◌, List, ◌++◌, map, Bool, true, false, Option, Some, None, refl, sym, ap, ◌∙◌, subst}
 use Rattle.sig_kinds.specs.declared.signal.Signal.{Signal}
+use Rattle.std.specs.Prelude.{MatchResult, Result, Ok, Err}
 use Rattle.std.specs.Option.{option_map_or}
 use Rattle.std.proofs.lemmas.Bool.{cond_both}
 use Rattle.sig_terms.specs.declared.reference.Ref.{Ref}
 use Rattle.sig_patterns.specs.declared.mark.Reserve.{Reserve}
+use Rattle.sig_patterns.specs.declared.pattern.Pattern.{Pattern}
 use Rattle.sig_patterns.specs.Inbox.{Inbox, is_made_since, bound_in, cleared_in}
 use Rattle.sig_patterns.specs.Inbox.{bound_by as rule_of}
 use Rattle.sig_patterns.proofs.MarkLemmas.{cleared_none}
@@ -20,7 +22,7 @@ use Rattle.sig_model.specs.Running.{to_itself, to_others}
 use Rattle.sig_process.specs.declared.plan.Execution.{Execution}
 use Rattle.sig_process.specs.declared.progress.Progress.{Progress}
 use Rattle.sig_process.specs.Plans.{post_of, bound, bound_by, serial_by, inbox_by, changed, after_obeying, executed_body}
-use Rattle.sig_process.specs.Committing.{HasBegun, gone_on}
+use Rattle.sig_process.specs.Committing.{HasBegun, HasTaken, gone_on}
 use Rattle.sig_process.specs.Progressing.{state_of, HasAdvanced}
 
 -- the messages and markers after the rules of the inner queue
@@ -123,3 +125,13 @@ module _ (pid : ℕ) (x : Execution) (old begun bound_one gone arranged : Progre
       taken_in = ap (λ (p : Progress). p.taken_in.items) f.rest ∙ ap (λ l. l.items) g.taken_in ∙ ap (λ (p : Progress). p.taken_in.items) m ∙ b.taken_in;
       outbox = sent_from (λ p. p.outbox.items) (to_others pid) g.outbox (ap (λ (p : Progress). p.outbox.items) m ∙ b.outbox) (ap (λ (p : Progress). p.outbox.items) f.rest);
     }
+
+-- what a message that is taken leaves, where the events lay beside the process
+pub taken_beside : {T E : Type 0} (o : Result T E) (place clause looked : ℕ) (pattern : Pattern) (p q : Progress) (none all more list : List Event) →
+    MatchResult o (λ _. HasTaken place clause looked (record p { events = all }) (record q { events = more }) pattern) (λ _. (q ≡ record p { events = none }) × (more ≡ all)) →
+    all ≡ p.events → list ≡ more → MatchResult o (λ _. HasTaken place clause looked p (record q { events = list }) pattern) (λ _. record q { events = list } ≡ p)
+taken_beside (Ok _) place clause looked pattern p q none all more list h was now =
+    subst (λ (es : List Event). HasTaken place clause looked (record p { events = es }) (record q { events = list }) pattern) was
+    (subst (λ (es : List Event). HasTaken place clause looked (record p { events = all }) (record q { events = es }) pattern) (sym now) h)
+taken_beside (Err _) place clause looked pattern p q none all more list h was now =
+    ap (λ (z : Progress). record z { events = list }) h.0 ∙ ap (λ (es : List Event). record p { events = es }) (now ∙ h.1 ∙ was)

@@ -60,7 +60,7 @@ started_more count turns pid n t d left whole p before after all is at same turn
     ∙ ap (λ rs. rs ++ opened_from (length before + 1) count turns left) (map-append (λ (q : Standing). q.running) before (p ∷ []))
     ∙ append_assoc (runnings_of before) (p.running ∷ []) (opened_from (length before + 1) count turns left)
     ∙ ap (λ (q : Running). runnings_of before ++ q ∷ opened_from (length before + 1) count turns left)
-        (is ∙ ap (λ k. opened k n t d) at ∙ ap (λ k. opened (length before) k t d) same ∙ ap (λ k. opened (length before) count k d) turned)
+    (is ∙ ap (λ k. opened k n t d) at ∙ ap (λ k. opened (length before) k t d) same ∙ ap (λ k. opened (length before) count k d) turned)
     ∙ ap (λ (ds : List Declared). runnings_of before ++ opened_from (length before) count turns ds) (sym step)
     ∙ e
 

@@ -24,7 +24,6 @@ use Rattle.sig_model.proofs.SkipLemmas.{asks}
 use Rattle.sig_runs.specs.Rules.{Effect}
 use Rattle.sig_kinds.specs.declared.signal.Signal.{Signal}
 use Rattle.sig_model.specs.declared.event.Event.{Event}
-use Rattle.sig_model.specs.declared.event.Outcome.{Outcome}
 use Rattle.sig_model.specs.declared.event.Outcome.TheVariants as outcome
 use Rattle.sig_model.specs.ProcessState.{ProcessState}
 use Rattle.sig_model.specs.Bodies.{Body, place_after, going_on}
@@ -87,30 +86,25 @@ module _ (clauses : List Clause) (p : Progress) (number count start : ℕ) (hit 
     chosen_matches = rw (message_is, chosen_binds) refl
 
     -- it is taken
-    module _ (pid place : ℕ) (proc : Declared) (message : Term) (after : Progress) (goes : place ≡ place_after proc.labels chosen.target p.counts.place)
-        (told : Some message ≡ found_message p.tables.inner.queue) where
-      abbrev how : Outcome
-      how = outcome.Took number count message
-
-      message_same : message ≡ hit.message
-      message_same = let same : Some message ≡ Some hit.message = told ∙ message_is in cc
-
-      taken_by : HasTaken place how p after chosen.pattern → HasAdvanced pid p after (finished_exec pid (state_of p) (taking proc (state_of p) start (start + hit.at) hit))
+    module _ (pid place : ℕ) (proc : Declared) (after : Progress) (goes : place ≡ place_after proc.labels chosen.target p.counts.place) where
+      taken_by : HasTaken place number count p after chosen.pattern → HasAdvanced pid p after (finished_exec pid (state_of p) (taking proc (state_of p) start (start + hit.at) hit))
       taken_by t =
+          let message : t.message ≡ hit.message =
+          let same : Some t.message ≡ Some hit.message = sym t.found ∙ message_is in cc in
           let env : after.tables.env ≡ hit.env =
           let same : Some after.tables.env ≡ Some hit.env = sym t.bound ∙ ap (option_and_then (match_of chosen.pattern p.tables.env)) message_is ∙ chosen_binds in cc in
           let looked : count ≡ start + hit.at + 1 - start = omega (arith, h.looked) in
           record {
             state = ap state_of t.rest ∙ rw (env, t.queue, h.left, goes, chosen_goes) refl;
             owner = rw (t.queue, h.left) refl;
-            events = ap (λ (q : Progress). q.events) t.rest ∙ rw (h.clause, looked, message_same) refl;
+            events = ap (λ (q : Progress). q.events) t.rest ∙ rw (h.clause, looked, message) refl;
             handled = ap (λ (q : Progress). q.handled.items) t.rest;
             own = ap (λ (q : Progress). q.own.items) t.rest ∙ sym (append-nil p.own.items);
             taken_in = ap (λ (q : Progress). q.taken_in.items) t.rest;
             outbox = ap (λ (q : Progress). q.outbox.items) t.rest ∙ sym (append-nil p.outbox.items);
           }
 
-      pub taken_found : {T E : Type 0} (o : Result T E) → MatchResult o (λ _. HasTaken place how p after chosen.pattern) (λ _. after ≡ p) →
+      pub taken_found : {T E : Type 0} (o : Result T E) → MatchResult o (λ _. HasTaken place number count p after chosen.pattern) (λ _. after ≡ p) →
           OnOk o (HasAdvanced pid p after (finished_exec pid (state_of p) (taking proc (state_of p) start (start + hit.at) hit)))
       taken_found (Ok _) t = taken_by t
       taken_found (Err _) t = tt

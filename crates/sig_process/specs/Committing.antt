@@ -1,5 +1,6 @@
 -- What a commit does to the fields of a process.
 use Rattle.std.specs.Prelude.{◌≡◌, ℕ, ◌+◌, ◌<◌, ◌≤◌, ◌^◌, List, [], ◌∷◌, ◌++◌, map, slice_index, Option, Some, option_and_then}
+use Rattle.sig_terms.specs.declared.term.Term.{Term}
 use Rattle.sig_kinds.specs.declared.signal.Signal.{Signal}
 use Rattle.sig_patterns.specs.declared.pattern.Pattern.{Pattern}
 use Rattle.sig_patterns.specs.Environment.{Environment}
@@ -8,7 +9,7 @@ use Rattle.sig_inner.specs.InnerQueue.{InnerQueue, appended, emptied, found_mess
 use Rattle.sig_runs.specs.Rules.{Effect}
 use Rattle.sig_model.specs.declared.event.Event.{Event}
 use Rattle.sig_model.specs.declared.event.Did.TheVariants as did
-use Rattle.sig_model.specs.declared.event.Outcome.{Outcome}
+use Rattle.sig_model.specs.declared.event.Outcome.TheVariants as outcome
 use Rattle.sig_model.specs.declared.state.TheConstants.{LAST_STAMP}
 use Rattle.sig_model.specs.ProcessState.{ProcessState}
 use Rattle.sig_model.specs.Bodies.{Post}
@@ -96,12 +97,14 @@ gone_on s stamp numbers posts = record s { counts = record s.counts { stamp = st
 abbrev pub env_found : Pattern → Progress → Option Environment
 env_found pattern p = option_and_then (match_of pattern p.tables.env) (found_message p.tables.inner.queue)
 
--- they are bound, and the message is taken out
-pub record HasTaken (place : ℕ) (outcome : Outcome) (before after : Progress) (pattern : Pattern) : Type 0 where
+-- They are bound, and the message is taken out; the event tells it with the number of the clause, and how many were looked at.
+pub record HasTaken (place clause looked : ℕ) (before after : Progress) (pattern : Pattern) : Type 0 where
+  pub message : Term
+  pub found : found_message before.tables.inner.queue ≡ Some message
   pub bound : env_found pattern before ≡ Some after.tables.env
   pub queue : after.tables.inner.queue ≡ taken before.tables.inner.queue
   pub rest : after ≡ record before {
     tables = record before.tables { env = after.tables.env; inner = after.tables.inner };
     counts = record before.counts { place = place; executed = before.counts.executed + 1; stamp = before.counts.stamp + 1 };
-    events = before.events ++ record { stamp = before.counts.stamp + 1; did = did.Exec before.counts.place; outcome = outcome } ∷ [];
+    events = before.events ++ record { stamp = before.counts.stamp + 1; did = did.Exec before.counts.place; outcome = outcome.Took clause looked message } ∷ [];
   }

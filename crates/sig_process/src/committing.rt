@@ -13,10 +13,12 @@ use crate::plan::{Execution, Outgoing, Plan};
 use crate::posting::send_all;
 use crate::progress::Progress;
 use crate::waiting::{next_signal, pop_next};
+use sig_lists::Sequence;
 use sig_model::{Did, Event, LAST_STAMP, Outcome};
 use sig_patterns::{Pattern, bind_match};
 use sig_terms::Pid;
 use std::alloc::AllocError;
+use std::mem;
 
 impl Progress {
     /// Makes room for all that an event may change, with so many signals to be sent.
@@ -176,33 +178,61 @@ impl Progress {
         Ok(())
     }
 
-    /// The message of the last scan is taken, the variables of the pattern are bound to its parts, and
-    /// the process goes on at a place; or for want of memory nothing of this happens.
+    /// The message of the last scan is taken and told with the number of its clause, the variables of
+    /// the pattern are bound to its parts, and the process goes on at a place; or for want of memory
+    /// nothing of this happens.
     pub(crate) fn commit_take(
         &mut self,
         place: u32,
-        outcome: Outcome,
+        clause: u32,
+        looked: u64,
         pattern: &Pattern,
     ) -> Result<(), AllocError>
         requires stamp { self.old.counts.stamp < LAST_STAMP }
         requires turns { self.old.counts.executed + 1 < 2 ^ 32 }
         requires found { IsSome (env_found pattern.now self.old) }
-        ensures { MatchResult result (λ _. HasTaken place outcome self.old self.new pattern.now) (λ _. self.new ≡ self.old) }
+        ensures { MatchResult result (λ _. HasTaken place clause looked self.old self.new pattern.now) (λ _. self.new ≡ self.old) }
     {
+        let mut events = mem::replace(&mut self.events, Sequence::new(self.alloc)).into_vec();
+        let taken = self.take_into(&mut events, place, clause, looked, pattern);
+        self.events = Sequence::from_vec(events);
+        taken
+    }
+
+    /// The same, with the event told in a list beside the process. A list of this kind makes room
+    /// ahead, so that the message is moved last.
+    fn take_into(
+        &mut self,
+        events: &mut Vec<Event>,
+        place: u32,
+        clause: u32,
+        looked: u64,
+        pattern: &Pattern,
+    ) -> Result<(), AllocError>
+        requires stamp { self.old.counts.stamp < LAST_STAMP }
+        requires turns { self.old.counts.executed + 1 < 2 ^ 32 }
+        requires found { IsSome (env_found pattern.now self.old) }
+        ensures { MatchResult result
+            (λ _. HasTaken place clause looked (record self.old { events = events.old.items }) (record self.new { events = events.new.items }) pattern.now)
+            (λ _. (self.new ≡ self.old) × (events.new.items ≡ events.old.items)) }
+    {
+        events.reserve(1)?;
+        self.bind_found(pattern)?;
         let stamp = self.counts.stamp + 1;
         let did = Did::Exec {
             place: self.counts.place,
         };
-        self.events.add(Event {
+        let message = self.tables.inner.take();
+        let outcome = Outcome::Took {
+            clause,
+            looked,
+            message,
+        };
+        events.push_reserved(Event {
             stamp,
             did,
             outcome,
-        })?;
-        if let Err(fault) = self.bind_found(pattern) {
-            let _ = self.events.pop();
-            return Err(fault);
-        }
-        let _ = self.tables.inner.take();
+        });
         self.counts.place = place;
         self.counts.stamp = stamp;
         self.counts.executed += 1;

@@ -73,17 +73,8 @@ impl Progress {
         let Some(chosen) = clauses.get(clause as usize - 1) else {
             unreachable!()
         };
-        let Some(message) = self.tables.inner.found() else {
-            unreachable!()
-        };
-        let message = message.copy(self.alloc)?;
-        let outcome = Outcome::Took {
-            clause,
-            looked,
-            message,
-        };
         let place = self.place_after(proc, chosen.target);
-        self.commit_take(place, outcome, &chosen.pattern)
+        self.commit_take(place, clause, looked, &chosen.pattern)
     }
 
     /// Goes on with the `after` part of a receive.

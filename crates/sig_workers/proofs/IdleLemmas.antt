@@ -20,7 +20,7 @@ unfolding visited
 idle_visited r i =
     ap exec_or_stay
     (handle_none (length r.taken_in) (handle_all (length r.own) r) (ap (λ (xs : List Signal). length xs) i.taken_in)
-     ∙ handle_none (length r.own) r (ap (λ (xs : List Signal). length xs) i.own))
+    ∙ handle_none (length r.own) r (ap (λ (xs : List Signal). length xs) i.own))
     ∙ ap (λ o. unwrap_or o r) i.still
 
 -- it delivers nothing

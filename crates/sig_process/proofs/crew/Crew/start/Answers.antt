@@ -6,7 +6,7 @@ use Rattle.std.specs.Prelude.{All}
 use Rattle.std.specs.Vec.Iter.{into_iter_items}
 use Rattle.sig_script.specs.Scripts.{Declared, Program, IsProcBelow}
 use Rattle.sig_model.specs.Keeping.{IsKeeping, IsPlaced}
-use Rattle.sig_model.specs.OneWorker.{IsClear, opened_crew, opened_from}
+use Rattle.sig_model.specs.OneWorker.{IsClear, opened_from}
 use Rattle.sig_model.specs.Running.{Running}
 use Rattle.sig_model.proofs.OpeningLemmas.{clear_from}
 use Rattle.sig_model.proofs.PlacedLemmas.{opened_placed}

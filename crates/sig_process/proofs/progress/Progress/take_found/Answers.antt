@@ -1,4 +1,4 @@
-use Rattle.std.proofs.Common.{sym, ap, ◌∙◌, Some}
+use Rattle.std.proofs.Common.{sym, ap, ◌∙◌}
 use Rattle.std.specs.Prelude.{option_copied}
 use Rattle.sig_process.proofs.ReceiveLemmas.{clause_there, chosen_matches, taken_found}
 use Rattle.sig_process.proofs.progress.Progress.take_found.Goals as goal
@@ -16,5 +16,4 @@ commit_take-requires-clause-found c =
 pub returns-clause-taken : goal.returns-clause-taken
 returns-clause-taken c = λ start h is.
     taken_found c.args.clauses.now c.args.self.now c.args.clause c.args.looked start h is c.in-Some.chosen.now (sym c.in-Some.ensures.value)
-    c.args.pid.0 c.place_after-place.result c.args.proc.now c.in_ok-message.message c.commit_take.new.self
-    c.place_after-place.ensures (ap Some c.in_ok-message.ensures ∙ c.in-Some-found.ensures.message) c.commit_take.result c.commit_take.ensures
+    c.args.pid.0 c.place_after-place.result c.args.proc.now c.commit_take.new.self c.place_after-place.ensures c.commit_take.result c.commit_take.ensures
