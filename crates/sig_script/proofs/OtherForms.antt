@@ -92,7 +92,7 @@ module _ (f g : ℕ → ℕ) (known other : Known) (seen : AreSeen f g known oth
     instr-sees v ts =
         let os : List Operand = operands_of v in
         let made = sees-on_ok (all_seen f g os) (instr_seen f g) (instr_by v) (instr_by v) (all_said known here line os ts) (all_said other here line os ts) (operands-see os ts)
-            (λ x. ap (λ (s : Spoken). made_of (spoken_seen f g s)) (sym (spoken_again v x))) in
+        (λ x. ap (λ (s : Spoken). made_of (spoken_seen f g s)) (sym (spoken_again v x))) in
         subst (λ r. Sees (instr_seen f g) r (instr_of other here v line ts)) (sym (instr_as known here v line ts))
         (subst (Sees (instr_seen f g) (on_ok (instr_by v) (all_said known here line os ts))) (sym (instr_as other here v line ts)) made)
 
