@@ -6,7 +6,6 @@ use sig_base::{MemorySink, MemorySource, OpenGate, read_all};
 use sig_layout::Policy;
 use std::alloc::{AllocError, Global};
 use std::sync::Wait;
-use std::test::Fail;
 use std::thread::Threads;
 
 const SUMMARY_OF_100: &[u8] = b"processes 9\nevents 9608\nkept 1600\nended 8\nwaiting 1\ncut 0\n";
@@ -110,52 +109,79 @@ const OTHER_WORDS: [&[&str]; 32] = [
     &["generate"],
 ];
 
+/// Whether the command answers so to these words.
+fn answers(
+    alloc: Global,
+    list: &[&str],
+    expected: Result<Settings, WordsError>,
+) -> Result<bool, AllocError> {
+    let given = strings(alloc, list)?;
+    Ok(words(alloc, given.as_slice()) == expected)
+}
+
 #[test]
-fn words_give_their_settings(rt: HostRuntime) -> Result<(), Fail> {
+fn words_give_their_settings(rt: HostRuntime) {
     let alloc = rt.alloc();
     for (list, workers, quota, policy, generate) in WORDS {
-        let given = strings(alloc, list)?;
-        let answer = words(alloc, given.as_slice());
         let expected = Settings {
             workers,
             quota,
             policy,
             generate,
         };
-        assert!(rt; answer == Ok(expected), "{list:?}");
+        assert!(rt; answers(alloc, list, Ok(expected)) == Ok(true), "{list:?}");
     }
     for list in OTHER_WORDS {
-        let given = strings(alloc, list)?;
-        let answer = words(alloc, given.as_slice());
-        assert!(rt; answer == Err(WordsError::Usage), "{list:?}");
+        let refused = answers(alloc, list, Err(WordsError::Usage));
+        assert!(rt; refused == Ok(true), "{list:?}");
     }
-    Ok(())
 }
 
-/// Runs with these arguments and a script that is there to be read: the status, whether the script
-/// wasn't read, and what was written and told.
+/// Runs with these arguments. It tells the status, and whether something was written.
 fn run_words<R: Threads + Wait + Sync>(
     rt: &R,
     alloc: Global,
     list: &[&str],
-    room: usize,
-) -> Result<(Status, bool, MemorySink, MemorySink), AllocError> {
-    let arguments = strings(alloc, list)?;
-    let mut source = MemorySource::new(Vec::from_slice(alloc, ONE_MESSAGE)?, 100);
+    source: &mut MemorySource,
+    err: &mut MemorySink,
+) -> Result<(Status, bool), AllocError> {
+    let given = strings(alloc, list)?;
     let mut out = MemorySink::with_room(alloc, ROOM)?;
-    let mut err = MemorySink::with_room(alloc, room)?;
     let status = run(
         rt,
         alloc,
-        arguments.as_slice(),
-        &mut source,
+        given.as_slice(),
+        source,
         &mut out,
-        &mut err,
+        err,
         &OpenGate,
     );
+    Ok((status, !out.held().is_empty()))
+}
+
+/// Whether the script is still there.
+fn is_unread(alloc: Global, source: &mut MemorySource) -> bool {
     let mut left = Vec::new(alloc);
-    let _ = read_all(&mut source, 1000, &mut left);
-    Ok((status, left.as_slice() == ONE_MESSAGE, out, err))
+    let _ = read_all(source, 1000, &mut left);
+    left.as_slice() == ONE_MESSAGE
+}
+
+/// Whether a run with these arguments, and a script that is there to be read, ends with this status
+/// and tells this, as far as there is room for it. It reads no script, and writes where it isn't
+/// refused.
+fn ends_so<R: Threads + Wait + Sync>(
+    rt: &R,
+    alloc: Global,
+    list: &[&str],
+    room: usize,
+    number: u8,
+    told: &[u8],
+) -> Result<bool, AllocError> {
+    let mut source = MemorySource::new(Vec::from_slice(alloc, ONE_MESSAGE)?, 100);
+    let mut err = MemorySink::with_room(alloc, room)?;
+    let (status, written) = run_words(rt, alloc, list, &mut source, &mut err)?;
+    let unread = is_unread(alloc, &mut source);
+    Ok(unread && status.number() == number && written == (number != 2) && err.held() == told)
 }
 
 const TOLD_USAGE: &[u8] =
@@ -200,14 +226,10 @@ const ARGUMENTS: [(&[&str], usize, u8, &[u8]); 12] = [
 ];
 
 #[test]
-fn arguments_are_told(rt: HostRuntime) -> Result<(), Fail> {
+fn arguments_are_told(rt: HostRuntime) {
     let alloc = rt.alloc();
     for (list, room, number, told) in ARGUMENTS {
-        let (status, unread, out, err) = run_words(&rt, alloc, list, room)?;
-        assert!(rt; status.number() == number, "{list:?}");
-        assert!(rt; unread, "{list:?}");
-        assert!(rt; out.held().is_empty() == (number == 2), "{list:?}");
-        assert!(rt; err.held() == told, "{list:?}");
+        let ends = ends_so(&rt, alloc, list, room, number, told);
+        assert!(rt; ends == Ok(true), "{list:?}");
     }
-    Ok(())
 }

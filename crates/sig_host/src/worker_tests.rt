@@ -10,7 +10,6 @@ use sig_record::read_record;
 use std::alloc::{AllocError, Global};
 use std::sync::atomic::{AtomicBool, AtomicU64, Ordering};
 use std::sync::{OnceLock, Wait};
-use std::test::Fail;
 use std::thread::Threads;
 
 /// How often a gate looks before it gives up.
@@ -38,6 +37,20 @@ fn run_gated<R: Threads + Wait + Sync, G: Gate>(
         gate,
     );
     Ok((status, out))
+}
+
+/// Whether such a run ends well.
+fn ends_well<R: Threads + Wait + Sync, G: Gate>(
+    rt: &R,
+    alloc: Global,
+    list: &[&str],
+    text: &[u8],
+    gate: &G,
+) -> bool {
+    matches!(
+        run_gated(rt, alloc, list, text, gate),
+        Ok((Status::Done, _))
+    )
 }
 
 /// How often the piece stands in the text.
@@ -108,24 +121,59 @@ fn count_ended(text: &[u8]) -> usize {
     stopped.saturating_add(count(text, b"\nstate ended killed\nprocess 6 c6\n"))
 }
 
+/// The record that four workers with buffers of this policy write of the script of these lines, where
+/// all goes well.
+fn record_of_four<R: Threads + Wait + Sync>(
+    rt: &R,
+    alloc: Global,
+    lines: &[u8],
+    policy: &str,
+) -> Result<Option<MemorySink>, AllocError> {
+    let text = text_of(alloc, &[(b"sigscript 1\n", 1), (lines, 1)])?;
+    let words = ["--workers", "4", "--buffers", policy];
+    let (status, out) = run_gated(rt, alloc, words.as_slice(), text.as_slice(), &OpenGate)?;
+    Ok(if status == Status::Done {
+        Some(out)
+    } else {
+        None
+    })
+}
+
+/// Whether the bytes are the text of a settled record.
+fn is_settled(alloc: Global, bytes: &[u8]) -> bool {
+    match read_record(alloc, bytes) {
+        Ok(record) => record.settled(),
+        Err(_) => false,
+    }
+}
+
+/// Whether the two play until both are cut, and the record is settled.
+fn play_settles<R: Threads + Wait + Sync>(rt: &R, alloc: Global) -> Result<bool, AllocError> {
+    let Some(out) = record_of_four(rt, alloc, PING_PONG, "churn:1")? else {
+        return Ok(false);
+    };
+    Ok(has_all(out.held(), &PLAYED) && is_settled(alloc, out.held()))
+}
+
+/// The first client that isn't served, or 0, which is the server, where the record is another
+/// otherwise.
+fn first_unserved_of_four<R: Threads + Wait + Sync>(
+    rt: &R,
+    alloc: Global,
+) -> Result<Option<u32>, AllocError> {
+    let Some(out) = record_of_four(rt, alloc, SERVER_AND_CLIENTS, "auto")? else {
+        return Ok(Some(0));
+    };
+    if !has_all(out.held(), &SERVED) || count_ended(out.held()) != 12 {
+        return Ok(Some(0));
+    }
+    first_unserved(alloc, out.held())
+}
+
 #[test]
-fn workers_settle(rt: HostRuntime) -> Result<(), Fail> {
-    let alloc = rt.alloc();
-    let play = text_of(alloc, &[(b"sigscript 1\n", 1), (PING_PONG, 1)])?;
-    let words: &[&str] = &["--workers", "4", "--buffers", "churn:1"];
-    let (status, out) = run_gated(&rt, alloc, words, play.as_slice(), &OpenGate)?;
-    assert!(rt; status == Status::Done);
-    assert!(rt; has_all(out.held(), &PLAYED));
-    assert!(rt; read_record(alloc, out.held())?.settled());
-    let serve = text_of(alloc, &[(b"sigscript 1\n", 1), (SERVER_AND_CLIENTS, 1)])?;
-    let words: &[&str] = &["--workers", "4", "--buffers", "auto"];
-    let (status, out) = run_gated(&rt, alloc, words, serve.as_slice(), &OpenGate)?;
-    assert!(rt; status == Status::Done);
-    assert!(rt; has_all(out.held(), &SERVED));
-    let unserved = first_unserved(alloc, out.held())?;
-    assert!(rt; unserved.is_none(), "{unserved:?}");
-    assert!(rt; count_ended(out.held()) == 12);
-    Ok(())
+fn workers_settle(rt: HostRuntime) {
+    assert!(rt; play_settles(&rt, rt.alloc()) == Ok(true));
+    assert_eq!(rt; first_unserved_of_four(&rt, rt.alloc()), Ok(None));
 }
 
 /// Looks until the flag is up. Whether it was, before the gate gave up.
@@ -191,15 +239,13 @@ const OVERLAP: &[u8] =
     b"sigscript 1\nprocess a\nsend @b go\nprocess b\nset X 1\nreceive\non go\nend\n";
 
 #[test]
-fn workers_overlap(rt: HostRuntime) -> Result<(), Fail> {
+fn workers_overlap(rt: HostRuntime) {
     let gate = HoldBoth::new();
     let words: &[&str] = &["--workers", "2"];
-    let (status, _) = run_gated(&rt, rt.alloc(), words, OVERLAP, &gate)?;
-    assert!(rt; status == Status::Done);
+    assert!(rt; ends_well(&rt, rt.alloc(), words, OVERLAP, &gate));
     assert!(rt; gate.held_first.load(Ordering::SeqCst));
     assert!(rt; gate.held_second.load(Ordering::SeqCst));
     assert!(rt; !gate.gave_up.load(Ordering::SeqCst));
-    Ok(())
 }
 
 /// A gate that keeps the first put, and counts all.
@@ -219,21 +265,25 @@ impl Gate for Puts {
     }
 }
 
+/// Whether two workers with buffers of this policy put one signal, of process 0, into this buffer.
+fn put_into<R: Threads + Wait + Sync>(
+    rt: &R,
+    alloc: Global,
+    policy: &str,
+    buffer: Option<u8>,
+) -> bool {
+    let gate = Puts {
+        first: OnceLock::new(),
+        count: AtomicU64::new(0),
+    };
+    let words = ["--workers", "2", "--buffers", policy];
+    let ended = ends_well(rt, alloc, words.as_slice(), ONE_MESSAGE, &gate);
+    let once = gate.count.load(Ordering::SeqCst) == 1;
+    ended && once && gate.first.get().copied() == Some((0, buffer))
+}
+
 #[test]
-fn workers_put_as_the_policy_says(rt: HostRuntime) -> Result<(), Fail> {
-    let rows: [(&[&str], Option<u8>); 2] = [
-        (&["--workers", "2", "--buffers", "always"], Some(0)),
-        (&["--workers", "2", "--buffers", "never"], None),
-    ];
-    for (words, buffer) in rows {
-        let gate = Puts {
-            first: OnceLock::new(),
-            count: AtomicU64::new(0),
-        };
-        let (status, _) = run_gated(&rt, rt.alloc(), words, ONE_MESSAGE, &gate)?;
-        assert!(rt; status == Status::Done, "{words:?}");
-        assert!(rt; gate.count.load(Ordering::SeqCst) == 1, "{words:?}");
-        assert!(rt; gate.first.get().copied() == Some((0, buffer)), "{words:?}");
-    }
-    Ok(())
+fn workers_put_as_the_policy_says(rt: HostRuntime) {
+    assert!(rt; put_into(&rt, rt.alloc(), "always", Some(0)));
+    assert!(rt; put_into(&rt, rt.alloc(), "never", None));
 }
