@@ -1,17 +1,18 @@
 -- How far an event moves the counts of a process.
-use Rattle.std.proofs.Common.{ℕ, zero, suc, ◌+◌, ◌≤◌, ◌<◌, length, IfSome, arith}
+use Rattle.std.proofs.Common.{ℕ, zero, suc, ◌+◌, ◌≤◌, ◌<◌, IfSome, arith}
 use Rattle.std.specs.Prelude.{slice_index, replicate}
 use Rattle.std.proofs.lemmas.Option.{IfSome_then}
 use Rattle.sig_kinds.specs.declared.signal.Signal.{Signal}
 use Rattle.sig_script.specs.Scripts.{Declared, IsWithin}
 use Rattle.sig_model.specs.declared.event.Did.{Did}
-use Rattle.sig_model.specs.ProcessState.{ProcessState, opening_state}
+use Rattle.sig_model.specs.ProcessState.{ProcessState, opening_state, downs_due}
 use Rattle.sig_model.specs.Bodies.{Body}
 use Rattle.sig_model.specs.Executing.{executing}
 use Rattle.sig_model.specs.Handling.{handling}
 use Rattle.sig_model.specs.Finishing.{numbers_after, finished}
 use Rattle.sig_model.specs.Bounds.{IsBounded, IsBoundedBody, posts_to}
-use Rattle.sig_model.proofs.AnyNames.{Any, any_tables, any_signal, any_script}
+use Rattle.sig_model.proofs.AnyNames.{Any, any_signal, any_script}
+use Rattle.sig_model.proofs.TableLemmas.{any_tables}
 use Rattle.sig_model.proofs.PostCounts.{numbers_grow}
 use Rattle.sig_model.proofs.ExecutingLemmas.{executing_kept}
 use Rattle.sig_model.proofs.HandlingLemmas.{handling_kept}
@@ -37,8 +38,8 @@ module _ (p : Declared) (s : ProcessState) (k : IsBounded p s) where
     numbers = λ peer.
         let grown : slice_index (numbers_after s.counts.next_numbers b.posts) peer ≤ slice_index s.counts.next_numbers peer + posts_to peer b.posts =
         numbers_grow s.counts.next_numbers b.posts peer in
-        let before : slice_index s.counts.next_numbers peer + length s.tables.watch.borne ≤ s.counts.stamp + 1 = k.numbers peer in
-        let sent : posts_to peer b.posts + length b.state.tables.watch.borne ≤ length s.tables.watch.borne + 1 = h.posts peer in
+        let before : slice_index s.counts.next_numbers peer + downs_due s.tables ≤ s.counts.stamp + 1 = k.numbers peer in
+        let sent : posts_to peer b.posts + downs_due b.state.tables ≤ downs_due s.tables + 1 = h.posts peer in
         omega (arith, grown, before, sent, later);
   }
 

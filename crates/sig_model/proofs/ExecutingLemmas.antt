@@ -38,18 +38,19 @@ use Rattle.sig_script.specs.Parts.{exprs_of}
 use Rattle.sig_script.specs.Scripts.{Declared, IsInstrBelow, IsProcBelow, IsPlace, IsWithin}
 use Rattle.sig_model.specs.declared.event.Outcome.{Outcome}
 use Rattle.sig_model.specs.declared.event.Outcome.TheVariants as outcome
-use Rattle.sig_model.specs.ProcessState.{ProcessState}
-use Rattle.sig_model.specs.Bodies.{Post, Body, at_next, rewatched, place_after, going_on, ending, system_limit}
+use Rattle.sig_model.specs.ProcessState.{ProcessState, owner_of, Post, rewatched, InboxNames, TableNames}
+use Rattle.sig_model.specs.Bodies.{Body, at_next, place_after, going_on, ending, system_limit}
 use Rattle.sig_model.specs.Executing.{with_value, with_pid, with_ref, with_target, sending, setting, linked_by, unlink_posts, unlinked_by, new_ref, making, monitored_by, monitoring, aliasing, flushed_into, demonitoring, unaliasing, reserving, ref_in, ref_of_var, marked_by, marking, binding, clearing, marked_start, from_mark, hit_from, receiving, exec_body, executing}
 use Rattle.sig_model.specs.Bounds.{IsBounded}
-use Rattle.sig_model.specs.Names.{InboxNames, TableNames, ScriptNames}
+use Rattle.sig_model.specs.Names.{ScriptNames}
 use Rattle.sig_model.specs.TermSizes.{IsKeptTerm, TableSizes, BodySizes}
-use Rattle.sig_model.proofs.AnyNames.{Any, any_tables, any_script}
+use Rattle.sig_model.proofs.AnyNames.{Any, any_script}
 use Rattle.sig_model.proofs.Lookups.{at_place}
 use Rattle.sig_model.proofs.ValueNames.{ExprNames, var_names, value_names}
 use Rattle.sig_model.proofs.TermSizeLemmas.{AreWithin, small_tells, small_kept, ref_small}
 use Rattle.sig_model.proofs.MatchParts.{HitValues, hit_values, name_parts, size_parts}
-use Rattle.sig_model.proofs.BodyLemmas.{IsAt, BearsAlike, same_watch, IsKeptBody, IsMoved, AnyInbox, OfRef, AllMessages, Shown, near, IsBuilt, held, IsTold, ArePosts, no_posts, one_post, demonitor_sent, valued, watched, messaged, IsRow, IsBefore, few_row, moving, relinking, rewatching, ending_row, ending_atom, link_id, unlink_id}
+use Rattle.sig_model.proofs.TableLemmas.{OfRef, AllMessages, any_tables, BearsAlike, same_watch, owes_alike, Shown, IsBuilt, held, rebound, valued, watched, messaged}
+use Rattle.sig_model.proofs.BodyLemmas.{IsAt, IsKeptBody, IsMoved, AnyInbox, near, IsTold, ArePosts, no_posts, one_post, demonitor_sent, IsRow, IsBefore, few_row, moving, relinking, ending_row, ending_atom, link_id, unlink_id}
 
 -- the rules for the calls leave the monitors that are borne
 monitor_alike : (watch : WatchState) (r : Ref) (target : ℕ) (mode : Option AliasMode) → BearsAlike watch (monitor watch r target mode).1
@@ -131,7 +132,7 @@ pub record IsExecuted (I : Inbox → Type 0) (s : ProcessState) : Type 0 where
   pub without : (at : ℕ) → I (without_message s.tables.inbox at)
   pub emptied : I (emptied_inbox s.tables.inbox)
   pub reserve : I (reserved s.tables.inbox s.counts.next_serial)
-  pub bound : (r : Ref) → I (bound_in s.tables.watch.owner s.tables.inbox r).1
+  pub bound : (r : Ref) → I (bound_in (owner_of s.tables) s.tables.inbox r).1
   pub cleared : (r : Ref) → I (cleared_in s.tables.inbox r).1
 
 pub any_executed : (s : ProcessState) → IsExecuted AnyInbox s
@@ -188,10 +189,10 @@ module _ (L : Shown) (p : Declared) (s : ProcessState) (k : IsBefore L p s) (c :
 
     -- a row that leaves the tables: it goes on behind with these signals, or at a place
     stepping : (traps : Bool) (how : Outcome) (posts : List Post) → ArePosts L posts → IsTold L how → Row (record { state = record (at_next s) { traps = traps }; outcome = how; posts = posts })
-    stepping traps how posts sent told n = moving L p s _ k.tables behind refl refl refl refl sent told
+    stepping traps how posts sent told n = moving L p s _ k.tables behind refl refl refl refl refl sent told
 
     going_row : (place : ℕ) (how : Outcome) → (L.bounded → IsAt p place) → IsTold L how → Row (going_on s place how)
-    going_row place how at told n = moving L p s _ k.tables at refl refl refl refl (no_posts L) told
+    going_row place how at told n = moving L p s _ k.tables at refl refl refl refl refl (no_posts L) told
 
     sending_row : (t message : Term) → IsBuilt L t → IsBuilt L message → Row (with_target s t (sending s message))
     sending_row (term.Pid q) message g h =
@@ -204,7 +205,7 @@ module _ (L : Shown) (p : Declared) (s : ProcessState) (k : IsBefore L p s) (c :
 
     setting_row : (var : List ℕ) (value : Term) → IsBuilt L value → Row (setting s var value)
     setting_row var value h n =
-        moving L p s _ (valued L s.tables k.tables var value (held L value h)) behind refl refl refl refl (no_posts L) (λ z. small_kept value (h.size z))
+        moving L p s _ (valued L s.tables k.tables var value (held L value h)) behind refl refl refl refl refl (no_posts L) (λ z. small_kept value (h.size z))
 
     linked_by_row : (peer : Pid) (answer : Bool × LinkState) → L.name (process peer.0) → LinkNames L.name answer.1
         → answer.1.next_id ≤ s.tables.links.next_id + 1 → Row (linked_by s peer answer)
@@ -230,7 +231,7 @@ module _ (L : Shown) (p : Declared) (s : ProcessState) (k : IsBefore L p s) (c :
         let value : IsBuilt L (term.Ref r) = record { names = ref_names L.name r fresh names.watch.owner; size = λ z. ref_small r } in
         few_row L p s _
         (watched L (record s.tables { env = insert s.tables.env var (term.Ref r) }) (valued L s.tables k.tables var (term.Ref r) (held L (term.Ref r) value)) watch (h made))
-        behind (record { arrivals = omega arith; ids = omega arith; serials = omega arith; rises = omega arith }) alike (sent made) (λ z. small_kept (term.Ref r) (value.size z))
+        behind (record { arrivals = omega arith; ids = omega arith; serials = omega arith; rises = omega arith }) (owes_alike s.tables _ _ _ alike) (sent made) (λ z. small_kept (term.Ref r) (value.size z))
 
     monitored_row : (var : List ℕ) (target : Pid) (answer : Bool × WatchState) → L.name (process target.0) → (OfRef L.name (new_ref s) → WatchNames L.name answer.1)
         → BearsAlike s.tables.watch answer.1 → Row (monitored_by s var target answer)
@@ -247,20 +248,24 @@ module _ (L : Shown) (p : Declared) (s : ProcessState) (k : IsBefore L p s) (c :
     aliasing_row var reply =
         making_row var (alias s.tables.watch (new_ref s) reply) [] (λ r. alias_names L.name s.tables.watch names.watch (new_ref s) reply r) (record { owner = refl; borne = refl }) (λ r. no_posts L)
 
-    -- a row that ends a monitor, and one that ends an alias
+    -- a row that changes the monitors and aliases: it ends a monitor, or an alias
+    rewatching : (watch : WatchState) (how : Outcome) (posts : List Post) → WatchNames L.name watch → BearsAlike s.tables.watch watch → ArePosts L posts → IsTold L how
+        → IsRow L p s (record { state = rewatched (at_next s) watch; outcome = how; posts = posts })
+    rewatching watch how posts h alike sent told = few_row L p s _ (watched L s.tables k.tables watch h) behind (near s _ refl refl refl) (owes_alike s.tables _ _ _ alike) sent told
+
     flushing_row : (watch : WatchState) (posts : List Post) (at : Option ℕ) → WatchNames L.name watch → BearsAlike s.tables.watch watch → ArePosts L posts
         → Row (flushed_into (record { state = rewatched (at_next s) watch; outcome = outcome.Done; posts = posts }) (option_map_or {U = Bool × Inbox} (λ (i : ℕ). (true, without_message s.tables.inbox i)) at (false, s.tables.inbox)))
-    flushing_row watch posts None h alike sent n = rewatching L p s k _ watch _ posts behind h alike sent (λ z. tt)
+    flushing_row watch posts None h alike sent n = rewatching watch _ posts h alike sent (λ z. tt)
     flushing_row watch posts (Some i) h alike sent n =
         few_row L p s _
         (messaged L (record s.tables { watch = watch }) (watched L s.tables k.tables watch h) (without_message s.tables.inbox i) (left_names L.name s.tables.inbox names.inbox i)
         (λ z. left_messages s.tables.inbox.messages i (sizes z).messages) (c.without i))
-        behind (near s _ refl refl refl) alike sent (λ z. tt)
+        behind (near s _ refl refl refl) (owes_alike s.tables _ _ _ alike) sent (λ z. tt)
 
     demonitoring_row : (flush : Bool) (r : Ref) → OfRef L.name r → Row (demonitoring s flush r)
     demonitoring_row false r h n =
         let watch : WatchState = s.tables.watch in
-        rewatching L p s k _ (unmonitored watch r) _ _ behind (unmonitored_names L.name watch names.watch r) (unmonitored_alike watch r)
+        rewatching (unmonitored watch r) _ _ (unmonitored_names L.name watch names.watch r) (unmonitored_alike watch r)
         (demonitor_sent L r (told_of watch r) h (told_names L.name watch names.watch r)) (λ z. tt)
     demonitoring_row true r h n =
         let watch : WatchState = s.tables.watch in
@@ -269,12 +274,12 @@ module _ (L : Shown) (p : Declared) (s : ProcessState) (k : IsBefore L p s) (c :
 
     unaliasing_row : (r : Ref) → Row (unaliasing s r)
     unaliasing_row r n =
-        rewatching L p s k _ (unaliased s.tables.watch r) _ [] behind (unaliased_names L.name s.tables.watch names.watch r) (record { owner = refl; borne = refl }) (no_posts L) (λ z. tt)
+        rewatching (unaliased s.tables.watch r) _ [] (unaliased_names L.name s.tables.watch names.watch r) (record { owner = refl; borne = refl }) (no_posts L) (λ z. tt)
 
     -- a row that changes the reserve and the marks
     marked_row : (answer : Bool × Inbox) → InboxNames L.name answer.1 → OnlyMarks s.tables.inbox answer.1 → L.inbox answer.1 → Row (marked_by s answer)
     marked_row (is, inbox) h only moved n =
-        moving L p s _ (messaged L s.tables k.tables inbox h (λ z. subst AllMessages (sym only.messages) (sizes z).messages) moved) behind only.arrivals refl refl refl (no_posts L) (λ z. tt)
+        moving L p s _ (messaged L s.tables k.tables inbox h (λ z. subst AllMessages (sym only.messages) (sizes z).messages) moved) behind only.arrivals refl refl refl refl (no_posts L) (λ z. tt)
 
     marking_row : (rule : Ref → Bool × Inbox) → ((r : Ref) → OfRef L.name r → InboxNames L.name (rule r).1) → ((r : Ref) → OnlyMarks s.tables.inbox (rule r).1) → ((r : Ref) → L.inbox (rule r).1)
         → (o : Option Ref) → IfSome o (OfRef L.name) → Row (marking s rule o)
@@ -285,7 +290,7 @@ module _ (L : Shown) (p : Declared) (s : ProcessState) (k : IsBefore L p s) (c :
     reserving_row n =
         moving L p s _
         (messaged L s.tables k.tables (reserved s.tables.inbox s.counts.next_serial) (record { messages = names.inbox.messages; marks = names.inbox.marks }) (λ z. (sizes z).messages) c.reserve)
-        behind refl refl refl refl (no_posts L) (λ z. tt)
+        behind refl refl refl refl refl (no_posts L) (λ z. tt)
 
     named_by : (x : Var) → IfSome (ref_of_var s.tables.env x) (OfRef L.name)
     named_by x = ref_in_names L.name (value_of_var s.tables.env x.0) (var_names L.name s.tables.env names.env x.0)
@@ -293,7 +298,7 @@ module _ (L : Shown) (p : Declared) (s : ProcessState) (k : IsBefore L p s) (c :
     binding_row : (x : Var) → Row (binding s x)
     binding_row x =
         let inbox : Inbox = s.tables.inbox in
-        let owner : ℕ = s.tables.watch.owner in
+        let owner : ℕ = owner_of s.tables in
         marking_row (bound_in owner inbox) (λ r h. bound_names L.name owner inbox names.inbox r h inbox.reserve) (λ r. bound_marks owner inbox r inbox.reserve) c.bound
         (ref_of_var s.tables.env x) (named_by x)
 
@@ -307,12 +312,9 @@ module _ (L : Shown) (p : Declared) (s : ProcessState) (k : IsBefore L p s) (c :
         → IfSome (receiving p s after start from o) Row
     receiving_row after start from (Some h) g small = λ n.
         moving L p s _
-        (record {
-          names = record { env = g.env; inbox = left_names L.name s.tables.inbox names.inbox (from + h.at); links = names.links; watch = names.watch; end = names.end };
-          sizes = λ z. record { env = (small z).env; messages = left_messages s.tables.inbox.messages (from + h.at) (sizes z).messages; end = (sizes z).end };
-          inbox = c.without (from + h.at);
-        })
-        (target_place h.target) refl refl refl refl (no_posts L) (λ z. (small z).message)
+        (messaged L (record s.tables { env = h.env }) (rebound L s.tables k.tables h.env g.env (λ z. (small z).env)) (without_message s.tables.inbox (from + h.at))
+        (left_names L.name s.tables.inbox names.inbox (from + h.at)) (λ z. left_messages s.tables.inbox.messages (from + h.at) (sizes z).messages) (c.without (from + h.at)))
+        (target_place h.target) refl refl refl refl refl (no_posts L) (λ z. (small z).message)
     receiving_row (Some after) start from None g small = going_row _ _ (target_place after.target) (λ z. tt)
     receiving_row None start from None g small = tt
 

@@ -14,7 +14,7 @@ use Rattle.sig_runs.specs.Fresh.{Holds, StandsAfter, IsNew, MakesFresh}
 use Rattle.sig_model.specs.declared.event.Event.{Event}
 use Rattle.sig_model.specs.declared.event.Did.{Did}
 use Rattle.sig_model.specs.declared.event.Did.TheVariants as did
-use Rattle.sig_model.specs.ProcessState.{ProcessState}
+use Rattle.sig_model.specs.ProcessState.{ProcessState, owner_of}
 use Rattle.sig_model.specs.Bodies.{Body}
 use Rattle.sig_model.specs.Executing.{new_ref, executing}
 use Rattle.sig_model.specs.Handling.{handling}
@@ -70,14 +70,14 @@ module _ (r : Ref) where
 
   module _ (pid : ℕ) (s : ProcessState) where
     -- the reference that the process makes next is another one, where it makes one
-    new_other : (b : Body) → s.tables.watch.owner ≡ pid → (r.owner.0 ≡ pid → b.state.counts.next_serial ≤ r.serial) → s.counts.next_serial < b.state.counts.next_serial → IsOther r (reference (new_ref s))
+    new_other : (b : Body) → owner_of s.tables ≡ pid → (r.owner.0 ≡ pid → b.state.counts.next_serial ≤ r.serial) → s.counts.next_serial < b.state.counts.next_serial → IsOther r (reference (new_ref s))
     new_other b own old rises e =
-        let owner : s.tables.watch.owner ≡ r.owner.0 = ap owner_in e in
+        let owner : owner_of s.tables ≡ r.owner.0 = ap owner_in e in
         let serial : s.counts.next_serial ≡ r.serial = ap serial_in e in
         let later : b.state.counts.next_serial ≤ r.serial = old (sym owner ∙ own) in
         absurd (omega (arith, rises, serial, later))
 
-    exec_stands : (p : Declared) (b : Body) → executing p s ≡ Some b → s.tables.watch.owner ≡ pid → StandsAfter marking (finished_exec pid s b) r
+    exec_stands : (p : Declared) (b : Body) → executing p s ≡ Some b → owner_of s.tables ≡ pid → StandsAfter marking (finished_exec pid s b) r
         → StandsIn s r ⊎ IsNew marking pid (finished_exec pid s b) r
     exec_stands p b can own stands =
         ⊎_elim (λ made. inr made)
@@ -108,7 +108,7 @@ module _ (turns : ℕ) (part : ℕ → Option Declared) where
   of_part_next None pid s effect e = cc
   of_part_next (Some p) pid s effect e = exec_next p pid s effect e
 
-  of_part_stands : (o : Option Declared) (pid : ℕ) (s : ProcessState) (effect : Effect ProcessState Signal Event) → execution_of pid o s ≡ Some effect → s.tables.watch.owner ≡ pid
+  of_part_stands : (o : Option Declared) (pid : ℕ) (s : ProcessState) (effect : Effect ProcessState Signal Event) → execution_of pid o s ≡ Some effect → owner_of s.tables ≡ pid
       → (r : Ref) → StandsAfter marking effect r → StandsIn s r ⊎ IsNew marking pid effect r
   of_part_stands None pid s effect e own r stands = cc
   of_part_stands (Some p) pid s effect e own r stands =

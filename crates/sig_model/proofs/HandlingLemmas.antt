@@ -29,17 +29,17 @@ use Rattle.sig_patterns.specs.Inbox.{Inbox, arrived_in, emptied_inbox}
 use Rattle.sig_script.specs.Scripts.{Declared}
 use Rattle.sig_model.specs.declared.event.Outcome.{Outcome}
 use Rattle.sig_model.specs.declared.event.Outcome.TheVariants as outcome
-use Rattle.sig_model.specs.ProcessState.{ProcessState}
-use Rattle.sig_model.specs.Bodies.{Post, Body, relinked, rewatched, appending, dropping, normal, kill}
+use Rattle.sig_model.specs.ProcessState.{ProcessState, Post, relinked, rewatched, TableNames}
+use Rattle.sig_model.specs.Bodies.{Body, appending, dropping, normal, kill}
 use Rattle.sig_model.specs.ExitRule.{exit_message, exit_rule, plain_exit, linked_exit}
 use Rattle.sig_model.specs.Executing.{demonitor_posts}
 use Rattle.sig_model.specs.Handling.{linking_up, unlinking_from, acknowledging, through_alias, watching, unwatching, down_message, told_down, answering_noproc, live_body, ended_body, handling}
 use Rattle.sig_model.specs.Bounds.{IsBounded, IsBoundedBody}
-use Rattle.sig_model.specs.Names.{TableNames}
 use Rattle.sig_model.specs.TermSizes.{IsKeptTerm, KindSizes, OutcomeSizes, TableSizes, BodySizes}
-use Rattle.sig_model.proofs.AnyNames.{Any, any_tables, any_signal, no_part}
+use Rattle.sig_model.proofs.AnyNames.{Any, any_signal, no_part}
 use Rattle.sig_model.proofs.TermSizeLemmas.{atom_small, exit_kept, down_kept}
-use Rattle.sig_model.proofs.BodyLemmas.{IsAt, BearsAlike, same_watch, IsKeptBody, IsMoved, AnyInbox, OfRef, Shown, near, IsBuilt, IsHeld, held, ArePosts, no_posts, one_post, demonitor_sent, linked, watched, messaged, IsRow, IsBefore, row, few_row, moving, relinking, dropping_row, ending_row, ending_atom, on_link_id, on_ack_id}
+use Rattle.sig_model.proofs.TableLemmas.{OfRef, any_tables, BearsAlike, same_watch, owes_alike, Shown, IsBuilt, IsHeld, held, linked, watched, messaged}
+use Rattle.sig_model.proofs.BodyLemmas.{IsAt, IsKeptBody, IsMoved, AnyInbox, near, ArePosts, no_posts, one_post, demonitor_sent, IsRow, IsBefore, row, few_row, moving, relinking, dropping_row, ending_row, ending_atom, on_link_id, on_ack_id}
 use Rattle.sig_model.proofs.ExecutingLemmas.{unmonitored_alike}
 
 -- what the rules for the signals do to the monitors that are borne
@@ -132,7 +132,7 @@ module _ (L : Shown) (p : Declared) (pid sender : ℕ) (from : L.name (process s
         (messaged L (record s.tables { watch = watch }) (watched L s.tables k.tables watch h) (arrived_in inbox message)
         (record { messages = All-push (λ (m : ℕ × Term). AllNames L.name m.1) inbox.messages (inbox.next_arrival, message) k.tables.names.inbox.messages g.names; marks = k.tables.names.inbox.marks })
         (λ z. All-push (λ (m : ℕ × Term). IsKeptTerm m.1) inbox.messages (inbox.next_arrival, message) (k.tables.sizes z).messages (g.size z)) (arrived message))
-        k.here (record { arrivals = omega arith; ids = omega arith; serials = omega arith; rises = omega arith }) alike sent g.size
+        k.here (record { arrivals = omega arith; ids = omega arith; serials = omega arith; rises = omega arith }) (owes_alike s.tables _ _ _ alike) sent g.size
 
     appending_row : (message : Term) → IsHeld L message → IsRow L p s (appending s message)
     appending_row message h = kept_message s.tables.watch message [] k.tables.names.watch (same_watch s.tables.watch) h (no_posts L)
@@ -235,7 +235,7 @@ module _ (L : Shown) (p : Declared) (pid sender : ℕ) (from : L.name (process s
 
     -- and at a process that has ended
     answering_row : (answer : Kind) → All L.name (names_of_kind answer) → (L.sized → KindSizes answer) → IsRow L p s (answering_noproc s sender answer)
-    answering_row answer names size = moving L p s _ k.tables k.here refl refl refl refl (one_post L (record { to = sender; kind = answer }) from names size) (λ z. tt)
+    answering_row answer names size = moving L p s _ k.tables k.here refl refl refl refl refl (one_post L (record { to = sender; kind = answer }) from names size) (λ z. tt)
 
     ended_row : (what : Kind) → All L.name (names_of_kind what) → IsRow L p s (ended_body s sender what)
     ended_row Link h = answering_row _ (atom_names L.name (codes "noproc")) (λ z. atom_small (codes "noproc"))

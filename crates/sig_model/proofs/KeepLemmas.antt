@@ -15,25 +15,36 @@ use Rattle.sig_runs.specs.OnTheWay.{IsHandledNext}
 use Rattle.sig_runs.proofs.Replay.{one_more}
 use Rattle.sig_model.specs.declared.event.Event.{Event}
 use Rattle.sig_model.specs.declared.state.TheConstants.{LAST_STAMP}
-use Rattle.sig_model.specs.ProcessState.{ProcessState}
+use Rattle.sig_model.specs.ProcessState.{ProcessState, owner_of, TableNames}
 use Rattle.sig_model.specs.Bodies.{Body}
 use Rattle.sig_model.specs.Executing.{executing}
 use Rattle.sig_model.specs.Handling.{handling}
 use Rattle.sig_model.specs.Machine.{rules_with}
 use Rattle.sig_model.specs.Running.{Running, opened, exec_next, handle_next}
 use Rattle.sig_model.specs.OneWorker.{arrived}
-use Rattle.sig_model.specs.Names.{TableNames, PostNames}
+use Rattle.sig_model.specs.Names.{PostNames, IsRunningBelow}
 use Rattle.sig_model.specs.Bounds.{IsBounded}
 use Rattle.sig_model.specs.Keeping.{IsToItself, IsLeaving, IsArriving, opening_local, local_of, IsKeeping}
 use Rattle.sig_model.proofs.StampLemmas.{IsFinished, act_finished, numbered_all, stamps_kept}
-use Rattle.sig_model.proofs.RunningNames.{opened_below}
+use Rattle.sig_model.proofs.TableLemmas.{opening_names}
 use Rattle.sig_model.proofs.BodyLemmas.{IsKeptBody}
 use Rattle.sig_model.proofs.ExecutingLemmas.{executing_kept, script_names}
 use Rattle.sig_model.proofs.HandlingLemmas.{handling_kept}
 use Rattle.sig_model.proofs.BoundLemmas.{bounded_opening, finished_bounded}
 use Rattle.sig_model.proofs.EventLemmas.{member_of, IsKept, IsEvent, IsStep, with_event, step_event, event_keeps, own_left_all, taken_in_all}
 
--- the process as the script opens it
+-- the process as the script opens it: every process that is named in it is one of the script's, and it keeps all this
+opened_below : (pid count turns : ℕ) (p : Declared) → pid < count → IsProcBelow count p → IsRunningBelow (opened pid count turns p)
+opened_below pid count turns p lt h = record {
+  pid = lt;
+  proc = h;
+  tables = opening_names (IsNameBelow count) pid lt;
+  handled = All-nil (IsSignalBelow count);
+  own = All-nil (IsSignalBelow count);
+  taken_in = All-nil (IsSignalBelow count);
+  outbox = All-nil (IsSignalBelow count);
+}
+
 pub opened_keeps : (pid count turns : ℕ) (p : Declared) → pid < count → IsWithin p → IsProcBelow count p → IsKeeping (opened pid count turns p)
 opened_keeps pid count turns p lt within h = record {
   below = opened_below pid count turns p lt h;
@@ -147,7 +158,7 @@ module _ (r : Running) where
           };
           ran =
               (one_more rules (stamps_kept r.turns part) r.pid (opening_local r) (local_of r) r.events r.handled (record { input = e.input; effect = e.effect }) k.ran e.can).ran;
-          owner = subst (λ (f : Effect ProcessState Signal Event). f.state.tables.watch.owner ≡ r.pid) did.is (did.holds.owner ∙ k.owner);
+          owner = subst (λ (f : Effect ProcessState Signal Event). owner_of f.state.tables ≡ r.pid) did.is (did.holds.owner ∙ k.owner);
           within = k.within;
           bounds = subst (λ (f : Effect ProcessState Signal Event). IsBounded r.proc f.state) did.is
               (finished_bounded r.proc r.state k.bounds r.pid did.executed did.stamp did.what did.body (did.holds.bounds tt) did.later);

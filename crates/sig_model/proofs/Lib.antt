@@ -5,10 +5,10 @@ pub mod AnyNames
 pub mod ValueNames
 pub mod TermSizeLemmas
 pub mod MatchParts
+pub mod TableLemmas
 pub mod BodyLemmas
 pub mod ExecutingLemmas
 pub mod HandlingLemmas
-pub mod RunningNames
 pub mod BoundLemmas
 pub mod Guards
 pub mod SkipLemmas

@@ -22,12 +22,12 @@ use Rattle.sig_model.specs.Finishing.{finished_exec}
 use Rattle.sig_model.specs.Machine.{execution_of, handling_of, rules_with, rules_of, opening_from, opening_of}
 use Rattle.sig_model.specs.Marking.{IsOther, StandsIn, IsSoundInbox, IsSoundProcess, marking, execution_whole_of, whole_of}
 use Rattle.sig_model.proofs.Lookups.{at_place}
-use Rattle.sig_model.proofs.AnyNames.{Any, any_tables, any_signal, no_part, any_script}
+use Rattle.sig_model.proofs.AnyNames.{Any, any_signal, no_part, any_script}
 use Rattle.sig_model.proofs.BodyLemmas.{IsKeptBody, IsMoved}
 use Rattle.sig_model.proofs.ExecutingLemmas.{IsKeptMade, IsExecuted, executing_kept, executing_moved}
 use Rattle.sig_model.proofs.HandlingLemmas.{IsHandled, handling_kept, handling_moved}
 use Rattle.sig_model.proofs.SkipLemmas.{whole_same}
-use Rattle.sig_model.proofs.RunningNames.{opening_names}
+use Rattle.sig_model.proofs.TableLemmas.{opening_names, any_tables}
 use Rattle.sig_model.proofs.HoldLemmas.{never, process_other, holds_not}
 use Rattle.sig_model.proofs.MarkingLemmas.{arrived_sound, without_sound, emptied_sound, reserved_sound, cleared_sound, bound_sound, no_messages_sound, start_skips}
 use Rattle.sig_model.proofs.FreshLemmas.{IsBodyOf, body_of}

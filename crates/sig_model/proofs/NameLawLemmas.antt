@@ -20,7 +20,7 @@ use Rattle.sig_model.specs.Machine.{execution_of, handling_of, rules_with, openi
 use Rattle.sig_model.specs.Names.{PostNames, BodyNames}
 use Rattle.sig_model.specs.NameLaw.{IsStateBelow, names_below}
 use Rattle.sig_model.proofs.StampLemmas.{numbered_all}
-use Rattle.sig_model.proofs.RunningNames.{opening_names}
+use Rattle.sig_model.proofs.TableLemmas.{opening_names}
 use Rattle.sig_model.proofs.AnyNames.{no_part}
 use Rattle.sig_model.proofs.BodyLemmas.{IsKeptBody}
 use Rattle.sig_model.proofs.ExecutingLemmas.{IsKeptMade, executing_kept, script_names}

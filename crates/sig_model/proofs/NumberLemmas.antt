@@ -11,8 +11,8 @@ use Rattle.sig_runs.specs.Rules.{Effect}
 use Rattle.sig_runs.specs.LocalRun.{Input, CanDo}
 use Rattle.sig_runs.proofs.Replay.{one_more}
 use Rattle.sig_model.specs.declared.event.Event.{Event}
-use Rattle.sig_model.specs.ProcessState.{ProcessState}
-use Rattle.sig_model.specs.Bodies.{Post, Body}
+use Rattle.sig_model.specs.ProcessState.{ProcessState, Post}
+use Rattle.sig_model.specs.Bodies.{Body}
 use Rattle.sig_model.specs.Executing.{executing}
 use Rattle.sig_model.specs.Finishing.{drawn, numbers_after, numbered}
 use Rattle.sig_model.specs.Running.{Running, opened}

@@ -1,5 +1,5 @@
 -- How many of the signals that one event sends are to one peer, and what they do to the next number for it.
-use Rattle.std.proofs.Common.{◌≡◌, ℕ, zero, suc, ◌+◌, ◌≤◌, ◌<◌, List, [], ◌∷◌, ◌++◌, map, length, Bool, true, false, cond, ◌&&◌, ◌==◌, nat_le, nat_lt, None, refl, sym, subst, arith, ap, ◌∙◌}
+use Rattle.std.proofs.Common.{◌≡◌, ℕ, zero, suc, ◌+◌, ◌≤◌, ◌<◌, List, [], ◌∷◌, map, length, Bool, true, false, cond, ◌&&◌, ◌==◌, nat_le, nat_lt, None, refl, sym, subst, arith}
 use Rattle.std.specs.Prelude.{T, slice_index, slice_set}
 use Rattle.std.specs.declared.cmp.Ordering.TheVariants.{Less, Equal, Greater}
 use Rattle.std.specs.Ordering.{nat_cmp, is_lt}
@@ -7,13 +7,11 @@ use Rattle.std.specs.FinMap.{entries, entries_sorted, is_sorted}
 use Rattle.std.specs.FinMap.Entries.{below_all}
 use Rattle.std.proofs.lemmas.Bool.{ltb-true, eqb-true}
 use Rattle.std.proofs.lemmas.Bool.Decides.{nat_tests}
-use Rattle.std.proofs.lemmas.List.{get_or-set_other, length-append}
-use Rattle.std.proofs.lemmas.List.Elements.{filter-append}
-use Rattle.sig_terms.specs.declared.reference.Ref.{Ref}
+use Rattle.std.proofs.lemmas.List.{get_or-set_other}
 use Rattle.sig_terms.specs.declared.term.Term.{Term}
-use Rattle.sig_kinds.specs.declared.signal.Kind.TheVariants.{Exit, Down}
+use Rattle.sig_kinds.specs.declared.signal.Kind.TheVariants.{Exit}
 use Rattle.sig_kinds.specs.LinkRules.{LinkState, active_after}
-use Rattle.sig_model.specs.Bodies.{Post, exits_to, downs_to}
+use Rattle.sig_model.specs.ProcessState.{Post, exits_to}
 use Rattle.sig_model.specs.Bounds.{posts_to}
 use Rattle.sig_model.specs.Finishing.{drawn, numbers_after}
 
@@ -22,10 +20,10 @@ one_more : (b : Bool) (p : Post) (ps : List Post) → length (cond b (p ∷ ps) 
 one_more true p ps = omega arith
 one_more false p ps = omega arith
 
-posts_to-cons : (peer : ℕ) (p : Post) (ps : List Post) → posts_to peer (p ∷ ps) ≡ cond (p.to == peer) 1 0 + posts_to peer ps
+pub posts_to-cons : (peer : ℕ) (p : Post) (ps : List Post) → posts_to peer (p ∷ ps) ≡ cond (p.to == peer) 1 0 + posts_to peer ps
 posts_to-cons peer p ps = one_more (p.to == peer) p _
 
-at_most_one : (b : Bool) (n : ℕ) → n ≡ 0 → cond b 1 0 + n ≤ 1
+pub at_most_one : (b : Bool) (n : ℕ) → n ≡ 0 → cond b 1 0 + n ≤ 1
 at_most_one true n e = omega arith
 at_most_one false n e = omega arith
 
@@ -89,19 +87,5 @@ module _ (reason : Term) (peer : ℕ) where
   once [] h = omega arith
   once (e ∷ es) h = let most : told (e ∷ es) ≤ cond (nat_le e.0 peer) 1 0 = rising e es h in grind (arith, nat_tests)
 
-peers_told_once : (links : LinkState) (reason : Term) (peer : ℕ) → posts_to peer (exits_to (active_after links None) reason) ≤ 1
+pub peers_told_once : (links : LinkState) (reason : Term) (peer : ℕ) → posts_to peer (exits_to (active_after links None) reason) ≤ 1
 peers_told_once links reason peer = once reason peer (entries links.active) (entries_sorted links.active)
-
--- at most one down more for each monitor
-downs_few : (borne : List (Ref × ℕ)) (reason : Term) (peer : ℕ) → posts_to peer (downs_to borne reason) ≤ length borne
-downs_few [] reason peer = omega arith
-downs_few (b ∷ bs) reason peer =
-    let all : posts_to peer (downs_to (b ∷ bs) reason) ≡ cond (b.1 == peer) 1 0 + posts_to peer (downs_to bs reason) = posts_to-cons peer (record { to = b.1; kind = Down b.0 reason }) (downs_to bs reason) in
-    omega (arith, all, downs_few bs reason peer, at_most_one (b.1 == peer) 0 refl)
-
--- a process that ends tells each peer once of the link, and once for each monitor
-pub told_within : (links : LinkState) (borne : List (Ref × ℕ)) (reason : Term) (peer : ℕ) → posts_to peer (exits_to (active_after links None) reason ++ downs_to borne reason) ≤ length borne + 1
-told_within links borne reason peer =
-    let both : posts_to peer (exits_to (active_after links None) reason ++ downs_to borne reason) ≡ posts_to peer (exits_to (active_after links None) reason) + posts_to peer (downs_to borne reason) =
-    ap length (filter-append (λ (q : Post). q.to == peer) (exits_to (active_after links None) reason) (downs_to borne reason)) ∙ length-append _ _ in
-    omega (arith, both, peers_told_once links reason peer, downs_few borne reason peer)

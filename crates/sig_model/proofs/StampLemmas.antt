@@ -13,8 +13,8 @@ use Rattle.sig_model.specs.declared.event.Event.{Event}
 use Rattle.sig_model.specs.declared.event.Did.{Did}
 use Rattle.sig_model.specs.declared.event.Did.TheVariants as did
 use Rattle.sig_model.specs.declared.state.TheConstants.{LAST_STAMP}
-use Rattle.sig_model.specs.ProcessState.{ProcessState}
-use Rattle.sig_model.specs.Bodies.{Post, Body}
+use Rattle.sig_model.specs.ProcessState.{ProcessState, Post}
+use Rattle.sig_model.specs.Bodies.{Body}
 use Rattle.sig_model.specs.Executing.{executing}
 use Rattle.sig_model.specs.Handling.{handling}
 use Rattle.sig_model.specs.Finishing.{drawn, numbered, finished, finished_exec}

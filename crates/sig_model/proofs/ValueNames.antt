@@ -16,7 +16,7 @@ use Rattle.sig_patterns.specs.Environment.{Environment, undefined, value_of_var}
 use Rattle.sig_patterns.specs.Building.{value_of, value_step}
 use Rattle.sig_script.specs.Parts.{expr_pids, pids_of}
 use Rattle.sig_script.proofs.PidLemmas.{pids_of-roll, all_front, all_behind}
-use Rattle.sig_model.specs.Names.{EnvironmentNames}
+use Rattle.sig_model.specs.ProcessState.{EnvironmentNames}
 
 -- P holds of each process that the expression names
 abbrev pub ExprNames : (Named → Type 0) → Expr → Type 0

@@ -2,20 +2,19 @@
 use Rattle.std.specs.Prelude.{ℕ, ◌+◌, ◌≤◌, ◌==◌, List, length, slice_index}
 use Rattle.std.specs.List.{filter}
 use Rattle.sig_script.specs.Scripts.{Declared}
-use Rattle.sig_model.specs.ProcessState.{ProcessState}
-use Rattle.sig_model.specs.Bodies.{Post, Body}
+use Rattle.sig_model.specs.ProcessState.{ProcessState, Post, downs_due}
+use Rattle.sig_model.specs.Bodies.{Body}
 
--- No place lies past the one after the last instruction. An event appends at most one message, begins at
--- most one unlink and makes at most one reference. It
--- sends at most one signal to a peer, but for a process that ends, which tells a peer once for each monitor that it bears of it
--- too: so for each peer the next number and the monitors borne together are at most one above the last stamp.
+-- No place lies past the one after the last instruction. An event appends at most one message, begins at most one unlink and makes
+-- at most one reference. It sends at most one signal to a peer, but for a process that ends, which sends the downs that are due too:
+-- so for each peer the next number and these together are at most one above the last stamp.
 pub record IsBounded (p : Declared) (s : ProcessState) : Type 0 where
   pub first : 1 ≤ s.counts.place
   pub within : s.counts.place ≤ length p.instrs + 1
   pub arrivals : s.tables.inbox.next_arrival ≤ s.counts.stamp + 1
   pub ids : s.tables.links.next_id ≤ s.counts.stamp + 1
   pub serials : s.counts.next_serial ≤ s.counts.stamp + 1
-  pub numbers : (peer : ℕ) → slice_index s.counts.next_numbers peer + length s.tables.watch.borne ≤ s.counts.stamp + 1
+  pub numbers : (peer : ℕ) → slice_index s.counts.next_numbers peer + downs_due s.tables ≤ s.counts.stamp + 1
 
 -- how many of the signals to be sent are to this peer
 abbrev pub posts_to : ℕ → List Post → ℕ
@@ -28,4 +27,4 @@ pub record IsBoundedBody (p : Declared) (s : ProcessState) (b : Body) : Type 0 w
   pub arrivals : b.state.tables.inbox.next_arrival ≤ s.tables.inbox.next_arrival + 1
   pub ids : b.state.tables.links.next_id ≤ s.tables.links.next_id + 1
   pub serials : b.state.counts.next_serial ≤ s.counts.next_serial + 1
-  pub posts : (peer : ℕ) → posts_to peer b.posts + length b.state.tables.watch.borne ≤ length s.tables.watch.borne + 1
+  pub posts : (peer : ℕ) → posts_to peer b.posts + downs_due b.state.tables ≤ downs_due s.tables + 1

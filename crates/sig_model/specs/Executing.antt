@@ -27,8 +27,8 @@ use Rattle.sig_script.specs.Scripts.{Declared}
 use Rattle.sig_model.specs.declared.event.Outcome.TheVariants as outcome
 use Rattle.sig_model.specs.declared.target.Target.{Target}
 use Rattle.sig_model.specs.declared.target.Target.TheVariants as target
-use Rattle.sig_model.specs.ProcessState.{ProcessState}
-use Rattle.sig_model.specs.Bodies.{Post, Body, place_after, at_place, at_next, with_tables, inboxed, relinked, rewatched, going_on, ending, normal, badarg, system_limit}
+use Rattle.sig_model.specs.ProcessState.{ProcessState, owner_of, Post, with_tables, inboxed, relinked, rewatched}
+use Rattle.sig_model.specs.Bodies.{Body, place_after, at_place, at_next, going_on, ending, normal, badarg, system_limit}
 
 -- the value of the expression, where it is small enough to be built
 abbrev pub built : Environment → Expr → Option Term
@@ -118,7 +118,7 @@ trapping s on = record { state = record (at_next s) { traps = on }; outcome = ou
 
 -- the reference that the process makes next: its own, with the next serial
 abbrev pub new_ref : ProcessState → Ref
-new_ref s = record { owner = record { 0 = s.tables.watch.owner }; serial = s.counts.next_serial }
+new_ref s = record { owner = record { 0 = owner_of s.tables }; serial = s.counts.next_serial }
 
 -- the variable gets the new reference, whose serial is used up; and the monitors and aliases become these
 abbrev pub making : ProcessState → List ℕ → WatchState → List Post → Body
@@ -197,7 +197,7 @@ marking s rule r = marked_by s (option_map_or rule r (false, s.tables.inbox))
 
 -- the reserve becomes the mark of the variable's value
 abbrev pub binding : ProcessState → Var → Body
-binding s x = marking s (bound_in s.tables.watch.owner s.tables.inbox) (ref_of_var s.tables.env x)
+binding s x = marking s (bound_in (owner_of s.tables) s.tables.inbox) (ref_of_var s.tables.env x)
 
 -- the mark of the variable's value is taken out
 abbrev pub clearing : ProcessState → Var → Body

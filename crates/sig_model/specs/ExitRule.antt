@@ -5,8 +5,8 @@ use Rattle.sig_terms.specs.declared.term.Term.{Term}
 use Rattle.sig_terms.specs.declared.term.Term.TheVariants as term
 use Rattle.sig_terms.specs.TermTest.{same_term}
 use Rattle.sig_kinds.specs.LinkRules.{is_active, deactivated}
-use Rattle.sig_model.specs.ProcessState.{ProcessState}
-use Rattle.sig_model.specs.Bodies.{Body, relinked, appending, dropping, ending, normal, kill, killed}
+use Rattle.sig_model.specs.ProcessState.{ProcessState, relinked}
+use Rattle.sig_model.specs.Bodies.{Body, appending, dropping, ending, normal, kill, killed}
 
 -- the message of an exit signal of this sender: `{'EXIT',Sender,Reason}`
 abbrev pub exit_message : ℕ → Term → Term

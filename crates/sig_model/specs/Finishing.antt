@@ -8,8 +8,8 @@ use Rattle.sig_runs.specs.Rules.{Effect}
 use Rattle.sig_model.specs.declared.event.Event.{Event}
 use Rattle.sig_model.specs.declared.event.Did.{Did}
 use Rattle.sig_model.specs.declared.event.Did.TheVariants as did
-use Rattle.sig_model.specs.ProcessState.{ProcessState}
-use Rattle.sig_model.specs.Bodies.{Post, Body}
+use Rattle.sig_model.specs.ProcessState.{ProcessState, Post}
+use Rattle.sig_model.specs.Bodies.{Body}
 
 -- the next numbers, after one was drawn for this peer
 abbrev pub drawn : List ℕ → ℕ → List ℕ

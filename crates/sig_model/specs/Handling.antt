@@ -13,8 +13,8 @@ use Rattle.sig_kinds.specs.declared.signal.Signal.{Signal}
 use Rattle.sig_kinds.specs.LinkRules.{LinkState, on_link, on_unlink, on_ack}
 use Rattle.sig_kinds.specs.WatchRules.{WatchState, on_alias_message, on_monitor, on_demonitor, on_down}
 use Rattle.sig_model.specs.declared.event.Outcome.TheVariants as outcome
-use Rattle.sig_model.specs.ProcessState.{ProcessState}
-use Rattle.sig_model.specs.Bodies.{Body, relinked, rewatched, appending, dropping, noproc}
+use Rattle.sig_model.specs.ProcessState.{ProcessState, relinked, rewatched}
+use Rattle.sig_model.specs.Bodies.{Body, appending, dropping, noproc}
 use Rattle.sig_model.specs.ExitRule.{plain_exit, linked_exit}
 use Rattle.sig_model.specs.Executing.{demonitor_posts}
 

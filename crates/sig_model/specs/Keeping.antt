@@ -8,7 +8,7 @@ use Rattle.sig_runs.specs.LocalRun.{Local}
 use Rattle.sig_runs.specs.Replay.{RanAlone}
 use Rattle.sig_model.specs.declared.event.Event.{Event}
 use Rattle.sig_model.specs.declared.state.TheConstants.{LAST_STAMP}
-use Rattle.sig_model.specs.ProcessState.{ProcessState, opening_state}
+use Rattle.sig_model.specs.ProcessState.{ProcessState, owner_of, opening_state}
 use Rattle.sig_model.specs.Machine.{rules_with}
 use Rattle.sig_model.specs.Running.{Running}
 use Rattle.sig_model.specs.Names.{IsRunningBelow}
@@ -52,7 +52,7 @@ pub record IsKeeping (r : Running) : Type 0 where
   -- that it handled (Erlang Reference Manual, Processes, Receiving Signals)
   pub ran : RanAlone (own_rules r) r.pid (opening_local r) r.events r.handled (local_of r)
   -- it makes references of its own
-  pub owner : r.state.tables.watch.owner ≡ r.pid
+  pub owner : owner_of r.state.tables ≡ r.pid
   -- how far its part of the script and its counts go
   pub within : IsWithin r.proc
   pub bounds : IsBounded r.proc r.state

@@ -15,8 +15,7 @@ use Rattle.sig_script.specs.Scripts.{Declared, Program}
 use Rattle.sig_runs.specs.Rules.{Effect}
 use Rattle.sig_runs.specs.Fresh.{Marking}
 use Rattle.sig_model.specs.declared.event.Event.{Event}
-use Rattle.sig_model.specs.ProcessState.{ProcessState}
-use Rattle.sig_model.specs.Names.{TableNames}
+use Rattle.sig_model.specs.ProcessState.{ProcessState, owner_of, TableNames}
 use Rattle.sig_model.specs.Machine.{execution_whole}
 
 -- a name is another one than the reference
@@ -53,7 +52,7 @@ pub record IsSoundInbox (owner : ℕ) (inbox : Inbox) : Type 0 where
 
 -- the process pid, which makes references of its own
 pub record IsSoundProcess (pid : ℕ) (s : ProcessState) : Type 0 where
-  pub owner : s.tables.watch.owner ≡ pid
+  pub owner : owner_of s.tables ≡ pid
   pub inbox : IsSoundInbox pid s.tables.inbox
 
 -- what the theory of runs from marks reads

@@ -5,8 +5,7 @@ use Rattle.sig_terms.specs.Names.{IsNameBelow}
 use Rattle.sig_kinds.specs.declared.signal.Signal.{Signal}
 use Rattle.sig_kinds.specs.SignalNames.{IsSignalBelow}
 use Rattle.sig_runs.specs.Everywhere.{Facts}
-use Rattle.sig_model.specs.ProcessState.{ProcessState}
-use Rattle.sig_model.specs.Names.{TableNames}
+use Rattle.sig_model.specs.ProcessState.{ProcessState, TableNames}
 
 -- the process pid is one of so many, and so is each process that is named in its tables, the owner of a reference too
 pub record IsStateBelow (count pid : ℕ) (s : ProcessState) : Type 0 where

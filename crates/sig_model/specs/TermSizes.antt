@@ -13,8 +13,8 @@ use Rattle.sig_patterns.specs.Environment.{Environment}
 use Rattle.sig_runs.specs.Everywhere.{Facts}
 use Rattle.sig_model.specs.declared.event.Outcome.{Outcome}
 use Rattle.sig_model.specs.declared.event.Outcome.TheVariants.{Sent, Set, Took, Ended, Kept}
-use Rattle.sig_model.specs.ProcessState.{Tables, ProcessState}
-use Rattle.sig_model.specs.Bodies.{Post, Body}
+use Rattle.sig_model.specs.ProcessState.{Tables, ProcessState, Post}
+use Rattle.sig_model.specs.Bodies.{Body}
 
 -- at most so many nodes, and at most so deep
 pub record IsNoLarger (most deepest : ℕ) (t : Term) : Type 0 where

@@ -15,8 +15,7 @@ use Rattle.sig_inner.specs.InnerQueue.{bound as bound_queue}
 use Rattle.sig_inner.specs.Receiving.{forgotten}
 use Rattle.sig_model.specs.declared.event.Event.{Event}
 use Rattle.sig_model.specs.declared.event.Did.TheVariants as did
-use Rattle.sig_model.specs.ProcessState.{ProcessState}
-use Rattle.sig_model.specs.Bodies.{Post}
+use Rattle.sig_model.specs.ProcessState.{ProcessState, Post}
 use Rattle.sig_model.specs.Finishing.{numbered, finished_exec}
 use Rattle.sig_model.specs.Running.{to_itself, to_others}
 use Rattle.sig_process.specs.declared.plan.Execution.{Execution}

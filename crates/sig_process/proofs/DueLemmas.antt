@@ -1,10 +1,11 @@
 -- What a planned event needs so that it may happen.
-use Rattle.std.proofs.Common.{◌≡◌, ℕ, ◌+◌, ◌-◌, ◌<◌, ◌≤◌, ◌^◌, List, length, map, Option, Some, refl, ap, ◌∙◌, subst, arith}
+use Rattle.std.proofs.Common.{◌≡◌, ℕ, ◌+◌, ◌-◌, ◌<◌, ◌≤◌, ◌^◌, List, map, Option, Some, refl, ap, ◌∙◌, subst, arith}
 use Rattle.std.specs.Prelude.{IfSome, slice_get}
 use Rattle.std.specs.Option.{option_map}
 use Rattle.sig_kinds.specs.declared.signal.Signal.{Signal}
 use Rattle.sig_script.specs.Scripts.{Declared}
 use Rattle.sig_model.specs.declared.state.TheConstants.{LAST_STAMP}
+use Rattle.sig_model.specs.ProcessState.{downs_due}
 use Rattle.sig_model.specs.Bodies.{Body}
 use Rattle.sig_model.specs.Bounds.{IsBounded, IsBoundedBody, posts_to}
 use Rattle.sig_model.specs.Executing.{from_mark, executing, exec_body}
@@ -25,8 +26,8 @@ use Rattle.sig_process.specs.Executions.{IsExecDue, IsHandleDue}
 low : LAST_STAMP + 1 < 2 ^ 63
 low = omega arith
 
--- to each peer at most one signal more is sent than monitors are borne
-pub committable : (proc : Declared) (p : Progress) (posts : List Outgoing) → IsBounded proc (state_of p) → p.counts.stamp < LAST_STAMP → ((peer : ℕ) → posts_to peer (map post_of posts) ≤ length p.tables.watch.watch.borne + 1) →
+-- to each peer at most one signal more is sent than downs are due
+pub committable : (proc : Declared) (p : Progress) (posts : List Outgoing) → IsBounded proc (state_of p) → p.counts.stamp < LAST_STAMP → ((peer : ℕ) → posts_to peer (map post_of posts) ≤ downs_due (state_of p).tables + 1) →
     IsCommittable posts p
 committable proc p posts k lt few = record {
   stamp = lt;

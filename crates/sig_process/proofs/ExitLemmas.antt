@@ -9,8 +9,7 @@ use Rattle.sig_watch.specs.Arrivals.{by_number}
 use Rattle.sig_kinds.specs.declared.signal.Kind.TheVariants as kind
 use Rattle.sig_kinds.specs.LinkRules.{active_after}
 use Rattle.sig_links.proofs.Remaining.{other_than, left_active}
-use Rattle.sig_model.specs.ProcessState.{ProcessState}
-use Rattle.sig_model.specs.Bodies.{Post, exits_to, downs_to}
+use Rattle.sig_model.specs.ProcessState.{ProcessState, Post, exits_to, downs_to}
 use Rattle.sig_process.specs.declared.plan.Outgoing.{Outgoing}
 use Rattle.sig_process.specs.Plans.{after_obeying, post_of}
 

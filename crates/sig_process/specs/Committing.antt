@@ -11,8 +11,7 @@ use Rattle.sig_model.specs.declared.event.Event.{Event}
 use Rattle.sig_model.specs.declared.event.Did.TheVariants as did
 use Rattle.sig_model.specs.declared.event.Outcome.TheVariants as outcome
 use Rattle.sig_model.specs.declared.state.TheConstants.{LAST_STAMP}
-use Rattle.sig_model.specs.ProcessState.{ProcessState}
-use Rattle.sig_model.specs.Bodies.{Post}
+use Rattle.sig_model.specs.ProcessState.{ProcessState, Post}
 use Rattle.sig_model.specs.Bounds.{posts_to}
 use Rattle.sig_model.specs.Finishing.{numbers_after}
 use Rattle.sig_model.specs.Running.{to_itself, to_others, next_of}

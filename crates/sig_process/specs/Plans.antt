@@ -7,8 +7,8 @@ use Rattle.sig_patterns.specs.Environment.{Environment}
 use Rattle.sig_kinds.specs.LinkRules.{link, unlink, on_link, on_unlink, on_ack, deactivated}
 use Rattle.sig_kinds.specs.WatchRules.{monitor, demonitor, alias, unalias, on_alias_message, on_monitor, on_demonitor, on_down}
 use Rattle.sig_patterns.specs.Inbox.{Inbox, arrived_in, flushed_down, reserved, bound_in, cleared_in}
-use Rattle.sig_model.specs.ProcessState.{ProcessState}
-use Rattle.sig_model.specs.Bodies.{Post, Body, at_place, with_tables, inboxed, relinked, rewatched, ended_tables}
+use Rattle.sig_model.specs.ProcessState.{ProcessState, owner_of, Post, with_tables, inboxed, relinked, rewatched, ended_tables}
+use Rattle.sig_model.specs.Bodies.{Body, at_place}
 use Rattle.sig_process.specs.declared.plan.Outgoing.{Outgoing}
 use Rattle.sig_process.specs.declared.changing.Change.{Change}
 use Rattle.sig_process.specs.declared.changing.Change.TheVariants.{Nothing, Link, Unlink, Trap, Append, LinkUp, UnlinkBy, Acknowledge, Monitor, Demonitor, Alias, Unalias, Watched, Unwatched, ThroughAlias, ToldDown, End}
@@ -82,4 +82,4 @@ arranged owner b change = record b { state = inboxed b.state (inbox_by owner b.s
 
 -- what the execution does
 abbrev pub executed_body : ProcessState → Execution → Body
-executed_body s x = placed (arranged s.tables.watch.owner (body_of (bound s x.binding) x.plan) x.inbox) x.place
+executed_body s x = placed (arranged (owner_of s.tables) (body_of (bound s x.binding) x.plan) x.inbox) x.place

@@ -1,7 +1,8 @@
 ghost use Rattle.std.specs.Prelude.{◌≡◌, ◌++◌, true, None, IfOk, map};
 ghost use Rattle.sig_terms.specs.Words.{is_atom};
 ghost use Rattle.sig_kinds.specs.LinkRules.{active_after};
-ghost use Rattle.sig_model.specs.Bodies.{exits_to, downs_to, ending};
+ghost use Rattle.sig_model.specs.ProcessState.{exits_to, downs_to};
+ghost use Rattle.sig_model.specs.Bodies.{ending};
 ghost use Rattle.sig_process.specs.Plans.{after_obeying, post_of, body_of, executed_body};
 ghost use Rattle.sig_process.specs.Progressing.{state_of};
 

@@ -1,6 +1,6 @@
 use Rattle.std.proofs.Common.{◌≡◌, ◌++◌, map}
 use Rattle.sig_watch.specs.Arrivals.{by_number}
-use Rattle.sig_model.specs.Bodies.{downs_to}
+use Rattle.sig_model.specs.ProcessState.{downs_to}
 use Rattle.sig_process.specs.Plans.{post_of}
 use Rattle.sig_process.proofs.progress.Progress.downs.Given as goal
 

@@ -1,6 +1,6 @@
 use Rattle.std.proofs.Common.{◌≡◌, ◌++◌, map, length, None}
 use Rattle.sig_kinds.specs.LinkRules.{active_after}
-use Rattle.sig_model.specs.Bodies.{exits_to}
+use Rattle.sig_model.specs.ProcessState.{exits_to}
 use Rattle.sig_process.specs.Plans.{post_of}
 use Rattle.sig_process.proofs.ExitLemmas.{others}
 use Rattle.sig_process.proofs.progress.Progress.exits.Given as goal
