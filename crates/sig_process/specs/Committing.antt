@@ -20,15 +20,13 @@ use Rattle.sig_process.specs.declared.changing.Change.TheVariants.{Append, Throu
 use Rattle.sig_process.specs.declared.plan.Outgoing.{Outgoing}
 use Rattle.sig_process.specs.declared.progress.Progress.{Progress}
 use Rattle.sig_process.specs.Plans.{post_of}
-use Rattle.sig_process.specs.Progressing.{state_of}
+use Rattle.sig_process.specs.Progressing.{state_of, HaveRoom}
 
 -- there is room for all that an event may change, with so many signals to be sent
 pub record HasRoom (posts : ℕ) (p : Progress) : Type 0 where
   pub own : posts ≤ p.own.spare
   pub outbox : posts ≤ p.outbox.spare
-  pub inner : 0 < p.tables.inner.spare
-  pub links : 0 < p.tables.links.spare
-  pub watch : 0 < p.tables.watch.spare
+  pub tables : HaveRoom p.tables
 
 -- no count of the process is at its end, nor will be after it has sent these
 pub record IsCommittable (posts : List Outgoing) (p : Progress) : Type 0 where

@@ -1,5 +1,5 @@
 -- What the fields of a process mean.
-use Rattle.std.specs.Prelude.{◌≡◌, ℕ, ◌++◌, [], ◌∷◌}
+use Rattle.std.specs.Prelude.{◌≡◌, ℕ, ◌<◌, ◌++◌, [], ◌∷◌}
 use Rattle.sig_kinds.specs.declared.signal.Signal.{Signal}
 use Rattle.sig_script.specs.Scripts.{Declared}
 use Rattle.sig_runs.specs.Rules.{Effect}
@@ -20,6 +20,12 @@ tables_of t = record {
   watch = t.watch.watch;
   end = t.end;
 }
+
+-- there is room in each of the tables for what one event may change
+pub record HaveRoom (t : Kept) : Type 0 where
+  pub inner : 0 < t.inner.spare
+  pub links : 0 < t.links.spare
+  pub watch : 0 < t.watch.spare
 
 -- the state of the process
 abbrev pub state_of : Progress → ProcessState

@@ -4,7 +4,7 @@ ghost use Rattle.std.specs.Prelude.{◌≡◌, ◌<◌, ◌≤◌, ◌^◌, Matc
 ghost use Rattle.sig_inner.specs.InnerQueue.{appended};
 ghost use Rattle.sig_process.specs.Committing.{KeepsRest, queue_after};
 ghost use Rattle.sig_process.specs.Plans.{bound_by, serial_by, inbox_by, changed, after_obeying};
-ghost use Rattle.sig_process.specs.Progressing.{state_of};
+ghost use Rattle.sig_process.specs.Progressing.{state_of, HaveRoom};
 
 use crate::plan::{Binding, InboxChange};
 use crate::progress::Progress;
@@ -118,11 +118,9 @@ impl Progress {
     /// The link of an exit signal that is obeyed ends.
     pub(crate) fn obey(&mut self, peer: Option<Pid>)
         ensures state { state_of self.new ≡ after_obeying (state_of self.old) peer }
-        ensures inner { self.new.tables.inner ≡ self.old.tables.inner }
         ensures links { self.old.tables.links.spare ≤ self.new.tables.links.spare }
-        ensures watch { self.new.tables.watch ≡ self.old.tables.watch }
         ensures ids { self.new.tables.links.links.next_id ≡ self.old.tables.links.links.next_id }
-        ensures rest { KeepsRest self.old self.new }
+        ensures rest { self.new ≡ record self.old { tables = record self.old.tables { links = self.new.tables.links } } }
     {
         if let Some(peer) = peer {
             self.tables.links.on_exit(peer);
@@ -167,9 +165,7 @@ impl Progress {
 
     /// Makes a change for which there is room.
     pub(crate) fn change(&mut self, change: Change)
-        requires inner { 0 < self.old.tables.inner.spare }
-        requires links { 0 < self.old.tables.links.spare }
-        requires watch { 0 < self.old.tables.watch.spare }
+        requires room { HaveRoom self.old.tables }
         requires arrivals { self.old.tables.inner.queue.inbox.next_arrival < 2 ^ 63 }
         requires ids { self.old.tables.links.links.next_id < 2 ^ 63 }
         ensures state { state_of self.new ≡ changed (state_of self.old) change }

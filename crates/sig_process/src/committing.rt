@@ -31,9 +31,7 @@ impl Progress {
         self.own.room(posts)?;
         self.outbox.room(posts)?;
         self.handled.room(1)?;
-        self.tables.inner.room()?;
-        self.tables.links.room()?;
-        self.tables.watch.room()
+        self.tables.room()
     }
 
     /// Makes all room, and notes the event. Where memory is refused all but the room is as before.

@@ -1,7 +1,7 @@
-ghost use Rattle.std.specs.Prelude.{◌≡◌, IfOk};
+ghost use Rattle.std.specs.Prelude.{◌≡◌, IfOk, OnOk};
 ghost use Rattle.sig_inner.specs.InnerQueue.{opened as no_queue};
 ghost use Rattle.sig_model.specs.ProcessState.{opening_tables};
-ghost use Rattle.sig_process.specs.Progressing.{tables_of};
+ghost use Rattle.sig_process.specs.Progressing.{tables_of, HaveRoom};
 
 use sig_inner::Inner;
 use sig_kinds::Signals;
@@ -40,6 +40,18 @@ impl Tables {
             watch: Watch::open(alloc, pid),
             end: None,
         })
+    }
+
+    /// Makes room in each table for what one event may change. The error is want of memory. What the
+    /// tables hold is as before in both cases.
+    pub(crate) fn room(&mut self) -> Result<(), AllocError>
+        ensures same { tables_of self.new ≡ tables_of self.old }
+        ensures queue { self.new.inner.queue ≡ self.old.inner.queue }
+        ensures room { OnOk result (HaveRoom self.new) }
+    {
+        self.inner.room()?;
+        self.links.room()?;
+        self.watch.room()
     }
 }
 
