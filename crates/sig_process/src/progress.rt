@@ -1,14 +1,17 @@
-ghost use Rattle.std.specs.Prelude.{◌≡◌, IfOk, OnOk};
+ghost use Rattle.std.specs.Prelude.{◌≡◌, ◌++◌, true, None, IfOk, OnOk, map};
 ghost use Rattle.sig_inner.specs.InnerQueue.{opened as no_queue};
-ghost use Rattle.sig_model.specs.ProcessState.{opening_tables};
-ghost use Rattle.sig_process.specs.Progressing.{tables_of, HaveRoom};
+ghost use Rattle.sig_kinds.specs.LinkRules.{active_after};
+ghost use Rattle.sig_model.specs.ProcessState.{opening_tables, exits_to, downs_to};
+ghost use Rattle.sig_process.specs.Plans.{after_obeying, post_of};
+ghost use Rattle.sig_process.specs.Progressing.{tables_of, state_of, HaveRoom};
 
+use crate::plan::Outgoing;
 use sig_inner::Inner;
-use sig_kinds::Signals;
+use sig_kinds::{Kind, Signals};
 use sig_links::Links;
 use sig_model::Events;
 use sig_patterns::Env;
-use sig_terms::{Pid, Term};
+use sig_terms::{Pid, Ref, Term};
 use sig_watch::Watch;
 use std::alloc::{AllocError, Global};
 
@@ -89,4 +92,74 @@ pub(crate) struct Progress {
     pub taken_in: Signals,
     /// The signals that it has sent to others and that were not fetched yet.
     pub outbox: Signals,
+}
+
+/// An exit signal of a link, with a copy of the reason.
+fn exit_to(alloc: Global, peer: Pid, reason: &Term) -> Result<Outgoing, AllocError>
+    ensures { IfOk result (λ exit. exit ≡ record { to = peer; kind = Kind.Exit reason.now true }) }
+{
+    let reason = reason.copy(alloc)?;
+    let kind = Kind::Exit {
+        reason,
+        linked: true,
+    };
+    Ok(Outgoing { to: peer, kind })
+}
+
+/// A down of the monitor of this reference, with a copy of the reason.
+fn down_to(
+    alloc: Global,
+    watcher: Pid,
+    reference: Ref,
+    reason: &Term,
+) -> Result<Outgoing, AllocError>
+    ensures { IfOk result (λ down. down ≡ record { to = watcher; kind = Kind.Down reference reason.now }) }
+{
+    let reason = reason.copy(alloc)?;
+    Ok(Outgoing {
+        to: watcher,
+        kind: Kind::Down { reference, reason },
+    })
+}
+
+// What is told of each table at the end of the process.
+impl Progress {
+    /// An exit signal to the peer of each active link, by ascending pid. The link of an exit signal
+    /// that is obeyed is active no more.
+    pub(crate) fn exits(
+        &self,
+        obeyed: Option<Pid>,
+        reason: &Term,
+    ) -> Result<Vec<Outgoing>, AllocError>
+        ensures { IfOk result (λ posts. map post_of posts.items ≡ exits_to (active_after (after_obeying (state_of self.now) obeyed).tables.links None) reason.now) }
+    {
+        let mut exits = Vec::new(self.alloc);
+        let mut after = None;
+        while let Some(peer) = self.tables.links.next_active(after) {
+            if obeyed != Some(peer) {
+                let exit = exit_to(self.alloc, peer, reason)?;
+                exits.push(exit)?;
+            }
+            after = Some(peer);
+        }
+        Ok(exits)
+    }
+
+    /// Behind these signals, a down to each process that monitors this one, in the order of their
+    /// monitors' arrival.
+    pub(crate) fn downs(
+        &self,
+        before: Vec<Outgoing>,
+        reason: &Term,
+    ) -> Result<Vec<Outgoing>, AllocError>
+        ensures { IfOk result (λ posts. map post_of posts.items ≡ map post_of before.items ++ downs_to self.now.tables.watch.watch.borne reason.now) }
+    {
+        let mut posts = before;
+        let borne = self.tables.watch.all_borne(self.alloc)?;
+        for monitor in borne {
+            let down = down_to(self.alloc, monitor.1, monitor.0, reason)?;
+            posts.push(down)?;
+        }
+        Ok(posts)
+    }
 }
