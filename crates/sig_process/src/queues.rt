@@ -80,13 +80,15 @@ impl Process {
         self.progress.outbox.pop_front()
     }
 
-    /// Takes the signals that it has sent to others, the oldest first. Each may arrive at its
+    /// Moves the signals that it has sent to others into the empty list, the oldest first. It takes no
+    /// memory: the outbox has that list's room from then on. Each of the signals may arrive at its
     /// receiver.
-    pub fn take_outbox(&mut self) -> Signals
-        ensures signals { result.items ≡ self.old.running.outbox }
+    pub fn take_outbox(&mut self, into: &mut Signals)
+        requires { into.old.items ≡ [] }
+        ensures signals { into.new.items ≡ self.old.running.outbox }
         ensures rest { self.new ≡ record self.old { running = record self.old.running { outbox = [] } } }
-        ensures arriving { All (λ signal. IsArriving signal.to.0 self.old.running.count signal) result.items }
+        ensures arriving { All (λ signal. IsArriving signal.to.0 self.old.running.count signal) into.new.items }
     {
-        mem::replace(&mut self.progress.outbox, Signals::new(self.progress.alloc))
+        mem::swap(&mut self.progress.outbox, into);
     }
 }

@@ -1,12 +1,11 @@
 -- Signals are delivered to the processes of a crew at their places.
 use Rattle.std.proofs.Common.{◌≡◌, ℕ, ◌<◌, List, [], ◌∷◌, length, Some, refl, sym, ap, ◌∙◌, subst, slice_get, set}
-use Rattle.std.specs.Prelude.{All, IfOk, IfSome, OnOk, Result, Ok, Err, get_or}
+use Rattle.std.specs.Prelude.{All, IfSome, OnOk, Result, Ok, Err, get_or}
 use Rattle.std.specs.Option.{option_map}
 use Rattle.std.proofs.lemmas.List.{length-map, map-set}
 use Rattle.std.proofs.lemmas.List.Elements.{All-head, All-tail}
 use Rattle.std.proofs.lemmas.Option.{slice_get-get_or, slice_get-map}
 use Rattle.sig_kinds.specs.declared.signal.Signal.{Signal}
-use Rattle.sig_kinds.specs.SignalList.{SignalList}
 use Rattle.sig_model.specs.Running.{Running}
 use Rattle.sig_model.specs.Keeping.{IsArriving, IsPlaced}
 use Rattle.sig_model.specs.OneWorker.{visited, arrived, deliver_to, deliver_all}
@@ -57,12 +56,12 @@ module _ (procs : List Standing) (at : ℕ) (p : Standing) (lt : at < length pro
   may_arrive x placed h = subst (λ n. IsArriving n p.running.count x) (sym (here placed).0) (subst (λ n. IsArriving at n x) (sym (here placed).1) h)
 
   -- it was visited
-  pub visit_done : {E : Type 0} (o : Result SignalList E) (q : Standing) → OnOk o (q.running ≡ record (visited p.running) { outbox = [] }) → IfOk o (λ s. s.items ≡ (visited p.running).outbox) →
-      IfOk o (λ s. IfSome (slice_get crew at) (λ r. (runnings_of (set procs at q) ≡ set crew at (record (visited r) { outbox = [] })) × (s.items ≡ (visited r).outbox)))
-  visit_done (Ok s) q e h =
-      subst (λ o. IfSome o (λ r. (runnings_of (set procs at q) ≡ set crew at (record (visited r) { outbox = [] })) × (s.items ≡ (visited r).outbox))) (sym there)
+  pub visit_done : {T E : Type 0} (o : Result T E) (q : Standing) (sent : List Signal) → OnOk o (q.running ≡ record (visited p.running) { outbox = [] }) → OnOk o (sent ≡ (visited p.running).outbox) →
+      OnOk o (IfSome (slice_get crew at) (λ r. (runnings_of (set procs at q) ≡ set crew at (record (visited r) { outbox = [] })) × (sent ≡ (visited r).outbox)))
+  visit_done (Ok t) q sent e h =
+      subst (λ o. IfSome o (λ r. (runnings_of (set procs at q) ≡ set crew at (record (visited r) { outbox = [] })) × (sent ≡ (visited r).outbox))) (sym there)
       (replaced q (record (visited p.running) { outbox = [] }) e, h)
-  visit_done (Err f) q e h = tt
+  visit_done (Err f) q sent e h = tt
 
   pub visit_placed : {T E : Type 0} (o : Result T E) (q : Standing) → OnOk o (q.running ≡ record (visited p.running) { outbox = [] }) → IsPlaced crew → OnOk o (IsPlaced (runnings_of (set procs at q)))
   visit_placed (Ok t) q e placed =
@@ -71,9 +70,9 @@ module _ (procs : List Standing) (at : ℕ) (p : Standing) (lt : at < length pro
       (set_placed crew at p.running (record (visited p.running) { outbox = [] }) there (record { pid = s.pid; count = s.count }) placed)
   visit_placed (Err f) q e placed = tt
 
-  pub visit_arriving : {E : Type 0} (o : Result SignalList E) → IsPlaced crew → IfOk o (λ s. AreArriving p.running.count s.items) → IfOk o (λ s. AreArriving (length procs) s.items)
-  visit_arriving (Ok s) placed h = subst (λ n. AreArriving n s.items) (here placed).1 h
-  visit_arriving (Err f) placed h = tt
+  pub visit_arriving : {T E : Type 0} (o : Result T E) (sent : List Signal) → IsPlaced crew → OnOk o (AreArriving p.running.count sent) → OnOk o (AreArriving (length procs) sent)
+  visit_arriving (Ok t) sent placed h = subst (λ n. AreArriving n sent) (here placed).1 h
+  visit_arriving (Err f) sent placed h = tt
 
 -- the signal has arrived at its receiver
 module _ (procs : List Standing) (x : Signal) (p : Standing) (lt : x.to.0 < length procs) (is : p ≡ get_or procs x.to.0 p) (q : Standing) (e : q.running ≡ arrived p.running x) where

@@ -1,4 +1,4 @@
-ghost use Rattle.std.specs.Prelude.{◌≡◌, ◌<◌, IfOk, OnOk, true, vec_len};
+ghost use Rattle.std.specs.Prelude.{◌≡◌, ◌<◌, [], IfOk, OnOk, true, vec_len};
 ghost use Rattle.sig_script.specs.Scripts.{Program};
 ghost use Rattle.sig_model.specs.Keeping.{IsPlaced};
 ghost use Rattle.sig_model.specs.CrewLaw.{IsLawfulCrew};
@@ -8,23 +8,31 @@ ghost use Rattle.sig_workers.specs.Room.{room};
 
 use crate::visiting::visit_counted;
 use sig_base::Steps;
+use sig_kinds::Signals;
 use sig_process::{Crew, Process};
 use std::alloc::AllocError;
 use std::marker::Brand;
 use std::sync::ledger::{Blank, Ledger};
 
-/// A pass over all processes, by ascending pid. Tells whether it had an event.
-fn pass_all<L: Ledger>(procs: &mut Vec<Process>, steps: &mut Steps<L>) -> Result<bool, AllocError>
-    requires { IsPlaced (runnings_of procs.old.items) }
+/// A pass over all processes, by ascending pid. Tells whether it had an event. What is sent lies in
+/// the list on its way, which is empty before and after.
+fn pass_all<L: Ledger>(
+    procs: &mut Vec<Process>,
+    sent: &mut Signals,
+    steps: &mut Steps<L>,
+) -> Result<bool, AllocError>
+    requires placed { IsPlaced (runnings_of procs.old.items) }
+    requires empty { sent.old.items ≡ [] }
     ensures pass { IfOk result (λ moved. (runnings_of procs.new.items, moved) ≡ pass (runnings_of procs.old.items)) }
     ensures placed { OnOk result (IsPlaced (runnings_of procs.new.items)) }
+    ensures empty { OnOk result (sent.new.items ≡ []) }
     ensures clear { IsClear (runnings_of procs.old.items) → OnOk result (IsClear (runnings_of procs.new.items)) }
     ensures falls { IfOk result (λ moved. moved ≡ true → room (runnings_of procs.new.items) < room (runnings_of procs.old.items)) }
     ensures len { vec_len procs.new ≡ vec_len procs.old }
 {
     let mut moved = false;
     for at in 0..procs.len() {
-        let here = visit_counted(procs, at, steps)?;
+        let here = visit_counted(procs, at, sent, steps)?;
         moved |= here;
     }
     Ok(moved)
@@ -43,8 +51,9 @@ fn run_passes<L: Ledger>(blank: Blank, crew: Crew) -> Result<Crew, AllocError>
 {
     let mut steps: Steps<L> = Steps::open(blank);
     let mut procs = crew.procs;
+    let mut sent = Signals::new(*procs.allocator());
     loop {
-        if !pass_all(&mut procs, &mut steps)? {
+        if !pass_all(&mut procs, &mut sent, &mut steps)? {
             return Ok(Crew { procs });
         }
     }

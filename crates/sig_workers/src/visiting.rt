@@ -62,11 +62,12 @@ fn deliver_one(procs: &mut Vec<Process>, signal: Signal) -> Result<(), AllocErro
 
 /// Each of the signals joins those that wait for its receiver.
 #[tactic(auto, unfolding(sig_model::specs::OneWorker::deliver_all))]
-fn deliver_each(procs: &mut Vec<Process>, mut signals: Signals) -> Result<(), AllocError>
+fn deliver_each(procs: &mut Vec<Process>, signals: &mut Signals) -> Result<(), AllocError>
     requires placed { IsPlaced (runnings_of procs.old.items) }
-    requires arriving { All (λ x. IsArriving x.to.0 (length procs.old.items) x) signals.items }
-    ensures procs { OnOk result (runnings_of procs.new.items ≡ deliver_all signals.items (runnings_of procs.old.items)) }
+    requires arriving { All (λ x. IsArriving x.to.0 (length procs.old.items) x) signals.old.items }
+    ensures procs { OnOk result (runnings_of procs.new.items ≡ deliver_all signals.old.items (runnings_of procs.old.items)) }
     ensures placed { OnOk result (IsPlaced (runnings_of procs.new.items)) }
+    ensures empty { OnOk result (signals.new.items ≡ []) }
     ensures len { vec_len procs.new ≡ vec_len procs.old }
 {
     while let Some(signal) = signals.pop_front() {
@@ -75,51 +76,60 @@ fn deliver_each(procs: &mut Vec<Process>, mut signals: Signals) -> Result<(), Al
     Ok(())
 }
 
-/// Visits the process, and takes what it has sent to others.
+/// Visits the process, and takes what it has sent to others into the empty list.
 fn visit_and_take<L: Ledger>(
     process: &mut Process,
+    sent: &mut Signals,
     steps: &mut Steps<L>,
-) -> Result<Signals, AllocError>
+) -> Result<(), AllocError>
+    requires empty { sent.old.items ≡ [] }
     ensures process { OnOk result (process.new.running ≡ record (visited process.old.running) { outbox = [] }) }
-    ensures signals { IfOk result (λ signals. signals.items ≡ (visited process.old.running).outbox) }
-    ensures arriving { IfOk result (λ signals. All (λ x. IsArriving x.to.0 process.old.running.count x) signals.items) }
+    ensures sent { OnOk result (sent.new.items ≡ (visited process.old.running).outbox) }
+    ensures arriving { OnOk result (All (λ x. IsArriving x.to.0 process.old.running.count x) sent.new.items) }
 {
     visit_process(process, steps)?;
-    Ok(process.take_outbox())
+    process.take_outbox(sent);
+    Ok(())
 }
 
-/// Visits the process at this place, and takes what it has sent to others.
+/// Visits the process at this place, and takes what it has sent to others into the empty list.
 fn visit_at<L: Ledger>(
     procs: &mut Vec<Process>,
     at: usize,
-    steps: &mut Steps<L>,
-) -> Result<Signals, AllocError>
-    requires within { at < vec_len procs.old }
-    requires placed { IsPlaced (runnings_of procs.old.items) }
-    ensures visit { IfOk result (λ signals. IfSome (slice_get (runnings_of procs.old.items) at) (λ r.
-        (runnings_of procs.new.items ≡ slice_set (runnings_of procs.old.items) at (record (visited r) { outbox = [] })) × (signals.items ≡ (visited r).outbox))) }
-    ensures placed { OnOk result (IsPlaced (runnings_of procs.new.items)) }
-    ensures arriving { IfOk result (λ signals. All (λ x. IsArriving x.to.0 (length procs.old.items) x) signals.items) }
-    ensures len { vec_len procs.new ≡ vec_len procs.old }
-{
-    visit_and_take(&mut procs[at], steps)
-}
-
-/// Visits the process at this place, and delivers what it sends.
-#[tactic(auto, unfolding(sig_model::specs::OneWorker::visit))]
-fn visit_one<L: Ledger>(
-    procs: &mut Vec<Process>,
-    at: usize,
+    sent: &mut Signals,
     steps: &mut Steps<L>,
 ) -> Result<(), AllocError>
     requires within { at < vec_len procs.old }
     requires placed { IsPlaced (runnings_of procs.old.items) }
-    ensures visit { OnOk result (runnings_of procs.new.items ≡ visit at (runnings_of procs.old.items)) }
+    requires empty { sent.old.items ≡ [] }
+    ensures visit { OnOk result (IfSome (slice_get (runnings_of procs.old.items) at) (λ r.
+        (runnings_of procs.new.items ≡ slice_set (runnings_of procs.old.items) at (record (visited r) { outbox = [] })) × (sent.new.items ≡ (visited r).outbox))) }
     ensures placed { OnOk result (IsPlaced (runnings_of procs.new.items)) }
+    ensures arriving { OnOk result (All (λ x. IsArriving x.to.0 (length procs.old.items) x) sent.new.items) }
     ensures len { vec_len procs.new ≡ vec_len procs.old }
 {
-    let signals = visit_at(procs, at, steps)?;
-    deliver_each(procs, signals)
+    visit_and_take(&mut procs[at], sent, steps)
+}
+
+/// Visits the process at this place, and delivers what it sends. The list in which that lies on its
+/// way is empty before and after.
+#[tactic(auto, unfolding(sig_model::specs::OneWorker::visit))]
+fn visit_one<L: Ledger>(
+    procs: &mut Vec<Process>,
+    at: usize,
+    sent: &mut Signals,
+    steps: &mut Steps<L>,
+) -> Result<(), AllocError>
+    requires within { at < vec_len procs.old }
+    requires placed { IsPlaced (runnings_of procs.old.items) }
+    requires empty { sent.old.items ≡ [] }
+    ensures visit { OnOk result (runnings_of procs.new.items ≡ visit at (runnings_of procs.old.items)) }
+    ensures placed { OnOk result (IsPlaced (runnings_of procs.new.items)) }
+    ensures empty { OnOk result (sent.new.items ≡ []) }
+    ensures len { vec_len procs.new ≡ vec_len procs.old }
+{
+    visit_at(procs, at, sent, steps)?;
+    deliver_each(procs, sent)
 }
 
 fn count_events(procs: &[Process], at: usize) -> usize
@@ -142,17 +152,20 @@ fn is_idle_at(procs: &[Process], at: usize) -> bool
 }
 
 /// Visits the process at this place, and tells whether that had an event. One that has nothing to do
-/// is passed over.
+/// is passed over. What it sends lies in the list on its way, which keeps its room for the next visit.
 #[tactic(auto, using(crate::proofs::IdleLemmas::not_moved))]
 pub(crate) fn visit_counted<L: Ledger>(
     procs: &mut Vec<Process>,
     at: usize,
+    sent: &mut Signals,
     steps: &mut Steps<L>,
 ) -> Result<bool, AllocError>
     requires within { at < vec_len procs.old }
     requires placed { IsPlaced (runnings_of procs.old.items) }
+    requires empty { sent.old.items ≡ [] }
     ensures visit { OnOk result (runnings_of procs.new.items ≡ visit at (runnings_of procs.old.items)) }
     ensures placed { OnOk result (IsPlaced (runnings_of procs.new.items)) }
+    ensures empty { OnOk result (sent.new.items ≡ []) }
     ensures moved { IfOk result (λ moved. moved ≡ has_moved at (runnings_of procs.old.items) (runnings_of procs.new.items)) }
     ensures len { vec_len procs.new ≡ vec_len procs.old }
 {
@@ -160,7 +173,7 @@ pub(crate) fn visit_counted<L: Ledger>(
         return Ok(false);
     }
     let before = count_events(procs.as_slice(), at);
-    visit_one(procs, at, steps)?;
+    visit_one(procs, at, sent, steps)?;
     let after = count_events(procs.as_slice(), at);
     Ok(before != after)
 }

@@ -17,6 +17,7 @@ loop-at-preserved g c =
       rest = pass_goes (length c.args.procs.now.items) c.loop-at.at c.loop-at.moved c.in_ok-here.here (runnings_of c.loop-at.procs.items) (runnings_of c.visit_counted.new.procs.items) lt
           c.in_ok-here.ensures.visit c.in_ok-here.ensures.moved ∙ c.loop-at.invariant.rest;
       placed = c.in_ok-here.ensures.placed;
+      empty = c.in_ok-here.ensures.empty;
       clear = λ h. one_visit_clear c.loop-at.at (runnings_of c.loop-at.procs.items) (runnings_of c.visit_counted.new.procs.items) c.in_ok-here.ensures.visit (c.loop-at.invariant.clear h);
       most = f.0;
       falls = f.1;

@@ -1,4 +1,4 @@
-use Rattle.std.proofs.Common.{◌≡◌, ◌-◌, ◌<◌, ◌≤◌, length, vec_len, true}
+use Rattle.std.proofs.Common.{◌≡◌, ◌-◌, ◌<◌, ◌≤◌, [], length, vec_len, true}
 use Rattle.sig_model.specs.Keeping.{IsPlaced}
 use Rattle.sig_model.specs.OneWorker.{pass, pass_from, IsClear}
 use Rattle.sig_process.specs.Standing.{runnings_of}
@@ -11,6 +11,7 @@ invariant-loop-at g l = record {
   len : vec_len l.procs ≡ vec_len l.fn.procs;
   rest : pass_from (length l.fn.procs.items - l.at) l.at l.moved (runnings_of l.procs.items) ≡ pass (runnings_of l.fn.procs.items);
   placed : IsPlaced (runnings_of l.procs.items);
+  empty : l.sent.items ≡ [];
   clear : IsClear (runnings_of l.fn.procs.items) → IsClear (runnings_of l.procs.items);
   most : room (runnings_of l.procs.items) ≤ room (runnings_of l.fn.procs.items);
   falls : l.moved ≡ true → room (runnings_of l.procs.items) < room (runnings_of l.fn.procs.items);
