@@ -39,12 +39,12 @@ pub enum Term {
 fn copy_all(alloc: Global, items: &[Term]) -> Result<Terms, AllocError>
     ensures { IfOk result (λ ts. ts ≡ items.now) }
 {
-    let mut copies = Sequence::new(alloc);
+    let mut copies = Vec::with_capacity(alloc, items.len())?;
     for item in items {
         let copy = item.copy(alloc)?;
-        copies.add(copy)?;
+        copies.push(copy)?;
     }
-    Ok(copies)
+    Ok(Sequence::from_vec(copies))
 }
 
 /// Whether the two have equal terms in the same order.
