@@ -108,8 +108,8 @@ overlaid-last : (env : Environment) (bound : Bindings) (var : List ℕ) (t : Ter
 overlaid-last env [] var t = refl
 overlaid-last env (b ∷ bound) var t = ap (λ e. insert e b.0 b.1) (overlaid-last env bound var t)
 
-pub overlaid-bindings : (env : Environment) (bindings : List Binding) (b : Binding) → overlaid env (bindings_of (bindings ++ b ∷ [])) ≡ overlaid (insert env b.var.0 b.value) (bindings_of bindings)
-overlaid-bindings env bindings b = ap (overlaid env) (map-append (λ (c : Binding). (c.var.0, c.value)) bindings (b ∷ [])) ∙ overlaid-last env (bindings_of bindings) b.var.0 b.value
+pub overlaid-bindings : (env : Environment) (bindings : List Binding) (b : Binding) → overlaid env (bindings_of (bindings ++ b ∷ [])) ≡ overlaid (insert env b.var.now.0 b.value) (bindings_of bindings)
+overlaid-bindings env bindings b = ap (overlaid env) (map-append (λ (c : Binding). (c.var.now.0, c.value)) bindings (b ∷ [])) ∙ overlaid-last env (bindings_of bindings) b.var.now.0 b.value
 
 -- the environment becomes the match's, or it stays
 pub bound_or_as_before : {A E : Type 0} (r : Result A E) (now before after : Environment) (o : Option Environment) → OnOk r (now ≡ after) → OnErr r (now ≡ before) → Some after ≡ o

@@ -91,4 +91,4 @@ abbrev pub placed : Pattern → Placer
 placed = fold-Pattern Placer placed_step
 
 abbrev pub bindings_of : List Binding → Bindings
-bindings_of bindings = map (λ b. (b.var.0, b.value)) bindings
+bindings_of bindings = map (λ b. (b.var.now.0, b.value)) bindings

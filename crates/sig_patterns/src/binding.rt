@@ -11,18 +11,18 @@ use std::alloc::{AllocError, Global};
 
 /// A variable, and a term at one of its places in a pattern.
 #[derive(Drop)]
-struct Binding {
-    var: Var,
+struct Binding<'a> {
+    var: &'a Var,
     value: Term,
 }
 
 /// Adds what the variables of these patterns meet, where each pattern meets the term at its place.
 #[cycle(collect)]
-fn collect_each(
+fn collect_each<'a>(
     alloc: Global,
-    patterns: &[Pattern],
+    patterns: &'a [Pattern],
     terms: &[Term],
-    into: &mut Vec<Binding>,
+    into: &mut Vec<Binding<'a>>,
 ) -> Result<(), AllocError>
     ensures { OnOk result (bindings_of into.new.items ≡ bindings_of into.old.items ++ placed_each (map placed patterns.now) terms.now) }
 {
@@ -39,17 +39,16 @@ fn collect_each(
 
 /// Adds what each variable of the pattern meets at each of its places, from the first to the last.
 #[cycle(collect)]
-fn collect(
+fn collect<'a>(
     alloc: Global,
-    pattern: &Pattern,
+    pattern: &'a Pattern,
     seen: Seen<'_>,
-    into: &mut Vec<Binding>,
+    into: &mut Vec<Binding<'a>>,
 ) -> Result<(), AllocError>
     ensures { OnOk result (bindings_of into.new.items ≡ bindings_of into.old.items ++ placed pattern.now (term_seen seen.entry)) }
 {
     match pattern {
         Pattern::Bind(var) => {
-            let var = var.copy(alloc)?;
             let value = seen.copy(alloc)?;
             into.push(Binding { var, value })?;
             Ok(())
@@ -75,18 +74,18 @@ fn collect(
 
 /// Puts the bindings in, from the last to the first. So of a variable that stands there twice the
 /// first one stays. Where memory is refused, it takes out again what it has put in.
-fn put_in(bindings: &mut Vec<Binding>, env: &mut Env) -> Result<(), AllocError>
+fn put_in(bindings: &mut Vec<Binding<'_>>, env: &mut Env) -> Result<(), AllocError>
     ensures ok { OnOk result (env.new ≡ overlaid env.old (bindings_of bindings.old.items)) }
     ensures err { OnErr result (env.new ≡ env.old) }
 {
     let Some(Binding { var, value }) = bindings.pop() else {
         return Ok(());
     };
-    let before = env.replace(&var, value)?;
+    let before = env.replace(var, value)?;
     match put_in(bindings, env) {
         Ok(()) => Ok(()),
         Err(refused) => {
-            env.restore(&var, before);
+            env.restore(var, before);
             Err(refused)
         }
     }

@@ -56,12 +56,12 @@ fn copy_value(alloc: Global, var: &Var, env: &Env) -> Result<Term, AllocError>
 fn make_all(alloc: Global, items: &[Expr], env: &Env) -> Result<Terms, AllocError>
     ensures { IfOk result (λ ts. ts ≡ map (value_of env.now) items.now) }
 {
-    let mut values = Sequence::new(alloc);
+    let mut values = Vec::with_capacity(alloc, items.len())?;
     for item in items {
         let value = make(alloc, item, env)?;
-        values.add(value)?;
+        values.push(value)?;
     }
-    Ok(values)
+    Ok(Sequence::from_vec(values))
 }
 
 /// The value of the expression.

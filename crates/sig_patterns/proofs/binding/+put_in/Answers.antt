@@ -18,9 +18,9 @@ returns-in-Ok-clause-ok t c =
 pub restore-requires : goal.restore-requires
 restore-requires t c = rw (c.in-Err.ensures.err, c.in_ok-before.ensures.ok, get-inserted_here) refl
 
-pub returns-clause-err : goal.returns-clause-err
-returns-clause-err t c =
+pub returns-in-Err-clause-err : goal.returns-in-Err-clause-err
+returns-in-Err-clause-err t c =
     c.restore.ensures
-    ∙ ap (λ (e : Environment). with_entry e c.in-Some.field-0.var.0 c.in_ok-before.before) (c.in-Err.ensures.err ∙ c.in_ok-before.ensures.ok)
-    ∙ ap (with_entry (insert c.args.env.now c.in-Some.field-0.var.0 c.in-Some.field-0.value) c.in-Some.field-0.var.0) c.in_ok-before.ensures.before
-    ∙ restored c.args.env.now c.in-Some.field-0.var.0 c.in-Some.field-0.value
+    ∙ ap (λ (e : Environment). with_entry e c.in-Some.field-0.var.now.0 c.in_ok-before.before) (c.in-Err.ensures.err ∙ c.in_ok-before.ensures.ok)
+    ∙ ap (with_entry (insert c.args.env.now c.in-Some.field-0.var.now.0 c.in-Some.field-0.value) c.in-Some.field-0.var.now.0) c.in_ok-before.ensures.before
+    ∙ restored c.args.env.now c.in-Some.field-0.var.now.0 c.in-Some.field-0.value
