@@ -1,7 +1,6 @@
 ghost use Rattle.std.specs.Prelude.{◌≡◌, ◌<◌, ◌^◌, OnOk, OnErr, ◌++◌};
 ghost use Rattle.sig_terms.specs.TermText.{pid_text};
 
-use crate::pieces::append_pieces;
 use itoa::Buffer;
 use std::alloc::AllocError;
 
@@ -19,6 +18,11 @@ impl Pid {
         ensures term { self.0 < 2 ^ 32 }
     {
         let mut buffer = Buffer::new();
-        append_pieces(into, &[b"<", buffer.format(self.0).as_bytes(), b">"])
+        let digits = buffer.format(self.0).as_bytes();
+        into.reserve(digits.len() + 2)?;
+        into.push_reserved(b'<');
+        into.extend_from_slice(digits)?;
+        into.push_reserved(b'>');
+        Ok(())
     }
 }

@@ -1,4 +1,4 @@
-ghost use Rattle.std.specs.Prelude.{◌≡◌, ◌++◌, IfOk, OnOk, OnErr, IsTrue, ◌↔◌, map, true, take, length};
+ghost use Rattle.std.specs.Prelude.{◌≡◌, ◌++◌, ◌∷◌, [], IfOk, OnOk, OnErr, IsTrue, ◌↔◌, map, true, take, length};
 ghost use Rattle.std.specs.Fmt.{signed_decimal};
 ghost use Rattle.std.specs.List.{list_all};
 ghost use Rattle.sig_terms.specs.TermText.{term_text, joined};
@@ -78,7 +78,7 @@ fn append_all(items: &[Term], into: &mut Vec<u8>) -> Result<(), AllocError>
         [first, rest @ ..] => {
             first.append(into)?;
             for item in rest {
-                into.extend_from_slice(b",")?;
+                into.push(b',')?;
                 item.append(into)?;
             }
             Ok(())
@@ -89,18 +89,19 @@ fn append_all(items: &[Term], into: &mut Vec<u8>) -> Result<(), AllocError>
 /// Appends the texts of the terms, between two brackets.
 #[cycle(append)]
 fn append_between(
-    opening: &[u8],
+    opening: u8,
     items: &[Term],
-    closing: &[u8],
+    closing: u8,
     into: &mut Vec<u8>,
 ) -> Result<(), AllocError>
-    ensures text { OnOk result (into.new.items ≡ into.old.items ++ opening.now ++ joined (map term_text items.now) ++ closing.now) }
+    ensures text { OnOk result (into.new.items ≡ into.old.items ++ opening ∷ (joined (map term_text items.now) ++ closing ∷ [])) }
     ensures front { OnErr result (take (length into.old.items) into.new.items ≡ into.old.items) }
     ensures terms { OnOk result (list_all (λ b. b) (map is_term items.now) ≡ true) }
 {
-    into.extend_from_slice(opening)?;
+    into.push(opening)?;
     append_all(items, into)?;
-    into.extend_from_slice(closing)
+    into.push(closing)?;
+    Ok(())
 }
 
 /// Appends the text of an integer.
@@ -184,8 +185,8 @@ impl Term {
             Term::Atom(atom) => atom.print(into),
             Term::Pid(pid) => pid.print(into),
             Term::Ref(reference) => reference.print(into),
-            Term::Tuple(items) => append_between(b"{", items.as_slice(), b"}", into),
-            Term::List(items) => append_between(b"[", items.as_slice(), b"]", into),
+            Term::Tuple(items) => append_between(b'{', items.as_slice(), b'}', into),
+            Term::List(items) => append_between(b'[', items.as_slice(), b']', into),
         }
     }
 }

@@ -16,5 +16,5 @@ front_behind a b piece m c p e q =
 pub append_all-returns-in_err-append-in-len1-up-2-clause-front : goal.append_all-returns-in_err-append-in-len1-up-2-clause-front
 append_all-returns-in_err-append-in-len1-up-2-clause-front t c =
     let piece : List ℕ = 44 ∷ [] in
-    let kept = front_behind c.args.into.now.items c.loop-item.into.items piece c.extend_from_slice.new.self.items c.append-in-loop-item.new.into.items c.loop-item.invariant.1 c.in_ok-extend_from_slice-in-len1-up.ensures.items c.in_err-append-in-len1-up-2.ensures.front in
+    let kept = front_behind c.args.into.now.items c.loop-item.into.items piece c.push.new.self.items c.append-in-loop-item.new.into.items c.loop-item.invariant.1 c.in_ok-push-in-len1-up.ensures.items c.in_err-append-in-len1-up-2.ensures.front in
     search (rules, kept)
