@@ -18,6 +18,7 @@ use Rattle.sig_model.specs.declared.event.Did.TheVariants as did
 use Rattle.sig_model.specs.ProcessState.{ProcessState, Post}
 use Rattle.sig_model.specs.Finishing.{numbered, finished_exec}
 use Rattle.sig_model.specs.Running.{to_itself, to_others}
+use Rattle.sig_process.specs.declared.changing.Growing.{Growing}
 use Rattle.sig_process.specs.declared.plan.Execution.{Execution}
 use Rattle.sig_process.specs.declared.progress.Progress.{Progress}
 use Rattle.sig_process.specs.Plans.{post_of, bound, bound_by, serial_by, inbox_by, changed, after_obeying, executed_body}
@@ -71,7 +72,7 @@ module _ (pid : ℕ) (x : Execution) (old begun bound_one gone arranged : Progre
   abbrev after : Progress
   after = record arranged { tables = record arranged.tables { inner = inner }; counts = record arranged.counts { place = x.place; executed = arranged.counts.executed + 1 } }
 
-  module _ {n : ℕ} (b : HasBegun n old begun event)
+  module _ {n : ℕ} {w : Growing} (b : HasBegun n w old begun event)
       (m : bound_one ≡ record begun {
         tables = record begun.tables { env = bound_by begun.tables.env x.binding };
         counts = record begun.counts { next_serial = serial_by begun.counts.next_serial x.binding };

@@ -19,7 +19,6 @@ use Rattle.sig_model.specs.Executing.{using_ref}
 use Rattle.sig_process.specs.declared.changing.Change.{Change}
 use Rattle.sig_process.specs.declared.changing.Change.TheVariants as change
 use Rattle.sig_process.specs.declared.progress.Progress.{Progress}
-use Rattle.sig_process.specs.declared.plan.Plan.{Plan}
 use Rattle.sig_process.specs.Plans.{changed, after_obeying}
 use Rattle.sig_process.specs.Progressing.{state_of}
 use Rattle.sig_process.specs.Executions.{KeepsSaved}
@@ -70,20 +69,20 @@ obeyed_end s None = refl
 obeyed_end s (Some peer) = refl
 
 -- a signal was handled by this plan
-pub handled_keeps : {T E : Type 0} (o : Result T E) (before after : Progress) (plan : Plan) →
-    OnOk o ((after.tables.env ≡ before.tables.env) × (after.counts.place ≡ before.counts.place)) → OnOk o (after.tables.end ≡ (changed (after_obeying (state_of before) plan.obeyed) plan.change).tables.end) →
-    OnOk o (after.tables.inner.queue ≡ queue_after before.tables.inner.queue plan.change) → passed before.tables.inner.queue.last ≤ length before.tables.inner.queue.inbox.messages →
+pub handled_keeps : {T E : Type 0} (o : Result T E) (before after : Progress) (peer : Option Pid) (c : Change) →
+    OnOk o ((after.tables.env ≡ before.tables.env) × (after.counts.place ≡ before.counts.place)) → OnOk o (after.tables.end ≡ (changed (after_obeying (state_of before) peer) c).tables.end) →
+    OnOk o (after.tables.inner.queue ≡ queue_after before.tables.inner.queue c) → passed before.tables.inner.queue.last ≤ length before.tables.inner.queue.inbox.messages →
     All (λ (m : Mark). m.arrival ≤ before.tables.inner.queue.inbox.next_arrival) before.tables.inner.queue.inbox.marks →
     (IsSome before.tables.end → passed before.tables.inner.queue.last ≡ 0) → OnOk o (KeepsSaved before after)
-handled_keeps (Ok _) before after plan steady end queue within early ended =
+handled_keeps (Ok _) before after peer c steady end queue within early ended =
     let q = before.tables.inner.queue in
     record {
-      owner = ap (λ (r : InnerQueue). r.owner) queue ∙ changed_owner q within early plan.change;
+      owner = ap (λ (r : InnerQueue). r.owner) queue ∙ changed_owner q within early c;
       place = steady.1;
       saved =
           ap (λ (r : InnerQueue). passed r.last) queue
-          ∙ changed_place q within early (after_obeying (state_of before) plan.obeyed) plan.change (λ some. ended (subst IsSome (obeyed_end (state_of before) plan.obeyed) some))
+          ∙ changed_place q within early (after_obeying (state_of before) peer) c (λ some. ended (subst IsSome (obeyed_end (state_of before) peer) some))
           ∙ ap (λ (o : Option Term). if is_some o then 0 else passed q.last) (sym end);
-      none = λ i k. rw (queue, steady.0) (passes_at q within early plan.change before.tables.env i k);
+      none = λ i k. rw (queue, steady.0) (passes_at q within early c before.tables.env i k);
     }
-handled_keeps (Err _) before after plan steady end queue within early ended = tt
+handled_keeps (Err _) before after peer c steady end queue within early ended = tt

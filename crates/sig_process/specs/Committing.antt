@@ -17,16 +17,17 @@ use Rattle.sig_model.specs.Finishing.{numbers_after}
 use Rattle.sig_model.specs.Running.{to_itself, to_others, next_of}
 use Rattle.sig_process.specs.declared.changing.Change.{Change}
 use Rattle.sig_process.specs.declared.changing.Change.TheVariants.{Append, ThroughAlias, ToldDown, End}
+use Rattle.sig_process.specs.declared.changing.Growing.{Growing}
 use Rattle.sig_process.specs.declared.plan.Outgoing.{Outgoing}
 use Rattle.sig_process.specs.declared.progress.Progress.{Progress}
 use Rattle.sig_process.specs.Plans.{post_of}
 use Rattle.sig_process.specs.Progressing.{state_of, HaveRoom}
 
--- there is room for all that an event may change, with so many signals to be sent
-pub record HasRoom (posts : ℕ) (p : Progress) : Type 0 where
+-- there is room for all that an event changes, with so many signals to be sent
+pub record HasRoom (posts : ℕ) (grows : Growing) (p : Progress) : Type 0 where
   pub own : posts ≤ p.own.spare
   pub outbox : posts ≤ p.outbox.spare
-  pub tables : HaveRoom p.tables
+  pub tables : HaveRoom grows p.tables
 
 -- no count of the process is at its end, nor will be after it has sent these
 pub record IsCommittable (posts : List Outgoing) (p : Progress) : Type 0 where
@@ -73,8 +74,8 @@ pub record HasHandled (pid : ℕ) (before after : Progress) (x : Signal) (e : Ef
   pub outbox : after.outbox.items ≡ before.outbox.items ++ to_others pid e.sends
 
 -- room is made, and the event is noted
-pub record HasBegun (posts : ℕ) (before after : Progress) (e : Event) : Type 0 where
-  pub room : HasRoom posts after
+pub record HasBegun (posts : ℕ) (grows : Growing) (before after : Progress) (e : Event) : Type 0 where
+  pub room : HasRoom posts grows after
   -- and for the signal that was handled
   pub handled_room : 0 < after.handled.spare
   pub state : state_of after ≡ state_of before

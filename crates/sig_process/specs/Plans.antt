@@ -12,12 +12,27 @@ use Rattle.sig_model.specs.Bodies.{Body, at_place}
 use Rattle.sig_process.specs.declared.plan.Outgoing.{Outgoing}
 use Rattle.sig_process.specs.declared.changing.Change.{Change}
 use Rattle.sig_process.specs.declared.changing.Change.TheVariants.{Nothing, Link, Unlink, Trap, Append, LinkUp, UnlinkBy, Acknowledge, Monitor, Demonitor, Alias, Unalias, Watched, Unwatched, ThroughAlias, ToldDown, End}
+use Rattle.sig_process.specs.declared.changing.Growing.{Growing}
+use Rattle.sig_process.specs.declared.changing.Growing.TheVariants as grows
 use Rattle.sig_process.specs.declared.plan.Plan.{Plan}
 use Rattle.sig_process.specs.declared.plan.Binding.{Binding}
 use Rattle.sig_process.specs.declared.plan.Binding.TheVariants as binding
 use Rattle.sig_process.specs.declared.plan.InboxChange.{InboxChange}
 use Rattle.sig_process.specs.declared.plan.InboxChange.TheVariants as inbox_change
 use Rattle.sig_process.specs.declared.plan.Execution.{Execution}
+
+-- the table that the change may make larger
+abbrev pub growing : Change → Growing
+growing (Append message) = grows.Messages
+growing (ThroughAlias reference message) = grows.Messages
+growing (ToldDown reference message) = grows.Messages
+growing (Link peer) = grows.Links
+growing (Unlink peer) = grows.Links
+growing (LinkUp peer) = grows.Links
+growing (Monitor reference target mode) = grows.Monitors
+growing (Alias reference reply) = grows.Monitors
+growing (Watched reference watcher) = grows.Monitors
+growing _ = grows.Nothing
 
 -- one equation for each change
 abbrev pub changed : ProcessState → Change → ProcessState

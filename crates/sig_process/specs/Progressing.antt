@@ -7,6 +7,8 @@ use Rattle.sig_model.specs.declared.event.Event.{Event}
 use Rattle.sig_model.specs.ProcessState.{Tables, ProcessState}
 use Rattle.sig_inner.specs.Receiving.{passed}
 use Rattle.sig_model.specs.Running.{Running, to_itself, to_others}
+use Rattle.sig_process.specs.declared.changing.Growing.{Growing}
+use Rattle.sig_process.specs.declared.changing.Growing.TheVariants.{Nothing, Messages, Links, Monitors}
 use Rattle.sig_process.specs.declared.progress.Progress.{Progress}
 use Rattle.sig_process.specs.declared.progress.Tables.{Tables as Kept}
 use Rattle.sig_process.specs.Standing.{Standing}
@@ -21,11 +23,12 @@ tables_of t = record {
   end = t.end;
 }
 
--- there is room in each of the tables for what one event may change
-pub record HaveRoom (t : Kept) : Type 0 where
-  pub inner : 0 < t.inner.spare
-  pub links : 0 < t.links.spare
-  pub watch : 0 < t.watch.spare
+-- there is room in the table that grows for what one event may add
+abbrev pub HaveRoom : Growing → Kept → Type 0
+HaveRoom Nothing t = Unit {0}
+HaveRoom Messages t = 0 < t.inner.spare
+HaveRoom Links t = 0 < t.links.spare
+HaveRoom Monitors t = 0 < t.watch.spare
 
 -- the state of the process
 abbrev pub state_of : Progress → ProcessState

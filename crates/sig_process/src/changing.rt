@@ -3,7 +3,7 @@
 ghost use Rattle.std.specs.Prelude.{◌≡◌, ◌<◌, ◌≤◌, ◌^◌, MatchResult};
 ghost use Rattle.sig_inner.specs.InnerQueue.{appended};
 ghost use Rattle.sig_process.specs.Committing.{KeepsRest, queue_after};
-ghost use Rattle.sig_process.specs.Plans.{bound_by, serial_by, inbox_by, changed, after_obeying};
+ghost use Rattle.sig_process.specs.Plans.{bound_by, serial_by, inbox_by, growing, changed, after_obeying};
 ghost use Rattle.sig_process.specs.Progressing.{state_of, HaveRoom};
 
 use crate::plan::{Binding, InboxChange};
@@ -93,6 +93,55 @@ pub(crate) enum Change {
     },
 }
 
+/// Which of a process's tables a change may make larger.
+#[derive(Clone, Copy)]
+pub(crate) enum Growing {
+    /// None of them.
+    Nothing,
+    /// The messages.
+    Messages,
+    /// The links.
+    Links,
+    /// The monitors and aliases.
+    Monitors,
+}
+
+impl Change {
+    /// Which table it may make larger.
+    pub(crate) fn growing(&self) -> Growing
+        ensures { result ≡ growing self.now }
+    {
+        match self {
+            Change::Append { message: _ }
+            | Change::ThroughAlias {
+                reference: _,
+                message: _,
+            }
+            | Change::ToldDown {
+                reference: _,
+                message: _,
+            } => Growing::Messages,
+            Change::Link { peer: _ } | Change::Unlink { peer: _ } | Change::LinkUp { peer: _ } => {
+                Growing::Links
+            }
+            Change::Monitor {
+                reference: _,
+                target: _,
+                mode: _,
+            }
+            | Change::Alias {
+                reference: _,
+                reply: _,
+            }
+            | Change::Watched {
+                reference: _,
+                watcher: _,
+            } => Growing::Monitors,
+            _ => Growing::Nothing,
+        }
+    }
+}
+
 impl Progress {
     /// The variable gets the value, where there is one. A map of variables can't make room ahead.
     pub(crate) fn bind(&mut self, binding: Binding) -> Result<(), AllocError>
@@ -151,7 +200,7 @@ impl Progress {
     }
 
     /// The message comes to the end of the list, where there is room.
-    fn append(&mut self, message: Term)
+    pub(crate) fn append(&mut self, message: Term)
         requires room { 0 < self.old.tables.inner.spare }
         requires arrivals { self.old.tables.inner.queue.inbox.next_arrival < 2 ^ 63 }
         ensures inner { self.new.tables.inner.queue ≡ appended self.old.tables.inner.queue message }
@@ -165,7 +214,7 @@ impl Progress {
 
     /// Makes a change for which there is room.
     pub(crate) fn change(&mut self, change: Change)
-        requires room { HaveRoom self.old.tables }
+        requires room { HaveRoom (growing change) self.old.tables }
         requires arrivals { self.old.tables.inner.queue.inbox.next_arrival < 2 ^ 63 }
         requires ids { self.old.tables.links.links.next_id < 2 ^ 63 }
         ensures state { state_of self.new ≡ changed (state_of self.old) change }

@@ -5,10 +5,10 @@ ghost use Rattle.sig_inner.specs.Receiving.{is_saved};
 ghost use Rattle.sig_model.specs.Finishing.{numbered, finished_exec, finished_handle};
 ghost use Rattle.sig_model.specs.Running.{to_itself, to_others, next_of};
 ghost use Rattle.sig_process.specs.Committing.{HasRoom, IsCommittable, HasBegun, HasHandled, HasTaken, gone_on, env_found, queue_after, behind_first, others_behind};
-ghost use Rattle.sig_process.specs.Plans.{changed, after_obeying, post_of, body_of, executed_body};
+ghost use Rattle.sig_process.specs.Plans.{growing, changed, after_obeying, post_of, body_of, executed_body};
 ghost use Rattle.sig_process.specs.Progressing.{state_of, IsSame, HasAdvanced};
 
-use crate::changing::Change;
+use crate::changing::{Change, Growing};
 use crate::plan::{Execution, Outgoing, Plan};
 use crate::posting::send_all;
 use crate::progress::Progress;
@@ -21,28 +21,29 @@ use std::alloc::AllocError;
 use std::mem;
 
 impl Progress {
-    /// Makes room for all that an event may change, with so many signals to be sent.
-    fn make_room(&mut self, posts: usize) -> Result<(), AllocError>
+    /// Makes room for all that an event changes, with so many signals to be sent.
+    fn make_room(&mut self, posts: usize, grows: Growing) -> Result<(), AllocError>
         ensures same { IsSame self.old self.new }
         ensures counts { self.new.counts ≡ self.old.counts }
-        ensures room { OnOk result (HasRoom posts self.new) }
+        ensures room { OnOk result (HasRoom posts grows self.new) }
         ensures handled { OnOk result (0 < self.new.handled.spare) }
     {
         self.own.room(posts)?;
         self.outbox.room(posts)?;
-        self.handled.room(1)?;
-        self.tables.room()
+        self.handled.room()?;
+        self.tables.room(grows)
     }
 
     /// Makes all room, and notes the event. Where memory is refused all but the room is as before.
-    fn begin(&mut self, event: Event, posts: usize) -> Result<(), AllocError>
-        ensures { MatchResult result (λ _. HasBegun posts self.old self.new event) (λ _. IsSame self.old self.new) }
+    fn begin(&mut self, event: Event, posts: usize, grows: Growing) -> Result<(), AllocError>
+        ensures { MatchResult result (λ _. HasBegun posts grows self.old self.new event) (λ _. IsSame self.old self.new) }
     {
-        self.make_room(posts)?;
+        self.make_room(posts, grows)?;
         self.events.add(event)
     }
 
     /// Changes what is left, with this stamp, and sends. There is room for it.
+    #[tactic(auto, using(crate::proofs::RoomLemmas::room_obeyed))]
     fn go_on(
         &mut self,
         pid: Pid,
@@ -51,7 +52,7 @@ impl Progress {
         change: Change,
         posts: Vec<Outgoing>,
     )
-        requires room { HasRoom (length posts.items) self.old }
+        requires room { HasRoom (length posts.items) (growing change) self.old }
         requires committable { IsCommittable posts.items self.old }
         ensures state { state_of self.new ≡ gone_on (changed (after_obeying (state_of self.old) obeyed) change) stamp self.old.counts.next_numbers.items (map post_of posts.items) }
         ensures env { self.new.tables.env ≡ self.old.tables.env }
@@ -105,7 +106,7 @@ impl Progress {
             did,
             outcome: plan.outcome,
         };
-        self.begin(event, plan.posts.len())?;
+        self.begin(event, plan.posts.len(), plan.change.growing())?;
         if let Err(fault) = self.bind(binding) {
             let _ = self.events.pop();
             return Err(fault);
@@ -119,7 +120,7 @@ impl Progress {
     }
 
     /// What the handling of the next signal did is told by its event.
-    fn handling_event(&self, outcome: Outcome) -> Event
+    pub(crate) fn handling_event(&self, outcome: Outcome) -> Event
         requires due { IsSomeAnd (next_of self.now.own.items self.now.taken_in.items) (λ x. x.stamp < LAST_STAMP) }
         requires stamp { self.now.counts.stamp < LAST_STAMP }
         ensures { IfSome (next_of self.now.own.items self.now.taken_in.items) (λ x. result ≡ record {
@@ -152,7 +153,7 @@ impl Progress {
     {
         match pop_next(&mut self.own, &mut self.taken_in) {
             None => {}
-            Some(signal) => self.handled.add(signal),
+            Some(signal) => self.handled.add(&signal),
         }
     }
 
@@ -170,7 +171,7 @@ impl Progress {
     {
         let event = self.handling_event(plan.outcome);
         let stamp = event.stamp;
-        self.begin(event, plan.posts.len())?;
+        self.begin(event, plan.posts.len(), plan.change.growing())?;
         self.move_next();
         self.go_on(pid, stamp, plan.obeyed, plan.change, plan.posts);
         Ok(())

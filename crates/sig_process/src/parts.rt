@@ -81,8 +81,7 @@ impl Process {
         let cut = self.is_cut() || self.has_late();
         let progress = self.progress;
         let proc = self.proc;
-        let tables = progress.tables;
-        let mut left = tables.inner;
+        let (mut left, end) = progress.tables.into_left();
         left.forget();
         Parts {
             pid: self.pid,
@@ -91,7 +90,7 @@ impl Process {
             left,
             own: progress.own,
             taken_in: progress.taken_in,
-            state: state_of(tables.end, cut),
+            state: state_of(end, cut),
         }
     }
 }

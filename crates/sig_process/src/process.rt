@@ -10,6 +10,7 @@ ghost use Rattle.sig_process.specs.Steps.{IsExec, IsWholeExec, IsHandled};
 ghost use Rattle.sig_process.specs.Tests.{most_tests};
 
 use crate::executing::Exec;
+use crate::history::History;
 use crate::progress::{Counts, Progress, Tables};
 use crate::waiting::next_signal;
 use sig_base::Steps;
@@ -82,7 +83,7 @@ fn beginning(alloc: Global, pid: Pid, count: u32) -> Result<Progress, AllocError
         traps: false,
         counts,
         events: Sequence::new(alloc),
-        handled: Signals::new(alloc),
+        handled: History::new(alloc),
         own: Signals::new(alloc),
         taken_in: Signals::new(alloc),
         outbox: Signals::new(alloc),

@@ -5,6 +5,8 @@ ghost use Rattle.sig_model.specs.ProcessState.{opening_tables, exits_to, downs_t
 ghost use Rattle.sig_process.specs.Plans.{after_obeying, post_of};
 ghost use Rattle.sig_process.specs.Progressing.{tables_of, state_of, HaveRoom};
 
+use crate::changing::Growing;
+use crate::history::History;
 use crate::plan::Outgoing;
 use sig_inner::Inner;
 use sig_kinds::{Kind, Signals};
@@ -45,16 +47,26 @@ impl Tables {
         })
     }
 
-    /// Makes room in each table for what one event may change. The error is want of memory. What the
-    /// tables hold is as before in both cases.
-    pub(crate) fn room(&mut self) -> Result<(), AllocError>
+    /// Makes room in the table that grows, for what one event may add. The error is want of memory.
+    /// What the tables hold is as before in both cases.
+    pub(crate) fn room(&mut self, grows: Growing) -> Result<(), AllocError>
         ensures same { tables_of self.new ≡ tables_of self.old }
         ensures queue { self.new.inner.queue ≡ self.old.inner.queue }
-        ensures room { OnOk result (HaveRoom self.new) }
+        ensures room { OnOk result (HaveRoom grows self.new) }
     {
-        self.inner.room()?;
-        self.links.room()?;
-        self.watch.room()
+        match grows {
+            Growing::Nothing => Ok(()),
+            Growing::Messages => self.inner.room(),
+            Growing::Links => self.links.room(),
+            Growing::Monitors => self.watch.room(),
+        }
+    }
+
+    /// What is left of them: the messages, and the reason where the process has ended.
+    pub(crate) fn into_left(self) -> (Inner, Option<Term>)
+        ensures { result ≡ (self.inner, self.end) }
+    {
+        (self.inner, self.end)
     }
 }
 
@@ -85,7 +97,7 @@ pub(crate) struct Progress {
     /// Its events, in their order.
     pub events: Events,
     /// The signals that it handled, in their order.
-    pub handled: Signals,
+    pub handled: History,
     /// The signals to itself that it has not handled.
     pub own: Signals,
     /// The signals of others that it has not handled.

@@ -1,9 +1,10 @@
-ghost use Rattle.std.specs.Prelude.{◌≡◌, IfOk};
+ghost use Rattle.std.specs.Prelude.{◌≡◌, IfOk, None};
 ghost use Rattle.sig_kinds.specs.LinkRules.{on_link, on_unlink, on_ack};
 ghost use Rattle.sig_kinds.specs.WatchRules.{on_alias_message, on_monitor, on_demonitor, on_down};
 ghost use Rattle.sig_model.specs.Bodies.{appending, dropping};
 ghost use Rattle.sig_model.specs.ExitRule.{exit_message, exit_rule, plain_exit, linked_exit};
 ghost use Rattle.sig_model.specs.Handling.{linking_up, unlinking_from, acknowledging, through_alias, watching, unwatching, down_message, told_down, live_body, answering_noproc, ended_body, handling};
+ghost use Rattle.sig_process.specs.Keeping.{message_of};
 ghost use Rattle.sig_process.specs.Plans.{after_obeying, body_of};
 ghost use Rattle.sig_process.specs.Planning.{noproc_answer};
 ghost use Rattle.sig_process.specs.Progressing.{state_of};
@@ -209,15 +210,14 @@ impl Progress {
         Ok(self.silent(Change::ToldDown { reference, message }, told))
     }
 
-    /// A signal to a live process, one arm for each cell of the table of handling.
+    /// A signal to a live process, one arm for each cell of the table of handling. A message isn't
+    /// planned.
     fn plan_live(&self, pid: Pid, sender: Pid, kind: &Kind) -> Result<Plan, AllocError>
+        requires { message_of kind.now ≡ None }
         ensures { IfOk result (λ plan. live_body pid.0 (state_of self.now) sender.0 kind.now ≡ body_of (state_of self.now) plan) }
     {
         match kind {
-            Kind::Message { term } => {
-                let message = term.copy(self.alloc)?;
-                self.appending(None, message)
-            }
+            Kind::Message { term: _ } => unreachable!(),
             Kind::AliasMessage { reference, term } => self.plan_through_alias(*reference, term),
             Kind::Link => Ok(self.plan_link_up(sender)),
             Kind::Unlink { id } => self.plan_unlink_by(sender, *id),
@@ -263,9 +263,11 @@ impl Progress {
         }
     }
 
-    /// What the handling of a signal does.
+    /// What the handling of a signal does that is no message, or that comes to a process which has
+    /// ended.
     #[tactic(auto, unfolding(sig_model::specs::Handling::handling))]
     pub(crate) fn plan_signal(&self, pid: Pid, signal: &Signal) -> Result<Plan, AllocError>
+        requires { (self.now.tables.end ≡ None) → message_of signal.now.kind ≡ None }
         ensures { IfOk result (λ plan. handling pid.0 (state_of self.now) signal.now ≡ body_of (state_of self.now) plan) }
     {
         if self.tables.end.is_some() {

@@ -1,0 +1,53 @@
+-- A message to a process that lives, which is moved from its signal. (Erlang Reference Manual, Processes, Receiving Signals.)
+use Rattle.std.specs.Prelude.{◌≡◌, ◌+◌, ◌<◌, ◌++◌, [], ◌∷◌, max, Option, Some, None, is_some, option_and_then, if◌then◌else◌}
+use Rattle.sig_terms.specs.declared.term.Term.{Term}
+use Rattle.sig_kinds.specs.declared.signal.Kind.{Kind}
+use Rattle.sig_kinds.specs.declared.signal.Kind.TheVariants as kind
+use Rattle.sig_kinds.specs.declared.signal.Signal.{Signal}
+use Rattle.sig_inner.specs.InnerQueue.{appended}
+use Rattle.sig_model.specs.declared.event.Event.{Event}
+use Rattle.sig_model.specs.declared.event.Did.TheVariants as did
+use Rattle.sig_model.specs.declared.event.Outcome.TheVariants as outcome
+use Rattle.sig_model.specs.Running.{next_of}
+use Rattle.sig_process.specs.declared.progress.Progress.{Progress}
+use Rattle.sig_process.specs.Committing.{behind_first, others_behind}
+
+-- the message that a signal to a process carries
+abbrev pub message_of : Kind → Option Term
+message_of (kind.Message term) = Some term
+message_of _ = None
+
+-- the message of the next signal, where it is one to a process, and this one lives
+abbrev pub kept_message : Progress → Option Term
+kept_message p = if is_some p.tables.end then None else option_and_then (λ x. message_of x.kind) (next_of p.own.items p.taken_in.items)
+
+-- room is made for a message and its signal, and the event is noted
+pub record CanKeep (before after : Progress) (e : Event) : Type 0 where
+  pub inner_room : 0 < after.tables.inner.spare
+  pub handled_room : 0 < after.handled.spare
+  pub queue : after.tables.inner.queue ≡ before.tables.inner.queue
+  pub handled : after.handled.items ≡ before.handled.items
+  pub rest : after ≡ record before { tables = record before.tables { inner = after.tables.inner }; events = before.events ++ e ∷ []; handled = after.handled }
+
+-- this signal, the next one, was handled, and this message came to the end of the list
+pub record HasMoved (before after : Progress) (x : Signal) (t : Term) : Type 0 where
+  pub queue : after.tables.inner.queue ≡ appended before.tables.inner.queue t
+  pub handled : after.handled.items ≡ before.handled.items ++ x ∷ []
+  pub own : after.own.items ≡ behind_first before.own.items
+  pub taken_in : after.taken_in.items ≡ others_behind before.own.items before.taken_in.items
+  pub rest : after ≡ record before { tables = record before.tables { inner = after.tables.inner }; handled = after.handled; own = after.own; taken_in = after.taken_in }
+
+-- the same, with the event that tells the message
+pub record HasKept (before after : Progress) (x : Signal) (t : Term) : Type 0 where
+  pub queue : after.tables.inner.queue ≡ appended before.tables.inner.queue t
+  pub handled : after.handled.items ≡ before.handled.items ++ x ∷ []
+  pub own : after.own.items ≡ behind_first before.own.items
+  pub taken_in : after.taken_in.items ≡ others_behind before.own.items before.taken_in.items
+  pub rest : after ≡ record before {
+    tables = record before.tables { inner = after.tables.inner };
+    counts = record before.counts { stamp = max before.counts.stamp x.stamp + 1 };
+    events = before.events ++ record { stamp = max before.counts.stamp x.stamp + 1; did = did.From x.from x.number; outcome = outcome.Kept t } ∷ [];
+    handled = after.handled;
+    own = after.own;
+    taken_in = after.taken_in;
+  }
