@@ -1,15 +1,14 @@
 -- The peers that are told of an end: those of the active links, but for a link that an exit signal ended.
 use Rattle.std.proofs.Common.{◌≡◌, ℕ, true, List, [], ◌∷◌, ◌++◌, map, refl, sym, ap, ◌∙◌, Option, Some, None}
+use mathlib.Core.List.{map-map}
 use Rattle.std.specs.List.{filter}
 use Rattle.std.proofs.lemmas.List.{map-append, append-nil, append_assoc}
 use Rattle.sig_terms.specs.declared.pid.Pid.{Pid}
-use Rattle.sig_terms.specs.declared.reference.Ref.{Ref}
 use Rattle.sig_terms.specs.declared.term.Term.{Term}
-use Rattle.sig_watch.specs.Arrivals.{by_number}
 use Rattle.sig_kinds.specs.declared.signal.Kind.TheVariants as kind
 use Rattle.sig_kinds.specs.LinkRules.{active_after}
 use Rattle.sig_links.proofs.Remaining.{other_than, left_active}
-use Rattle.sig_model.specs.ProcessState.{ProcessState, Post, exits_to, downs_to}
+use Rattle.sig_model.specs.ProcessState.{ProcessState, Post, exits_to}
 use Rattle.sig_process.specs.declared.plan.Outgoing.{Outgoing}
 use Rattle.sig_process.specs.Plans.{after_obeying, post_of}
 
@@ -49,15 +48,5 @@ module _ (peer : Pid) (rest : List ℕ) (reason : Term) (told : List Outgoing) w
       ∙ append_assoc (map post_of told) (post_of (exit_post peer reason) ∷ []) (exits_to (others obeyed rest) reason)
       ∙ ap (λ (peers : List ℕ). map post_of told ++ exits_to peers reason) (sym is)
 
--- a down more is told
-abbrev pub down_post : Ref × Pid → Term → Outgoing
-down_post monitor reason = record { to = monitor.1; kind = kind.Down monitor.0 reason }
-
-pub one_down : (before : List Post) (monitor : Ref × Pid) (listed : List (Ref × Pid)) (reason : Term) (told : List Outgoing) → map post_of told ≡ before ++ downs_to (map by_number listed) reason →
-    map post_of (told ++ down_post monitor reason ∷ []) ≡ before ++ downs_to (map by_number (listed ++ monitor ∷ [])) reason
-one_down before monitor listed reason told h =
-    let down : Ref × ℕ → Post = λ b. record { to = b.1; kind = kind.Down b.0 reason } in
-    map-append post_of told (down_post monitor reason ∷ [])
-    ∙ ap (λ (posts : List Post). posts ++ post_of (down_post monitor reason) ∷ []) h
-    ∙ append_assoc before (downs_to (map by_number listed) reason) (post_of (down_post monitor reason) ∷ [])
-    ∙ ap (λ (downs : List Post). before ++ downs) (sym (ap (map down) (map-append by_number listed (monitor ∷ [])) ∙ map-append down (map by_number listed) (by_number monitor ∷ [])))
+-- what those are told whom a table lists: of a list that is made of another, what each of the other is told
+pub ruleset told_of_each = map-map

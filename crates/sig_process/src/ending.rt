@@ -12,13 +12,12 @@ use sig_terms::{Pid, Term};
 use std::alloc::AllocError;
 
 impl Progress {
-    /// The process ends with the reason, and tells it the peers of its active links, and then those
-    /// who monitor it. (Erlang Reference Manual, Processes, Process Termination.)
+    /// The process ends with the reason, and tells it all those who are told at its end. (Erlang
+    /// Reference Manual, Processes, Process Termination.)
     pub(crate) fn ending(&self, obeyed: Option<Pid>, reason: Term) -> Result<Plan, AllocError>
         ensures { IfOk result (λ plan. ending (after_obeying (state_of self.now) obeyed) reason ≡ body_of (state_of self.now) plan) }
     {
-        let exits = self.exits(obeyed, &reason)?;
-        let posts = self.downs(exits, &reason)?;
+        let posts = self.told_at_end(obeyed, &reason)?;
         let told = reason.copy(self.alloc)?;
         Ok(Plan {
             obeyed,

@@ -1,13 +1,15 @@
 ghost use Rattle.std.specs.Prelude.{◌≡◌, ◌++◌, true, None, IfOk, OnOk, map};
 ghost use Rattle.sig_inner.specs.InnerQueue.{opened as no_queue};
+ghost use Rattle.sig_kinds.specs.declared.signal.Kind.TheVariants as kind;
 ghost use Rattle.sig_kinds.specs.LinkRules.{active_after};
-ghost use Rattle.sig_model.specs.ProcessState.{opening_tables, exits_to, downs_to};
+ghost use Rattle.sig_model.specs.ProcessState.{opening_tables, exits_to, downs_to, told_at_end};
 ghost use Rattle.sig_process.specs.Plans.{after_obeying, post_of};
 ghost use Rattle.sig_process.specs.Progressing.{tables_of, state_of, HaveRoom};
 
 use crate::changing::Growing;
 use crate::history::History;
 use crate::plan::Outgoing;
+use crate::telling::{Tells, tell_all};
 use sig_inner::Inner;
 use sig_kinds::{Kind, Signals};
 use sig_links::Links;
@@ -118,31 +120,27 @@ fn exit_to(alloc: Global, peer: Pid, reason: &Term) -> Result<Outgoing, AllocErr
     Ok(Outgoing { to: peer, kind })
 }
 
-/// A down of the monitor of this reference, with a copy of the reason.
-fn down_to(
-    alloc: Global,
-    watcher: Pid,
-    reference: Ref,
-    reason: &Term,
-) -> Result<Outgoing, AllocError>
-    ensures { IfOk result (λ down. down ≡ record { to = watcher; kind = Kind.Down reference reason.now }) }
-{
-    let reason = reason.copy(alloc)?;
-    Ok(Outgoing {
-        to: watcher,
-        kind: Kind::Down { reference, reason },
-    })
+/// A down to the watcher of each monitor that is borne.
+impl Tells for Watch {
+    type Listed = (Ref, Pid);
+
+    ghost post = { λ monitor reason. record { to = monitor.1.0; kind = kind.Down monitor.0 reason } };
+
+    fn post(alloc: Global, monitor: (Ref, Pid), reason: &Term) -> Result<Outgoing, AllocError> {
+        let (reference, watcher) = monitor;
+        let reason = reason.copy(alloc)?;
+        Ok(Outgoing {
+            to: watcher,
+            kind: Kind::Down { reference, reason },
+        })
+    }
 }
 
 // What is told of each table at the end of the process.
 impl Progress {
     /// An exit signal to the peer of each active link, by ascending pid. The link of an exit signal
     /// that is obeyed is active no more.
-    pub(crate) fn exits(
-        &self,
-        obeyed: Option<Pid>,
-        reason: &Term,
-    ) -> Result<Vec<Outgoing>, AllocError>
+    fn exits(&self, obeyed: Option<Pid>, reason: &Term) -> Result<Vec<Outgoing>, AllocError>
         ensures { IfOk result (λ posts. map post_of posts.items ≡ exits_to (active_after (after_obeying (state_of self.now) obeyed).tables.links None) reason.now) }
     {
         let mut exits = Vec::new(self.alloc);
@@ -159,19 +157,25 @@ impl Progress {
 
     /// Behind these signals, a down to each process that monitors this one, in the order of their
     /// monitors' arrival.
-    pub(crate) fn downs(
-        &self,
-        before: Vec<Outgoing>,
-        reason: &Term,
-    ) -> Result<Vec<Outgoing>, AllocError>
+    #[tactic(auto, using(crate::proofs::ExitLemmas::told_of_each))]
+    fn downs(&self, before: Vec<Outgoing>, reason: &Term) -> Result<Vec<Outgoing>, AllocError>
         ensures { IfOk result (λ posts. map post_of posts.items ≡ map post_of before.items ++ downs_to self.now.tables.watch.watch.borne reason.now) }
     {
-        let mut posts = before;
         let borne = self.tables.watch.all_borne(self.alloc)?;
-        for monitor in borne {
-            let down = down_to(self.alloc, monitor.1, monitor.0, reason)?;
-            posts.push(down)?;
-        }
+        tell_all::<Watch>(self.alloc, before, borne, reason)
+    }
+
+    /// What is told of all tables: the peers of the active links first, and then those who monitor
+    /// the process. The error is want of memory.
+    pub(crate) fn told_at_end(
+        &self,
+        obeyed: Option<Pid>,
+        reason: &Term,
+    ) -> Result<Vec<Outgoing>, AllocError>
+        ensures { IfOk result (λ posts. map post_of posts.items ≡ told_at_end (after_obeying (state_of self.now) obeyed).tables reason.now) }
+    {
+        let exits = self.exits(obeyed, reason)?;
+        let posts = self.downs(exits, reason)?;
         Ok(posts)
     }
 }
