@@ -1,4 +1,4 @@
-ghost use Rattle.std.specs.Prelude.{◌≡◌, ◌++◌, OnOk, OnErr, All, true, codes, decimal};
+ghost use Rattle.std.specs.Prelude.{◌≡◌, ◌++◌, ◌∷◌, [], OnOk, OnErr, All, true, codes, decimal};
 ghost use Rattle.std.specs.List.{flat_map};
 ghost use Rattle.sig_terms.specs.TermText.{term_text, reference_text};
 ghost use Rattle.sig_terms.specs.Readable.{IsTerm};
@@ -37,10 +37,20 @@ use sig_model::{Did, Event, Outcome, State};
 use sig_terms::{Name, Pid, Ref, Term};
 use std::alloc::AllocError;
 
+/// About how many bytes the line of an event has at least.
+const EVENT_LINE: usize = 24;
+
 fn put(into: &mut Vec<u8>, text: &[u8]) -> Result<(), AllocError>
     ensures { IsPut into.old.items into.new.items text.now result }
 {
     into.extend_from_slice(text)
+}
+
+fn put_byte(into: &mut Vec<u8>, byte: u8) -> Result<(), AllocError>
+    ensures { IsPut into.old.items into.new.items (byte ∷ []) result }
+{
+    into.push(byte)?;
+    Ok(())
 }
 
 fn put_number(into: &mut Vec<u8>, n: u64) -> Result<(), AllocError>
@@ -55,6 +65,15 @@ fn put_numbered(into: &mut Vec<u8>, word: &[u8], number: u64) -> Result<(), Allo
     ensures wide { IsWide number }
 {
     put(into, word)?;
+    put_number(into, number)
+}
+
+/// A space, and the number.
+fn put_spaced_number(into: &mut Vec<u8>, number: u64) -> Result<(), AllocError>
+    ensures text { IsPut into.old.items into.new.items (codes " " ++ decimal number) result }
+    ensures wide { IsWide number }
+{
+    put_byte(into, b' ')?;
     put_number(into, number)
 }
 
@@ -73,59 +92,71 @@ fn put_term(into: &mut Vec<u8>, word: &[u8], term: &Term) -> Result<(), AllocErr
     term.print(into)
 }
 
-fn put_did(into: &mut Vec<u8>, did: &Did) -> Result<(), AllocError>
-    ensures text { IsPut into.old.items into.new.items (did_text did.now) result }
+/// A space, and the term.
+fn put_spaced_term(into: &mut Vec<u8>, term: &Term) -> Result<(), AllocError>
+    ensures text { IsPut into.old.items into.new.items (codes " " ++ term_text term.now) result }
+    ensures stored { OnOk result (IsTerm term.now) }
+{
+    put_byte(into, b' ')?;
+    term.print(into)
+}
+
+/// A space, and what the process did.
+fn put_spaced_did(into: &mut Vec<u8>, did: &Did) -> Result<(), AllocError>
+    ensures text { IsPut into.old.items into.new.items (codes " " ++ did_text did.now) result }
     ensures stored { OnOk result (IsStoredDid did.now) }
 {
     match did {
-        Did::Exec { place } => put_numbered(into, b"exec ", u64::from(*place)),
+        Did::Exec { place } => put_numbered(into, b" exec ", u64::from(*place)),
         Did::From { from, number } => {
-            put_pid(into, b"from ", *from)?;
-            put_numbered(into, b" ", *number)
+            put_pid(into, b" from ", *from)?;
+            put_spaced_number(into, *number)
         }
     }
 }
 
-fn truth_word(truth: bool) -> &'static [u8]
-    ensures { result.now ≡ truth_text truth }
+fn answered_words(truth: bool) -> &'static [u8]
+    ensures { result.now ≡ codes " answered " ++ truth_text truth }
 {
-    if truth { b"true" } else { b"false" }
+    if truth {
+        b" answered true"
+    } else {
+        b" answered false"
+    }
 }
 
-fn put_outcome(into: &mut Vec<u8>, outcome: &Outcome) -> Result<(), AllocError>
-    ensures text { IsPut into.old.items into.new.items (outcome_text outcome.now) result }
+/// A space, and how it went.
+fn put_spaced_outcome(into: &mut Vec<u8>, outcome: &Outcome) -> Result<(), AllocError>
+    ensures text { IsPut into.old.items into.new.items (codes " " ++ outcome_text outcome.now) result }
     ensures stored { OnOk result (IsStoredOutcome outcome.now) }
 {
     match outcome {
         Outcome::Sent { to, message } => {
-            put_term(into, b"sent ", to)?;
-            put_term(into, b" ", message)
+            put_term(into, b" sent ", to)?;
+            put_spaced_term(into, message)
         }
-        Outcome::Set { value } => put_term(into, b"set ", value),
-        Outcome::Done => put(into, b"done"),
-        Outcome::Answered { value } => {
-            put(into, b"answered ")?;
-            put(into, truth_word(*value))
-        }
+        Outcome::Set { value } => put_term(into, b" set ", value),
+        Outcome::Done => put(into, b" done"),
+        Outcome::Answered { value } => put(into, answered_words(*value)),
         Outcome::Took {
             clause,
             looked,
             message,
         } => {
-            put_numbered(into, b"took ", u64::from(*clause))?;
-            put_numbered(into, b" ", *looked)?;
-            put_term(into, b" ", message)
+            put_numbered(into, b" took ", u64::from(*clause))?;
+            put_spaced_number(into, *looked)?;
+            put_spaced_term(into, message)
         }
-        Outcome::After { looked } => put_numbered(into, b"after ", *looked),
-        Outcome::Ended { reason } => put_term(into, b"ended ", reason),
-        Outcome::Kept { message } => put_term(into, b"kept ", message),
-        Outcome::Dropped => put(into, b"dropped"),
-        Outcome::Linked => put(into, b"linked"),
-        Outcome::Unlinked => put(into, b"unlinked"),
-        Outcome::Acked => put(into, b"acked"),
-        Outcome::Watched => put(into, b"watched"),
-        Outcome::Unwatched => put(into, b"unwatched"),
-        Outcome::NoProc => put(into, b"noproc"),
+        Outcome::After { looked } => put_numbered(into, b" after ", *looked),
+        Outcome::Ended { reason } => put_term(into, b" ended ", reason),
+        Outcome::Kept { message } => put_term(into, b" kept ", message),
+        Outcome::Dropped => put(into, b" dropped"),
+        Outcome::Linked => put(into, b" linked"),
+        Outcome::Unlinked => put(into, b" unlinked"),
+        Outcome::Acked => put(into, b" acked"),
+        Outcome::Watched => put(into, b" watched"),
+        Outcome::Unwatched => put(into, b" unwatched"),
+        Outcome::NoProc => put(into, b" noproc"),
     }
 }
 
@@ -135,8 +166,7 @@ fn put_act(into: &mut Vec<u8>, event: &Event) -> Result<(), AllocError>
     ensures stored { OnOk result (IsWide event.now.stamp × IsStoredDid event.now.did) }
 {
     put_number(into, event.stamp)?;
-    put(into, b" ")?;
-    put_did(into, &event.did)
+    put_spaced_did(into, &event.did)
 }
 
 #[tactic(auto, unfolding(crate::specs::RecordText::event_text))]
@@ -145,9 +175,8 @@ fn put_event(into: &mut Vec<u8>, event: &Event) -> Result<(), AllocError>
     ensures stored { OnOk result (IsStoredEvent event.now) }
 {
     put_act(into, event)?;
-    put(into, b" ")?;
-    put_outcome(into, &event.outcome)?;
-    put(into, b"\n")
+    put_spaced_outcome(into, &event.outcome)?;
+    put_byte(into, b'\n')
 }
 
 #[tactic(auto, using(crate::proofs::Fronts::kept_front))]
@@ -155,6 +184,7 @@ fn put_events(into: &mut Vec<u8>, events: &[Event]) -> Result<(), AllocError>
     ensures text { IsPut into.old.items into.new.items (flat_map event_text events.now) result }
     ensures stored { OnOk result (All IsStoredEvent events.now) }
 {
+    into.reserve(events.len().saturating_mul(EVENT_LINE))?;
     for event in events {
         put_event(into, event)?;
     }
@@ -167,9 +197,8 @@ fn put_left(into: &mut Vec<u8>, left: &Left) -> Result<(), AllocError>
     ensures stored { OnOk result (IsStoredLeft left.now) }
 {
     put_numbered(into, b"left ", left.arrival)?;
-    put(into, b" ")?;
-    left.message.print(into)?;
-    put(into, b"\n")?;
+    put_spaced_term(into, &left.message)?;
+    put_byte(into, b'\n')?;
     Ok(())
 }
 
@@ -184,10 +213,14 @@ fn put_lefts(into: &mut Vec<u8>, lefts: &[Left]) -> Result<(), AllocError>
     Ok(())
 }
 
-fn link_word(linked: bool) -> &'static [u8]
-    ensures { result.now ≡ link_text linked }
+fn exit_words(linked: bool) -> &'static [u8]
+    ensures { result.now ≡ codes " exit " ++ link_text linked ++ codes " " }
 {
-    if linked { b"linked" } else { b"plain" }
+    if linked {
+        b" exit linked "
+    } else {
+        b" exit plain "
+    }
 }
 
 fn put_reference(into: &mut Vec<u8>, word: &[u8], reference: Ref) -> Result<(), AllocError>
@@ -198,29 +231,26 @@ fn put_reference(into: &mut Vec<u8>, word: &[u8], reference: Ref) -> Result<(), 
     reference.print(into)
 }
 
-fn put_kind(into: &mut Vec<u8>, kind: &Kind) -> Result<(), AllocError>
-    ensures text { IsPut into.old.items into.new.items (kind_text kind.now) result }
+/// A space, and the kind.
+fn put_spaced_kind(into: &mut Vec<u8>, kind: &Kind) -> Result<(), AllocError>
+    ensures text { IsPut into.old.items into.new.items (codes " " ++ kind_text kind.now) result }
     ensures stored { OnOk result (IsStoredKind kind.now) }
 {
     match kind {
-        Kind::Message { term } => put_term(into, b"message ", term),
+        Kind::Message { term } => put_term(into, b" message ", term),
         Kind::AliasMessage { reference, term } => {
-            put_reference(into, b"alias ", *reference)?;
-            put_term(into, b" ", term)
+            put_reference(into, b" alias ", *reference)?;
+            put_spaced_term(into, term)
         }
-        Kind::Link => put(into, b"link"),
-        Kind::Unlink { id } => put_numbered(into, b"unlink ", *id),
-        Kind::UnlinkAck { id } => put_numbered(into, b"unlink_ack ", *id),
-        Kind::Monitor { reference } => put_reference(into, b"monitor ", *reference),
-        Kind::Demonitor { reference } => put_reference(into, b"demonitor ", *reference),
-        Kind::Exit { reason, linked } => {
-            put(into, b"exit ")?;
-            put(into, link_word(*linked))?;
-            put_term(into, b" ", reason)
-        }
+        Kind::Link => put(into, b" link"),
+        Kind::Unlink { id } => put_numbered(into, b" unlink ", *id),
+        Kind::UnlinkAck { id } => put_numbered(into, b" unlink_ack ", *id),
+        Kind::Monitor { reference } => put_reference(into, b" monitor ", *reference),
+        Kind::Demonitor { reference } => put_reference(into, b" demonitor ", *reference),
+        Kind::Exit { reason, linked } => put_term(into, exit_words(*linked), reason),
         Kind::Down { reference, reason } => {
-            put_reference(into, b"down ", *reference)?;
-            put_term(into, b" ", reason)
+            put_reference(into, b" down ", *reference)?;
+            put_spaced_term(into, reason)
         }
     }
 }
@@ -231,11 +261,10 @@ fn put_queued(into: &mut Vec<u8>, signal: &Signal) -> Result<(), AllocError>
     ensures stored { OnOk result (IsStoredSignal signal.now) }
 {
     put_pid(into, b"queued ", signal.from)?;
-    put_numbered(into, b" ", signal.number)?;
-    put_numbered(into, b" ", signal.stamp)?;
-    put(into, b" ")?;
-    put_kind(into, &signal.kind)?;
-    put(into, b"\n")
+    put_spaced_number(into, signal.number)?;
+    put_spaced_number(into, signal.stamp)?;
+    put_spaced_kind(into, &signal.kind)?;
+    put_byte(into, b'\n')
 }
 
 #[tactic(auto, using(crate::proofs::Fronts::kept_front))]
@@ -258,7 +287,7 @@ fn put_state(into: &mut Vec<u8>, state: &State) -> Result<(), AllocError>
         State::Ended { reason } => {
             put(into, b"state ended ")?;
             reason.print(into)?;
-            put(into, b"\n")?;
+            put_byte(into, b'\n')?;
             Ok(())
         }
         State::Waiting => put(into, b"state waiting\n"),
@@ -271,9 +300,9 @@ fn put_head(into: &mut Vec<u8>, pid: Pid, name: &Name) -> Result<(), AllocError>
     ensures stored { OnOk result (IsNarrow pid.0 × (is_token name.now ≡ true)) }
 {
     put_pid(into, b"process ", pid)?;
-    put(into, b" ")?;
+    put_byte(into, b' ')?;
     put(into, name.bytes())?;
-    put(into, b"\n")
+    put_byte(into, b'\n')
 }
 
 #[tactic(auto, unfolding(crate::specs::RecordText::report_text))]
