@@ -15,7 +15,6 @@ use Rattle.sig_terms.specs.contracts.name.Name as name
 use Rattle.sig_kinds.specs.contracts.signal.Signal as signal
 use Rattle.sig_kinds.specs.contracts.signals.Signals as signals
 use Rattle.sig_links.specs.contracts.links.Links as links
-use Rattle.sig_watch.specs.contracts.watch.Watch as watch
 use Rattle.sig_inner.specs.contracts.inner.Inner as inner
 use Rattle.sig_patterns.specs.contracts.env.Env as env
 use Rattle.sig_script.specs.contracts.process.Proc as proc
@@ -39,9 +38,6 @@ signals_send = search (signal_send, crosses, maps.crosses, sendable) depth 40
 links_send : IsSend links.the_row
 links_send = search (crosses, maps.crosses, sendable) depth 40
 
-watch_send : IsSend watch.the_row
-watch_send = search (crosses, maps.crosses, sendable) depth 60 fits 20000
-
 event_send : IsSend event.the_row
 event_send = search (term_knot.send-Term, crosses, maps.crosses, sendable) depth 60 fits 20000
 
@@ -61,7 +57,7 @@ proc_send : IsSend proc.the_row
 proc_send = search (instr_send, crosses, maps.crosses, sendable) depth 40
 
 process_send : IsSend process.the_row
-process_send = search (proc_send, env_send, inner_send, watch_send, event_send, links_send, signals_send, term_send, term_knot.send-Term, crosses, maps.crosses, sendable) depth 60 fits 40000
+process_send = search (proc_send, env_send, inner_send, event_send, links_send, signals_send, term_send, term_knot.send-Term, crosses, maps.crosses, sendable) depth 60 fits 40000
 
 pub part_send : IsSend part.the_row
 part_send = search (process_send, seat_send, crosses, maps.crosses, sendable) depth 60 fits 20000
