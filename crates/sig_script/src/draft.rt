@@ -5,7 +5,7 @@ ghost use Rattle.sig_script.specs.Faults.{Gives};
 ghost use Rattle.sig_script.specs.Scripts.{Declared, Program};
 ghost use Rattle.sig_script.specs.Drafts.{open_proc, all_procs, begun, labelled, with_instr, is_marked, with_clause, taken_at, taken};
 ghost use Rattle.sig_script.specs.Sections.{section_taken};
-ghost use Rattle.sig_script.specs.Grammar.{finished, line_taken};
+ghost use Rattle.sig_script.specs.Grammar.{finished, taken_if, line_taken};
 ghost use Rattle.sig_script.specs.Reading.{IsReading};
 ghost use Rattle.sig_script.specs.Fitting.{IsFewKnown, IsSmall, IsFit};
 
@@ -280,6 +280,18 @@ fn take_form(alloc: Global, draft: &mut Draft, n: u64, form: Form) -> Result<(),
     }
 }
 
+/// A form behind what was read so far, or none.
+fn take_any(alloc: Global, draft: &mut Draft, n: u64, form: Option<Form>) -> Result<(), Stop>
+    requires few { n < 2 ^ 31 }
+    requires fit { IsFit n draft.old }
+    ensures { Gives (λ u. draft.new) result (taken_if draft.old form) }
+{
+    match form {
+        Some(form) => take_form(alloc, draft, n, form),
+        None => Ok(()),
+    }
+}
+
 /// Line `n` behind what was read so far, or what is wrong with it. What was read is of no use
 /// behind a line that is wrong. The room of the list of tokens is used again.
 pub fn take_line(
@@ -295,10 +307,8 @@ pub fn take_line(
     requires fit { IsFit n draft.old }
     ensures { Gives (λ u. draft.new) result (line_taken known.now draft.old line.now) }
 {
-    match read_line(alloc, known, draft, tokens, line)? {
-        Some(form) => take_form(alloc, draft, n, form),
-        None => Ok(()),
-    }
+    let form = read_line(alloc, known, draft, tokens, line)?;
+    take_any(alloc, draft, n, form)
 }
 
 /// The script, where the text may end before line `n`.
