@@ -1,4 +1,5 @@
-//! Tests of the calls of the crates below the machine: those that memory can be refused, and their limits.
+//! Tests of the calls of sig_process and of the crates below it: those that memory can be refused, their
+//! limits, and processes step by step.
 #![tactic(auto)]
 
 #[cfg(test)]
@@ -13,6 +14,8 @@ mod links;
 mod lists;
 #[cfg(test)]
 mod patterns;
+#[cfg(test)]
+mod processes;
 #[cfg(test)]
 mod terms;
 #[cfg(test)]

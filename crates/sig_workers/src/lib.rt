@@ -17,6 +17,3 @@ mod working;
 
 pub use one_worker::run_one;
 pub use rounds::{round, run_rounds};
-
-#[cfg(test)]
-mod tests;

@@ -1,4 +1,5 @@
-//! Two processes step by step, with their signals on the way as long as the test says.
+//! Plays of two processes step by step, with their signals on the way as long as the play says; the
+//! processes of a crew; and a signal that is taken in.
 //!
 //! A move is written as a sign: `a` and `b` execute the next instruction of process 0 and of process
 //! 1, `A` and `B` handle the next signal there, `>` delivers what 0 has sent, and `<` what 1 has
@@ -10,12 +11,11 @@ use sig_base::Steps;
 use sig_kinds::{Kind, Signal, Signals};
 use sig_model::{Event, Outcome};
 use sig_process::{Crew, Process};
-use sig_script::{Script, read_script};
+use sig_script::{Script, ScriptError, read_script};
 use sig_terms::Pid;
-use std::alloc::Global;
+use std::alloc::{AllocError, Global};
 use std::marker::Brand;
 use std::sync::ledger::{Blank, Ledger};
-use std::test::Fail;
 
 /// Lines of a script of two processes, the moves, the outcomes of both, and the next number for
 /// process 1 of a signal of process 0.
@@ -132,6 +132,7 @@ struct Play {
     number: u64,
 }
 
+/// The letter of the outcome of an event.
 fn letter(event: &Event) -> u8 {
     match &event.outcome {
         Outcome::Sent { to: _, message: _ } => b's',
@@ -171,41 +172,45 @@ fn tells(process: &Process, letters: &[u8]) -> bool {
     true
 }
 
-fn execute<L: Ledger>(process: &mut Process, steps: &mut Steps<L>) -> Result<(), Fail> {
+/// Executes the next instruction. False where none can be executed.
+fn execute<L: Ledger>(process: &mut Process, steps: &mut Steps<L>) -> Result<bool, AllocError> {
     if !process.can_exec() {
-        return Err("no instruction can be executed".into());
+        return Ok(false);
     }
     process.exec(steps)?;
-    Ok(())
+    Ok(true)
 }
 
-fn handle(process: &mut Process) -> Result<(), Fail> {
+/// Handles the next signal. False where none can be handled.
+fn handle(process: &mut Process) -> Result<bool, AllocError> {
     if !process.can_handle() {
-        return Err("no signal can be handled".into());
+        return Ok(false);
     }
     process.handle()?;
-    Ok(())
+    Ok(true)
 }
 
-fn deliver(from: &mut Process, to: &mut Process) -> Result<(), Fail> {
+/// Delivers what one has sent to the other. False where a signal is for a third, or a hundred are sent.
+fn deliver(from: &mut Process, to: &mut Process) -> Result<bool, AllocError> {
     for _ in 0..100 {
         let Some(signal) = from.next_out() else {
-            return Ok(());
+            return Ok(true);
         };
         if signal.to != to.pid() || from.count() != to.count() {
-            return Err("not a signal to the other process".into());
+            return Ok(false);
         }
         to.arrive(signal)?;
     }
-    Err("too many signals".into())
+    Ok(false)
 }
 
+/// Makes the move of this sign. False where it can't be made.
 fn moved<L: Ledger>(
     sign: u8,
     first: &mut Process,
     second: &mut Process,
     steps: &mut Steps<L>,
-) -> Result<(), Fail> {
+) -> Result<bool, AllocError> {
     match sign {
         b'a' => execute(first, steps),
         b'b' => execute(second, steps),
@@ -216,67 +221,76 @@ fn moved<L: Ledger>(
     }
 }
 
+/// Makes the moves one after another. False where one can't be made.
 fn move_all<L: Ledger>(
     moves: &[u8],
     first: &mut Process,
     second: &mut Process,
     steps: &mut Steps<L>,
-) -> Result<(), Fail> {
+) -> Result<bool, AllocError> {
     for sign in moves {
-        moved(*sign, first, second, steps)?;
+        if !moved(*sign, first, second, steps)? {
+            return Ok(false);
+        }
     }
-    Ok(())
+    Ok(true)
 }
 
-/// Whether both processes stand as the play says, after its moves.
+/// Whether each of the moves can be made, and both processes stand as the play says after them.
 fn stands<L: Ledger>(
     first: &mut Process,
     second: &mut Process,
     blank: Blank,
     play: &Play,
-) -> Result<bool, Fail>
+) -> Result<bool, AllocError>
     requires name { blank.name ≡ L.name }
     requires parts { blank.parts ≡ L.parts }
     requires some { 0 < blank.parts }
 {
     let mut steps: Steps<L> = Steps::open(blank);
-    move_all(play.moves, first, second, &mut steps)?;
+    let made = move_all(play.moves, first, second, &mut steps)?;
     let told = tells(first, play.first) && tells(second, play.second);
-    Ok(told && first.count() == 2 && first.next_number(Pid(1)) == play.number)
+    Ok(made && told && first.count() == 2 && first.next_number(Pid(1)) == play.number)
+}
+
+/// The script of these lines behind the header line.
+fn script_of(alloc: Global, lines: &[u8]) -> Result<Script, ScriptError> {
+    let mut text = Vec::from_slice(alloc, b"sigscript 1\n")?;
+    text.extend_from_slice(lines)?;
+    read_script(alloc, text.as_slice())
 }
 
 /// The processes of the script of these lines.
-fn opened(alloc: Global, lines: &[u8]) -> Result<Crew, Fail> {
-    let mut text = Vec::new(alloc);
-    text.extend_from_slice(b"sigscript 1\n")?;
-    text.extend_from_slice(lines)?;
-    let script = read_script(alloc, text.as_slice()).map_err(|_| "refused")?;
+fn opened(alloc: Global, lines: &[u8]) -> Result<Crew, ScriptError> {
+    let script = script_of(alloc, lines)?;
     Ok(Crew::open(alloc, &script)?)
 }
 
-/// Whether the first two of these processes stand as the play says, after its moves.
-fn stand<L: Ledger>(procs: &mut [Process], blank: Blank, play: &Play) -> Result<bool, Fail>
+/// Whether there are two processes, and the first two stand as the play says after its moves.
+fn stand<L: Ledger>(procs: &mut [Process], blank: Blank, play: &Play) -> Result<bool, AllocError>
     requires name { blank.name ≡ L.name }
     requires parts { blank.parts ≡ L.parts }
     requires some { 0 < blank.parts }
 {
     let Some((first, rest)) = procs.split_first_mut() else {
-        return Err("no process".into());
+        return Ok(false);
     };
     let Some(second) = rest.first_mut() else {
-        return Err("only one process".into());
+        return Ok(false);
     };
     stands::<L>(first, second, blank, play)
 }
 
 /// Whether the play goes as the table has it.
-fn goes(alloc: Global, lines: &[u8], play: &Play) -> Result<bool, Fail> {
+fn goes(alloc: Global, lines: &[u8], play: &Play) -> Result<bool, ScriptError> {
     let mut crew = opened(alloc, lines)?;
-    stand::<Brand>(crew.procs.as_mut_slice(), Blank::new(1), play)
+    let went = stand::<Brand>(crew.procs.as_mut_slice(), Blank::new(1), play)?;
+    Ok(went)
 }
 
 #[test]
-fn plays_go_by_the_rules(rt: HostRuntime) -> Result<(), Fail> {
+fn plays_go_by_the_rules(rt: HostRuntime) {
+    let alloc = rt.alloc();
     for (lines, moves, first, second, number) in PLAYS {
         let row = Play {
             moves,
@@ -284,26 +298,32 @@ fn plays_go_by_the_rules(rt: HostRuntime) -> Result<(), Fail> {
             second,
             number,
         };
-        let went = goes(rt.alloc(), lines, &row)?;
-        assert!(rt; went, "{lines:?} {moves:?}");
+        assert!(rt; goes(alloc, lines, &row) == Ok(true), "{lines:?} {moves:?}");
     }
-    Ok(())
+}
+
+/// Whether the crew has a second process and no third.
+fn has_two(crew: &mut Crew) -> bool {
+    let second = crew.get_mut(Pid(1)).is_some_and(|p| p.pid() == Pid(1));
+    second && crew.get_mut(Pid(2)).is_none()
+}
+
+/// Whether the crew of a script of two processes has two.
+fn two_are_opened(alloc: Global) -> Result<bool, ScriptError> {
+    let mut crew = opened(alloc, b"process a\nprocess b")?;
+    Ok(has_two(&mut crew))
 }
 
 #[test]
-fn a_crew_has_the_processes_of_its_script(rt: HostRuntime) -> Result<(), Fail> {
-    let alloc = rt.alloc();
-    let script = read_script(alloc, b"sigscript 1\nprocess a\nprocess b").map_err(|_| "refused")?;
-    let mut crew = Crew::open(alloc, &script)?;
-    assert!(rt; crew.get_mut(Pid(1)).is_some_and(|p| p.pid() == Pid(1)));
-    assert!(rt; crew.get_mut(Pid(2)).is_none());
-    Ok(())
+fn a_crew_has_the_processes_of_its_script(rt: HostRuntime) {
+    assert_eq!(rt; two_are_opened(rt.alloc()), Ok(true));
 }
 
 /// How many signals wait for process 1 of the script, after a first one of process 0 was taken in.
-fn waiting_after_one(alloc: Global, script: &Script) -> Result<usize, Fail> {
+/// It is 0 where the script has no process 1.
+fn waiting_after_one(alloc: Global, script: &Script) -> Result<usize, AllocError> {
     if script.count() < 2 {
-        return Err("only one process".into());
+        return Ok(0);
     }
     let mut process = Process::open(alloc, script, Pid(1))?;
     let mut signals = Signals::new(alloc);
@@ -320,10 +340,13 @@ fn waiting_after_one(alloc: Global, script: &Script) -> Result<usize, Fail> {
     Ok(process.taken_in_count())
 }
 
+/// The same of a script of two processes.
+fn waiting_of_two(alloc: Global) -> Result<usize, ScriptError> {
+    let script = script_of(alloc, b"process a\nprocess b")?;
+    Ok(waiting_after_one(alloc, &script)?)
+}
+
 #[test]
-fn a_signal_that_is_taken_in_waits(rt: HostRuntime) -> Result<(), Fail> {
-    let alloc = rt.alloc();
-    let script = read_script(alloc, b"sigscript 1\nprocess a\nprocess b").map_err(|_| "refused")?;
-    assert_eq!(rt; waiting_after_one(alloc, &script)?, 1);
-    Ok(())
+fn a_signal_that_is_taken_in_waits(rt: HostRuntime) {
+    assert_eq!(rt; waiting_of_two(rt.alloc()), Ok(1));
 }

@@ -10,7 +10,7 @@ use Rattle.sig_script.specs.Scripts.{Declared}
 use Rattle.sig_model.specs.Accounts.{Continues}
 use Rattle.sig_model.specs.Keeping.{IsArriving}
 use Rattle.sig_model.specs.Running.{Running, opened}
-use Rattle.sig_workers.proofs.tests.waiting_after_one.Goals as goal
+use Rattle.sig_tests.proofs.processes.waiting_after_one.Goals as goal
 
 -- the signal
 abbrev first : Signal
