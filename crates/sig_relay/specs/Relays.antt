@@ -53,3 +53,7 @@ pub record Puts (q : Queue) (l : Line) (s : Seated) : Type 0 where
 -- a seat of this queue, with these senders
 abbrev pub Keeps : Queue → List ℕ → Seated → Type 0
 Keeps q senders s = (s.queue ≡ q.id) × (s.knows.senders ≡ senders)
+
+-- the seat has the queue, the senders and the role as before
+abbrev pub Stays : Seated → Seated → Type 0
+Stays s t = (t.queue ≡ s.queue) × (t.knows.senders ≡ s.knows.senders) × (t.knows.role ≡ s.knows.role)
