@@ -6,7 +6,7 @@ use crate::held::hold_and_offer;
 use crate::offering::offer_message;
 use crate::pids::{only, pair, trio};
 use crate::putting::{put_and_receive, put_three};
-use crate::relaying::{Line, relay};
+use crate::relaying::{Line, Relayed, relay};
 use sig_kinds::{Kind, Push, Signal, Signals};
 use sig_layout::{Entry, Journal, Numbers, Opening, Policy, Via};
 use sig_queue::{Closed, Fetch, Offer, QSeat, Rest, SigQueue};
@@ -59,6 +59,25 @@ fn is_in_order(signals: &Signals, mut serial: u64) -> bool {
     true
 }
 
+// The serials 0 to 99.
+fn hundred_serials(alloc: Global) -> Result<Vec<u64>, AllocError> {
+    let mut serials = Vec::new(alloc);
+    for serial in 0..100u64 {
+        serials.push(serial)?;
+    }
+    Ok(serials)
+}
+
+// Whether the signals are a hundred, with the serials from 0 on, in order.
+fn is_hundred(signals: &Signals) -> bool {
+    signals.len() == 100 && is_in_order(signals, 0)
+}
+
+// Whether a hundred were sent and fetched, in order.
+fn has_relayed_hundred(relayed: &Relayed) -> bool {
+    relayed.sent == 100 && is_hundred(&relayed.taken)
+}
+
 /// One thread sends a hundred messages of the sender 3, and another fetches them, in order.
 pub fn a_hundred<R: Threads + Wait + Sync>(
     rt: &R,
@@ -68,13 +87,10 @@ pub fn a_hundred<R: Threads + Wait + Sync>(
     requires { IsPolicy policy }
 {
     let opening = opening(alloc)?;
-    let mut serials = Vec::new(alloc);
-    for serial in 0..100u64 {
-        serials.push(serial)?;
-    }
+    let serials = hundred_serials(alloc)?;
     let senders = only(Pid(3));
     let relayed = relay(rt, alloc, policy, senders, &opening, Pid(3), &serials, 100)?;
-    Ok(relayed.sent == 100 && relayed.taken.len() == 100 && is_in_order(&relayed.taken, 0))
+    Ok(has_relayed_hundred(&relayed))
 }
 
 // Whether the journal has one entry, of a put to the outer list after a refusal.
@@ -216,7 +232,7 @@ pub fn a_note_is_learned<R: Threads + Wait + Sync>(
     let note = queue.note(&mut sender);
     queue.learn(&mut seat, note);
     let all = fetch_all(&queue, &mut seat, &mut taken);
-    Ok(aside && all && taken.len() == 100 && is_in_order(&taken, 0))
+    Ok(aside & all & is_hundred(&taken))
 }
 
 // How many of the signals are of this sender, where their serials are from 0 on, in order.
