@@ -1,5 +1,5 @@
 -- A seat that puts one more.
-use Rattle.std.proofs.Common.{◌≡◌, ℕ, suc, ◌+◌, List, [], ◌∷◌, ◌++◌, length, sym, refl, ap, ◌∙◌, arith, length-append, Bool, true, false, ◌||◌, ⊎_elim}
+use Rattle.std.proofs.Common.{◌≡◌, ℕ, suc, ◌+◌, List, [], ◌∷◌, ◌++◌, length, sym, refl, ap, ◌∙◌, arith, length-append, Bool, true, false, ◌||◌, ⊎_elim, if◌then◌else◌, IfSome}
 use Rattle.sig_terms.specs.Names.{IsNameBelow}
 use Rattle.sig_terms.proofs.NameLemmas.{ref_names}
 use Rattle.sig_terms.specs.declared.pid.Pid.{Pid}
@@ -14,9 +14,11 @@ use Rattle.sig_layout.specs.Sent.{sender, putter, of, signals}
 use Rattle.sig_layout.specs.Openings.{first_of, IsNext}
 use Rattle.sig_layout.proofs.Sending.{of_own, of-append, of_signals, signals-append}
 use Rattle.sig_queue.specs.Parts.{item}
-use Rattle.sig_queue.specs.Calls.{PutBy, RefusedOne}
+use Rattle.sig_queue.specs.declared.offer.Offer.{Offer}
+use Rattle.sig_queue.specs.declared.offer.Offer.TheVariants as offer
+use Rattle.sig_queue.specs.Calls.{PutBy, RefusedOne, Offered}
 use Rattle.sig_relay.specs.declared.relaying.Line.{Line}
-use Rattle.sig_relay.specs.Relays.{message, messages, Sender, Sends}
+use Rattle.sig_relay.specs.Relays.{message, messages, Sender, Sends, put_by}
 
 pub messages_more : (from to : Pid) (n : ℕ) (xs : List ℕ) (x : ℕ) → messages from to n xs ++ message from to (n + length xs) x ∷ [] ≡ messages from to n (xs ++ x ∷ [])
 messages_more from to n [] x = let e : n + 0 ≡ n = omega arith in ap (λ (k : ℕ). message from to k x ∷ []) e
@@ -111,3 +113,9 @@ one_more put i = ap length (of-append putter (putter i) put (i ∷ [])) ∙ (ap 
 pub put_more_of : (x : Signal) (v w : Knows) (way : Via) → PutBy x v way w → length (of putter x.from.0 w.put) ≡ length (of putter x.from.0 v.put) + 1
 put_more_of x v w via.Outer p = ap (λ (y : Knows). length (of putter x.from.0 y.put)) p.1 ∙ one_more v.put (item via.Outer x)
 put_more_of x v w (via.Buffer b) p = ap (λ (y : Knows). length (of putter x.from.0 y.put)) p.1.1 ∙ one_more v.put (item (via.Buffer b) x)
+
+-- an offer is one more of its sender where it was put, and else none
+pub offered_count : (x : Signal) (v w : Knows) (r : Offer) → Offered x v r w → IfSome (put_by r) (λ b. length (of putter x.from.0 w.put) ≡ length (of putter x.from.0 v.put) + (if b then 1 else 0))
+offered_count x v w (offer.Put way) p = put_more_of x v w way p
+offered_count x v w (offer.Busy y n) p = let e = ap (λ (l : List Item). length (of putter x.from.0 l)) (refused_put x v w n p.2) in omega arith
+offered_count x v w (offer.Memory y) p = tt
