@@ -1,5 +1,5 @@
 -- A seat that puts one more.
-use Rattle.std.proofs.Common.{◌≡◌, ℕ, suc, ◌+◌, List, [], ◌∷◌, ◌++◌, length, sym, refl, ap, ◌∙◌, arith, length-append, Bool, true, false, ◌||◌, ⊎_elim}
+use Rattle.std.proofs.Common.{◌≡◌, ℕ, suc, ◌+◌, List, [], ◌∷◌, ◌++◌, length, sym, refl, ap, ◌∙◌, arith, length-append, Bool, true, false, ◌||◌, ⊎_elim, if◌then◌else◌, IfSome, MatchOption}
 use Rattle.sig_terms.specs.Names.{IsNameBelow}
 use Rattle.sig_terms.proofs.NameLemmas.{ref_names}
 use Rattle.sig_terms.specs.declared.pid.Pid.{Pid}
@@ -14,9 +14,11 @@ use Rattle.sig_layout.specs.Sent.{sender, putter, of, signals}
 use Rattle.sig_layout.specs.Openings.{first_of, IsNext}
 use Rattle.sig_layout.proofs.Sending.{of_own, of-append, of_signals, signals-append}
 use Rattle.sig_queue.specs.Parts.{item}
-use Rattle.sig_queue.specs.Calls.{PutBy, RefusedOne}
+use Rattle.sig_queue.specs.declared.offer.Offer.{Offer}
+use Rattle.sig_queue.specs.declared.offer.Offer.TheVariants as offer
+use Rattle.sig_queue.specs.Calls.{PutBy, RefusedOne, Offered}
 use Rattle.sig_relay.specs.declared.relaying.Line.{Line}
-use Rattle.sig_relay.specs.Relays.{message, messages, Sender, Sends}
+use Rattle.sig_relay.specs.Relays.{message, messages, Sender, Sends, put_by}
 
 pub messages_more : (from to : Pid) (n : ℕ) (xs : List ℕ) (x : ℕ) → messages from to n xs ++ message from to (n + length xs) x ∷ [] ≡ messages from to n (xs ++ x ∷ [])
 messages_more from to n [] x = let e : n + 0 ≡ n = omega arith in ap (λ (k : ℕ). message from to k x ∷ []) e
@@ -48,13 +50,9 @@ next_of z l put sending n x is = record {
 }
 
 module _ (z : Setup) (l : Line) (xs : List ℕ) (x : ℕ) (v : Knows) (sending : Sender z l) (sends : Sends z l.from xs v) where
-  count : length (of putter l.from.0 v.put) ≡ length xs
+  pub count : length (of putter l.from.0 v.put) ≡ length xs
   count = sym (signals_length (of putter l.from.0 v.put)) ∙ (sym (ap length (of_signals l.from.0 v.put)) ∙ (ap (λ (ys : List Signal). length (of sender l.from.0 ys)) sends.put_is
       ∙ (ap length (own_messages l.from z.opening.receiver (first_of z l.from.0) xs) ∙ messages_length l.from z.opening.receiver (first_of z l.from.0) xs)))
-
-  -- the next message may be put
-  pub next_message : (n : ℕ) → n ≡ l.first + length xs → IsNext z v.put (message l.from l.to n x)
-  next_message n is = next_of z l v.put sending n x (let c = count in omega arith)
 
   put_more : (n : ℕ) (way : Via) (w : Knows) → n ≡ l.first + length xs → w.put ≡ v.put ++ item way (message l.from l.to n x) ∷ [] → signals w.put ≡ messages l.from z.opening.receiver (first_of z l.from.0) (xs ++ x ∷ [])
   put_more n way w is e = ap signals e ∙ (signals-append v.put (item way (message l.from l.to n x) ∷ []) ∙ ((λ i. sends.put_is i ++ message l.from (sending.receiver i) ((is ∙ ap (λ (k : ℕ). k + length xs) sending.first_is) i) x ∷ [])
@@ -111,3 +109,22 @@ one_more put i = ap length (of-append putter (putter i) put (i ∷ [])) ∙ (ap 
 pub put_more_of : (x : Signal) (v w : Knows) (way : Via) → PutBy x v way w → length (of putter x.from.0 w.put) ≡ length (of putter x.from.0 v.put) + 1
 put_more_of x v w via.Outer p = ap (λ (y : Knows). length (of putter x.from.0 y.put)) p.1 ∙ one_more v.put (item via.Outer x)
 put_more_of x v w (via.Buffer b) p = ap (λ (y : Knows). length (of putter x.from.0 y.put)) p.1.1 ∙ one_more v.put (item (via.Buffer b) x)
+
+-- an offer is one more of its sender where it was put, and else none
+pub offered_count : (x : Signal) (v w : Knows) (r : Offer) → Offered x v r w → IfSome (put_by r) (λ b. length (of putter x.from.0 w.put) ≡ length (of putter x.from.0 v.put) + (if b then 1 else 0))
+offered_count x v w (offer.Put way) p = put_more_of x v w way p
+offered_count x v w (offer.Busy y n) p = let e = ap (λ (l : List Item). length (of putter x.from.0 l)) (refused_put x v w n p.2) in omega arith
+offered_count x v w (offer.Memory y) p = tt
+
+-- after an offer of the next message the seat has put it where it was put, and else as before
+pub sends_after : (z : Setup) (l : Line) (xs ys : List ℕ) (x n : ℕ) (v w : Knows) (r : Offer) → Sender z l → Sends z l.from xs v → n ≡ l.first + length xs → ys ≡ xs ++ x ∷ [] → Offered (message l.from l.to n x) v r w
+    → MatchOption (put_by r) (Sends z l.from xs w) (λ b. Sends z l.from (if b then ys else xs) w)
+sends_after z l xs ys x n v w (offer.Put way) sending sends is more p = sends_more z l xs x v sending sends n ys way w is more p
+sends_after z l xs ys x n v w (offer.Busy y found) sending sends is more p = sends_still z l.from xs v w sends (message l.from l.to n x) found p.2
+sends_after z l xs ys x n v w (offer.Memory y) sending sends is more p = let e = p.1.1 in record {
+  senders = ap (λ (k : Knows). k.senders) e ∙ sends.senders;
+  can = ap (λ (k : Knows). has k.senders l.from.0) e ∙ sends.can;
+  put_is = ap (λ (k : Knows). signals k.put) e ∙ sends.put_is;
+  no_role = ap (λ (k : Knows). k.role) e ∙ sends.no_role;
+  none_taken = ap (λ (k : Knows). k.taken) e ∙ sends.none_taken;
+}

@@ -1,5 +1,5 @@
 -- What two threads do with a queue.
-use Rattle.std.specs.Prelude.{◌≡◌, ℕ, ◌<◌, true, false, List, [], ◌∷◌, suc}
+use Rattle.std.specs.Prelude.{◌≡◌, ℕ, ◌<◌, Bool, true, false, List, [], ◌∷◌, suc, Option, Some, None}
 use Rattle.sig_terms.specs.declared.pid.Pid.{Pid}
 use Rattle.sig_terms.specs.declared.term.Term.TheVariants.{Ref}
 use Rattle.sig_kinds.specs.declared.signal.Kind.TheVariants.{Message}
@@ -9,6 +9,8 @@ use Rattle.sig_layout.specs.declared.knows.Knows.{Knows}
 use Rattle.sig_layout.specs.Sets.{has}
 use Rattle.sig_layout.specs.Sent.{signals}
 use Rattle.sig_layout.specs.Openings.{first_of}
+use Rattle.sig_queue.specs.declared.offer.Offer.{Offer}
+use Rattle.sig_queue.specs.declared.offer.Offer.TheVariants as offer
 use Rattle.sig_queue.specs.Seats.{Queue, Seated}
 use Rattle.sig_relay.specs.declared.relaying.Line.{Line}
 
@@ -53,3 +55,13 @@ pub record Puts (q : Queue) (l : Line) (s : Seated) : Type 0 where
 -- a seat of this queue, with these senders
 abbrev pub Keeps : Queue → List ℕ → Seated → Type 0
 Keeps q senders s = (s.queue ≡ q.id) × (s.knows.senders ≡ senders)
+
+-- the seat has the queue, the senders and the role as before
+abbrev pub Stays : Seated → Seated → Type 0
+Stays s t = (t.queue ≡ s.queue) × (t.knows.senders ≡ s.knows.senders) × (t.knows.role ≡ s.knows.role)
+
+-- whether the offer put its signal, where memory was not wanting
+abbrev pub put_by : Offer → Option Bool
+put_by (offer.Put way) = Some true
+put_by (offer.Busy y n) = Some false
+put_by (offer.Memory y) = None

@@ -1,6 +1,7 @@
 //! Two threads over one shared queue: what was fetched, and then what is left, is what was sent.
 #![tactic(auto)]
 
+mod held;
 mod messages;
 mod offering;
 mod pids;

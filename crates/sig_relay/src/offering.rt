@@ -2,7 +2,7 @@ ghost use Rattle.std.specs.Prelude.{◌≡◌, ◌+◌, length, true};
 ghost use Rattle.sig_layout.specs.Sets.{has};
 ghost use Rattle.sig_layout.specs.Sent.{putter, of};
 ghost use Rattle.sig_queue.specs.Calls.{Offered};
-ghost use Rattle.sig_relay.specs.Relays.{Sender, message as said};
+ghost use Rattle.sig_relay.specs.Relays.{Sender, message as said, put_by};
 
 use crate::messages::message;
 use crate::relaying::Line;
@@ -24,4 +24,15 @@ pub fn offer_message(
     ensures offered { Offered (said line.from line.to number serial) seat.old.knows result seat.new.knows }
 {
     queue.offer(seat, message(line.from, line.to, number, serial))
+}
+
+// Whether the offer put its signal, and `None` where memory is wanting.
+pub(crate) fn was_put(offer: Offer) -> Option<bool>
+    ensures { result ≡ put_by offer }
+{
+    match offer {
+        Offer::Put { .. } => Some(true),
+        Offer::Busy { .. } => Some(false),
+        Offer::Memory { .. } => None,
+    }
 }

@@ -1,8 +1,10 @@
 //! Seats that put a count of messages each, one or three of them, while another fetches.
-ghost use Rattle.std.specs.Prelude.{◌≡◌};
-ghost use Rattle.sig_relay.specs.Relays.{Puts, Keeps, Receives};
+ghost use Rattle.std.specs.Prelude.{◌≡◌, ◌+◌, length, true, if◌then◌else◌, IfSome};
+ghost use Rattle.sig_layout.specs.Sets.{has};
+ghost use Rattle.sig_layout.specs.Sent.{putter, of};
+ghost use Rattle.sig_relay.specs.Relays.{Sender, Puts, Keeps, Receives};
 
-use crate::offering::offer_message;
+use crate::offering::{offer_message, was_put};
 use crate::relaying::{Line, receive};
 use sig_kinds::Signals;
 use sig_layout::Via;
@@ -23,6 +25,28 @@ fn is_aside(offer: &Offer, from: Pid) -> bool {
     }
 }
 
+// Offers the message after the first `next`, and tells whether it was put, or `None` where memory is
+// wanting. `aside` stays only where it was not put outside of the sender's buffer.
+fn put_next(
+    queue: &SigQueue,
+    seat: &mut QSeat,
+    line: Line,
+    next: u64,
+    aside: &mut bool,
+) -> Option<bool>
+    requires own { seat.old.queue ≡ queue.now.id }
+    requires sender { Sender queue.now.setup line }
+    requires can { has seat.old.knows.senders line.from.0 ≡ true }
+    requires count { next ≡ length (of putter line.from.0 seat.old.knows.put) }
+    ensures keeps { Keeps queue.now seat.old.knows.senders seat.new }
+    ensures count { IfSome result (λ put. length (of putter line.from.0 seat.new.knows.put) ≡ next + (if put then 1 else 0)) }
+{
+    let number = line.first.checked_add(next)?;
+    let offer = offer_message(queue, seat, line, number, next);
+    *aside &= is_aside(&offer, line.from);
+    was_put(offer)
+}
+
 // Puts so many messages with the serials from 0 on, or as many as memory allows. It tells whether
 // all were put, and each in the sender's buffer.
 pub(crate) fn put_each(queue: &SigQueue, mut seat: QSeat, line: Line, count: u64) -> (QSeat, bool)
@@ -35,15 +59,10 @@ pub(crate) fn put_each(queue: &SigQueue, mut seat: QSeat, line: Line, count: u64
         if next >= count {
             break;
         }
-        let Some(number) = line.first.checked_add(next) else {
-            break;
-        };
-        let offer = offer_message(queue, &mut seat, line, number, next);
-        aside &= is_aside(&offer, line.from);
-        match offer {
-            Offer::Put { .. } => next += 1,
-            Offer::Busy { .. } => thread::yield_now(),
-            Offer::Memory { .. } => break,
+        match put_next(queue, &mut seat, line, next, &mut aside) {
+            Some(true) => next += 1,
+            Some(false) => thread::yield_now(),
+            None => break,
         }
     }
     (seat, aside & (next == count))

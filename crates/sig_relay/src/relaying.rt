@@ -1,14 +1,14 @@
-ghost use Rattle.std.specs.Prelude.{◌≡◌, ◌≤◌, ◌<◌, ◌++◌, [], true, length, take, IfOk};
+ghost use Rattle.std.specs.Prelude.{◌≡◌, ◌+◌, ◌≤◌, ◌<◌, ◌++◌, [], true, length, take, if◌then◌else◌, IfOk, MatchOption};
 ghost use Rattle.sig_layout.specs.Sent.{sender, of};
 ghost use Rattle.sig_layout.specs.Sets.{has};
 ghost use Rattle.sig_layout.specs.Openings.{IsSetup, first_of};
 ghost use Rattle.sig_queue.specs.Ends.{setup_of};
 ghost use Rattle.sig_relay.specs.Relays.{messages, Sends, Receives, Sender};
 
-use crate::messages::message;
+use crate::offering::{offer_message, was_put};
 use sig_kinds::Signals;
 use sig_layout::{Opening, Policy, Senders};
-use sig_queue::{Closed, Fetch, Offer, QSeat, SigQueue};
+use sig_queue::{Closed, Fetch, QSeat, SigQueue};
 use sig_terms::Pid;
 use std::alloc::{AllocError, Global};
 use std::sync::Wait;
@@ -34,6 +34,28 @@ pub struct Relayed {
     pub closed: Closed,
 }
 
+// Offers the message for the serial at `next`, and tells whether it was put, or `None` where memory
+// is wanting.
+fn send_next(
+    queue: &SigQueue,
+    seat: &mut QSeat,
+    line: Line,
+    serials: &[u64],
+    next: usize,
+) -> Option<bool>
+    requires own { seat.old.queue ≡ queue.now.id }
+    requires sender { Sender queue.now.setup line }
+    requires sends { Sends queue.now.setup line.from (take next serials.now) seat.old.knows }
+    requires next { next < length serials.now }
+    ensures own { seat.new.queue ≡ queue.now.id }
+    ensures sends { MatchOption result
+        (Sends queue.now.setup line.from (take next serials.now) seat.new.knows)
+        (λ put. Sends queue.now.setup line.from (if put then take (next + 1) serials.now else take next serials.now) seat.new.knows) }
+{
+    let number = line.first.checked_add(next as u64)?;
+    was_put(offer_message(queue, seat, line, number, serials[next]))
+}
+
 // Puts a message for each serial, or as many as memory allows. It tells how many.
 fn send(queue: &SigQueue, mut seat: QSeat, line: Line, serials: &[u64]) -> (QSeat, usize)
     requires own { seat.queue ≡ queue.now.id }
@@ -48,14 +70,10 @@ fn send(queue: &SigQueue, mut seat: QSeat, line: Line, serials: &[u64]) -> (QSea
         if next >= serials.len() {
             break;
         }
-        let Some(number) = line.first.checked_add(next as u64) else {
-            break;
-        };
-        let signal = message(line.from, line.to, number, serials[next]);
-        match queue.offer(&mut seat, signal) {
-            Offer::Put { .. } => next += 1,
-            Offer::Busy { .. } => thread::yield_now(),
-            Offer::Memory { .. } => break,
+        match send_next(queue, &mut seat, line, serials, next) {
+            Some(true) => next += 1,
+            Some(false) => thread::yield_now(),
+            None => break,
         }
     }
     (seat, next)

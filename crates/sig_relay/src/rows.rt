@@ -2,13 +2,14 @@
 ghost use Rattle.std.specs.Prelude.{◌≡◌, [], ◌∷◌, true, IfOk};
 ghost use Rattle.sig_layout.specs.Policies.{IsPolicy};
 
+use crate::held::hold_and_offer;
 use crate::offering::offer_message;
 use crate::pids::{only, pair, trio};
 use crate::putting::{put_and_receive, put_three};
-use crate::relaying::{Line, relay};
+use crate::relaying::{Line, Relayed, relay};
 use sig_kinds::{Kind, Push, Signal, Signals};
 use sig_layout::{Entry, Journal, Numbers, Opening, Policy, Via};
-use sig_queue::{Closed, Fetch, Hold, Offer, QSeat, Rest, SigQueue, laws};
+use sig_queue::{Closed, Fetch, Offer, QSeat, Rest, SigQueue};
 use sig_terms::{Pid, Term};
 use std::alloc::{AllocError, Global};
 use std::sync::Wait;
@@ -58,6 +59,25 @@ fn is_in_order(signals: &Signals, mut serial: u64) -> bool {
     true
 }
 
+// The serials 0 to 99.
+fn hundred_serials(alloc: Global) -> Result<Vec<u64>, AllocError> {
+    let mut serials = Vec::new(alloc);
+    for serial in 0..100u64 {
+        serials.push(serial)?;
+    }
+    Ok(serials)
+}
+
+// Whether the signals are a hundred, with the serials from 0 on, in order.
+fn is_hundred(signals: &Signals) -> bool {
+    signals.len() == 100 && is_in_order(signals, 0)
+}
+
+// Whether a hundred were sent and fetched, in order.
+fn has_relayed_hundred(relayed: &Relayed) -> bool {
+    relayed.sent == 100 && is_hundred(&relayed.taken)
+}
+
 /// One thread sends a hundred messages of the sender 3, and another fetches them, in order.
 pub fn a_hundred<R: Threads + Wait + Sync>(
     rt: &R,
@@ -67,13 +87,16 @@ pub fn a_hundred<R: Threads + Wait + Sync>(
     requires { IsPolicy policy }
 {
     let opening = opening(alloc)?;
-    let mut serials = Vec::new(alloc);
-    for serial in 0..100u64 {
-        serials.push(serial)?;
-    }
+    let serials = hundred_serials(alloc)?;
     let senders = only(Pid(3));
     let relayed = relay(rt, alloc, policy, senders, &opening, Pid(3), &serials, 100)?;
-    Ok(relayed.sent == 100 && relayed.taken.len() == 100 && is_in_order(&relayed.taken, 0))
+    Ok(has_relayed_hundred(&relayed))
+}
+
+// Whether the journal has one entry, of a put to the outer list after a refusal.
+fn is_put_after_refusal(journal: &Journal) -> bool {
+    let direct = matches!(journal.get(0), Some(Entry::Direct { refused: true }));
+    journal.len() == 1 && direct
 }
 
 /// A seat holds the outer turn while another offers and fetches: both are refused with its number.
@@ -82,24 +105,11 @@ pub fn a_held_turn(alloc: Global) -> Result<bool, AllocError> {
     let senders = pair(Pid(1), Pid(2));
     let (queue, mut seat) = SigQueue::open(alloc, Policy::Never, senders, &opening)?;
     let holder = queue.split(&mut seat, only(Pid(2)), false);
-    let Hold::Held(held) = laws::hold(&queue, holder) else {
-        return Ok(false);
-    };
-    let Offer::Busy { found: 3, .. } = offer_message(&queue, &mut seat, line(1), 1, 7) else {
-        return Ok(false);
-    };
     let mut into = Signals::new(alloc);
-    let Fetch::Busy { found: 3 } = queue.try_fetch(&mut seat, &mut into) else {
-        return Ok(false);
-    };
-    let holder = laws::release(&queue, held);
-    let Offer::Put { via: Via::Outer } = offer_message(&queue, &mut seat, line(1), 1, 7) else {
-        return Ok(false);
-    };
+    let (holder, told) = hold_and_offer(&queue, &mut seat, holder, line(1), &mut into, 3);
     queue.join(&mut seat, holder);
-    let journal = queue.close(seat).journal;
-    let direct = matches!(journal.get(0), Some(Entry::Direct { refused: true }));
-    Ok(journal.len() == 1 && direct)
+    let closed = queue.close(seat);
+    Ok(told & is_put_after_refusal(&closed.journal))
 }
 
 // The serial of this signal, where it is a message that is a reference.
@@ -222,7 +232,7 @@ pub fn a_note_is_learned<R: Threads + Wait + Sync>(
     let note = queue.note(&mut sender);
     queue.learn(&mut seat, note);
     let all = fetch_all(&queue, &mut seat, &mut taken);
-    Ok(aside && all && taken.len() == 100 && is_in_order(&taken, 0))
+    Ok(aside & all & is_hundred(&taken))
 }
 
 // How many of the signals are of this sender, where their serials are from 0 on, in order.
