@@ -5,7 +5,8 @@
 //! 1, `A` and `B` handle the next signal there, `>` delivers what 0 has sent, and `<` what 1 has
 //! sent. The letter of each outcome stands in `letter`.
 
-ghost use Rattle.std.specs.Prelude.{◌≡◌, ◌<◌};
+ghost use Rattle.std.specs.Prelude.{◌≡◌, ◌<◌, length, IfSome, slice_get};
+ghost use Rattle.sig_model.specs.Running.{opened as beginning};
 
 use sig_base::Steps;
 use sig_kinds::{Kind, Signal, Signals};
@@ -319,14 +320,17 @@ fn a_crew_has_the_processes_of_its_script(rt: HostRuntime) {
     assert_eq!(rt; two_are_opened(rt.alloc()), Ok(true));
 }
 
-/// How many signals wait for process 1 of the script, after a first one of process 0 was taken in.
-/// It is 0 where the script has no process 1.
-fn waiting_after_one(alloc: Global, script: &Script) -> Result<usize, AllocError> {
-    if script.count() < 2 {
-        return Ok(0);
-    }
-    let mut process = Process::open(alloc, script, Pid(1))?;
-    let mut signals = Signals::new(alloc);
+/// How many signals wait for process 1, as the script opens it, after a first one of process 0 was
+/// taken in.
+fn waiting_after_one(
+    alloc: Global,
+    process: &mut Process,
+    script: &Script,
+) -> Result<usize, AllocError>
+    requires many { 1 < length script.now.procs }
+    requires opened { IfSome (slice_get script.now.procs 1) (λ d.
+        process.old.running ≡ beginning 1 (length script.now.procs) script.now.turns d) }
+{
     let signal = Signal {
         from: Pid(0),
         to: Pid(1),
@@ -334,16 +338,26 @@ fn waiting_after_one(alloc: Global, script: &Script) -> Result<usize, AllocError
         stamp: 1,
         kind: Kind::Link,
     };
+    let mut signals = Signals::new(alloc);
     signals.room(1)?;
     signals.add(signal);
     process.take_in(&mut signals)?;
     Ok(process.taken_in_count())
 }
 
+/// The same of a process that is opened for it. It is 0 where the script has no process 1.
+fn waiting_in(alloc: Global, script: &Script) -> Result<usize, AllocError> {
+    if script.count() < 2 {
+        return Ok(0);
+    }
+    let mut process = Process::open(alloc, script, Pid(1))?;
+    waiting_after_one(alloc, &mut process, script)
+}
+
 /// The same of a script of two processes.
 fn waiting_of_two(alloc: Global) -> Result<usize, ScriptError> {
     let script = script_of(alloc, b"process a\nprocess b")?;
-    Ok(waiting_after_one(alloc, &script)?)
+    Ok(waiting_in(alloc, &script)?)
 }
 
 #[test]
