@@ -1,6 +1,7 @@
 //! Small runs whose outcome is known beforehand. Each tells whether it came out so.
-ghost use Rattle.std.specs.Prelude.{◌≡◌, [], ◌∷◌, true, IfOk};
+ghost use Rattle.std.specs.Prelude.{◌≡◌, [], ◌∷◌, true, false, IfOk, IfSome};
 ghost use Rattle.sig_layout.specs.Policies.{IsPolicy};
+ghost use Rattle.sig_relay.specs.Relays.{Puts, Stays};
 
 use crate::held::hold_and_offer;
 use crate::offering::offer_message;
@@ -153,39 +154,62 @@ fn is_switch(filled: u64, mut taken: Signals, mut closed: Closed) -> bool {
     filled == 6 && fetched && left && has_switched(&closed.journal)
 }
 
+// The way by which the signal was put.
+fn way_of(offer: Offer) -> Option<Via>
+    ensures { IfSome result (λ way. offer ≡ Offer.Put way) }
+{
+    match offer {
+        Offer::Put { via } => Some(via),
+        _other => None,
+    }
+}
+
+// Puts, a fetch and a removal, where all goes as `a_switch` wants it. It tells the bits before the fetch.
+fn switch<R: Wait>(
+    rt: &R,
+    queue: &SigQueue,
+    seat: &mut QSeat,
+    one: Line,
+    two: Line,
+    into: &mut Signals,
+) -> Result<Option<u64>, AllocError>
+    requires one { Puts queue.now one seat.old × (one.from.0 ≡ 1) × (one.first ≡ 1) }
+    requires two { Puts queue.now two seat.old × (two.from.0 ≡ 2) × (two.first ≡ 1) }
+    requires fetches { (seat.old.knows.role ≡ true) × (seat.old.knows.due ≡ false) }
+    ensures stays { IfOk result (λ told. IfSome told (λ bits. Stays seat.old seat.new)) }
+{
+    let Some(Via::Outer) = way_of(offer_message(queue, seat, one, 1, 11)) else {
+        return Ok(None);
+    };
+    let Some(Via::Buffer(2)) = way_of(offer_message(queue, seat, two, 1, 12)) else {
+        return Ok(None);
+    };
+    let Some(Via::Buffer(1)) = way_of(offer_message(queue, seat, one, 2, 13)) else {
+        return Ok(None);
+    };
+    let filled = queue.filled(seat);
+    let Fetch::Took {
+        count: 3,
+        due: true,
+        skipped: 0,
+    } = queue.try_fetch(seat, into)
+    else {
+        return Ok(None);
+    };
+    queue.remove(rt, seat)?;
+    let Some(Via::Outer) = way_of(offer_message(queue, seat, two, 2, 14)) else {
+        return Ok(None);
+    };
+    Ok(Some(filled))
+}
+
 /// Buffers are installed by a put, emptied by a fetch, and removed, by one seat.
 pub fn a_switch<R: Wait>(rt: &R, alloc: Global) -> Result<bool, AllocError> {
     let opening = opening(alloc)?;
     let senders = pair(Pid(1), Pid(2));
     let (queue, mut seat) = SigQueue::open(alloc, Policy::Churn(1), senders, &opening)?;
-    let Offer::Put { via: Via::Outer } = offer_message(&queue, &mut seat, line(1), 1, 11) else {
-        return Ok(false);
-    };
-    let Offer::Put {
-        via: Via::Buffer(2),
-    } = offer_message(&queue, &mut seat, line(2), 1, 12)
-    else {
-        return Ok(false);
-    };
-    let Offer::Put {
-        via: Via::Buffer(1),
-    } = offer_message(&queue, &mut seat, line(1), 2, 13)
-    else {
-        return Ok(false);
-    };
-    let filled = queue.filled(&mut seat);
     let mut into = Signals::new(alloc);
-    let fetch = queue.try_fetch(&mut seat, &mut into);
-    let Fetch::Took {
-        count: 3,
-        due: true,
-        skipped: 0,
-    } = fetch
-    else {
-        return Ok(false);
-    };
-    queue.remove(rt, &mut seat)?;
-    let Offer::Put { via: Via::Outer } = offer_message(&queue, &mut seat, line(2), 2, 14) else {
+    let Some(filled) = switch(rt, &queue, &mut seat, line(1), line(2), &mut into)? else {
         return Ok(false);
     };
     Ok(is_switch(filled, into, queue.close(seat)))

@@ -1,4 +1,4 @@
-use Rattle.std.proofs.Common.{◌≡◌, ◌+◌, ℕ, Bool, List, Option, ap, ◌∙◌, sym, subst, take, if◌then◌else◌, MatchOption, arith}
+use Rattle.std.proofs.Common.{◌+◌, ℕ, Bool, List, Option, ap, ◌∙◌, sym, subst, take, if◌then◌else◌, MatchOption, arith}
 use Rattle.std.proofs.lemmas.List.{take_more, length-take-le}
 use Rattle.sig_layout.specs.declared.knows.Knows.{Knows}
 use Rattle.sig_relay.specs.Relays.{Sends}
