@@ -1,7 +1,7 @@
 ghost use Rattle.std.specs.Prelude.{◌≡◌, ◌++◌, ◌∷◌, [], IfOk, OnOk, OnErr, IsTrue, ◌↔◌, map, true, take, length};
 ghost use Rattle.std.specs.Fmt.{signed_decimal};
 ghost use Rattle.std.specs.List.{list_all};
-ghost use Rattle.sig_terms.specs.TermText.{term_text, joined};
+ghost use Rattle.sig_terms.specs.TermText.{term_text, after_comma, joined};
 ghost use Rattle.sig_terms.specs.Readable.{is_wide, is_term, IsTerm};
 ghost use Rattle.sig_terms.specs.TermTest.{same_term, same_list};
 ghost use Rattle.sig_terms.specs.declared.term.Term.{Term};
@@ -50,15 +50,14 @@ fn copy_all(alloc: Global, items: &[Term]) -> Result<Terms, AllocError>
 /// Whether the two have equal terms in the same order.
 #[cycle(same)]
 fn same_all(a: &[Term], b: &[Term]) -> bool
-    ensures equal { IsTrue result ↔ (a.now ≡ b.now) }
-    ensures test { result ≡ same_list (map same_term a.now) b.now }
+    ensures { result ≡ same_list (map same_term a.now) b.now }
 {
     if a.len() != b.len() {
         return false;
     }
     let mut i = 0;
     while i < a.len() {
-        if !a[i].same(&b[i]) {
+        if !a[i].equals(&b[i]) {
             return false;
         }
         i += 1;
@@ -66,8 +65,21 @@ fn same_all(a: &[Term], b: &[Term]) -> bool
     true
 }
 
+/// Appends a comma and the text of the term.
+#[cycle(append)]
+#[tactic(auto, using(crate::proofs::KeptFronts::behind))]
+fn append_next(item: &Term, into: &mut Vec<u8>) -> Result<(), AllocError>
+    ensures text { OnOk result (into.new.items ≡ into.old.items ++ after_comma (term_text item.now)) }
+    ensures front { OnErr result (take (length into.old.items) into.new.items ≡ into.old.items) }
+    ensures term { OnOk result (IsTerm item.now) }
+{
+    into.push(b',')?;
+    item.append(into)
+}
+
 /// Appends the texts of the terms, with a comma between two.
 #[cycle(append)]
+#[tactic(auto, using(crate::proofs::KeptFronts::front_on))]
 fn append_all(items: &[Term], into: &mut Vec<u8>) -> Result<(), AllocError>
     ensures text { OnOk result (into.new.items ≡ into.old.items ++ joined (map term_text items.now)) }
     ensures front { OnErr result (take (length into.old.items) into.new.items ≡ into.old.items) }
@@ -78,8 +90,7 @@ fn append_all(items: &[Term], into: &mut Vec<u8>) -> Result<(), AllocError>
         [first, rest @ ..] => {
             first.append(into)?;
             for item in rest {
-                into.push(b',')?;
-                item.append(into)?;
+                append_next(item, into)?;
             }
             Ok(())
         }
@@ -88,6 +99,7 @@ fn append_all(items: &[Term], into: &mut Vec<u8>) -> Result<(), AllocError>
 
 /// Appends the texts of the terms, between two brackets.
 #[cycle(append)]
+#[tactic(auto, using(crate::proofs::KeptFronts::behind))]
 fn append_between(
     opening: u8,
     items: &[Term],
@@ -140,10 +152,18 @@ impl Term {
     }
 
     /// Whether the two are equal.
-    #[cycle(same)]
+    #[tactic(auto, using(crate::proofs::SameTerms::test_is_equality))]
     pub fn same(&self, other: &Term) -> bool
         ensures equal { IsTrue result ↔ (self.now ≡ other.now) }
         ensures test { result ≡ same_term self.now other.now }
+    {
+        self.equals(other)
+    }
+
+    /// The test of two terms, layer by layer.
+    #[cycle(same)]
+    fn equals(&self, other: &Term) -> bool
+        ensures { result ≡ same_term self.now other.now }
     {
         match (self, other) {
             (Term::Int(a), Term::Int(b)) => a == b,
