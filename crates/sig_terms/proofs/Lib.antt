@@ -2,6 +2,7 @@ pub mod Choices
 pub mod Layers
 pub mod Steps
 pub mod KeptFronts
+pub mod Adding
 pub mod JoinedTexts
 pub mod TokenTexts
 pub mod FrontTexts

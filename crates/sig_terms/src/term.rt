@@ -34,17 +34,35 @@ pub enum Term {
     List(Terms),
 }
 
+/// Adds copies of the terms, in their order.
+#[cycle(copy)]
+fn add_copies(alloc: Global, items: &[Term], copies: &mut Terms) -> Result<(), AllocError>
+    ensures { OnOk result (copies.new ≡ copies.old ++ items.now) }
+{
+    for item in items {
+        let copy = item.copy(alloc)?;
+        copies.add(copy)?;
+    }
+    Ok(())
+}
+
 /// Copies of the terms, in their order.
 #[cycle(copy)]
 fn copy_all(alloc: Global, items: &[Term]) -> Result<Terms, AllocError>
     ensures { IfOk result (λ ts. ts ≡ items.now) }
 {
-    let mut copies = Vec::with_capacity(alloc, items.len())?;
-    for item in items {
-        let copy = item.copy(alloc)?;
-        copies.push(copy)?;
-    }
-    Ok(Sequence::from_vec(copies))
+    let room = Vec::with_capacity(alloc, items.len())?;
+    let mut copies = Sequence::from_vec(room);
+    add_copies(alloc, items, &mut copies)?;
+    Ok(copies)
+}
+
+/// A copy of the atom, as a term.
+fn copy_atom(alloc: Global, atom: &Atom) -> Result<Term, AllocError>
+    ensures { IfOk result (λ t. t ≡ Term.Atom atom.now) }
+{
+    let atom = atom.copy(alloc)?;
+    Ok(Term::Atom(atom))
 }
 
 /// Whether the two have equal terms in the same order.
@@ -134,10 +152,7 @@ impl Term {
     {
         match self {
             Term::Int(n) => Ok(Term::Int(*n)),
-            Term::Atom(atom) => {
-                let atom = atom.copy(alloc)?;
-                Ok(Term::Atom(atom))
-            }
+            Term::Atom(atom) => copy_atom(alloc, atom),
             Term::Pid(pid) => Ok(Term::Pid(*pid)),
             Term::Ref(reference) => Ok(Term::Ref(*reference)),
             Term::Tuple(items) => {
