@@ -85,7 +85,6 @@ fn same_all(a: &[Term], b: &[Term]) -> bool
 
 /// Appends a comma and the text of the term.
 #[cycle(append)]
-#[tactic(auto, using(crate::proofs::KeptFronts::behind))]
 fn append_next(item: &Term, into: &mut Vec<u8>) -> Result<(), AllocError>
     ensures text { OnOk result (into.new.items ≡ into.old.items ++ after_comma (term_text item.now)) }
     ensures front { OnErr result (take (length into.old.items) into.new.items ≡ into.old.items) }
@@ -97,7 +96,6 @@ fn append_next(item: &Term, into: &mut Vec<u8>) -> Result<(), AllocError>
 
 /// Appends the texts of the terms, with a comma between two.
 #[cycle(append)]
-#[tactic(auto, using(crate::proofs::KeptFronts::front_on))]
 fn append_all(items: &[Term], into: &mut Vec<u8>) -> Result<(), AllocError>
     ensures text { OnOk result (into.new.items ≡ into.old.items ++ joined (map term_text items.now)) }
     ensures front { OnErr result (take (length into.old.items) into.new.items ≡ into.old.items) }
@@ -117,7 +115,6 @@ fn append_all(items: &[Term], into: &mut Vec<u8>) -> Result<(), AllocError>
 
 /// Appends the texts of the terms, between two brackets.
 #[cycle(append)]
-#[tactic(auto, using(crate::proofs::KeptFronts::behind))]
 fn append_between(
     opening: u8,
     items: &[Term],
