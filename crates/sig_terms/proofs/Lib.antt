@@ -1,6 +1,9 @@
 pub mod Choices
 pub mod Layers
 pub mod Steps
+pub mod KeptFronts
+pub mod Adding
+pub mod JoinedTexts
 pub mod TokenTexts
 pub mod FrontTexts
 pub mod TokenReads

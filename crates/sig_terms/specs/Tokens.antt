@@ -62,12 +62,17 @@ pid_at bytes = do
   rest ← after_text (codes ">") n.1
   Some (record { 0 = n.0 }, rest)
 
+-- behind the owner of a reference
+abbrev pub serial_at : Pid → List ℕ → Option (Ref × List ℕ)
+serial_at owner bytes = do
+  more ← after_text (codes ".") bytes
+  serial ← number_at (2 ^ 64 - 1) more
+  rest ← after_text (codes ">") serial.1
+  Some (record { owner = owner; serial = serial.0 }, rest)
+
 -- behind `#`
 abbrev pub reference_at : List ℕ → Option (Ref × List ℕ)
 reference_at bytes = do
   digits ← after_text (codes "Ref<") bytes
   owner ← number_at (2 ^ 32 - 1) digits
-  more ← after_text (codes ".") owner.1
-  serial ← number_at (2 ^ 64 - 1) more
-  rest ← after_text (codes ">") serial.1
-  Some (record { owner = record { 0 = owner.0 }; serial = serial.0 }, rest)
+  serial_at (record { 0 = owner.0 }) owner.1

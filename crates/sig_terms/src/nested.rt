@@ -1,7 +1,7 @@
 //! Readers of terms with their elements, within a depth and a number of nodes.
 
 ghost use Rattle.std.specs.Prelude.{◌≡◌, []};
-ghost use Rattle.sig_terms.specs.Fronts.{Gives, elements_at, items_at, node_at, term_at};
+ghost use Rattle.sig_terms.specs.Fronts.{Gives, more_at, element_at, elements_at, items_at, enclosed, compound_at, lone_at, node_at, term_at};
 
 use crate::refusal::ReadTerm;
 use crate::term::{Term, Terms};
@@ -9,52 +9,117 @@ use crate::tokens::leaf;
 use sig_lists::Sequence;
 use std::alloc::Global;
 
-/// The elements at the front of the bytes, at least one, up to the byte `close`; then the nodes
-/// that are left, and the bytes behind.
+/// Whether there are more elements behind this one, and the bytes behind the comma or the end.
+fn more(close: u8, bytes: &[u8]) -> Result<(bool, &[u8]), ReadTerm>
+    ensures { Gives (λ x. (x.0, x.1.now)) result (more_at close bytes.now) }
+{
+    match bytes.split_first() {
+        Some((b',', rest)) => Ok((true, rest)),
+        Some((last, rest)) if *last == close => Ok((false, rest)),
+        _ => Err(ReadTerm::BadTerm),
+    }
+}
+
+/// Adds the element at the front of the bytes; whether there are more, the nodes that are left,
+/// and the bytes behind.
 #[cycle(front)]
-#[tactic(auto, unfolding(crate::specs::Fronts::elements_at))]
-fn elements(
+fn element<'a>(
     alloc: Global,
     close: u8,
     depth: u64,
     nodes: u64,
-    bytes: &[u8],
-) -> Result<(Terms, u64, &[u8]), ReadTerm>
-    ensures { Gives (λ x. (x.0, x.1, x.2.now)) result (elements_at (term_at depth) close nodes nodes [] bytes.now) }
+    bytes: &'a [u8],
+    items: &mut Terms,
+) -> Result<(bool, u64, &'a [u8]), ReadTerm>
+    ensures { Gives (λ x. (items.new, x.0, x.1, x.2.now)) result (element_at (term_at depth) close nodes items.old bytes.now) }
 {
-    let mut items = Sequence::new(alloc);
+    let (item, left, behind) = front(alloc, depth, nodes, bytes)?;
+    items.add(item)?;
+    let (goes_on, rest) = more(close, behind)?;
+    Ok((goes_on, left, rest))
+}
+
+/// Adds the elements at the front of the bytes, at least one, up to the byte `close`; the nodes
+/// that are left, and the bytes behind.
+#[cycle(front)]
+#[tactic(auto, using(crate::proofs::Steps::goes_on, crate::proofs::Steps::ends, crate::proofs::Steps::fails, crate::proofs::Steps::no_room))]
+fn elements<'a>(
+    alloc: Global,
+    close: u8,
+    depth: u64,
+    nodes: u64,
+    bytes: &'a [u8],
+    items: &mut Terms,
+) -> Result<(u64, &'a [u8]), ReadTerm>
+    ensures { Gives (λ x. (items.new, x.0, x.1.now)) result (elements_at (term_at depth) close nodes nodes items.old bytes.now) }
+{
     let mut left = nodes;
     let mut rest = bytes;
     for _ in 0..nodes {
-        let (item, fewer, behind) = front(alloc, depth, left, rest)?;
-        items.add(item)?;
-        left = fewer;
-        match behind {
-            [b',', more @ ..] => rest = more,
-            [last, more @ ..] if *last == close => return Ok((items, left, more)),
-            _ => return Err(ReadTerm::BadTerm),
+        let (goes_on, fewer, behind) = element(alloc, close, depth, left, rest, items)?;
+        if !goes_on {
+            return Ok((fewer, behind));
         }
+        left = fewer;
+        rest = behind;
     }
     Err(ReadTerm::BadTerm)
 }
 
-/// The elements behind a bracket, up to the byte `close`.
+/// Adds the elements behind a bracket, up to the byte `close`.
 #[cycle(front)]
 #[tactic(auto, unfolding(crate::specs::Fronts::items_at))]
-fn items(
+fn inside<'a>(
+    alloc: Global,
+    close: u8,
+    depth: u64,
+    nodes: u64,
+    bytes: &'a [u8],
+    items: &mut Terms,
+) -> Result<(u64, &'a [u8]), ReadTerm>
+    requires { items.old ≡ [] }
+    ensures { Gives (λ x. (items.new, x.0, x.1.now)) result (items_at (term_at depth) close nodes bytes.now) }
+{
+    match bytes.split_first() {
+        None => Err(ReadTerm::BadTerm),
+        Some((first, rest)) if *first == close => Ok((nodes, rest)),
+        _ => elements(alloc, close, depth, nodes, bytes, items),
+    }
+}
+
+/// The term of these elements, by the byte that ends it.
+fn enclose(close: u8, items: Terms) -> Term
+    ensures { result ≡ enclosed close items }
+{
+    if close == b'}' {
+        Term::Tuple(items)
+    } else {
+        Term::List(items)
+    }
+}
+
+/// The tuple or the list behind its bracket, up to the byte `close`.
+#[cycle(front)]
+fn compound(
     alloc: Global,
     close: u8,
     depth: u64,
     nodes: u64,
     bytes: &[u8],
-) -> Result<(Terms, u64, &[u8]), ReadTerm>
-    ensures { Gives (λ x. (x.0, x.1, x.2.now)) result (items_at (term_at depth) close nodes bytes.now) }
+) -> Result<(Term, u64, &[u8]), ReadTerm>
+    ensures { Gives (λ x. (x.0, x.1, x.2.now)) result (compound_at (term_at depth) close nodes bytes.now) }
 {
-    match bytes {
-        [] => Err(ReadTerm::BadTerm),
-        [first, rest @ ..] if *first == close => Ok((Sequence::new(alloc), nodes, rest)),
-        _ => elements(alloc, close, depth, nodes, bytes),
-    }
+    let mut items = Sequence::new(alloc);
+    let (left, rest) = inside(alloc, close, depth, nodes, bytes, &mut items)?;
+    Ok((enclose(close, items), left, rest))
+}
+
+/// The term without elements at the front of the bytes, which leaves all the nodes.
+fn lone(alloc: Global, nodes: u64, bytes: &[u8]) -> Result<(Term, u64, &[u8]), ReadTerm>
+    ensures { Gives (λ x. (x.0, x.1, x.2.now)) result (lone_at nodes bytes.now) }
+{
+    let (term, rest) = leaf(alloc, bytes)?;
+    Ok((term, nodes, rest))
 }
 
 /// The term at the front of the bytes, whose elements have at most `nodes` nodes and this depth.
@@ -63,20 +128,11 @@ fn items(
 fn node(alloc: Global, depth: u64, nodes: u64, bytes: &[u8]) -> Result<(Term, u64, &[u8]), ReadTerm>
     ensures { Gives (λ x. (x.0, x.1, x.2.now)) result (node_at (term_at depth) nodes bytes.now) }
 {
-    match bytes {
-        [] => Err(ReadTerm::BadTerm),
-        [b'{', inside @ ..] => {
-            let (items, left, rest) = items(alloc, b'}', depth, nodes, inside)?;
-            Ok((Term::Tuple(items), left, rest))
-        }
-        [b'[', inside @ ..] => {
-            let (items, left, rest) = items(alloc, b']', depth, nodes, inside)?;
-            Ok((Term::List(items), left, rest))
-        }
-        _ => {
-            let (term, rest) = leaf(alloc, bytes)?;
-            Ok((term, nodes, rest))
-        }
+    match bytes.split_first() {
+        None => Err(ReadTerm::BadTerm),
+        Some((b'{', rest)) => compound(alloc, b'}', depth, nodes, rest),
+        Some((b'[', rest)) => compound(alloc, b']', depth, nodes, rest),
+        _ => lone(alloc, nodes, bytes),
     }
 }
 

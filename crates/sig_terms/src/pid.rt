@@ -1,6 +1,7 @@
 ghost use Rattle.std.specs.Prelude.{◌≡◌, ◌<◌, ◌^◌, OnOk, OnErr, ◌++◌};
 ghost use Rattle.sig_terms.specs.TermText.{pid_text};
 
+use crate::pieces::append_pieces;
 use itoa::Buffer;
 use std::alloc::AllocError;
 
@@ -19,10 +20,6 @@ impl Pid {
     {
         let mut buffer = Buffer::new();
         let digits = buffer.format(self.0).as_bytes();
-        into.reserve(digits.len() + 2)?;
-        into.push_reserved(b'<');
-        into.extend_from_slice(digits)?;
-        into.push_reserved(b'>');
-        Ok(())
+        append_pieces(into, &[b"<", digits, b">"])
     }
 }

@@ -1,7 +1,7 @@
 ghost use Rattle.std.specs.Prelude.{◌≡◌, ◌++◌, ◌∷◌, [], IfOk, OnOk, OnErr, IsTrue, ◌↔◌, map, true, take, length};
 ghost use Rattle.std.specs.Fmt.{signed_decimal};
 ghost use Rattle.std.specs.List.{list_all};
-ghost use Rattle.sig_terms.specs.TermText.{term_text, joined};
+ghost use Rattle.sig_terms.specs.TermText.{term_text, after_comma, joined};
 ghost use Rattle.sig_terms.specs.Readable.{is_wide, is_term, IsTerm};
 ghost use Rattle.sig_terms.specs.TermTest.{same_term, same_list};
 ghost use Rattle.sig_terms.specs.declared.term.Term.{Term};
@@ -34,36 +34,64 @@ pub enum Term {
     List(Terms),
 }
 
+/// Adds copies of the terms, in their order.
+#[cycle(copy)]
+fn add_copies(alloc: Global, items: &[Term], copies: &mut Terms) -> Result<(), AllocError>
+    ensures { OnOk result (copies.new ≡ copies.old ++ items.now) }
+{
+    for item in items {
+        let copy = item.copy(alloc)?;
+        copies.add(copy)?;
+    }
+    Ok(())
+}
+
 /// Copies of the terms, in their order.
 #[cycle(copy)]
 fn copy_all(alloc: Global, items: &[Term]) -> Result<Terms, AllocError>
     ensures { IfOk result (λ ts. ts ≡ items.now) }
 {
-    let mut copies = Vec::with_capacity(alloc, items.len())?;
-    for item in items {
-        let copy = item.copy(alloc)?;
-        copies.push(copy)?;
-    }
-    Ok(Sequence::from_vec(copies))
+    let room = Vec::with_capacity(alloc, items.len())?;
+    let mut copies = Sequence::from_vec(room);
+    add_copies(alloc, items, &mut copies)?;
+    Ok(copies)
+}
+
+/// A copy of the atom, as a term.
+fn copy_atom(alloc: Global, atom: &Atom) -> Result<Term, AllocError>
+    ensures { IfOk result (λ t. t ≡ Term.Atom atom.now) }
+{
+    let atom = atom.copy(alloc)?;
+    Ok(Term::Atom(atom))
 }
 
 /// Whether the two have equal terms in the same order.
 #[cycle(same)]
 fn same_all(a: &[Term], b: &[Term]) -> bool
-    ensures equal { IsTrue result ↔ (a.now ≡ b.now) }
-    ensures test { result ≡ same_list (map same_term a.now) b.now }
+    ensures { result ≡ same_list (map same_term a.now) b.now }
 {
     if a.len() != b.len() {
         return false;
     }
     let mut i = 0;
     while i < a.len() {
-        if !a[i].same(&b[i]) {
+        if !a[i].equals(&b[i]) {
             return false;
         }
         i += 1;
     }
     true
+}
+
+/// Appends a comma and the text of the term.
+#[cycle(append)]
+fn append_next(item: &Term, into: &mut Vec<u8>) -> Result<(), AllocError>
+    ensures text { OnOk result (into.new.items ≡ into.old.items ++ after_comma (term_text item.now)) }
+    ensures front { OnErr result (take (length into.old.items) into.new.items ≡ into.old.items) }
+    ensures term { OnOk result (IsTerm item.now) }
+{
+    into.push(b',')?;
+    item.append(into)
 }
 
 /// Appends the texts of the terms, with a comma between two.
@@ -78,8 +106,7 @@ fn append_all(items: &[Term], into: &mut Vec<u8>) -> Result<(), AllocError>
         [first, rest @ ..] => {
             first.append(into)?;
             for item in rest {
-                into.push(b',')?;
-                item.append(into)?;
+                append_next(item, into)?;
             }
             Ok(())
         }
@@ -122,10 +149,7 @@ impl Term {
     {
         match self {
             Term::Int(n) => Ok(Term::Int(*n)),
-            Term::Atom(atom) => {
-                let atom = atom.copy(alloc)?;
-                Ok(Term::Atom(atom))
-            }
+            Term::Atom(atom) => copy_atom(alloc, atom),
             Term::Pid(pid) => Ok(Term::Pid(*pid)),
             Term::Ref(reference) => Ok(Term::Ref(*reference)),
             Term::Tuple(items) => {
@@ -140,10 +164,18 @@ impl Term {
     }
 
     /// Whether the two are equal.
-    #[cycle(same)]
+    #[tactic(auto, using(crate::proofs::SameTerms::test_is_equality))]
     pub fn same(&self, other: &Term) -> bool
         ensures equal { IsTrue result ↔ (self.now ≡ other.now) }
         ensures test { result ≡ same_term self.now other.now }
+    {
+        self.equals(other)
+    }
+
+    /// The test of two terms, layer by layer.
+    #[cycle(same)]
+    fn equals(&self, other: &Term) -> bool
+        ensures { result ≡ same_term self.now other.now }
     {
         match (self, other) {
             (Term::Int(a), Term::Int(b)) => a == b,

@@ -1,12 +1,12 @@
 //! Readers of what has no elements: integers, atoms, pids and references. Each reads as many
 //! bytes as it can, and answers what is behind them.
 
-ghost use Rattle.std.specs.Prelude.{◌≡◌, ◌≤◌, ◌^◌, ◌-◌, ◌*◌, ◌+◌, ◌<◌, IfSome, take, length};
+ghost use Rattle.std.specs.Prelude.{◌≡◌, ◌≤◌, ◌^◌, ◌-◌, ◌*◌, ◌+◌, ◌<◌, negsuc, IfSome, take, length};
 ghost use Rattle.std.specs.Option.{option_map};
 ghost use Rattle.std.specs.List.{prefix_len};
 ghost use Rattle.sig_terms.specs.Words.{is_name_byte, is_atom_byte};
-ghost use Rattle.sig_terms.specs.Tokens.{digits_on, number_at, negative_at, int_at, after_text, atom_of, name_at, quoted_at, pid_at, reference_at};
-ghost use Rattle.sig_terms.specs.Fronts.{Gives, int_term_at, name_term_at, quoted_term_at, pid_term_at, reference_term_at, leaf_at};
+ghost use Rattle.sig_terms.specs.Tokens.{digits_on, number_at, negative_at, int_at, after_text, atom_of};
+ghost use Rattle.sig_terms.specs.Fronts.{Gives, int_term_at, name_term_at, quoted_term_at, pid_term_at, serial_term_at, reference_term_at, marked_at, leaf_at};
 
 use crate::atom::Atom;
 use crate::bytes::{
@@ -57,6 +57,14 @@ fn number(most: u64, bytes: &[u8]) -> Option<(u64, &[u8])>
     }
 }
 
+/// The integer below zero that is this far from -1.
+fn below_zero(distance: u64) -> i64
+    requires { distance < 2 ^ 63 }
+    ensures { result ≡ negsuc distance }
+{
+    -1 - distance as i64
+}
+
 /// The integer that `-` begins: at most 2^63 below zero, and not zero.
 fn negative(digits: &[u8]) -> Option<(i64, &[u8])>
     ensures { option_map (λ x. (x.0, x.1.now)) result ≡ negative_at digits.now }
@@ -65,7 +73,7 @@ fn negative(digits: &[u8]) -> Option<(i64, &[u8])>
     if n == 0 {
         return None;
     }
-    Some((-((n - 1) as i64) - 1, rest))
+    Some((below_zero(n - 1), rest))
 }
 
 /// The integer at the front of the bytes.
@@ -87,25 +95,31 @@ fn after<'a>(text: &[u8], bytes: &'a [u8]) -> Option<&'a [u8]>
 }
 
 /// The pid that `<` begins.
-fn pid(bytes: &[u8]) -> Option<(Pid, &[u8])>
-    ensures { option_map (λ x. (x.0, x.1.now)) result ≡ pid_at bytes.now }
+fn pid(bytes: &[u8]) -> Option<(Term, &[u8])>
+    ensures { option_map (λ x. (x.0, x.1.now)) result ≡ pid_term_at bytes.now }
 {
     let (n, rest) = number((1 << 32) - 1, bytes)?;
     let rest = after(b">", rest)?;
-    Some((Pid(n as u32), rest))
+    Some((Term::Pid(Pid(n as u32)), rest))
+}
+
+/// The reference of this owner, from the dot before its serial on.
+fn serial(owner: Pid, bytes: &[u8]) -> Option<(Term, &[u8])>
+    ensures { option_map (λ x. (x.0, x.1.now)) result ≡ serial_term_at owner bytes.now }
+{
+    let digits = after(b".", bytes)?;
+    let (serial, rest) = number(u64::MAX, digits)?;
+    let rest = after(b">", rest)?;
+    Some((Term::Ref(Ref { owner, serial }), rest))
 }
 
 /// The reference that `#` begins.
-fn reference(bytes: &[u8]) -> Option<(Ref, &[u8])>
-    ensures { option_map (λ x. (x.0, x.1.now)) result ≡ reference_at bytes.now }
+fn reference(bytes: &[u8]) -> Option<(Term, &[u8])>
+    ensures { option_map (λ x. (x.0, x.1.now)) result ≡ reference_term_at bytes.now }
 {
     let digits = after(b"Ref<", bytes)?;
-    let (owner, more) = number((1 << 32) - 1, digits)?;
-    let more = after(b".", more)?;
-    let (serial, rest) = number(u64::MAX, more)?;
-    let rest = after(b">", rest)?;
-    let owner = Pid(owner as u32);
-    Some((Ref { owner, serial }, rest))
+    let (owner, rest) = number((1 << 32) - 1, digits)?;
+    serial(Pid(owner as u32), rest)
 }
 
 /// How many bytes at the front may follow in a name, up to [`MOST_WORD_BYTES`].
@@ -139,17 +153,17 @@ fn atom_from(alloc: Global, bytes: &[u8]) -> Result<Atom, ReadTerm>
 }
 
 /// The atom whose name is at the front of the bytes.
-fn name(alloc: Global, bytes: &[u8]) -> Result<(Atom, &[u8]), ReadTerm>
-    ensures { Gives (λ x. (x.0, x.1.now)) result (name_at bytes.now) }
+fn name(alloc: Global, bytes: &[u8]) -> Result<(Term, &[u8]), ReadTerm>
+    ensures { Gives (λ x. (x.0, x.1.now)) result (name_term_at bytes.now) }
 {
     let (name, rest) = bytes.split_at(name_length(bytes));
     let atom = atom_from(alloc, name)?;
-    Ok((atom, rest))
+    Ok((Term::Atom(atom), rest))
 }
 
 /// The atom that a quote begins.
-fn quoted(alloc: Global, bytes: &[u8]) -> Result<(Atom, &[u8]), ReadTerm>
-    ensures { Gives (λ x. (x.0, x.1.now)) result (quoted_at bytes.now) }
+fn quoted(alloc: Global, bytes: &[u8]) -> Result<(Term, &[u8]), ReadTerm>
+    ensures { Gives (λ x. (x.0, x.1.now)) result (quoted_term_at bytes.now) }
 {
     let (body, rest) = bytes.split_at(quoted_length(bytes));
     if spells_name(body) {
@@ -159,7 +173,7 @@ fn quoted(alloc: Global, bytes: &[u8]) -> Result<(Atom, &[u8]), ReadTerm>
         None => Err(ReadTerm::BadTerm),
         Some(rest) => {
             let atom = atom_from(alloc, body)?;
-            Ok((atom, rest))
+            Ok((Term::Atom(atom), rest))
         }
     }
 }
@@ -172,36 +186,16 @@ fn int_term(bytes: &[u8]) -> Result<(Term, &[u8]), ReadTerm>
     Ok((Term::Int(n), rest))
 }
 
-/// The atom whose name is at the front of the bytes, as a term.
-fn name_term(alloc: Global, bytes: &[u8]) -> Result<(Term, &[u8]), ReadTerm>
-    ensures { Gives (λ x. (x.0, x.1.now)) result (name_term_at bytes.now) }
+/// The term behind a mark: `'`, `<` or `#`.
+fn marked(alloc: Global, mark: u8, bytes: &[u8]) -> Result<(Term, &[u8]), ReadTerm>
+    ensures { Gives (λ x. (x.0, x.1.now)) result (marked_at mark bytes.now) }
 {
-    let (atom, rest) = name(alloc, bytes)?;
-    Ok((Term::Atom(atom), rest))
-}
-
-/// The atom that a quote begins, as a term.
-fn quoted_term(alloc: Global, bytes: &[u8]) -> Result<(Term, &[u8]), ReadTerm>
-    ensures { Gives (λ x. (x.0, x.1.now)) result (quoted_term_at bytes.now) }
-{
-    let (atom, rest) = quoted(alloc, bytes)?;
-    Ok((Term::Atom(atom), rest))
-}
-
-/// The pid that `<` begins, as a term.
-fn pid_term(bytes: &[u8]) -> Result<(Term, &[u8]), ReadTerm>
-    ensures { Gives (λ x. (x.0, x.1.now)) result (pid_term_at bytes.now) }
-{
-    let (pid, rest) = pid(bytes).ok_or(ReadTerm::BadTerm)?;
-    Ok((Term::Pid(pid), rest))
-}
-
-/// The reference that `#` begins, as a term.
-fn reference_term(bytes: &[u8]) -> Result<(Term, &[u8]), ReadTerm>
-    ensures { Gives (λ x. (x.0, x.1.now)) result (reference_term_at bytes.now) }
-{
-    let (reference, rest) = reference(bytes).ok_or(ReadTerm::BadTerm)?;
-    Ok((Term::Ref(reference), rest))
+    match mark {
+        b'\'' => quoted(alloc, bytes),
+        b'<' => pid(bytes).ok_or(ReadTerm::BadTerm),
+        b'#' => reference(bytes).ok_or(ReadTerm::BadTerm),
+        _ => Err(ReadTerm::BadTerm),
+    }
 }
 
 /// The term without elements at the front of the bytes.
@@ -209,12 +203,16 @@ fn reference_term(bytes: &[u8]) -> Result<(Term, &[u8]), ReadTerm>
 pub fn leaf(alloc: Global, bytes: &[u8]) -> Result<(Term, &[u8]), ReadTerm>
     ensures { Gives (λ x. (x.0, x.1.now)) result (leaf_at bytes.now) }
 {
-    match bytes {
-        [first, ..] if *first == b'-' || is_digit_byte(*first) => int_term(bytes),
-        [first, ..] if is_lower_byte(*first) => name_term(alloc, bytes),
-        [b'\'', inside @ ..] => quoted_term(alloc, inside),
-        [b'<', inside @ ..] => pid_term(inside),
-        [b'#', inside @ ..] => reference_term(inside),
-        _ => Err(ReadTerm::BadTerm),
+    match bytes.split_first() {
+        None => Err(ReadTerm::BadTerm),
+        Some((first, inside)) => {
+            if *first == b'-' || is_digit_byte(*first) {
+                int_term(bytes)
+            } else if is_lower_byte(*first) {
+                name(alloc, bytes)
+            } else {
+                marked(alloc, *first, inside)
+            }
+        }
     }
 }

@@ -1,5 +1,6 @@
-use Rattle.std.proofs.Common.{◌≡◌, take}
+use Rattle.std.proofs.Common.{◌≡◌, ◌++◌, take}
 use Rattle.sig_terms.proofs.term.+copy.Given as goal
 
-abbrev pub invariant-copy_all-loop-item : goal.invariant-copy_all-loop-item
-invariant-copy_all-loop-item l = l.copies.items ≡ take l.item-index l.items
+-- the copies so far stand behind what was there
+abbrev pub invariant-add_copies-loop-item : goal.invariant-add_copies-loop-item
+invariant-add_copies-loop-item l = l.copies ≡ l.fn.copies ++ take l.item-index l.items

@@ -1,6 +1,6 @@
 use Rattle.std.proofs.Common.{◌≡◌, ◌++◌, take}
 use Rattle.std.specs.List.{flat_map}
-use Rattle.sig_terms.proofs.pieces.append_pieces.Given as goal
+use Rattle.sig_terms.proofs.pieces.append_each.Given as goal
 
 -- the pieces so far stand behind what was there
 abbrev pub invariant-loop-piece : goal.invariant-loop-piece
