@@ -1,6 +1,7 @@
 pub mod ByteKeyLemmas
 pub mod EnvironmentLemmas
 pub mod PastTheEnd
+pub mod NextPlace
 pub mod Bindings
 pub mod Walks
 pub mod Placing
