@@ -1,5 +1,5 @@
 ghost use Rattle.std.specs.Prelude.{◌≡◌, ◌+◌, map, is_some, false};
-ghost use Rattle.std.specs.Option.{option_map_or};
+ghost use Rattle.std.specs.Option.{option_map, option_map_or};
 ghost use Rattle.sig_terms.specs.TermTest.{same_term};
 ghost use Rattle.sig_patterns.specs.Environment.{value_of_var};
 ghost use Rattle.sig_patterns.specs.Matching.{match_of};
@@ -45,7 +45,7 @@ fn is_first(whole: Against<'_>, var: &Var, seen: Seen<'_>) -> bool
 /// Whether there are as many terms, and each of the patterns fits the term at its place.
 #[cycle(fits)]
 fn each_fits(patterns: &[Pattern], terms: Option<&[Term]>, whole: Against<'_>) -> bool
-    ensures { result ≡ option_map_or (λ ts. fits_all (map (fits whole.entry.env.now (first_in whole.entry.pattern.now (term_seen whole.entry.seen))) patterns.now) ts.now) terms.entry false }
+    ensures { result ≡ option_map_or (fits_all (map (fits whole.entry.env.now (first_in whole.entry.pattern.now (term_seen whole.entry.seen))) patterns.now)) (option_map (λ ts. ts.now) terms.entry) false }
 {
     let Some(terms) = terms else {
         return false;
