@@ -1,6 +1,7 @@
 -- One place further in a list of patterns, and in the terms that they meet.
-use Rattle.std.proofs.Common.{◌≡◌, ℕ, ◌+◌, ◌<◌, Bool, true, List, [], ◌∷◌, ◌++◌, map, take, drop, length, get_or, append_assoc, refl, sym, ap, ◌∙◌, subst, None}
+use Rattle.std.proofs.Common.{◌≡◌, ℕ, ◌+◌, ◌<◌, Bool, true, false, List, [], ◌∷◌, ◌++◌, map, take, drop, length, get_or, append_assoc, refl, sym, ap, ◌∙◌, subst, None}
 use Rattle.std.proofs.lemmas.List.{drop_more, map_more}
+use Rattle.std.specs.List.{list_any}
 use Rattle.sig_terms.specs.declared.term.Term.{Term}
 use Rattle.sig_patterns.specs.declared.pattern.Pattern.{Pattern}
 use Rattle.sig_patterns.specs.Matching.{Bindings}
@@ -23,6 +24,13 @@ pub placed_each_next : (ps : List Pattern) (ts : List Term) (i : ℕ) (p : Patte
 placed_each_next ps ts i p t before now in_ps in_ts p_is t_is more =
     let rest = placed_each (map placed (drop (i + 1) ps)) (drop (i + 1) ts) in
     rw (at_place ps i p in_ps p_is, at_place ts i t in_ts t_is, more) (append_assoc before (placed p t) rest)
+
+-- a test of the patterns that fails at the place
+pub any_next : (test : Pattern → Bool) (ps : List Pattern) (i : ℕ) (p : Pattern) → i < length ps → p ≡ get_or ps i p → test p ≡ false
+    → list_any (λ b. b) (map test (drop (i + 1) ps)) ≡ list_any (λ b. b) (map test (drop i ps))
+any_next test ps i p within p_is fails =
+    let rest = map test (drop (i + 1) ps) in
+    sym (ap (λ (qs : List Pattern). list_any (λ b. b) (map test qs)) (at_place ps i p within p_is) ∙ ap (λ (b : Bool). list_any (λ c. c) (b ∷ rest)) fails)
 
 -- one more value at the end of those of the first elements
 pub map_next : {X Y : Type 0} (f : X → Y) (xs : List X) (i : ℕ) (x : X) (before now : List Y) (y : Y) → now ≡ before ++ y ∷ [] → before ≡ map f (take i xs) → y ≡ f x → i < length xs → x ≡ get_or xs i x
