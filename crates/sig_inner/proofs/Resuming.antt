@@ -23,6 +23,17 @@ passed_append last.Gone = refl
 passed_append (last.Found place) = refl
 passed_append (last.Passed count) = refl
 
+-- what the last scan left is there, when a new message has come
+pub reach_append : (l : LastScan) (n : ℕ) → reach l ≤ n → reach (after_append l) ≤ n + 1
+reach_append last.Gone n le = omega arith
+reach_append (last.Found place) n le = omega arith
+reach_append (last.Passed count) n le = omega arith
+
+-- the queue with a new message, by its parts
+pub appended_by : (q : InnerQueue) (messages : List (ℕ × Term)) (message : Term) (l : LastScan) → messages ≡ q.inbox.messages ++ (q.inbox.next_arrival, message) ∷ [] → l ≡ after_append q.last
+    → ◌≡◌ {A = InnerQueue} (record q { inbox = record q.inbox { messages = messages; next_arrival = q.inbox.next_arrival + 1 }; last = l }) (appended q message)
+appended_by q messages message l held left = λ i. record q { inbox = record q.inbox { messages = held i; next_arrival = q.inbox.next_arrival + 1 }; last = left i }
+
 -- the messages before the saved place are there
 pub passed_within : (l : LastScan) (n : ℕ) → reach l ≤ n → passed l ≤ n
 passed_within last.Gone n le = le

@@ -6,11 +6,12 @@ use Rattle.sig_terms.specs.declared.term.Term.{Term}
 use Rattle.sig_terms.specs.declared.term.Term.TheVariants as term
 use Rattle.sig_terms.specs.declared.term.Term.TheOpen as term_layer
 use Rattle.sig_terms.specs.declared.term.Term.TheFolds.{fold-roll-Term}
+use Rattle.sig_patterns.specs.declared.var.Var.{Var}
 use Rattle.sig_patterns.specs.declared.expression.Expr.{Expr}
 use Rattle.sig_patterns.specs.declared.expression.Expr.TheVariants as expr
 use Rattle.sig_patterns.specs.declared.expression.Expr.TheOpen as expr_layer
 use Rattle.sig_patterns.specs.declared.expression.Expr.TheFolds.{fold-roll-Expr}
-use Rattle.sig_patterns.specs.Environment.{Environment}
+use Rattle.sig_patterns.specs.Environment.{Environment, value_of_var}
 use Rattle.sig_patterns.specs.Building.{value_of, value_step}
 
 tuple_nodes : (ts : List Term) → node_count (term.Tuple ts) ≡ 1 + sum (map node_count ts)
@@ -25,20 +26,23 @@ tuple_depth ts = ap depth_of (sym (term.rolls-Tuple ts)) ∙ fold-roll-Term ℕ 
 list_depth : (ts : List Term) → depth_of (term.List ts) ≡ 1 + greatest (map depth_of ts)
 list_depth ts = ap depth_of (sym (term.rolls-List ts)) ∙ fold-roll-Term ℕ depth_step (term_layer.List ts)
 
-tuple_value : (env : Environment) (es : List Expr) → value_of env (expr.Tuple es) ≡ term.Tuple (map (value_of env) es)
+pub tuple_value : (env : Environment) (es : List Expr) → value_of env (expr.Tuple es) ≡ term.Tuple (map (value_of env) es)
 tuple_value env es = ap (value_of env) (sym (expr.rolls-Tuple es)) ∙ fold-roll-Expr Term (value_step env) (expr_layer.Tuple es)
 
-list_value : (env : Environment) (es : List Expr) → value_of env (expr.List es) ≡ term.List (map (value_of env) es)
+pub list_value : (env : Environment) (es : List Expr) → value_of env (expr.List es) ≡ term.List (map (value_of env) es)
 list_value env es = ap (value_of env) (sym (expr.rolls-List es)) ∙ fold-roll-Expr Term (value_step env) (expr_layer.List es)
 
-int_value : (env : Environment) (n : ℤ) → value_of env (expr.Int n) ≡ term.Int n
+pub int_value : (env : Environment) (n : ℤ) → value_of env (expr.Int n) ≡ term.Int n
 int_value env n = ap (value_of env) (sym (expr.rolls-Int n)) ∙ fold-roll-Expr Term (value_step env) (expr_layer.Int n)
 
-atom_value : (env : Environment) (a : List ℕ) → value_of env (expr.Atom a) ≡ term.Atom a
+pub atom_value : (env : Environment) (a : List ℕ) → value_of env (expr.Atom a) ≡ term.Atom a
 atom_value env a = ap (value_of env) (sym (expr.rolls-Atom a)) ∙ fold-roll-Expr Term (value_step env) (expr_layer.Atom a)
 
-pid_value : (env : Environment) (p : Pid) → value_of env (expr.Pid p) ≡ term.Pid p
+pub pid_value : (env : Environment) (p : Pid) → value_of env (expr.Pid p) ≡ term.Pid p
 pid_value env p = ap (value_of env) (sym (expr.rolls-Pid p)) ∙ fold-roll-Expr Term (value_step env) (expr_layer.Pid p)
+
+pub var_value : (env : Environment) (x : Var) → value_of env (expr.Var x) ≡ value_of_var env x.0
+var_value env x = ap (value_of env) (sym (expr.rolls-Var x)) ∙ fold-roll-Expr Term (value_step env) (expr_layer.Var x)
 
 -- a term without elements
 abbrev IsLeaf : Term → Type 0

@@ -1,6 +1,7 @@
 -- What a hit tells, and how the scan of a receive goes from a message to the next.
-use Rattle.std.proofs.Common.{◌≡◌, ℕ, suc, ◌+◌, Bool, true, false, not, nat_lt, cond, List, [], ◌∷◌, length, refl, sym, ap, subst, ◌∙◌, Option, Some, None, is_some, arith, add-one}
+use Rattle.std.proofs.Common.{◌≡◌, ℕ, suc, ◌+◌, ◌<◌, Bool, true, false, not, nat_lt, cond, List, [], ◌∷◌, length, drop, get_or, refl, sym, ap, subst, ◌∙◌, Option, Some, None, is_some, arith, add-one}
 use Rattle.std.proofs.lemmas.Grind.{common_steps}
+use Rattle.std.proofs.lemmas.List.{drop_more}
 use Rattle.std.specs.Prelude.{IfSome, position, slice_get}
 use Rattle.std.specs.List.{position_or_len}
 use Rattle.std.specs.Option.{option_map, option_or}
@@ -26,6 +27,22 @@ place_at false q n = grind (arith, common_steps)
 
 position-cons : {A : Type 0} (p : A → Bool) (x : A) (xs : List A) → position p (x ∷ xs) ≡ cond (p x) (Some 0) (option_map (λ i. i + 1) (position p xs))
 position-cons p x xs = place_at (p x) (position_or_len p xs) (length xs)
+
+-- a clause that does not match, at a place
+one_further : (at : ℕ) (o : Option ℕ) → option_map (λ n. n + at) (option_map (λ i. i + 1) o) ≡ option_map (λ n. n + (at + 1)) o
+one_further at None = refl
+one_further at (Some n) = ap Some (omega arith)
+
+pub first_clause_next : (clauses : List Clause) (env : Environment) (message : Term) (at : ℕ) (d : Clause) → at < length clauses → is_some (match_of (get_or clauses at d).pattern env message) ≡ false
+    → option_map (λ n. n + at) (first_clause (drop at clauses) env message) ≡ option_map (λ n. n + (at + 1)) (first_clause (drop (at + 1) clauses) env message)
+first_clause_next clauses env message at d within fails =
+    let rest = drop (at + 1) clauses in
+    let later : Option ℕ = option_map (λ i. i + 1) (first_clause rest env message) in
+    ap (option_map (λ n. n + at))
+    (ap (λ (cs : List Clause). first_clause cs env message) (drop_more clauses at d within)
+    ∙ position-cons (λ c. is_some (match_of c.pattern env message)) (get_or clauses at d) rest
+    ∙ ap (λ (b : Bool). cond b (Some 0) later) fails)
+    ∙ one_further at (first_clause rest env message)
 
 further_places : (found : Option Hit) (first : Option ℕ) → option_map places_of found ≡ option_map at_front first
     → option_map places_of (option_map behind_clause found) ≡ option_map at_front (option_map (λ i. i + 1) first)

@@ -1,6 +1,8 @@
 pub mod ByteKeyLemmas
 pub mod EnvironmentLemmas
 pub mod PastTheEnd
+pub mod NextPlace
+pub mod PartWalks
 pub mod Bindings
 pub mod Walks
 pub mod Placing

@@ -1,15 +1,11 @@
--- Past the last term there is no first place, and every pattern fits.
-use Rattle.std.proofs.Common.{◌≡◌, ℕ, Bool, true, List, [], ◌∷◌, refl, None}
+-- Past the last term there is no first place, and nothing is placed.
+use Rattle.std.proofs.Common.{◌≡◌, ℕ, List, [], ◌∷◌, refl, None}
 use Rattle.sig_terms.specs.declared.term.Term.{Term}
-use Rattle.sig_patterns.specs.Fitting.{Places, first_each, fits_each, Placer, placed_each}
+use Rattle.sig_patterns.specs.Fitting.{Places, first_each, Placer, placed_each}
 
 pub first_each-none : (fs : List (Term → Places)) (x : List ℕ) → first_each fs [] x ≡ None
 first_each-none [] x = refl
 first_each-none (f ∷ fs) x = refl
-
-pub fits_each-true : (ks : List (Term → Bool)) → fits_each ks [] ≡ true
-fits_each-true [] = refl
-fits_each-true (k ∷ ks) = refl
 
 pub placed_each-nothing : (fs : List Placer) → placed_each fs [] ≡ []
 placed_each-nothing [] = refl

@@ -21,6 +21,11 @@ abbrev pub term_seen : Seen → Term
 term_seen (Whole t) = t.now
 term_seen (Rest ts) = term.List ts.now
 
+-- the first one and the rest
+abbrev pub split : List Term → Option (Term × List Term)
+split [] = None
+split (t ∷ ts) = Some (t, ts)
+
 -- the first place of each variable in a pattern
 abbrev pub Places : Type 0
 Places = List ℕ → Option Term

@@ -1,4 +1,5 @@
-ghost use Rattle.std.specs.Prelude.{◌≡◌, ◌++◌, OnOk, OnErr, IsSome, Some, MatchResult, map};
+ghost use Rattle.std.specs.Prelude.{◌≡◌, [], ◌∷◌, ◌++◌, OnOk, OnErr, IsSome, Some, MatchResult, map};
+ghost use Rattle.std.specs.Option.{option_map, option_map_or};
 ghost use Rattle.sig_patterns.specs.Matching.{match_of, overlaid};
 ghost use Rattle.sig_patterns.specs.Fitting.{term_seen, placed_each, placed, bindings_of};
 
@@ -16,16 +17,33 @@ struct Binding<'a> {
     value: Term,
 }
 
+/// Adds a copy of what the variable meets.
+fn add<'a>(
+    alloc: Global,
+    var: &'a Var,
+    seen: Seen<'_>,
+    into: &mut Vec<Binding<'a>>,
+) -> Result<(), AllocError>
+    ensures { OnOk result (bindings_of into.new.items ≡ bindings_of into.old.items ++ (var.now.0, term_seen seen.entry) ∷ []) }
+{
+    let value = seen.copy(alloc)?;
+    into.push(Binding { var, value })?;
+    Ok(())
+}
+
 /// Adds what the variables of these patterns meet, where each pattern meets the term at its place.
 #[cycle(collect)]
 fn collect_each<'a>(
     alloc: Global,
     patterns: &'a [Pattern],
-    terms: &[Term],
+    terms: Option<&[Term]>,
     into: &mut Vec<Binding<'a>>,
 ) -> Result<(), AllocError>
-    ensures { OnOk result (bindings_of into.new.items ≡ bindings_of into.old.items ++ placed_each (map placed patterns.now) terms.now) }
+    ensures { OnOk result (bindings_of into.new.items ≡ bindings_of into.old.items ++ option_map_or (placed_each (map placed patterns.now)) (option_map (λ ts. ts.now) terms.entry) []) }
 {
+    let Some(terms) = terms else {
+        return Ok(());
+    };
     let mut i = 0;
     while i < patterns.len() {
         if i >= terms.len() {
@@ -48,27 +66,17 @@ fn collect<'a>(
     ensures { OnOk result (bindings_of into.new.items ≡ bindings_of into.old.items ++ placed pattern.now (term_seen seen.entry)) }
 {
     match pattern {
-        Pattern::Bind(var) => {
-            let value = seen.copy(alloc)?;
-            into.push(Binding { var, value })?;
-            Ok(())
-        }
-        Pattern::Tuple(patterns) => match seen.tuple_items() {
-            Some(terms) => collect_each(alloc, patterns.as_slice(), terms, into),
-            None => Ok(()),
-        },
-        Pattern::List(patterns) => match seen.list_items() {
-            Some(terms) => collect_each(alloc, patterns.as_slice(), terms, into),
-            None => Ok(()),
-        },
-        Pattern::Cons { head, tail } => match seen.list_items() {
-            Some([first, rest @ ..]) => {
+        Pattern::Bind(var) => add(alloc, var, seen, into),
+        Pattern::Tuple(items) => collect_each(alloc, items.as_slice(), seen.tuple_items(), into),
+        Pattern::List(items) => collect_each(alloc, items.as_slice(), seen.list_items(), into),
+        Pattern::Cons { head, tail } => match seen.split_list() {
+            Some((first, rest)) => {
                 collect(alloc, head.get(), Seen::Whole(first), into)?;
                 collect(alloc, tail.get(), Seen::Rest(rest), into)
             }
-            _ => Ok(()),
+            None => Ok(()),
         },
-        _ => Ok(()),
+        _other => Ok(()),
     }
 }
 

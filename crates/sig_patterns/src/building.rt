@@ -71,20 +71,11 @@ fn make(alloc: Global, expression: &Expr, env: &Env) -> Result<Term, AllocError>
 {
     match expression {
         Expr::Int(n) => Ok(Term::Int(*n)),
-        Expr::Atom(atom) => {
-            let atom = atom.copy(alloc)?;
-            Ok(Term::Atom(atom))
-        }
+        Expr::Atom(atom) => atom.copy(alloc).map(Term::Atom),
         Expr::Pid(pid) => Ok(Term::Pid(*pid)),
         Expr::Var(var) => copy_value(alloc, var, env),
-        Expr::Tuple(items) => {
-            let values = make_all(alloc, items.as_slice(), env)?;
-            Ok(Term::Tuple(values))
-        }
-        Expr::List(items) => {
-            let values = make_all(alloc, items.as_slice(), env)?;
-            Ok(Term::List(values))
-        }
+        Expr::Tuple(items) => make_all(alloc, items.as_slice(), env).map(Term::Tuple),
+        Expr::List(items) => make_all(alloc, items.as_slice(), env).map(Term::List),
     }
 }
 

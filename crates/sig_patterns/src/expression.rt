@@ -46,23 +46,11 @@ impl Expr {
     {
         match self {
             Expr::Int(n) => Ok(Expr::Int(*n)),
-            Expr::Atom(atom) => {
-                let atom = atom.copy(alloc)?;
-                Ok(Expr::Atom(atom))
-            }
+            Expr::Atom(atom) => atom.copy(alloc).map(Expr::Atom),
             Expr::Pid(pid) => Ok(Expr::Pid(*pid)),
-            Expr::Var(var) => {
-                let var = var.copy(alloc)?;
-                Ok(Expr::Var(var))
-            }
-            Expr::Tuple(items) => {
-                let copies = copy_all(alloc, items.as_slice())?;
-                Ok(Expr::Tuple(copies))
-            }
-            Expr::List(items) => {
-                let copies = copy_all(alloc, items.as_slice())?;
-                Ok(Expr::List(copies))
-            }
+            Expr::Var(var) => var.copy(alloc).map(Expr::Var),
+            Expr::Tuple(items) => copy_all(alloc, items.as_slice()).map(Expr::Tuple),
+            Expr::List(items) => copy_all(alloc, items.as_slice()).map(Expr::List),
         }
     }
 }

@@ -1,9 +1,9 @@
 ghost use Rattle.std.specs.Prelude.{◌≡◌, ◌+◌, map, is_some, false};
-ghost use Rattle.std.specs.Option.{option_map_or};
+ghost use Rattle.std.specs.Option.{option_map, option_map_or};
 ghost use Rattle.sig_terms.specs.TermTest.{same_term};
 ghost use Rattle.sig_patterns.specs.Environment.{value_of_var};
 ghost use Rattle.sig_patterns.specs.Matching.{match_of};
-ghost use Rattle.sig_patterns.specs.Fitting.{term_seen, first_in, fits, fits_each, fits_all};
+ghost use Rattle.sig_patterns.specs.Fitting.{term_seen, first_in, fits, fits_all};
 
 use crate::env::Env;
 use crate::pattern::Pattern;
@@ -42,16 +42,19 @@ fn is_first(whole: Against<'_>, var: &Var, seen: Seen<'_>) -> bool
     }
 }
 
-/// Whether each of the patterns fits the term at its place, as far as there are both.
+/// Whether there are as many terms, and each of the patterns fits the term at its place.
 #[cycle(fits)]
-fn each_fits(patterns: &[Pattern], terms: &[Term], whole: Against<'_>) -> bool
-    ensures { result ≡ fits_each (map (fits whole.entry.env.now (first_in whole.entry.pattern.now (term_seen whole.entry.seen))) patterns.now) terms.now }
+fn each_fits(patterns: &[Pattern], terms: Option<&[Term]>, whole: Against<'_>) -> bool
+    ensures { result ≡ option_map_or (fits_all (map (fits whole.entry.env.now (first_in whole.entry.pattern.now (term_seen whole.entry.seen))) patterns.now)) (option_map (λ ts. ts.now) terms.entry) false }
 {
+    let Some(terms) = terms else {
+        return false;
+    };
+    if patterns.len() != terms.len() {
+        return false;
+    }
     let mut i = 0;
     while i < patterns.len() {
-        if i >= terms.len() {
-            return true;
-        }
         if !fits(&patterns[i], Seen::Whole(&terms[i]), whole) {
             return false;
         }
@@ -73,21 +76,14 @@ fn fits(pattern: &Pattern, seen: Seen<'_>, whole: Against<'_>) -> bool
         Pattern::Int(n) => seen.is_int(*n),
         Pattern::Atom(atom) => seen.is_atom(atom.bytes()),
         Pattern::Pid(pid) => seen.is_pid(*pid),
-        Pattern::Tuple(patterns) => match seen.tuple_items() {
-            Some(terms) => patterns.len() == terms.len()
-                && each_fits(patterns.as_slice(), terms, whole),
-            None => false,
-        },
-        Pattern::List(items) => match seen.list_items() {
-            Some(terms) => items.len() == terms.len() && each_fits(items.as_slice(), terms, whole),
-            None => false,
-        },
-        Pattern::Cons { head, tail } => match seen.list_items() {
-            Some([first, rest @ ..]) => {
+        Pattern::Tuple(items) => each_fits(items.as_slice(), seen.tuple_items(), whole),
+        Pattern::List(items) => each_fits(items.as_slice(), seen.list_items(), whole),
+        Pattern::Cons { head, tail } => match seen.split_list() {
+            Some((first, rest)) => {
                 fits(head.get(), Seen::Whole(first), whole)
                     && fits(tail.get(), Seen::Rest(rest), whole)
             }
-            _ => false,
+            None => false,
         },
     }
 }

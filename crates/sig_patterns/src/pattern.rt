@@ -39,6 +39,15 @@ pub enum Pattern {
     },
 }
 
+/// A copy of a part of a pattern.
+#[cycle(copy)]
+fn copy_part(alloc: Global, part: &Boxed<Pattern>) -> Result<Boxed<Pattern>, AllocError>
+    ensures { IfOk result (λ p. p ≡ part.now) }
+{
+    let copy = part.get().copy(alloc)?;
+    Boxed::new(alloc, copy)
+}
+
 /// Copies of the patterns, in their order.
 #[cycle(copy)]
 fn copy_all(alloc: Global, items: &[Pattern]) -> Result<Patterns, AllocError>
@@ -60,33 +69,16 @@ impl Pattern {
     {
         match self {
             Pattern::Any => Ok(Pattern::Any),
-            Pattern::Bind(var) => {
-                let var = var.copy(alloc)?;
-                Ok(Pattern::Bind(var))
-            }
-            Pattern::Pin(var) => {
-                let var = var.copy(alloc)?;
-                Ok(Pattern::Pin(var))
-            }
+            Pattern::Bind(var) => var.copy(alloc).map(Pattern::Bind),
+            Pattern::Pin(var) => var.copy(alloc).map(Pattern::Pin),
             Pattern::Int(n) => Ok(Pattern::Int(*n)),
-            Pattern::Atom(atom) => {
-                let atom = atom.copy(alloc)?;
-                Ok(Pattern::Atom(atom))
-            }
+            Pattern::Atom(atom) => atom.copy(alloc).map(Pattern::Atom),
             Pattern::Pid(pid) => Ok(Pattern::Pid(*pid)),
-            Pattern::Tuple(items) => {
-                let copies = copy_all(alloc, items.as_slice())?;
-                Ok(Pattern::Tuple(copies))
-            }
-            Pattern::List(items) => {
-                let copies = copy_all(alloc, items.as_slice())?;
-                Ok(Pattern::List(copies))
-            }
+            Pattern::Tuple(items) => copy_all(alloc, items.as_slice()).map(Pattern::Tuple),
+            Pattern::List(items) => copy_all(alloc, items.as_slice()).map(Pattern::List),
             Pattern::Cons { head, tail } => {
-                let head = head.get().copy(alloc)?;
-                let tail = tail.get().copy(alloc)?;
-                let head = Boxed::new(alloc, head)?;
-                let tail = Boxed::new(alloc, tail)?;
+                let head = copy_part(alloc, head)?;
+                let tail = copy_part(alloc, tail)?;
                 Ok(Pattern::Cons { head, tail })
             }
         }

@@ -1,6 +1,6 @@
 //! The first place of a variable in a pattern.
 
-ghost use Rattle.std.specs.Prelude.{◌≡◌, map};
+ghost use Rattle.std.specs.Prelude.{◌≡◌, map, option_and_then};
 ghost use Rattle.std.specs.Option.{option_map};
 ghost use Rattle.sig_patterns.specs.Fitting.{term_seen, first_each, first_in};
 
@@ -12,9 +12,16 @@ use sig_terms::bytes::equal_bytes;
 
 /// The first place among these patterns, each of which meets the term at its place.
 #[cycle(first)]
-fn first_in_each<'a>(patterns: &'a [Pattern], terms: &'a [Term], var: &Var) -> Option<Seen<'a>>
-    ensures { option_map term_seen result ≡ first_each (map first_in patterns.now) terms.now var.now.0 }
+fn first_in_each<'a>(
+    patterns: &'a [Pattern],
+    terms: Option<&'a [Term]>,
+    var: &Var,
+) -> Option<Seen<'a>>
+    ensures { option_map term_seen result ≡ option_and_then (λ ts. first_each (map first_in patterns.now) ts var.now.0) (option_map (λ ts. ts.now) terms.entry) }
 {
+    let Some(terms) = terms else {
+        return None;
+    };
     let mut i = 0;
     while i < patterns.len() {
         if i >= terms.len() {
@@ -42,23 +49,17 @@ pub(crate) fn first_in<'a>(pattern: &'a Pattern, seen: Seen<'a>, var: &Var) -> O
                 None
             }
         }
-        Pattern::Tuple(patterns) => {
-            let terms = seen.tuple_items()?;
-            first_in_each(patterns.as_slice(), terms, var)
-        }
-        Pattern::List(patterns) => {
-            let terms = seen.list_items()?;
-            first_in_each(patterns.as_slice(), terms, var)
-        }
-        Pattern::Cons { head, tail } => match seen.list_items() {
-            Some([first, rest @ ..]) => {
-                if let Some(place) = first_in(head.get(), Seen::Whole(first), var) {
-                    return Some(place);
-                }
-                first_in(tail.get(), Seen::Rest(rest), var)
+        Pattern::Tuple(items) => first_in_each(items.as_slice(), seen.tuple_items(), var),
+        Pattern::List(items) => first_in_each(items.as_slice(), seen.list_items(), var),
+        Pattern::Cons { head, tail } => {
+            let Some((first, rest)) = seen.split_list() else {
+                return None;
+            };
+            match first_in(head.get(), Seen::Whole(first), var) {
+                Some(place) => Some(place),
+                None => first_in(tail.get(), Seen::Rest(rest), var),
             }
-            _ => None,
-        },
-        _ => None,
+        }
+        _other => None,
     }
 }

@@ -1,9 +1,9 @@
-ghost use Rattle.std.specs.Prelude.{◌≡◌, IfOk, map};
+ghost use Rattle.std.specs.Prelude.{◌≡◌, IfOk, map, option_and_then};
 ghost use Rattle.std.specs.Option.{option_map};
 ghost use Rattle.sig_terms.specs.TermTest.{same_term, same_list};
 ghost use Rattle.sig_terms.specs.declared.term.Term.TheVariants as term;
 ghost use Rattle.sig_patterns.specs.Matching.{tuple_items, list_items};
-ghost use Rattle.sig_patterns.specs.Fitting.{term_seen};
+ghost use Rattle.sig_patterns.specs.Fitting.{term_seen, split};
 
 use sig_lists::Sequence;
 use sig_terms::bytes::equal_bytes;
@@ -67,6 +67,13 @@ impl<'a> Seen<'a> {
             Seen::Rest(items) => Some(items),
             _ => None,
         }
+    }
+
+    /// The first element and the rest, where it is a list that has one.
+    pub(crate) fn split_list(self) -> Option<(&'a Term, &'a [Term])>
+        ensures { option_map (λ parts. (parts.0.now, parts.1.now)) result ≡ option_and_then split (list_items (term_seen self.entry)) }
+    {
+        self.list_items()?.split_first()
     }
 
     /// Whether the two are equal.
