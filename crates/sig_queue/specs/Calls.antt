@@ -113,6 +113,12 @@ Fetched z before now v (fetch.Took count due skipped) w = FetchedAs z before now
 Fetched z before now v (fetch.Busy n) w = (now ≡ before) × (w ≡ record v { refused = v.refused + 1; refusals = v.refusals ++ (0, n) ∷ [] }) × Foreign v n
 Fetched z before now v fetch.Memory w = Left before now v w
 
+-- a fetch that took something says whether a removal is due
+abbrev pub due_of : Fetch → Bool
+due_of (fetch.Took count due skipped) = due
+due_of (fetch.Busy n) = false
+due_of fetch.Memory = false
+
 abbrev pub Holds : Knows → TableId → Hold → Type 0
 Holds v z (hold.Held h) = (h.queue ≡ z) × ((o : Outer) × (h.knows ≡ holding v o))
 Holds v z (hold.Busy seat n) = (seat.queue ≡ z) × (seat.knows ≡ turned_away v n) × Foreign v n
