@@ -1,21 +1,22 @@
 -- What an offer says, put together from what its steps say.
-use Rattle.std.proofs.Common.{◌≡◌, ◌≢◌, ℕ, ◌+◌, ◌<◌, arith, Bool, true, false, List, [], ◌∷◌, ◌++◌, sym, refl, ap, ◌∙◌, append_assoc, subst, inl, ⊎_elim}
+use Rattle.std.proofs.Common.{◌≡◌, ◌≢◌, ℕ, ◌+◌, ◌<◌, arith, Bool, true, false, List, [], ◌∷◌, ◌++◌, sym, refl, ap, ◌∙◌, append_assoc, subst, inl, ⊎_elim, drop, length}
 use Rattle.sig_kinds.specs.declared.signal.Signal.{Signal}
 use Rattle.sig_layout.specs.Sets.{has}
 use Rattle.sig_layout.proofs.Members.{least_of}
 use Rattle.sig_layout.specs.declared.knows.Knows.{Knows}
 use Rattle.sig_layout.specs.Core.{Idle, some_refused, buffer_of}
-use Rattle.sig_layout.specs.Views.{number, IsSomebody, buffer_in, part, saw, gains, turned_away_at}
+use Rattle.sig_layout.specs.Views.{number, IsSomebody, buffer_in, part, put_by, saw, saw_under, marked, put_aside, gains, turned_away_at}
 use Rattle.sig_queue.specs.declared.aside.Aside.{Aside}
 use Rattle.sig_queue.specs.declared.aside.Aside.TheVariants as aside
 use Rattle.sig_queue.specs.declared.offer.Offer.{Offer}
 use Rattle.sig_queue.specs.declared.offer.Offer.TheVariants as offer
 use Rattle.sig_queue.specs.declared.kept.Kept.{Kept}
+use Rattle.sig_layout.specs.declared.part.Part.{Part}
 use Rattle.sig_queue.specs.declared.slot.Slot.{Slot}
 use Rattle.sig_layout.specs.declared.item.Item.{Item}
 use Rattle.sig_layout.specs.declared.via.Via.TheVariants as via
 use Rattle.sig_queue.specs.Tied.{Foreign}
-use Rattle.sig_queue.specs.Parts.{item, mode_loads, looked}
+use Rattle.sig_queue.specs.Parts.{first_part, item, mode_loads, looked}
 use Rattle.sig_queue.specs.Seats.{Keeps, IsSeat}
 use Rattle.sig_queue.specs.Calls.{Under, OfferedAside, OfferedOut, Offered}
 
@@ -32,6 +33,15 @@ aside_under b x v l (aside.Off y) w idle e = (e.0, (true ∷ [], e.1 ∙ (λ k. 
 aside_under b x v l aside.Put w idle e = (true ∷ [], e ∙ (λ k. record v { loads = append_assoc v.loads ((1, 1) ∷ []) ((1, 1) ∷ []) k; saw_off = sym idle.saw k; parts = sym idle.parts k; put = v.put ++ item (via.Buffer (buffer_in (idle.parts k ++ part b l ∷ []))) x ∷ [] }))
 aside_under b x v l (aside.Busy y n) w idle e = absurd e
 aside_under b x v l (aside.Memory y) w idle e = (e.0, (true ∷ true ∷ [], e.1 ∙ (λ k. record v { loads = append_assoc v.loads ((1, 1) ∷ []) ((1, 1) ∷ []) k; saw_off = sym idle.saw k; parts = sym idle.parts k })))
+
+drop_whole : (l : List Signal) (x : Signal) → drop (length l) (l ++ x ∷ []) ≡ x ∷ []
+drop_whole [] x = refl
+drop_whole (y ∷ l) x = drop_whole l x
+
+-- under the turn the mode was on, and the signal came to the list
+pub put_under : (x : Signal) (v : Knows) (p : Part) (l : List Signal) → v.parts ≡ p ∷ [] → l ≡ p.list ++ x ∷ [] → put_aside (marked (saw_under v p true) (first_part (saw_under v p true).parts)) l ≡ record (looked v (true ∷ [])) { saw_off = false; parts = []; put = v.put ++ item (via.Buffer (buffer_in v.parts)) x ∷ [] }
+put_under x v p l one is = let new : drop (length p.list) l ≡ x ∷ [] = ap (drop (length p.list)) is ∙ drop_whole p.list x in
+    λ k. record (looked v (true ∷ [])) { saw_off = false; parts = []; put = v.put ++ put_by (via.Buffer (buffer_in (sym one k))) (new k) }
 
 -- a seat that has a sender has a number below 256
 pub somebody : (v : Knows) (s n : ℕ) → has v.senders s ≡ true → number v ≡ n → IsSomebody v × (n + 1 ≡ number v + 1)
