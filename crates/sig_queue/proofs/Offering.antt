@@ -1,17 +1,24 @@
 -- What an offer says, put together from what its steps say.
-use Rattle.std.proofs.Common.{◌≡◌, ℕ, ◌+◌, ◌<◌, arith, true, List, [], ◌∷◌, ◌++◌, sym, refl, ap, ◌∙◌, append_assoc}
+use Rattle.std.proofs.Common.{◌≡◌, ◌≢◌, ℕ, ◌+◌, ◌<◌, arith, Bool, true, false, List, [], ◌∷◌, ◌++◌, sym, refl, ap, ◌∙◌, append_assoc, subst, inl, ⊎_elim, drop, length}
 use Rattle.sig_kinds.specs.declared.signal.Signal.{Signal}
 use Rattle.sig_layout.specs.Sets.{has}
 use Rattle.sig_layout.proofs.Members.{least_of}
 use Rattle.sig_layout.specs.declared.knows.Knows.{Knows}
-use Rattle.sig_layout.specs.Core.{Idle}
-use Rattle.sig_layout.specs.Views.{number, IsSomebody, buffer_in, part, saw, gains, turned_away_at}
+use Rattle.sig_layout.specs.Core.{Idle, some_refused, buffer_of}
+use Rattle.sig_layout.specs.Views.{number, IsSomebody, buffer_in, part, put_by, saw, saw_under, marked, put_aside, gains, turned_away_at}
 use Rattle.sig_queue.specs.declared.aside.Aside.{Aside}
 use Rattle.sig_queue.specs.declared.aside.Aside.TheVariants as aside
+use Rattle.sig_queue.specs.declared.offer.Offer.{Offer}
+use Rattle.sig_queue.specs.declared.offer.Offer.TheVariants as offer
+use Rattle.sig_queue.specs.declared.kept.Kept.{Kept}
+use Rattle.sig_layout.specs.declared.part.Part.{Part}
+use Rattle.sig_queue.specs.declared.slot.Slot.{Slot}
+use Rattle.sig_layout.specs.declared.item.Item.{Item}
 use Rattle.sig_layout.specs.declared.via.Via.TheVariants as via
 use Rattle.sig_queue.specs.Tied.{Foreign}
-use Rattle.sig_queue.specs.Parts.{item}
-use Rattle.sig_queue.specs.Calls.{Under, OfferedAside}
+use Rattle.sig_queue.specs.Parts.{first_part, item, mode_loads, looked}
+use Rattle.sig_queue.specs.Seats.{Keeps, IsSeat}
+use Rattle.sig_queue.specs.Calls.{Under, OfferedAside, OfferedOut, Offered}
 
 pub foreign_as : (v w : Knows) (n : ℕ) → w.senders ≡ v.senders → w.role ≡ v.role → Foreign v n → Foreign w n
 foreign_as v w n senders role f = record { taken = f.taken; other = λ s h. f.other s (ap (λ (z : List ℕ). has z s) (sym senders) ∙ h); not_role = λ h. f.not_role (sym role ∙ h) }
@@ -27,6 +34,67 @@ aside_under b x v l aside.Put w idle e = (true ∷ [], e ∙ (λ k. record v { l
 aside_under b x v l (aside.Busy y n) w idle e = absurd e
 aside_under b x v l (aside.Memory y) w idle e = (e.0, (true ∷ true ∷ [], e.1 ∙ (λ k. record v { loads = append_assoc v.loads ((1, 1) ∷ []) ((1, 1) ∷ []) k; saw_off = sym idle.saw k; parts = sym idle.parts k })))
 
+drop_whole : (l : List Signal) (x : Signal) → drop (length l) (l ++ x ∷ []) ≡ x ∷ []
+drop_whole [] x = refl
+drop_whole (y ∷ l) x = drop_whole l x
+
+-- under the turn the mode was on, and the signal came to the list
+pub put_under : (x : Signal) (v : Knows) (p : Part) (l : List Signal) → v.parts ≡ p ∷ [] → l ≡ p.list ++ x ∷ [] → put_aside (marked (saw_under v p true) (first_part (saw_under v p true).parts)) l ≡ record (looked v (true ∷ [])) { saw_off = false; parts = []; put = v.put ++ item (via.Buffer (buffer_in v.parts)) x ∷ [] }
+put_under x v p l one is = let new : drop (length p.list) l ≡ x ∷ [] = ap (drop (length p.list)) is ∙ drop_whole p.list x in
+    λ k. record (looked v (true ∷ [])) { saw_off = false; parts = []; put = v.put ++ put_by (via.Buffer (buffer_in (sym one k))) (new k) }
+
 -- a seat that has a sender has a number below 256
 pub somebody : (v : Knows) (s n : ℕ) → has v.senders s ≡ true → number v ≡ n → IsSomebody v × (n + 1 ≡ number v + 1)
 somebody v s n from is = let low : number v < 256 = least_of v.senders s from in ((λ h. absurd (omega arith)), omega arith)
+
+-- the mode was off, and so the signal was offered to the outer list
+module _ (x y : Signal) (v u w : Knows) (bs : List Bool) (idle : Idle v) (same : y ≡ x) (saw : u ≡ record (looked v (bs ++ false ∷ [])) { saw_off = true }) where
+  abbrev all : List Bool
+  all = bs ++ false ∷ []
+
+  pub offered_out : (o : Offer) → OfferedOut y u o w → Offered x v o w
+  offered_out (offer.Put via.Outer) e = (bs, e ∙ ((λ i. record (saw i) { saw_off = false; put = (saw i).put ++ item via.Outer (same i) ∷ []; refused = 0 }) ∙ (λ i. record (looked v all) { saw_off = sym idle.saw i; put = v.put ++ item via.Outer x ∷ []; refused = 0 })))
+  offered_out (offer.Put (via.Buffer b)) e = absurd e
+  offered_out (offer.Busy z n) e = (
+    e.0 ∙ same,
+    foreign_as u v n (sym (ap (λ (k : Knows). k.senders) saw)) (sym (ap (λ (k : Knows). k.role) saw)) e.2,
+    (all, inl (e.1 ∙ ((λ i. record (saw i) { saw_off = false; refused = (saw i).refused + 1; refusals = (saw i).refusals ++ (0, n) ∷ [] }) ∙ (λ i. record (looked v all) { saw_off = sym idle.saw i; refused = v.refused + 1; refusals = v.refusals ++ (0, n) ∷ [] })))),
+  )
+  offered_out (offer.Memory z) e = (e.0 ∙ same, (all, e.1 ∙ ((λ i. record (saw i) { saw_off = false }) ∙ (λ i. record (looked v all) { saw_off = sym idle.saw i }))))
+
+-- an offer to the outer list puts into no buffer
+pub no_buffer : (x : Signal) (u w : Knows) (o : Offer) (b : ℕ) → OfferedOut x u o w → o ≢ offer.Put (via.Buffer b)
+no_buffer x u w (offer.Put via.Outer) b e = λ is. absurd cc
+no_buffer x u w (offer.Put (via.Buffer c)) b e = absurd e
+no_buffer x u w (offer.Busy z n) b e = λ is. absurd cc
+no_buffer x u w (offer.Memory z) b e = λ is. absurd cc
+
+-- an offer changes what was put, the refusals and the loads alone
+abbrev Same : Knows → Knows → Type 0
+Same v w = w ≡ record v { put = w.put; refused = w.refused; refusals = w.refusals; loads = w.loads }
+
+same_but : (v w : Knows) (put : List Item) (refused : ℕ) (refusals loads : List (ℕ × ℕ)) → w ≡ record v { put = put; refused = refused; refusals = refusals; loads = loads } → Same v w
+same_but v w put refused refusals loads e = e ∙ (λ i. record v { put = (sym e i).put; refused = (sym e i).refused; refusals = (sym e i).refusals; loads = (sym e i).loads })
+
+offered_same : (x : Signal) (v w : Knows) (o : Offer) → Offered x v o w → Same v w
+offered_same x v w (offer.Put via.Outer) e = same_but v w (v.put ++ item via.Outer x ∷ []) 0 v.refusals (v.loads ++ mode_loads (e.0 ++ false ∷ [])) e.1
+offered_same x v w (offer.Put (via.Buffer b)) e = same_but v w (v.put ++ item (via.Buffer b) x ∷ []) v.refused v.refusals (v.loads ++ mode_loads (e.1.0 ++ true ∷ [])) e.1.1
+offered_same x v w (offer.Busy y n) e = ⊎_elim
+    (λ (h : w ≡ record (looked v e.2.0) { refused = v.refused + 1; refusals = v.refusals ++ (0, n) ∷ [] }). same_but v w v.put (v.refused + 1) (v.refusals ++ (0, n) ∷ []) (v.loads ++ mode_loads e.2.0) h)
+    (λ (h : w ≡ record (looked v e.2.0) { refusals = v.refusals ++ (buffer_of x.from.0 + 3, n) ∷ [] }). same_but v w v.put v.refused (v.refusals ++ (buffer_of x.from.0 + 3, n) ∷ []) (v.loads ++ mode_loads e.2.0) h) e.2.1
+offered_same x v w (offer.Memory y) e = same_but v w v.put v.refused v.refusals (v.loads ++ mode_loads e.1.0) e.1.1
+
+-- the seat is one between two calls again
+pub seat_again : (x : Signal) (v w : Knows) (xs : List (ℕ × Slot)) (o : Offer) (k : Kept) (refused : Bool) → Offered x v o w → Idle v → Keeps v k → xs ≡ [] → refused ≡ some_refused w.refused → IsSeat (w, xs) (record k { refused = refused })
+seat_again x v w xs o k refused offered i h bare is = let e : Same v w = offered_same x v w o offered in record {
+  idle = subst Idle (sym e) (record { held = i.held; parts = i.parts; saw = i.saw; fetching = i.fetching; removing = i.removing; switched = i.switched; mask = i.mask; back = i.back; moved = i.moved; progress = i.progress });
+  bare = bare;
+  keeps = record {
+    senders_are = ap (λ (z : Knows). z.senders) e ∙ h.senders_are;
+    number_is = ap (λ (z : Knows). number z) e ∙ h.number_is;
+    low = h.low;
+    role_is = ap (λ (z : Knows). z.role) e ∙ h.role_is;
+    due_is = ap (λ (z : Knows). z.due) e ∙ h.due_is;
+    refused_is = is;
+  };
+}

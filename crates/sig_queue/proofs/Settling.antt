@@ -1,8 +1,8 @@
 -- The end of a fetch.
-use Rattle.std.proofs.Common.{◌≡◌, ℕ, ◌+◌, subst, Bool, false, List, [], ◌∷◌, ◌++◌, length, sym, ap, ◌∙◌, arith, append-nil, Some}
+use Rattle.std.proofs.Common.{◌≡◌, ℕ, ◌+◌, subst, Bool, false, List, [], ◌∷◌, ◌++◌, length, refl, sym, ap, ◌∙◌, arith, append-nil, Some, None}
 use Rattle.atomic_table.specs.Table.{rest}
 use Rattle.sig_kinds.specs.declared.signal.Signal.{Signal}
-use Rattle.sig_layout.specs.declared.entry.Entry.TheVariants.{Fetch}
+use Rattle.sig_layout.specs.declared.entry.Entry.TheVariants as entry
 use Rattle.sig_layout.specs.declared.outer.Outer.{Outer}
 use Rattle.sig_layout.specs.declared.setup.Setup.{Setup}
 use Rattle.sig_layout.specs.Outers.{emptied}
@@ -10,11 +10,18 @@ use Rattle.sig_queue.specs.declared.slot.Slot.{Slot}
 use Rattle.sig_queue.specs.declared.slot.Slot.TheVariants as slot
 use Rattle.sig_layout.specs.declared.part.Part.{Part}
 use Rattle.sig_layout.specs.declared.knows.Knows.{Knows}
-use Rattle.sig_layout.specs.Views.{signals_of, after_same, after_fetch}
+use Rattle.sig_layout.specs.Core.{Idle, some_refused}
+use Rattle.sig_layout.specs.Views.{number, signals_of, holding, with_bits, after_same, after_fetch}
+use Rattle.sig_queue.specs.declared.kept.Kept.{Kept}
+use Rattle.sig_queue.specs.declared.found.Found.{Found}
+use Rattle.sig_queue.specs.declared.fetch.Fetch.{Fetch}
+use Rattle.sig_queue.specs.declared.fetch.Fetch.TheVariants as fetch
 use Rattle.sig_queue.specs.declared.taken.Taken.{Taken}
 use Rattle.sig_queue.specs.Tied.{Held, FreshBut, TookCarried}
-use Rattle.sig_queue.specs.Fetching.{all_of, journal_of, Standing, Emptying, Leaving}
-use Rattle.sig_queue.specs.Calls.{bare, taken_by, Finished}
+use Rattle.sig_queue.specs.Seats.{Keeps, IsSeat}
+use Rattle.sig_queue.specs.Fetching.{all_of, journal_of, numbers, skips, Finding, Standing, Emptying, Leaving}
+use Rattle.sig_queue.specs.Calls.{bare, taken_by, due_of, Finished, Settled, Left, FetchedAs, FetchedHeld, Fetched}
+use Rattle.sig_queue.proofs.Offering.{foreign_as}
 use Rattle.sig_queue.proofs.Fetches.{standing_ends}
 
 -- after the outer value was put back into its slot
@@ -39,7 +46,7 @@ module _ (me m : Held) (outer : Outer) (held n : ℕ) (st : Standing held 64 me 
     moved_is = let e = em.moved in let p = ap (λ (z : List Part). length (all_of z)) none_left in let s = ap (λ (x : Knows). x.moved) seat_is in omega arith
 
     pub outer_is : outer ≡ emptied em.outer m.0.moved
-    outer_is = is ∙ (λ i. record { signals = []; journal = (sym (em.journal ∙ ap journal_of at)) i ++ Fetch (moved_is i) ∷ [] })
+    outer_is = is ∙ (λ i. record { signals = []; journal = (sym (em.journal ∙ ap journal_of at)) i ++ entry.Fetch (moved_is i) ∷ [] })
 
     pub held_is : m.0.held ≡ Some em.outer
     held_is = ap (λ (x : Knows). x.held) seat_is ∙ em.holds
@@ -62,3 +69,63 @@ all_moved_in now before ps more none e = sym (append-nil now) ∙ (ap (λ (z : L
 -- the value in front of the slots is one value
 pub same_outer : (a b : Outer) (xs ys zs : List (ℕ × Slot)) → zs ≡ (0, slot.Outer a) ∷ xs → zs ≡ (0, slot.Outer b) ∷ ys → a ≡ b
 same_outer a b xs ys zs e g = ap Rattle.sig_queue.specs.Tied.outer_in (sym e ∙ g)
+
+-- a fetch that found its buffers, from a view v with which it took the bits
+module _ (z : Setup) (before now : List Signal) (v taking u w : Knows) (bits : ℕ) (me : Held) (found : Found) (f : Finding taking bits 64 me found) (took : taking ≡ with_bits v bits) (same : u ≡ me.0) where
+  abbrev passed_over : List (ℕ × ℕ)
+  passed_over = skips f.values found.skipped 64
+
+  found_as : u ≡ record (with_bits v bits) { parts = me.0.parts; mask = me.0.mask; back = me.0.back; refusals = v.refusals ++ passed_over }
+  found_as = same ∙ (f.view ∙ (λ i. record (took i) { parts = me.0.parts; mask = me.0.mask; back = me.0.back; refusals = (f.refusals ∙ ap (λ (k : Knows). k.refusals ++ passed_over) took) i }))
+
+  module _ (still : v.fetching ≡ false) (free : v.parts ≡ []) (mask : v.mask ≡ []) (back : v.back ≡ 0) (moved : v.moved ≡ 0) where
+    pub fetched_all : (t : Taken) → Settled z before now u (Some t) w → FetchedAs z before now v t.count t.due found.skipped w
+    fetched_all t s = (
+      taken_by u,
+      f.values,
+      s.0,
+      s.1,
+      s.2.0 ∙ ((λ i. record (bare (found_as i)) { taken = (found_as i).taken ++ taken_by u; fetches = (found_as i).fetches + 1; due = t.due })
+          ∙ (λ i. record v { held = None; fetching = sym still i; mask = sym mask i; back = sym back i; moved = sym moved i; parts = sym free i; taken = v.taken ++ taken_by u; fetches = v.fetches + 1; due = t.due; refusals = v.refusals ++ passed_over })),
+      (λ c bit. foreign_as taking v (f.values c) (sym (ap (λ (k : Knows). k.senders) took)) (sym (ap (λ (k : Knows). k.role) took)) (f.others c bit)),
+      subst (λ (n : ℕ). FreshBut n w) (ap (λ (k : Knows). k.back) same ∙ f.back) s.2.1,
+      s.2.2,
+      record { outer = signals_of u.held; parts = u.parts; held = found.held; is = refl; ascending = ap (λ (k : Knows). numbers k.parts) same ∙ f.numbers_are },
+    )
+
+    pub fetched_none : v.saw_off ≡ false → Settled z before now u None w → Left before now v w
+    fetched_none saw s = (
+      s.0,
+      (
+        passed_over,
+        s.1 ∙ ((λ i. record (bare (found_as i)) { saw_off = false })
+            ∙ (λ i. record v { held = None; fetching = sym still i; mask = sym mask i; back = sym back i; moved = sym moved i; parts = sym free i; saw_off = sym saw i; refusals = v.refusals ++ passed_over })),
+      ),
+    )
+
+-- a fetch of a seat that took the outer turn for it
+module _ (z : Setup) (before now : List Signal) (v w : Knows) (o : Outer) where
+  pub fetched_by : (r : Fetch) → FetchedHeld z before now (holding v o) r w → Fetched z before now v r w
+  fetched_by (fetch.Took count due bits) h = (h.0, h.1, h.2, h.3, h.4, (λ c bit. foreign_as (holding v o) v (h.1 c) refl refl (h.5 c bit)), h.6, h.7, h.8)
+  fetched_by (fetch.Busy n) h = absurd h
+  fetched_by fetch.Memory h = h
+
+  module _ (i : Idle v) (kept : Kept) (h : Keeps v kept) (xs : List (ℕ × Slot)) (free : xs ≡ []) where
+    seat_after : (taken : List Signal) (fetches : ℕ) (due : Bool) (refusals : List (ℕ × ℕ)) → w ≡ record v { held = None; taken = taken; fetches = fetches; due = due; refusals = refusals } → IsSeat (w, xs) (record kept { due = due })
+    seat_after taken fetches due refusals e = record {
+      idle = subst Idle (sym e) (record { held = refl; parts = i.parts; saw = i.saw; fetching = i.fetching; removing = i.removing; switched = i.switched; mask = i.mask; back = i.back; moved = i.moved; progress = i.progress });
+      bare = free;
+      keeps = record {
+        senders_are = ap (λ (k : Knows). k.senders) e ∙ h.senders_are;
+        number_is = ap (λ (k : Knows). number k) e ∙ h.number_is;
+        low = h.low;
+        role_is = ap (λ (k : Knows). k.role) e ∙ h.role_is;
+        due_is = ap (λ (k : Knows). k.due) e;
+        refused_is = h.refused_is ∙ ap (λ (k : Knows). some_refused k.refused) (sym e);
+      };
+    }
+
+    pub seat_fetched : v.due ≡ false → (r : Fetch) → FetchedHeld z before now (holding v o) r w → IsSeat (w, xs) (record kept { due = due_of r })
+    seat_fetched not_due (fetch.Took count due bits) f = seat_after (v.taken ++ f.0) (v.fetches + 1) due (v.refusals ++ skips f.1 bits 64) f.4
+    seat_fetched not_due (fetch.Busy n) f = absurd f
+    seat_fetched not_due fetch.Memory f = seat_after v.taken v.fetches false (v.refusals ++ f.1.0) (f.1.1 ∙ (λ k. record v { held = None; due = not_due k; refusals = v.refusals ++ f.1.0 }))

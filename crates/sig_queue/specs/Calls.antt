@@ -12,8 +12,6 @@ use Rattle.sig_queue.specs.declared.offer.Offer.{Offer}
 use Rattle.sig_queue.specs.declared.offer.Offer.TheVariants as offer
 use Rattle.sig_queue.specs.declared.aside.Aside.{Aside}
 use Rattle.sig_queue.specs.declared.aside.Aside.TheVariants as aside
-use Rattle.sig_queue.specs.declared.outward.Outward.{Outward}
-use Rattle.sig_queue.specs.declared.outward.Outward.TheVariants as outward
 use Rattle.sig_queue.specs.declared.sent.Sent.{Sent}
 use Rattle.sig_queue.specs.declared.sent.Sent.TheVariants as sent
 use Rattle.sig_queue.specs.declared.hold.Hold.{Hold}
@@ -52,10 +50,11 @@ AllowsAside p (aside.Busy y n) = Unit {0}
 AllowsAside p (aside.Memory y) = Unit {0}
 
 -- an offer to the outer list
-abbrev pub OfferedOut : Signal → Knows → Outward → Knows → Type 0
-OfferedOut x v outward.Put w = w ≡ record v { saw_off = false; put = v.put ++ item via.Outer x ∷ []; refused = 0 }
-OfferedOut x v (outward.Busy y n) w = (y ≡ x) × (w ≡ record v { saw_off = false; refused = v.refused + 1; refusals = v.refusals ++ (0, n) ∷ [] }) × Foreign v n
-OfferedOut x v (outward.Memory y) w = (y ≡ x) × (w ≡ record v { saw_off = false })
+abbrev pub OfferedOut : Signal → Knows → Offer → Knows → Type 0
+OfferedOut x v (offer.Put via.Outer) w = w ≡ record v { saw_off = false; put = v.put ++ item via.Outer x ∷ []; refused = 0 }
+OfferedOut x v (offer.Put (via.Buffer b)) w = ⊥
+OfferedOut x v (offer.Busy y n) w = (y ≡ x) × (w ≡ record v { saw_off = false; refused = v.refused + 1; refusals = v.refusals ++ (0, n) ∷ [] }) × Foreign v n
+OfferedOut x v (offer.Memory y) w = (y ≡ x) × (w ≡ record v { saw_off = false })
 
 -- the way of a put: to the outer list only where the last load of the mode in this call gave 0, and to the sender's buffer only where it gave 1
 abbrev pub PutBy : Signal → Knows → Via → Knows → Type 0
@@ -113,6 +112,12 @@ abbrev pub Fetched : Setup → List Signal → List Signal → Knows → Fetch �
 Fetched z before now v (fetch.Took count due skipped) w = FetchedAs z before now v count due skipped w
 Fetched z before now v (fetch.Busy n) w = (now ≡ before) × (w ≡ record v { refused = v.refused + 1; refusals = v.refusals ++ (0, n) ∷ [] }) × Foreign v n
 Fetched z before now v fetch.Memory w = Left before now v w
+
+-- a fetch that took something says whether a removal is due
+abbrev pub due_of : Fetch → Bool
+due_of (fetch.Took count due skipped) = due
+due_of (fetch.Busy n) = false
+due_of fetch.Memory = false
 
 abbrev pub Holds : Knows → TableId → Hold → Type 0
 Holds v z (hold.Held h) = (h.queue ≡ z) × ((o : Outer) × (h.knows ≡ holding v o))

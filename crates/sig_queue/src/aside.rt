@@ -1,9 +1,12 @@
 //! The first half of an offer: to the sender's buffer.
-ghost use Rattle.std.specs.Prelude.{◌≡◌, ◌≢◌, ℕ, ◌+◌, ◌<◌, [], ◌∷◌, true, false, Some, None};
+ghost use Rattle.std.specs.Prelude.{◌≡◌, ◌≢◌, ℕ, ◌+◌, ◌<◌, ◌++◌, [], ◌∷◌, true, false, Some, None};
+ghost use Rattle.atomic_table.specs.Table.{rest};
+ghost use Rattle.sig_kinds.specs.declared.signal.Signal.{Signal};
 ghost use Rattle.sig_layout.specs.Sets.{has};
 ghost use Rattle.sig_layout.specs.Openings.{IsNext};
 ghost use Rattle.sig_layout.specs.Core.{Idle, buffer_of};
-ghost use Rattle.sig_layout.specs.Views.{number, IsSomebody};
+ghost use Rattle.sig_layout.specs.Views.{number, IsSomebody, marked, put_aside};
+ghost use Rattle.sig_queue.specs.Tied.{list_in};
 ghost use Rattle.sig_queue.specs.Parts.{first_part, IsOne};
 ghost use Rattle.sig_queue.specs.Calls.{Under, OfferedAside, AllowsAside};
 
@@ -21,6 +24,19 @@ pub(crate) enum Aside {
     Put,
     Busy(Signal, u64),
     Memory(Signal),
+}
+
+// The signal came to the list of the buffer. Its bit is set, and then its turn is left.
+fn leave_filled(words: &Words, place: &mut Place, buffer: usize)
+    requires table { (place.old.table_id ≡ words.now.table_id) × (words.now.table_id.words ≡ 536) × (buffer < 64) }
+    requires idle { (place.old.me.0.held ≡ None) × (place.old.me.0.saw_off ≡ false) }
+    requires one { IsOne place.old.me.0.parts buffer × ((first_part place.old.me.0.parts).sure ≡ true) }
+    requires out { (x : Signal) × (has place.old.me.0.senders x.from.0 ≡ true) × IsNext words.now.key place.old.me.0.put x × (buffer_of x.from.0 ≡ buffer) × (place.old.me.1 ≡ (buffer + 1, Slot.List ((first_part place.old.me.0.parts).list ++ x ∷ [])) ∷ rest place.old.me.1) }
+    ensures same { (place.new.table_id ≡ place.old.table_id) × (place.new.id ≡ place.old.id) }
+    ensures left { place.new.me ≡ (put_aside (marked place.old.me.0 (first_part place.old.me.0.parts)) (list_in place.old.me.1), rest place.old.me.1) }
+{
+    set_bit(words, place, buffer);
+    leave_aside(words, place, buffer);
 }
 
 // The seat has the turn of the buffer. It looks at the mode again, appends where it is on, and leaves the turn.
@@ -46,8 +62,7 @@ fn under_turn(words: &Words, place: &mut Place, buffer: usize, signal: Signal) -
         return Aside::Memory(signal);
     }
     put_list(words, place, buffer, list);
-    set_bit(words, place, buffer);
-    leave_aside(words, place, buffer);
+    leave_filled(words, place, buffer);
     Aside::Put
 }
 

@@ -2,7 +2,7 @@ ghost use Rattle.std.specs.Prelude.{◌≡◌, ℕ, ◌+◌, [], ◌∷◌, true
 ghost use Rattle.sig_layout.specs.declared.outer.Outer.{Outer};
 ghost use Rattle.sig_layout.specs.Views.{number, IsSomebody};
 ghost use Rattle.sig_layout.specs.Core.{Begins};
-ghost use Rattle.sig_queue.specs.Calls.{FetchedHeld, Fetched};
+ghost use Rattle.sig_queue.specs.Calls.{due_of, FetchedHeld, Fetched};
 
 use crate::found::{bring_front, find_all};
 use crate::qseat::QSeat;
@@ -57,6 +57,15 @@ fn fetch_held(
     }
 }
 
+fn is_removal_due(fetch: &Fetch) -> bool
+    ensures { result ≡ due_of fetch.now }
+{
+    match fetch {
+        Fetch::Took { due, .. } => *due,
+        Fetch::Busy { .. } | Fetch::Memory => false,
+    }
+}
+
 impl SigQueue {
     /// Takes the outer list, and then the lists of the buffers whose bits were set and whose turns
     /// were free, by ascending number. They come behind what is in `into`. It tries each turn once,
@@ -76,9 +85,7 @@ impl SigQueue {
             return Fetch::Busy { found };
         }
         let fetch = fetch_held(words, &mut seat.place, mine, into, self.policy);
-        if let Fetch::Took { due, .. } = fetch {
-            seat.kept.due = due;
-        }
+        seat.kept.due = is_removal_due(&fetch);
         fetch
     }
 }

@@ -1,15 +1,18 @@
-ghost use Rattle.std.specs.Prelude.{◌≡◌, ◌≢◌, ℕ, true};
+ghost use Rattle.std.specs.Prelude.{◌≡◌, ◌≢◌, ℕ, ◌+◌, [], true};
 ghost use Rattle.sig_layout.specs.declared.policy.Policy.TheVariants.{Never, Always};
 ghost use Rattle.sig_layout.specs.Sets.{has};
 ghost use Rattle.sig_layout.specs.Openings.{IsNext};
+ghost use Rattle.sig_layout.specs.Core.{Idle, some_refused};
+ghost use Rattle.sig_layout.specs.Views.{number, IsSomebody};
 ghost use Rattle.sig_queue.specs.Calls.{Offered};
 
 use crate::aside::{Aside, offer_aside};
-use crate::outward::{Outward, offer_outer};
+use crate::outward::offer_outer;
 use crate::qseat::QSeat;
+use crate::rule::{Place, Words};
 use crate::sig_queue::SigQueue;
 use sig_kinds::Signal;
-use sig_layout::Via;
+use sig_layout::{Policy, Via};
 
 /// What `offer` gives.
 #[derive(Drop)]
@@ -21,6 +24,39 @@ pub enum Offer {
     Busy { signal: Signal, found: u64 },
     /// Memory is wanting, and nothing was put.
     Memory { signal: Signal },
+}
+
+// Offers where the seat holds no turn. `refused`: the outer turn was refused since the last put to the outer list.
+fn offer_at(
+    words: &Words,
+    place: &mut Place,
+    mine: u64,
+    signal: Signal,
+    refused: &mut bool,
+    policy: Policy,
+) -> Offer
+    requires table { (place.old.table_id ≡ words.now.table_id) × (words.now.table_id.words ≡ 536) × (words.now.key.policy ≡ policy) }
+    requires idle { Idle place.old.me.0 × (place.old.me.1 ≡ []) }
+    requires somebody { IsSomebody place.old.me.0 × (mine ≡ number place.old.me.0 + 1) }
+    requires from { has place.old.me.0.senders signal.from.0 ≡ true }
+    requires next { IsNext words.now.key place.old.me.0.put signal }
+    requires refused { refused.old ≡ some_refused place.old.me.0.refused }
+    ensures same { (place.new.table_id ≡ place.old.table_id) × (place.new.id ≡ place.old.id) × (place.new.me.1 ≡ []) }
+    ensures offered { Offered signal place.old.me.0 result place.new.me.0 }
+    ensures refused { refused.new ≡ some_refused place.new.me.0.refused }
+    ensures never { words.now.key.policy ≡ Never → (b : ℕ) → result ≢ Offer.Put (Via.Buffer b) }
+    ensures always { words.now.key.policy ≡ Always → result ≢ Offer.Put Via.Outer }
+{
+    let buffer = signal.from.0 % 64;
+    let aside = offer_aside(words, place, buffer as usize, mine, signal);
+    match aside {
+        Aside::Put => Offer::Put {
+            via: Via::Buffer(buffer as u8),
+        },
+        Aside::Busy(signal, found) => Offer::Busy { signal, found },
+        Aside::Memory(signal) => Offer::Memory { signal },
+        Aside::Off(signal) => offer_outer(words, place, mine, signal, refused, policy),
+    }
 }
 
 impl SigQueue {
@@ -39,28 +75,16 @@ impl SigQueue {
     {
         let words = &self.table.shared;
         let mine = seat.kept.least + 1;
-        let buffer = signal.from.0 % 64;
-        let aside = offer_aside(words, &mut seat.place, buffer as usize, mine, signal);
-        match aside {
-            Aside::Put => Offer::Put {
-                via: Via::Buffer(buffer as u8),
-            },
-            Aside::Busy(signal, found) => Offer::Busy { signal, found },
-            Aside::Memory(signal) => Offer::Memory { signal },
-            Aside::Off(signal) => {
-                let refused = seat.kept.refused;
-                match offer_outer(words, &mut seat.place, mine, signal, refused, self.policy) {
-                    Outward::Put => {
-                        seat.kept.refused = false;
-                        Offer::Put { via: Via::Outer }
-                    }
-                    Outward::Busy(signal, found) => {
-                        seat.kept.refused = true;
-                        Offer::Busy { signal, found }
-                    }
-                    Outward::Memory(signal) => Offer::Memory { signal },
-                }
-            }
-        }
+        let mut refused = seat.kept.refused;
+        let offer = offer_at(
+            words,
+            &mut seat.place,
+            mine,
+            signal,
+            &mut refused,
+            self.policy,
+        );
+        seat.kept.refused = refused;
+        offer
     }
 }

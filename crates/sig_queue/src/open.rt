@@ -1,5 +1,5 @@
 //! How a queue begins.
-ghost use Rattle.std.specs.Prelude.{◌≡◌, ◌≤◌, [], ◌∷◌, IfOk, vec_capacity};
+ghost use Rattle.std.specs.Prelude.{◌≡◌, ◌≤◌, ◌+◌, ◌++◌, [], ◌∷◌, IfOk, vec_len, vec_capacity};
 ghost use Rattle.sig_layout.specs.Policies.{begins_on, first_journal as first_entries};
 ghost use Rattle.sig_layout.specs.Openings.{IsSetup};
 ghost use Rattle.sig_layout.specs.Views.{first_seat, mode_word};
@@ -8,6 +8,7 @@ ghost use Rattle.sig_queue.specs.Ends.{first_words as words_at_first, first_oute
 use crate::kept::Kept;
 use crate::outer_box::OuterBox;
 use crate::qseat::QSeat;
+use crate::rule::{Place, QueueTable};
 use crate::sig_queue::SigQueue;
 use crate::slot::Slot;
 use atomic_table::Table;
@@ -45,24 +46,35 @@ fn first_journal(alloc: Global, policy: Policy) -> Result<Journal, AllocError>
     Ok(journal)
 }
 
-fn first_slots(alloc: Global, policy: Policy) -> Result<Vec<Slot>, AllocError>
-    ensures { IfOk result (λ v. v.items ≡ Slot.Outer (first_outer policy) ∷ all_buffers) }
+fn first_box(alloc: Global, policy: Policy) -> Result<OuterBox, AllocError>
+    ensures { IfOk result (λ b. b ≡ first_outer policy) }
 {
     let journal = first_journal(alloc, policy)?;
     let outer = Outer {
         signals: Pieces::new(alloc),
         journal,
     };
-    let outer = OuterBox::new(alloc, outer)?;
-    let mut slots = Vec::new(alloc);
-    if slots.push(Slot::Outer(outer)).is_err() {
-        return Err(AllocError);
-    }
+    OuterBox::new(alloc, outer)
+}
+
+// Empty buffers come behind what is there. There is room for them.
+fn add_buffers(alloc: Global, slots: &mut Vec<Slot>)
+    requires { vec_len slots.old + 64 ≤ vec_capacity slots.old }
+    ensures { slots.new.items ≡ slots.old.items ++ all_buffers }
+{
     for _ in 0..64usize {
-        if slots.push(Slot::List(Batch::new(alloc))).is_err() {
-            return Err(AllocError);
-        }
+        slots.push_reserved(Slot::List(Batch::new(alloc)));
     }
+}
+
+fn first_slots(alloc: Global, policy: Policy) -> Result<Vec<Slot>, AllocError>
+    ensures { IfOk result (λ v. v.items ≡ Slot.Outer (first_outer policy) ∷ all_buffers) }
+{
+    let outer = first_box(alloc, policy)?;
+    let mut slots = Vec::new(alloc);
+    slots.reserve(65)?;
+    slots.push_reserved(Slot::Outer(outer));
+    add_buffers(alloc, &mut slots);
     Ok(slots)
 }
 
@@ -73,6 +85,30 @@ fn room_for_lists(alloc: Global) -> Result<Vec<Batch>, AllocError>
     let mut lists = Vec::new(alloc);
     lists.reserve(64)?;
     Ok(lists)
+}
+
+// The table, and the seat that has all senders and the role.
+fn first_table(
+    alloc: Global,
+    policy: Policy,
+    senders: Senders,
+    opening: &Opening,
+) -> Result<(QueueTable, Place), AllocError>
+    requires { IsSetup (setup_of policy senders opening.now) }
+    ensures table { IfOk result (λ r. (r.0.shared.table_id.words ≡ 536) × (r.0.shared.table_id.slots ≡ 65) × (r.0.shared.key ≡ setup_of policy senders opening.now)) }
+    ensures seat { IfOk result (λ r. (r.1.table_id ≡ r.0.shared.table_id) × (r.1.me ≡ (first_seat senders, []))) }
+{
+    let setup = Setup {
+        policy,
+        senders,
+        opening: opening.copy(alloc)?,
+    };
+    let slots = first_slots(alloc, policy)?;
+    let words = first_words(policy);
+    match Table::new(alloc, &words, slots, &setup) {
+        Ok(made) => Ok(made),
+        Err(_) => Err(AllocError),
+    }
 }
 
 impl SigQueue {
@@ -90,16 +126,7 @@ impl SigQueue {
         ensures first { IfOk result (λ r. r.1.knows ≡ first_seat senders) }
     {
         let lists = room_for_lists(alloc)?;
-        let slots = first_slots(alloc, policy)?;
-        let words = first_words(policy);
-        let setup = Setup {
-            policy,
-            senders,
-            opening: opening.copy(alloc)?,
-        };
-        let Ok((table, place)) = Table::new(alloc, &words, slots, &setup) else {
-            return Err(AllocError);
-        };
+        let (table, place) = first_table(alloc, policy, senders, opening)?;
         let queue = SigQueue {
             table,
             policy,

@@ -1,10 +1,11 @@
 ghost use Rattle.std.specs.Prelude.{◌≡◌, ◌≤◌, ◌+◌, ◌++◌, ◌∷◌, [], length, IfOk, IfErr, OnOk, OnErr};
 ghost use Rattle.sig_layout.specs.Summaries.{due_at, is_install};
-ghost use Rattle.sig_layout.specs.Outers.{added, emptied};
-ghost use Rattle.sig_layout.specs.declared.entry.Entry.TheVariants.{Direct};
+ghost use Rattle.sig_layout.specs.Outers.{added, emptied, removed};
+ghost use Rattle.sig_layout.specs.declared.entry.Entry.TheVariants.{Direct, Remove};
 
 use sig_kinds::{Signal, Signals};
-use sig_layout::{Due, Outer, Policy, due};
+use sig_layout::{Due, Entry, Growing, Journal, Outer, Pieces, Policy, due};
+use sig_lists::Pushed;
 use std::alloc::{AllocError, Global};
 use std::marker::Model;
 use std::mem;
@@ -27,6 +28,19 @@ impl Model for OuterBox {
     ghost view = { λ b. b.value.value };
 }
 
+// The signals with room for so many batches more, once the entry of a removal is added.
+fn grown(signals: Pieces, more: usize, journal: &mut Journal) -> Result<Growing, Pieces>
+    ensures ok { IfOk result (λ g. (g.list ≡ signals) × (more ≤ g.spare)) }
+    ensures added { OnOk result (journal.new ≡ journal.old ++ Remove ∷ []) }
+    ensures err { IfErr result (λ p. (p ≡ signals) × (journal.new ≡ journal.old)) }
+{
+    let growing = signals.grow(more)?;
+    match journal.push(Entry::Remove) {
+        Pushed::Added => Ok(growing),
+        Pushed::Memory { item: _ } => Err(growing.into_pieces()),
+    }
+}
+
 impl OuterBox {
     pub(crate) fn new(alloc: Global, outer: Outer) -> Result<OuterBox, AllocError>
         ensures { IfOk result (λ b. b ≡ outer) }
@@ -41,11 +55,27 @@ impl OuterBox {
         Box::into_inner(self.value)
     }
 
-    // The value that was there, in exchange for another.
-    pub(crate) fn swap(&mut self, outer: Outer) -> Outer
-        ensures { (self.new ≡ outer) × (result ≡ self.old) }
+    // The signals come out, with room for so many batches more, and the entry of a removal is added. Where memory is wanting, all is as before.
+    pub(crate) fn grow(&mut self, alloc: Global, more: usize) -> Result<Growing, AllocError>
+        ensures signals { IfOk result (λ g. (g.list ≡ self.old.signals) × (more ≤ g.spare)) }
+        ensures journal { OnOk result (self.new.journal ≡ (removed self.old).journal) }
+        ensures err { OnErr result (self.new ≡ self.old) }
     {
-        mem::replace(&mut *self.value, outer)
+        let signals = mem::replace(&mut self.value.signals, Pieces::new(alloc));
+        match grown(signals, more, &mut self.value.journal) {
+            Ok(growing) => Ok(growing),
+            Err(signals) => {
+                self.value.signals = signals;
+                Err(AllocError)
+            }
+        }
+    }
+
+    // The signals in place of those that are there.
+    pub(crate) fn fill(&mut self, signals: Pieces)
+        ensures { self.new ≡ record (self.old) { signals = signals } }
+    {
+        self.value.signals = signals;
     }
 
     pub(crate) fn put(

@@ -9,18 +9,11 @@ ghost use Rattle.sig_layout.specs.Core.{Begins, some_refused};
 ghost use Rattle.sig_layout.specs.Views.{number, IsSomebody};
 ghost use Rattle.sig_queue.specs.Calls.{OfferedOut};
 
+use crate::offer::Offer;
 use crate::rule::{Place, Words};
 use crate::steps::{leave_put, leave_same, mode_on, put_value, take_value, try_outer};
 use sig_kinds::Signal;
-use sig_layout::Policy;
-
-/// What an offer to the outer list gave.
-#[derive(Drop)]
-pub(crate) enum Outward {
-    Put,
-    Busy(Signal, u64),
-    Memory(Signal),
-}
+use sig_layout::{Policy, Via};
 
 // Stores the mode on where the put makes an install due.
 fn install_if(words: &Words, place: &mut Place, switched: bool)
@@ -40,9 +33,9 @@ pub(crate) fn offer_outer(
     place: &mut Place,
     mine: u64,
     signal: Signal,
-    refused: bool,
+    refused: &mut bool,
     policy: Policy,
-) -> Outward
+) -> Offer
     requires table { (place.old.table_id ≡ words.now.table_id) × (words.now.table_id.words ≡ 536) × (words.now.key.policy ≡ policy) }
     requires idle { (place.old.me.0.held ≡ None) × (place.old.me.0.fetching ≡ false) × (place.old.me.0.removing ≡ false) × (place.old.me.0.switched ≡ false) × (place.old.me.1 ≡ []) }
     requires off { place.old.me.0.saw_off ≡ true }
@@ -50,26 +43,29 @@ pub(crate) fn offer_outer(
     requires somebody { IsSomebody place.old.me.0 × (mine ≡ number place.old.me.0 + 1) }
     requires from { has place.old.me.0.senders signal.from.0 ≡ true }
     requires next { IsNext words.now.key place.old.me.0.put signal }
-    requires refused { refused ≡ some_refused place.old.me.0.refused }
+    requires refused { refused.old ≡ some_refused place.old.me.0.refused }
     ensures same { (place.new.table_id ≡ place.old.table_id) × (place.new.id ≡ place.old.id) × (place.new.me.1 ≡ []) }
     ensures offered { OfferedOut signal place.old.me.0 result place.new.me.0 }
+    ensures refused { refused.new ≡ some_refused place.new.me.0.refused }
 {
     let found = try_outer(words, place, mine);
     if found != 0 {
-        return Outward::Busy(signal, found);
+        *refused = true;
+        return Offer::Busy { signal, found };
     }
     let mut outer = take_value(words, place);
-    match outer.put(signal, refused, policy) {
+    match outer.put(signal, *refused, policy) {
         Ok(switched) => {
             install_if(words, place, switched);
             put_value(words, place, outer);
             leave_put(words, place);
-            Outward::Put
+            *refused = false;
+            Offer::Put { via: Via::Outer }
         }
         Err(signal) => {
             put_value(words, place, outer);
             leave_same(words, place);
-            Outward::Memory(signal)
+            Offer::Memory { signal }
         }
     }
 }

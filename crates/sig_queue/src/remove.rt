@@ -17,8 +17,7 @@ use crate::sig_queue::SigQueue;
 use crate::slot::Slot;
 use crate::steps::{leave_remove, leave_same, mode_off, put_value, take_value, try_outer};
 use crate::turns::{leave_passed, put_list, take_list, try_buffer};
-use sig_layout::{Batch, Entry, Growing, Journal, Outer, Pieces};
-use sig_lists::Pushed;
+use sig_layout::{Batch, Growing};
 use std::alloc::{AllocError, Global};
 use std::sync::Wait;
 use std::thread;
@@ -113,7 +112,7 @@ fn pass_all<R: Wait>(
     }
 }
 
-// There is room for all that comes, and the entry stands in the journal that is out.
+// There is room for all that comes, and the entry stands in the journal.
 fn remove_with_room<R: Wait>(
     rt: &R,
     alloc: Global,
@@ -122,10 +121,9 @@ fn remove_with_room<R: Wait>(
     mine: u64,
     mut outer: OuterBox,
     mut growing: Growing,
-    journal: Journal,
 )
     requires table { (place.old.table_id ≡ words.now.table_id) × (words.now.table_id.words ≡ 536) }
-    requires begins { (o : Outer) × Begins place.old.me.0 o × (growing.list ≡ o.signals) × (journal ≡ (removed o).journal) }
+    requires begins { (o : Outer) × Begins place.old.me.0 o × (growing.list ≡ o.signals) × (outer.journal ≡ (removed o).journal) }
     requires slots { place.old.me.1 ≡ outer_out ∷ [] }
     requires bare { (place.old.me.0.parts ≡ []) × (place.old.me.0.saw_off ≡ false) }
     requires due { (place.old.me.0.role ≡ true) × (place.old.me.0.due ≡ true) }
@@ -136,29 +134,9 @@ fn remove_with_room<R: Wait>(
 {
     mode_off(words, place);
     pass_all(rt, alloc, words, place, mine, &mut growing);
-    let signals = growing.into_pieces();
-    outer.swap(Outer { signals, journal });
+    outer.fill(growing.into_pieces());
     put_value(words, place, outer);
     leave_remove(words, place);
-}
-
-// The outer value as it was found comes back, and the outer turn is left.
-fn leave_found(
-    words: &Words,
-    place: &mut Place,
-    mut outer: OuterBox,
-    signals: Pieces,
-    journal: Journal,
-)
-    requires table { (place.old.table_id ≡ words.now.table_id) × (words.now.table_id.words ≡ 536) }
-    requires begins { Begins place.old.me.0 (record { signals = signals; journal = journal }) }
-    requires slots { place.old.me.1 ≡ outer_out ∷ [] }
-    ensures same { (place.new.table_id ≡ place.old.table_id) × (place.new.id ≡ place.old.id) × (place.new.me.1 ≡ []) }
-    ensures left { place.new.me.0 ≡ after_same place.old.me.0 }
-{
-    outer.swap(Outer { signals, journal });
-    put_value(words, place, outer);
-    leave_same(words, place);
 }
 
 // Under the outer turn. The memory is taken first.
@@ -179,25 +157,15 @@ fn remove_held<R: Wait>(
     ensures err { OnErr result (place.new.me.0 ≡ after_same place.old.me.0) }
 {
     let mut outer = take_value(words, place);
-    let Outer {
-        signals,
-        mut journal,
-    } = outer.swap(Outer {
-        signals: Pieces::new(alloc),
-        journal: Journal::new(alloc),
-    });
-    match signals.grow(64) {
+    match outer.grow(alloc, 64) {
         Ok(growing) => {
-            if let Pushed::Memory { .. } = journal.push(Entry::Remove) {
-                leave_found(words, place, outer, growing.into_pieces(), journal);
-                return Err(AllocError);
-            }
-            remove_with_room(rt, alloc, words, place, mine, outer, growing, journal);
+            remove_with_room(rt, alloc, words, place, mine, outer, growing);
             Ok(())
         }
-        Err(signals) => {
-            leave_found(words, place, outer, signals, journal);
-            Err(AllocError)
+        Err(error) => {
+            put_value(words, place, outer);
+            leave_same(words, place);
+            Err(error)
         }
     }
 }

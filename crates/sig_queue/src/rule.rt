@@ -1,6 +1,7 @@
 use crate::slot::Slot;
-use atomic_table::{Seat, Shared, TableRule};
+use atomic_table::{Seat, Shared, Table, TableRule};
 use sig_layout::{Knows, Setup};
+use std::alloc::Global;
 
 /// The rule of a queue's table: it shows a state of the core.
 pub struct QueueRule;
@@ -17,3 +18,5 @@ impl TableRule<Slot, Knows, Setup> for QueueRule {
 pub(crate) type Place = Seat<Slot, Knows>;
 
 pub(crate) type Words = Shared<Slot, Knows, Setup, QueueRule>;
+
+pub(crate) type QueueTable = Table<Slot, Knows, Setup, QueueRule, Global>;

@@ -1,6 +1,7 @@
 use Rattle.std.proofs.Common.{◌≡◌, ℕ, ◌+◌, length, ap, ◌∙◌, subst, arith, refl}
 use Rattle.std.specs.Prelude.{IfSome}
-use Rattle.sig_layout.specs.Views.{given_back}
+use Rattle.sig_layout.specs.Views.{flag, given_back}
+use Rattle.sig_layout.specs.declared.knows.Knows.{Knows}
 use Rattle.sig_queue.specs.Tied.{Held}
 use Rattle.sig_queue.specs.Fetching.{all_of}
 use Rattle.sig_queue.proofs.Fetches.{finding_apart, finding_few, finding_held, finding_skipped, same_front, total_more}
@@ -11,6 +12,10 @@ try_buffer-requires-clause-apart c = let f = c.requires.finding in finding_apart
 
 pub overflow_add-found : goal.overflow_add-found
 overflow_add-found c = let f = c.requires.finding in let few = finding_few f.0 f.1 c.args.buffer _ _ f.2 c.requires.table.2 in let low = c.requires.table.2 in omega arith
+
+pub set_back-requires-clause-masked : goal.set_back-requires-clause-masked
+set_back-requires-clause-masked c = let f = c.requires.finding in let h = c.requires.fetching in let m = ap (λ (x : Held). x.0) (c.try_buffer.ensures.refused c.if-try_buffer-ne0.true).0 in
+    ((h.0.0, ap (λ (v : Knows). v.held) m ∙ h.0.1), ap (λ (v : Knows). v.fetching) m ∙ h.1, ap (λ (v : Knows). flag v.mask c.args.buffer) m ∙ (f.2.to_come c.args.buffer c.requires.table.2 (omega arith) ∙ f.3))
 
 pub returns-then-try_buffer-ne0-clause-finding : goal.returns-then-try_buffer-ne0-clause-finding
 returns-then-try_buffer-ne0-clause-finding c v n f bit blind = let r = c.try_buffer.ensures.refused c.if-try_buffer-ne0.true in

@@ -2,15 +2,13 @@ use Rattle.std.proofs.Common.{rules, ap, ◌∙◌, length}
 use Rattle.sig_queue.specs.declared.slot.Slot.TheVariants as slot
 use Rattle.sig_queue.specs.Ends.{first_outer}
 use Rattle.sig_queue.proofs.Ending.{starts, words_counted, slots_counted}
-use Rattle.sig_queue.proofs.sig_queue.SigQueue.open.Goals as goal
+use Rattle.sig_queue.proofs.open.first_table.Goals as goal
 
 pub new-requires : goal.new-requires
 new-requires c = starts _ _ _ c.requires.policy (search rules) (search rules)
 
-pub invariant_of-queue : goal.invariant_of-queue
-invariant_of-queue c = let t = c.in-Ok.ensures.ok in (
-  search rules,
-  search rules,
+pub returns-in-Ok-clause-table : goal.returns-in-Ok-clause-table
+returns-in-Ok-clause-table c = let t = c.in-Ok.ensures.ok in (
   t.0 ∙ (ap length c.first_words-words.ensures ∙ words_counted c.args.policy),
   t.1 ∙ (ap length c.in_ok-slots.ensures ∙ slots_counted (slot.Outer (first_outer c.args.policy))),
   search rules,
