@@ -3,7 +3,6 @@
 #![tactic(auto)]
 
 mod measuring;
-mod message;
 mod over_mutex;
 mod over_queue;
 mod receiver;
@@ -27,10 +26,8 @@ const USAGE: &str = "usage: sig_bench check
 /// The arguments after the program's name.
 fn arguments(rt: &HostRuntime) -> io::Result<Vec<String>> {
     let mut arguments = Vec::new(rt.alloc());
-    for (i, argument) in env::args(rt)?.enumerate() {
-        if i > 0 {
-            arguments.push(argument)?;
-        }
+    for argument in env::args(rt)?.skip(1) {
+        arguments.push(argument)?;
     }
     Ok(arguments)
 }

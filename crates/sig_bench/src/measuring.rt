@@ -22,6 +22,19 @@ fn perform<R: Threads + Wait + Clock + Sync>(rt: &R, alloc: Global, work: Work) 
     Ok(got)
 }
 
+// Prints the line of a run.
+fn tell<R: Print>(rt: &R, work: Work, got: u64, nanos: u128) -> io::Result<()> {
+    let nanos = nanos.max(1);
+    let rate = got as u128 * 100_000 / nanos;
+    println!(rt;
+        "{} {} {got} {nanos} {}.{:02}",
+        work.way.word(),
+        work.senders,
+        rate / 100,
+        rate % 100
+    )
+}
+
 /// Does the work and prints a line: the way, the senders, the signals, the nanoseconds, and how many
 /// million signals came in a second. Fails for want of memory, or where the clock or the output fails.
 pub fn measure<R: Threads + Wait + Clock + Print + Sync>(
@@ -31,15 +44,8 @@ pub fn measure<R: Threads + Wait + Clock + Print + Sync>(
 ) -> io::Result<()> {
     let start = Instant::now(rt)?;
     let got = perform(rt, alloc, work)?;
-    let nanos = start.elapsed(rt)?.as_nanos().max(1);
-    let rate = got as u128 * 100_000 / nanos;
-    println!(rt;
-        "{} {} {got} {nanos} {}.{:02}",
-        work.way.word(),
-        work.senders,
-        rate / 100,
-        rate % 100
-    )
+    let nanos = start.elapsed(rt)?.as_nanos();
+    tell(rt, work, got, nanos)
 }
 
 // A run that takes next to no time.
@@ -52,15 +58,22 @@ fn sample(way: Way, apart: bool) -> Work {
     }
 }
 
+// Sends some signals, and prints how many came.
+fn check_one<R: Threads + Wait + Clock + Print + Sync>(
+    rt: &R,
+    alloc: Global,
+    work: Work,
+) -> io::Result<()> {
+    let got = perform(rt, alloc, work)?;
+    println!(rt; "{} {} {got}", work.way.word(), work.senders)
+}
+
 /// Sends some signals each way, with pids of each kind, and prints how many came. Fails as `measure`
 /// does.
 pub fn check<R: Threads + Wait + Clock + Print + Sync>(rt: &R, alloc: Global) -> io::Result<()> {
     for way in WAYS {
-        for apart in [false, true] {
-            let work = sample(way, apart);
-            let got = perform(rt, alloc, work)?;
-            println!(rt; "{} {} {got}", way.word(), work.senders)?;
-        }
+        check_one(rt, alloc, sample(way, false))?;
+        check_one(rt, alloc, sample(way, true))?;
     }
     Ok(())
 }

@@ -1,9 +1,9 @@
 //! Signals through a list under a mutex.
 
-use crate::message::message;
 use crate::receiver::PAUSE;
-use crate::work::Work;
+use crate::work::{RECEIVER, Work};
 use sig_kinds::Signal;
+use sig_relay::message;
 use sig_terms::Pid;
 use std::alloc::Global;
 use std::sync::atomic::{AtomicU64, Ordering};
@@ -12,12 +12,20 @@ use std::thread::Threads;
 use std::time::{Clock, Duration};
 use std::{mem, thread};
 
+// Puts the message after the first `next`. Whether there was memory.
+fn put<R: Wait>(rt: &R, list: &Mutex<Vec<Signal>>, from: Pid, next: u32) -> bool {
+    let signal = message(from, RECEIVER, next as u64 + 1, next as u64);
+    let pushed = list.lock(rt).push(signal);
+    let is_ok = pushed.is_ok();
+    drop(pushed);
+    is_ok
+}
+
 // Puts so many messages. How many it couldn't put for want of memory is added to `missing`.
 fn send<R: Wait>(rt: &R, list: &Mutex<Vec<Signal>>, from: Pid, each: u32, missing: &AtomicU64) {
-    for number in 0..each {
-        let signal = message(from, number as u64 + 1);
-        if list.lock(rt).push(signal).is_err() {
-            missing.fetch_add((each - number) as u64, Ordering::SeqCst);
+    for next in 0..each {
+        if !put(rt, list, from, next) {
+            missing.fetch_add((each - next) as u64, Ordering::SeqCst);
             break;
         }
     }
@@ -57,12 +65,11 @@ pub fn over_mutex<R: Threads + Wait + Clock + Sync>(rt: &R, alloc: Global, work:
         for sender in 0..work.senders {
             let from = work.pid(sender);
             let each = work.each;
-            if scope
-                .spawn(move || send(rt, shared, from, each, lost))
-                .is_err()
-            {
+            let spawned = scope.spawn(move || send(rt, shared, from, each, lost));
+            if spawned.is_err() {
                 lost.fetch_add(each as u64, Ordering::SeqCst);
             }
+            drop(spawned);
         }
         receive(rt, alloc, shared, work.signals(), lost)
     })

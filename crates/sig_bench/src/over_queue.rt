@@ -1,13 +1,11 @@
 //! Signals through the shared queue.
 ghost use Rattle.std.specs.Prelude.{◌≡◌, [], true, replicate, IfOk};
 ghost use Rattle.sig_layout.specs.Policies.{IsPolicy};
-ghost use Rattle.sig_layout.specs.Views.{first_seat};
-ghost use Rattle.sig_bench.specs.Messages.{receiver, IsOpen};
+ghost use Rattle.sig_bench.specs.Messages.{receiver, IsFresh};
 
-use crate::message::RECEIVER;
 use crate::receiver::Receiver;
 use crate::sender::Sender;
-use crate::work::Work;
+use crate::work::{RECEIVER, Work};
 use sig_layout::{Numbers, Opening, Policy, Senders};
 use sig_queue::{QSeat, SigQueue};
 use sig_terms::Pid;
@@ -30,6 +28,12 @@ fn opening(alloc: Global) -> Result<Opening, AllocError>
     })
 }
 
+// Adds a sender.
+fn add<'q>(senders: &mut Vec<Sender<'q>>, sender: Sender<'q>) -> Result<(), AllocError> {
+    senders.push(sender)?;
+    Ok(())
+}
+
 // A sender for each of these pids, whose seat is split off.
 fn senders_of<'q>(
     alloc: Global,
@@ -37,10 +41,7 @@ fn senders_of<'q>(
     seat: &mut QSeat,
     pids: Senders,
 ) -> Result<Vec<Sender<'q>>, AllocError>
-    requires own { seat.old.queue ≡ queue.now.id }
-    requires opened { IsOpen queue.now.setup }
-    requires all { queue.now.setup.senders ≡ pids }
-    requires fresh { seat.old.knows ≡ first_seat pids }
+    requires { IsFresh queue.now pids seat.old }
     ensures own { seat.new.queue ≡ queue.now.id }
     ensures role { seat.new.knows.role ≡ true }
     ensures none_taken { seat.new.knows.taken ≡ [] }
@@ -55,7 +56,7 @@ fn senders_of<'q>(
         let pid = Pid(least as u32);
         let one = Senders::none().with(pid);
         let part = queue.split(seat, one, false);
-        senders.push(Sender::new(queue, part, pid))?;
+        add(&mut senders, Sender::new(queue, part, pid))?;
         left = left.minus(one);
     }
     Ok(senders)
@@ -74,12 +75,39 @@ fn exchange<'q, R: Threads + Wait + Clock + Sync>(
     let each = work.each as u64;
     thread::scope(thread::scope_env(), rt, |scope| {
         for sender in senders {
-            if scope.spawn(move || sender.send(each, shared)).is_err() {
+            let spawned = scope.spawn(move || sender.send(each, shared));
+            if spawned.is_err() {
                 shared.fetch_add(each, Ordering::SeqCst);
             }
+            drop(spawned);
         }
         receiver.receive(rt, alloc, work.signals(), shared)
     })
+}
+
+// A queue for the senders of the work, and its first seat.
+fn opened(alloc: Global, policy: Policy, pids: Senders) -> Result<(SigQueue, QSeat), AllocError>
+    requires { IsPolicy policy }
+    ensures { IfOk result (λ r. IsFresh r.0 pids r.1) }
+{
+    let opening = opening(alloc)?;
+    SigQueue::open(alloc, policy, pids, &opening)
+}
+
+// Sends and receives the signals through this queue, and tells how many came.
+fn pass<R: Threads + Wait + Clock + Sync>(
+    rt: &R,
+    alloc: Global,
+    queue: &SigQueue,
+    mut seat: QSeat,
+    work: Work,
+    pids: Senders,
+) -> Result<u64, AllocError>
+    requires { IsFresh queue.now pids seat }
+{
+    let senders = senders_of(alloc, queue, &mut seat, pids)?;
+    let receiver = Receiver::new(queue, seat);
+    Ok(exchange(rt, alloc, senders, receiver, work))
 }
 
 /// Sends the signals through a queue under this policy, and tells how many came. Fails only for want of
@@ -92,10 +120,7 @@ pub fn over_queue<R: Threads + Wait + Clock + Sync>(
 ) -> Result<u64, AllocError>
     requires { IsPolicy policy }
 {
-    let opening = opening(alloc)?;
     let pids = work.pids();
-    let (queue, mut seat) = SigQueue::open(alloc, policy, pids, &opening)?;
-    let senders = senders_of(alloc, &queue, &mut seat, pids)?;
-    let receiver = Receiver::new(&queue, seat);
-    Ok(exchange(rt, alloc, senders, receiver, work))
+    let (queue, seat) = opened(alloc, policy, pids)?;
+    pass(rt, alloc, &queue, seat, work, pids)
 }

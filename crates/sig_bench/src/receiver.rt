@@ -68,7 +68,9 @@ impl<'q> Receiver<'q> {
                 break;
             }
             let mut into = Signals::new(alloc);
-            match self.fetch(rt, &mut into) {
+            let came = self.fetch(rt, &mut into);
+            drop(into);
+            match came {
                 Some(0) => thread::sleep(rt, Duration::from_micros(PAUSE)),
                 Some(_) => {}
                 None => break,

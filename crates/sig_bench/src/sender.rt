@@ -1,10 +1,12 @@
 ghost use Rattle.std.specs.Prelude.{◌≡◌, length, true};
 ghost use Rattle.sig_layout.specs.Sets.{has};
 ghost use Rattle.sig_layout.specs.Sent.{putter, of};
+ghost use Rattle.sig_relay.specs.Relays.{Sender as MaySend};
 ghost use Rattle.sig_bench.specs.Messages.{IsOpen};
 
-use crate::message::message;
-use sig_queue::{Offer, QSeat, SigQueue};
+use crate::work::RECEIVER;
+use sig_queue::{QSeat, SigQueue};
+use sig_relay::{Line, put_message};
 use sig_terms::Pid;
 use std::sync::atomic::{AtomicU64, Ordering};
 use std::thread;
@@ -14,37 +16,36 @@ use std::thread;
 pub struct Sender<'q> {
     queue: &'q SigQueue,
     seat: QSeat,
-    from: Pid,
+    line: Line,
     ghost own: { seat.queue ≡ queue.now.id },
-    ghost opened: { IsOpen queue.now.setup },
-    ghost known: { has queue.now.setup.senders from.0 ≡ true },
-    ghost can: { has seat.knows.senders from.0 ≡ true },
-    ghost none_put: { length (of putter from.0 seat.knows.put) ≡ 0 },
+    ghost may_send: { MaySend queue.now.setup line },
+    ghost first: { line.first ≡ 1 },
+    ghost can: { has seat.knows.senders line.from.0 ≡ true },
+    ghost none_put: { length (of putter line.from.0 seat.knows.put) ≡ 0 },
 }
 
 // Puts so many messages, or as many as memory allows, and lets others run where one of them holds the
 // turn. It tells how many it put.
-fn put_each(queue: &SigQueue, mut seat: QSeat, from: Pid, each: u64) -> (QSeat, u64)
-    requires own { seat.queue ≡ queue.now.id }
-    requires opened { IsOpen queue.now.setup }
-    requires known { has queue.now.setup.senders from.0 ≡ true }
-    requires can { has seat.knows.senders from.0 ≡ true }
-    requires none_put { length (of putter from.0 seat.knows.put) ≡ 0 }
-    ensures counted { result.1 ≡ length (of putter from.0 result.0.knows.put) }
+fn put_each(queue: &SigQueue, seat: &mut QSeat, line: Line, each: u64) -> u64
+    requires own { seat.old.queue ≡ queue.now.id }
+    requires may_send { MaySend queue.now.setup line }
+    requires first { line.first ≡ 1 }
+    requires can { has seat.old.knows.senders line.from.0 ≡ true }
+    requires none_put { length (of putter line.from.0 seat.old.knows.put) ≡ 0 }
+    ensures counted { result ≡ length (of putter line.from.0 seat.new.knows.put) }
 {
     let mut next = 0;
     for _ in 0..u64::MAX {
         if next >= each {
             break;
         }
-        let signal = message(from, next + 1);
-        match queue.offer(&mut seat, signal) {
-            Offer::Put { .. } => next += 1,
-            Offer::Busy { .. } => thread::yield_now(),
-            Offer::Memory { .. } => break,
+        match put_message(queue, seat, line, next + 1, next) {
+            Some(true) => next += 1,
+            Some(false) => thread::yield_now(),
+            None => break,
         }
     }
-    (seat, next)
+    next
 }
 
 impl<'q> Sender<'q> {
@@ -56,13 +57,22 @@ impl<'q> Sender<'q> {
         requires can { has seat.knows.senders from.0 ≡ true }
         requires none_put { length (of putter from.0 seat.knows.put) ≡ 0 }
     {
-        Sender { queue, seat, from }
+        let line = Line {
+            from,
+            to: RECEIVER,
+            first: 1,
+        };
+        Sender { queue, seat, line }
     }
 
     /// Puts so many messages. How many it couldn't put for want of memory is added to `missing`.
     pub fn send(self, each: u64, missing: &AtomicU64) {
-        let Sender { queue, seat, from } = self;
-        let (_, put) = put_each(queue, seat, from, each);
+        let Sender {
+            queue,
+            mut seat,
+            line,
+        } = self;
+        let put = put_each(queue, &mut seat, line, each);
         missing.fetch_add(each.saturating_sub(put), Ordering::SeqCst);
     }
 }

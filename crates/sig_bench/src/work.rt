@@ -4,6 +4,9 @@ use crate::way::Way;
 use sig_layout::Senders;
 use sig_terms::Pid;
 
+/// The process that receives all messages.
+pub const RECEIVER: Pid = Pid(0);
+
 /// The most senders.
 pub const MOST_SENDERS: u32 = 8;
 

@@ -1,2 +1,1 @@
 mod Sendings
-mod PidSets

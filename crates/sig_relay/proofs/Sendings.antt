@@ -92,21 +92,26 @@ or_yes true = refl
 or_yes false = refl
 
 -- neither a put nor a refused offer changes who puts
-pub refused_senders : (x : Signal) (v w : Knows) (n : ℕ) → RefusedOne x v n w → w.senders ≡ v.senders
+refused_senders : (x : Signal) (v w : Knows) (n : ℕ) → RefusedOne x v n w → w.senders ≡ v.senders
 refused_senders x v w n k = ⊎_elim (λ e. ap (λ (y : Knows). y.senders) e) (λ e. ap (λ (y : Knows). y.senders) e) k.1
 
-pub put_senders : (x : Signal) (v w : Knows) (way : Via) → PutBy x v way w → w.senders ≡ v.senders
+put_senders : (x : Signal) (v w : Knows) (way : Via) → PutBy x v way w → w.senders ≡ v.senders
 put_senders x v w via.Outer p = ap (λ (y : Knows). y.senders) p.1
 put_senders x v w (via.Buffer b) p = ap (λ (y : Knows). y.senders) p.1.1
 
-pub refused_put : (x : Signal) (v w : Knows) (n : ℕ) → RefusedOne x v n w → w.put ≡ v.put
+pub offered_senders : (x : Signal) (v w : Knows) (o : Offer) → Offered x v o w → w.senders ≡ v.senders
+offered_senders x v w (offer.Put way) p = put_senders x v w way p
+offered_senders x v w (offer.Busy y n) p = refused_senders x v w n p.2
+offered_senders x v w (offer.Memory y) p = ap (λ (k : Knows). k.senders) p.1.1
+
+refused_put : (x : Signal) (v w : Knows) (n : ℕ) → RefusedOne x v n w → w.put ≡ v.put
 refused_put x v w n k = ⊎_elim (λ e. ap (λ (y : Knows). y.put) e) (λ e. ap (λ (y : Knows). y.put) e) k.1
 
 -- a put is one more of its sender
 one_more : (put : List Item) (i : Item) → length (of putter (putter i) (put ++ i ∷ [])) ≡ length (of putter (putter i) put) + 1
 one_more put i = ap length (of-append putter (putter i) put (i ∷ [])) ∙ (ap (λ (l : List Item). length (of putter (putter i) put ++ l)) (of_own putter (putter i) i [] refl) ∙ length-append (of putter (putter i) put) (i ∷ []))
 
-pub put_more_of : (x : Signal) (v w : Knows) (way : Via) → PutBy x v way w → length (of putter x.from.0 w.put) ≡ length (of putter x.from.0 v.put) + 1
+put_more_of : (x : Signal) (v w : Knows) (way : Via) → PutBy x v way w → length (of putter x.from.0 w.put) ≡ length (of putter x.from.0 v.put) + 1
 put_more_of x v w via.Outer p = ap (λ (y : Knows). length (of putter x.from.0 y.put)) p.1 ∙ one_more v.put (item via.Outer x)
 put_more_of x v w (via.Buffer b) p = ap (λ (y : Knows). length (of putter x.from.0 y.put)) p.1.1 ∙ one_more v.put (item (via.Buffer b) x)
 

@@ -11,7 +11,6 @@ use Rattle.sig_layout.specs.Sent.{signals}
 use Rattle.sig_layout.specs.Openings.{first_of}
 use Rattle.sig_queue.specs.declared.offer.Offer.{Offer}
 use Rattle.sig_queue.specs.declared.offer.Offer.TheVariants as offer
-use Rattle.sig_queue.specs.Seats.{Queue, Seated}
 use Rattle.sig_relay.specs.declared.relaying.Line.{Line}
 
 -- a message that is a reference of its sender
@@ -44,21 +43,6 @@ pub record Receives (taken : List Signal) (v : Knows) : Type 0 where
   pub role : v.role ≡ true
   pub none_put : v.put ≡ []
   pub taken_is : v.taken ≡ taken
-
--- a seat that has put nothing, and may put messages of this line
-pub record Puts (q : Queue) (l : Line) (s : Seated) : Type 0 where
-  pub own : s.queue ≡ q.id
-  pub sender : Sender q.setup l
-  pub can : has s.knows.senders l.from.0 ≡ true
-  pub none_put : s.knows.put ≡ []
-
--- a seat of this queue, with these senders
-abbrev pub Keeps : Queue → List ℕ → Seated → Type 0
-Keeps q senders s = (s.queue ≡ q.id) × (s.knows.senders ≡ senders)
-
--- the seat has the queue, the senders and the role as before
-abbrev pub Stays : Seated → Seated → Type 0
-Stays s t = (t.queue ≡ s.queue) × (t.knows.senders ≡ s.knows.senders) × (t.knows.role ≡ s.knows.role)
 
 -- whether the offer put its signal, where memory was not wanting
 abbrev pub put_by : Offer → Option Bool

@@ -1,4 +1,4 @@
-ghost use Rattle.std.specs.Prelude.{◌≡◌, ◌+◌, length, true};
+ghost use Rattle.std.specs.Prelude.{◌≡◌, ◌+◌, length, true, if◌then◌else◌, IfSome};
 ghost use Rattle.sig_layout.specs.Sets.{has};
 ghost use Rattle.sig_layout.specs.Sent.{putter, of};
 ghost use Rattle.sig_queue.specs.Calls.{Offered};
@@ -27,12 +27,35 @@ pub fn offer_message(
 }
 
 // Whether the offer put its signal, and `None` where memory is wanting.
-pub(crate) fn was_put(offer: Offer) -> Option<bool>
-    ensures { result ≡ put_by offer }
+fn was_put(offer: &Offer) -> Option<bool>
+    ensures { result ≡ put_by offer.now }
 {
     match offer {
         Offer::Put { .. } => Some(true),
         Offer::Busy { .. } => Some(false),
         Offer::Memory { .. } => None,
     }
+}
+
+/// Offers the message with this number. Whether it was put, and `None` where memory is wanting.
+pub fn put_message(
+    queue: &SigQueue,
+    seat: &mut QSeat,
+    line: Line,
+    number: u64,
+    serial: u64,
+) -> Option<bool>
+    requires own { seat.old.queue ≡ queue.now.id }
+    requires sender { Sender queue.now.setup line }
+    requires can { has seat.old.knows.senders line.from.0 ≡ true }
+    requires next { number ≡ line.first + length (of putter line.from.0 seat.old.knows.put) }
+    ensures own { seat.new.queue ≡ seat.old.queue }
+    ensures senders { seat.new.knows.senders ≡ seat.old.knows.senders }
+    ensures count { IfSome result (λ put. length (of putter line.from.0 seat.new.knows.put) ≡ length (of putter line.from.0 seat.old.knows.put) + (if put then 1 else 0)) }
+    ensures put { (o : Offer) × (result ≡ put_by o) × Offered (said line.from line.to number serial) seat.old.knows o seat.new.knows }
+{
+    let offer = offer_message(queue, seat, line, number, serial);
+    let put = was_put(&offer);
+    drop(offer);
+    put
 }

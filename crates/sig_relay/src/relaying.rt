@@ -5,7 +5,7 @@ ghost use Rattle.sig_layout.specs.Openings.{IsSetup, first_of};
 ghost use Rattle.sig_queue.specs.Ends.{setup_of};
 ghost use Rattle.sig_relay.specs.Relays.{messages, Sends, Receives, Sender};
 
-use crate::offering::{offer_message, was_put};
+use crate::offering::put_message;
 use sig_kinds::Signals;
 use sig_layout::{Opening, Policy, Senders};
 use sig_queue::{Closed, Fetch, QSeat, SigQueue};
@@ -53,7 +53,7 @@ fn send_next(
         (λ put. Sends queue.now.setup line.from (if put then take (next + 1) serials.now else take next serials.now) seat.new.knows) }
 {
     let number = line.first.checked_add(next as u64)?;
-    was_put(offer_message(queue, seat, line, number, serials[next]))
+    put_message(queue, seat, line, number, serials[next])
 }
 
 // Puts a message for each serial, or as many as memory allows. It tells how many.
@@ -95,8 +95,8 @@ fn take_some<R: Wait>(rt: &R, queue: &SigQueue, seat: &mut QSeat, into: &mut Sig
     }
 }
 
-// Fetches until there are so many signals, or memory is wanting.
-pub(crate) fn receive<R: Wait>(
+/// Fetches until there are so many signals, or memory is wanting.
+pub fn receive<R: Wait>(
     rt: &R,
     queue: &SigQueue,
     mut seat: QSeat,

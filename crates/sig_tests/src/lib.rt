@@ -1,9 +1,11 @@
 //! Tests of the calls of sig_process and of the crates below it: those that memory can be refused, their
-//! limits, and processes step by step.
+//! limits, and processes step by step; and threads over a shared queue.
 #![tactic(auto)]
 
 #[cfg(test)]
 mod base;
+#[cfg(test)]
+mod held;
 #[cfg(test)]
 mod inner;
 #[cfg(test)]
@@ -13,9 +15,19 @@ mod links;
 #[cfg(test)]
 mod lists;
 #[cfg(test)]
+mod orders;
+#[cfg(test)]
 mod patterns;
 #[cfg(test)]
+mod pids;
+#[cfg(test)]
 mod processes;
+#[cfg(test)]
+mod putting;
+#[cfg(test)]
+mod relay;
+#[cfg(test)]
+mod switching;
 #[cfg(test)]
 mod terms;
 #[cfg(test)]

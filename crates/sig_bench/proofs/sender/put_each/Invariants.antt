@@ -6,6 +6,6 @@ use Rattle.sig_bench.proofs.sender.put_each.Given as goal
 abbrev pub invariant-loop : goal.invariant-loop
 invariant-loop l = record {
   own : l.seat.queue ≡ l.queue.id;
-  can : has l.seat.knows.senders l.from.0 ≡ true;
-  counted : l.next ≡ length (of putter l.from.0 l.seat.knows.put);
+  can : has l.seat.knows.senders l.line.from.0 ≡ true;
+  counted : l.next ≡ length (of putter l.line.from.0 l.seat.knows.put);
 }

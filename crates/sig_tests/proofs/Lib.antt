@@ -1,0 +1,2 @@
+mod PidSets
+mod Offers
