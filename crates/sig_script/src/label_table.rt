@@ -8,6 +8,7 @@ use sig_terms::Name;
 use std::alloc::{AllocError, Global};
 use std::collections::BTreeMap;
 use std::marker::Model;
+use std::mem::{drop, replace};
 
 /// The labels of a process while it is read, each with a name of its own. A name is looked up in
 /// time in the logarithm of their count. Contracts see the labels alone.
@@ -51,7 +52,7 @@ impl LabelTable {
     }
 
     /// The labels, with a further one at the end.
-    pub fn with(self, label: Label) -> Result<LabelTable, AllocError>
+    fn with(self, label: Label) -> Result<LabelTable, AllocError>
         requires new { position (λ (l : Label). bytes_eq l.name label.name) self ≡ None }
         requires few { length self < 2 ^ 32 }
         ensures { IfOk result (λ t. t ≡ self ++ label ∷ []) }
@@ -69,6 +70,17 @@ impl LabelTable {
             labels,
             places,
         })
+    }
+
+    /// Adds a label at the end. Without memory for it the labels are of no use.
+    pub fn add(&mut self, alloc: Global, label: Label) -> Result<(), AllocError>
+        requires new { position (λ (l : Label). bytes_eq l.name label.name) self.old ≡ None }
+        requires few { length self.old < 2 ^ 32 }
+        ensures { IfOk result (λ u. self.new ≡ self.old ++ label ∷ []) }
+    {
+        let labels = replace(self, LabelTable::new(alloc)).with(label)?;
+        drop(replace(self, labels));
+        Ok(())
     }
 
     /// The labels, in the order of their lines.
