@@ -19,7 +19,7 @@ ghost use Rattle.sig_script.specs.Drafts.{
   taken,
 };
 ghost use Rattle.sig_script.specs.Sections.{inside_of, outside_of, section_taken};
-ghost use Rattle.sig_script.specs.Grammar.{finished, taken_if, line_taken};
+ghost use Rattle.sig_script.specs.Grammar.{finished, line_taken};
 ghost use Rattle.sig_script.specs.Reading.{IsReading, MayEnd};
 ghost use Rattle.sig_script.specs.Fitting.{IsFewKnown, IsSmall, IsFit};
 
@@ -157,13 +157,12 @@ fn begin(alloc: Global, draft: &mut Draft, name: Name) -> Result<(), Stop>
 }
 
 /// A label line.
-#[tactic(auto, using(crate::proofs::LabelLemmas::any_place))]
 fn add_label(alloc: Global, proc: &mut DraftProc, name: Name) -> Result<(), Stop>
     requires instrs { length proc.old.instrs + 1 < 2 ^ 32 }
     requires labels { length proc.old.labels < 2 ^ 32 }
     ensures { Gives (λ u. proc.new) result (labelled proc.old name) }
 {
-    if proc.labels.place_of(name.bytes()).is_some() {
+    if proc.labels.has(name.bytes()) {
         return Err(Stop::Fault(FaultKind::DuplicateLabel));
     }
     let place = proc.instrs.len() as u32 + 1;
@@ -354,22 +353,6 @@ fn place_end(section: &mut Section) -> Result<(), Stop>
     }
 }
 
-/// A form that begins no process and tells no turns.
-fn place(alloc: Global, section: &mut Section, form: Form) -> Result<(), Stop>
-    requires { All (IsSmall (2 ^ 31)) (open_proc section.old) }
-    ensures { Gives (λ u. section.new) result (section_taken section.old form) }
-{
-    match form {
-        Form::Label(name) => place_label(alloc, section, name),
-        Form::Do(instr) => place_instr(section, instr),
-        Form::Receive { using } => place_receive(alloc, section, using),
-        Form::On(pattern, target) => place_clause(section, pattern, target),
-        Form::After(next) => place_after(section, next),
-        Form::End => place_end(section),
-        _ => Err(Stop::Fault(FaultKind::Syntax)),
-    }
-}
-
 /// A form behind what was read so far.
 #[tactic(auto, using(crate::proofs::FitLemmas::open_fits))]
 fn take_form(alloc: Global, draft: &mut Draft, n: u64, form: Form) -> Result<(), Stop>
@@ -380,19 +363,12 @@ fn take_form(alloc: Global, draft: &mut Draft, n: u64, form: Form) -> Result<(),
     match form {
         Form::Turns(n) => take_turns(draft, n),
         Form::Process(name) => take_process(alloc, draft, name),
-        other => place(alloc, &mut draft.section, other),
-    }
-}
-
-/// A form behind what was read so far, or none.
-fn take_any(alloc: Global, draft: &mut Draft, n: u64, form: Option<Form>) -> Result<(), Stop>
-    requires few { n < 2 ^ 31 }
-    requires fit { IsFit n draft.old }
-    ensures { Gives (λ u. draft.new) result (taken_if draft.old form) }
-{
-    match form {
-        Some(form) => take_form(alloc, draft, n, form),
-        None => Ok(()),
+        Form::Label(name) => place_label(alloc, &mut draft.section, name),
+        Form::Do(instr) => place_instr(&mut draft.section, instr),
+        Form::Receive { using } => place_receive(alloc, &mut draft.section, using),
+        Form::On(pattern, target) => place_clause(&mut draft.section, pattern, target),
+        Form::After(next) => place_after(&mut draft.section, next),
+        Form::End => place_end(&mut draft.section),
     }
 }
 
@@ -411,8 +387,10 @@ pub fn take_line(
     requires fit { IsFit n draft.old }
     ensures { Gives (λ u. draft.new) result (line_taken known.now draft.old line.now) }
 {
-    let form = read_line(alloc, known, draft, tokens, line)?;
-    take_any(alloc, draft, n, form)
+    match read_line(alloc, known, draft, tokens, line)? {
+        Some(form) => take_form(alloc, draft, n, form),
+        None => Ok(()),
+    }
 }
 
 /// Lets go of what was read, where a line is refused.

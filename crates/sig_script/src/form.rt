@@ -32,7 +32,7 @@ use crate::instruction::{After, Instr};
 use crate::keyword::{Keyword, Verb, read_keyword};
 use crate::known::Known;
 use crate::line::{read_tokens, text_of};
-use crate::names::{take_name, take_target, take_variable, take_word};
+use crate::names::{name_of, take_target, take_variable, take_word};
 use crate::number::read_count;
 use crate::phrases::take_phrase;
 use crate::token::{Token, TokenKind, Tokens};
@@ -41,6 +41,7 @@ use sig_patterns::{Expr, Pattern, Var};
 use sig_terms::Name;
 use sig_terms::bytes::equal_bytes;
 use std::alloc::Global;
+use std::mem::drop;
 
 /// What a line says.
 #[derive(Drop)]
@@ -148,8 +149,13 @@ fn one_expr(alloc: Global, known: &Known, line: &[u8], tokens: &[Token]) -> Resu
     ensures { Gives (λ e. (e, tt)) result (all_said known.now 0 line.now (Operand.an_expr ∷ []) tokens.now) }
 {
     let (value, rest) = take_phrase(alloc, known, line, tokens)?;
-    end(rest)?;
-    Ok(value)
+    match end(rest) {
+        Ok(()) => Ok(value),
+        Err(stop) => {
+            drop(value);
+            Err(stop)
+        }
+    }
 }
 
 /// Two expressions, and nothing behind them.
@@ -164,8 +170,13 @@ fn two_exprs(
     ensures { Gives (λ x. (x.0, (x.1, tt))) result (all_said known.now 0 line.now (Operand.an_expr ∷ Operand.an_expr ∷ []) tokens.now) }
 {
     let (first, rest) = take_phrase(alloc, known, line, tokens)?;
-    let second = one_expr(alloc, known, line, rest)?;
-    Ok((first, second))
+    match one_expr(alloc, known, line, rest) {
+        Ok(second) => Ok((first, second)),
+        Err(stop) => {
+            drop(first);
+            Err(stop)
+        }
+    }
 }
 
 /// A variable and an expression, and nothing behind them.
@@ -296,8 +307,13 @@ fn read_monitor(alloc: Global, known: &Known, line: &[u8], tokens: &[Token]) -> 
 {
     let (var, rest) = take_variable(alloc, line, tokens)?;
     let (target, rest) = take_phrase(alloc, known, line, rest)?;
-    let mode = one_mode(line, rest)?;
-    Ok(Instr::Monitor { var, target, mode })
+    match one_mode(line, rest) {
+        Ok(mode) => Ok(Instr::Monitor { var, target, mode }),
+        Err(stop) => {
+            drop(target);
+            Err(stop)
+        }
+    }
 }
 
 /// What stands behind `demonitor`: the reference, and whether `flush` does.
@@ -313,8 +329,13 @@ fn read_demonitor(
     ensures { Gives (λ i. i) result (instr_of known.now 0 Verb.Demonitor line.now tokens.now) }
 {
     let (reference, rest) = take_phrase(alloc, known, line, tokens)?;
-    let flush = one_flag(b"flush", line, rest)?;
-    Ok(Instr::Demonitor { reference, flush })
+    match one_flag(b"flush", line, rest) {
+        Ok(flush) => Ok(Instr::Demonitor { reference, flush }),
+        Err(stop) => {
+            drop(reference);
+            Err(stop)
+        }
+    }
 }
 
 /// What stands behind `alias`: the variable, and whether `reply` does.
@@ -332,9 +353,9 @@ fn read_name(alloc: Global, line: &[u8], tokens: &[Token]) -> Result<Name, Stop>
     requires { AreWellSpelled line.now tokens.now }
     ensures { Gives (λ n. n) result (whole_name line.now tokens.now) }
 {
-    let (name, rest) = take_name(alloc, line, tokens)?;
+    let (word, rest) = take_word(line, tokens)?;
     end(rest)?;
-    Ok(name)
+    name_of(alloc, word)
 }
 
 /// The variable of a receive's marker, and nothing behind it.
@@ -380,8 +401,13 @@ fn read_on(
     ensures { Gives (λ f. f) result (on_of known.now here line.now tokens.now) }
 {
     let (pattern, rest) = take_phrase(alloc, known, line, tokens)?;
-    let target = take_arrow(known, here, line, rest)?;
-    Ok(Form::On(pattern, target))
+    match take_arrow(known, here, line, rest) {
+        Ok(target) => Ok(Form::On(pattern, target)),
+        Err(stop) => {
+            drop(pattern);
+            Err(stop)
+        }
+    }
 }
 
 /// The instruction of the verb, of the process with this place among the processes.

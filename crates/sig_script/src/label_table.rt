@@ -1,4 +1,5 @@
-ghost use Rattle.std.specs.Prelude.{◌≡◌, ◌<◌, ◌^◌, ◌++◌, [], ◌∷◌, length, position, None, IfOk};
+ghost use Rattle.std.specs.Prelude.{◌≡◌, ◌<◌, ◌^◌, ◌++◌, [], ◌∷◌, length, position, false, None, IfOk};
+ghost use Rattle.std.specs.List.{list_any};
 ghost use Rattle.std.specs.Str.{bytes_eq};
 ghost use Rattle.sig_script.specs.declared.label.Label.{Label};
 
@@ -49,6 +50,15 @@ impl LabelTable {
         ensures { result ≡ position (λ (l : Label). bytes_eq l.name name.now) self.now }
     {
         self.places.get(name).copied()
+    }
+
+    /// Whether a label has the name.
+    #[tactic(auto, using(crate::proofs::LabelLemmas::any_place))]
+    pub fn has(&self, name: &[u8]) -> bool
+        ensures any { result ≡ list_any (λ (l : Label). bytes_eq l.name name.now) self.now }
+        ensures none { result ≡ false → position (λ (l : Label). bytes_eq l.name name.now) self.now ≡ None }
+    {
+        self.place_of(name).is_some()
     }
 
     /// The labels, with a further one at the end.

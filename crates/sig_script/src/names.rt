@@ -1,6 +1,6 @@
 //! The names at the front of tokens, and the tokens behind them.
 
-ghost use Rattle.std.specs.Prelude.{◌≡◌, IfOk, true};
+ghost use Rattle.std.specs.Prelude.{◌≡◌, true, Ok, IfOk};
 ghost use Rattle.sig_terms.specs.Words.{is_token};
 ghost use Rattle.sig_script.specs.Faults.{Gives};
 ghost use Rattle.sig_script.specs.Tokens.{AreWellSpelled};
@@ -14,7 +14,7 @@ use crate::line::text_of;
 use crate::token::{Token, TokenKind};
 use sig_patterns::Var;
 use sig_terms::Name;
-use std::alloc::{AllocError, Global};
+use std::alloc::Global;
 
 /// The bytes of a name.
 pub fn take_word<'l, 't>(
@@ -36,29 +36,14 @@ pub fn take_word<'l, 't>(
 }
 
 /// The name of these bytes.
-fn name_of(alloc: Global, word: &[u8]) -> Result<Name, AllocError>
+pub fn name_of(alloc: Global, word: &[u8]) -> Result<Name, Stop>
     requires { is_token word.now ≡ true }
-    ensures { IfOk result (λ name. name ≡ word.now) }
+    ensures { Gives (λ name. name) result (Ok word.now) }
 {
     match Name::new(alloc, word)? {
         Some(name) => Ok(name),
         None => unreachable!(),
     }
-}
-
-/// A name.
-pub fn take_name<'t>(
-    alloc: Global,
-    line: &[u8],
-    tokens: &'t [Token],
-) -> Result<(Name, &'t [Token]), Stop>
-    requires { AreWellSpelled line.now tokens.now }
-    ensures name { Gives (λ x. (x.0, x.1.now)) result (name_at line.now tokens.now) }
-    ensures spelled { IfOk result (λ x. AreWellSpelled line.now x.1.now) }
-{
-    let (word, rest) = take_word(line, tokens)?;
-    let name = name_of(alloc, word)?;
-    Ok((name, rest))
 }
 
 /// A variable.
