@@ -46,6 +46,13 @@ begun d name =
     else if nat_le MOST_PROCESSES (length (all_procs d)) then Err TooManyProcesses
     else Ok (record d { procs = all_procs d; section = Outside (record { name = name; labels = []; instrs = [] }) })
 
+-- the same of the processes so far alone
+abbrev pub has_room : List Declared → List ℕ → Result (Unit {0}) FaultKind
+has_room procs name =
+    if list_any (λ (p : Declared). bytes_eq p.name name) procs then Err DuplicateName
+    else if nat_le MOST_PROCESSES (length procs) then Err TooManyProcesses
+    else Ok tt
+
 -- a label before the next instruction: its name is a new one in its process
 abbrev pub labelled : Declared → List ℕ → Result Declared FaultKind
 labelled p name =

@@ -92,6 +92,10 @@ ends said (t ∷ ts) = Err Syntax
 abbrev pub target_at : Known → ℕ → List ℕ → List Token → Result (ℕ × List Token) FaultKind
 target_at known here line ts = name_at line ts >>= λ x. on_ok (λ n. (n, x.1)) (label_of known here x.0)
 
+-- the same with nothing behind it
+abbrev pub target_of : Known → ℕ → List ℕ → List Token → Result (Option ℕ) FaultKind
+target_of known here line ts = target_at known here line ts >>= λ x. ends (Some x.0) x.1
+
 -- nothing, or `-> L`
 abbrev pub arrow_of : Known → ℕ → List ℕ → List Token → Result (Option ℕ) FaultKind
 arrow_of known here line [] = Ok None
@@ -156,6 +160,14 @@ instr_of known here v line ts = on_ok (instr_by v) (all_said known here line (op
 -- a name, and nothing behind it
 abbrev pub whole_name : List ℕ → List Token → Result (List ℕ) FaultKind
 whole_name line ts = name_at line ts >>= λ x. ends x.0 x.1
+
+-- the variable of a receive's marker, and nothing behind it
+abbrev pub marked_by : List ℕ → List Token → Result (Option Var) FaultKind
+marked_by line ts = variable_at line ts >>= λ y. ends (Some (record { 0 = y.0 })) y.1
+
+-- `using X`
+abbrev pub using_at : List ℕ → List Token → Result (Option Var) FaultKind
+using_at line ts = name_at line ts >>= λ x. flag_of (codes "using") x.0 >>= λ is_using. marked_by line x.1
 
 -- nothing, or `using X`: the variable of a receive's marker
 abbrev pub marker_of : List ℕ → List Token → Result (Option Var) FaultKind

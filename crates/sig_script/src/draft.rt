@@ -1,12 +1,26 @@
-ghost use Rattle.std.specs.Prelude.{◌≡◌, ◌+◌, ◌<◌, ◌≤◌, ◌^◌, ◌++◌, [], ◌∷◌, length, Ok, All};
+ghost use Rattle.std.specs.Prelude.{◌≡◌, ◌+◌, ◌<◌, ◌≤◌, ◌^◌, ◌++◌, [], ◌∷◌, length, Ok, Err, All};
 ghost use Rattle.std.specs.List.{list_any};
 ghost use Rattle.std.specs.Str.{bytes_eq};
+ghost use Rattle.sig_script.specs.declared.fault.FaultKind.TheVariants.{Syntax};
+ghost use Rattle.sig_script.specs.declared.fault.Stop.TheVariants.{Fault};
 ghost use Rattle.sig_script.specs.Faults.{Gives};
 ghost use Rattle.sig_script.specs.Scripts.{Declared, Program};
-ghost use Rattle.sig_script.specs.Drafts.{open_proc, all_procs, begun, labelled, with_instr, is_marked, with_clause, taken_at, taken};
-ghost use Rattle.sig_script.specs.Sections.{section_taken};
-ghost use Rattle.sig_script.specs.Grammar.{finished, taken_if, line_taken};
-ghost use Rattle.sig_script.specs.Reading.{IsReading};
+ghost use Rattle.sig_script.specs.Drafts.{
+  blank,
+  open_proc,
+  all_procs,
+  begun,
+  has_room,
+  labelled,
+  with_instr,
+  is_marked,
+  with_clause,
+  taken_at,
+  taken,
+};
+ghost use Rattle.sig_script.specs.Sections.{inside_of, outside_of, section_taken};
+ghost use Rattle.sig_script.specs.Grammar.{finished, line_taken};
+ghost use Rattle.sig_script.specs.Reading.{IsReading, MayEnd};
 ghost use Rattle.sig_script.specs.Fitting.{IsFewKnown, IsSmall, IsFit};
 
 use crate::drafted::{DraftProc, DraftProcs, DraftScript};
@@ -24,7 +38,7 @@ use sig_patterns::{Clause, Clauses, Pattern, Var, pins};
 use sig_terms::Name;
 use sig_terms::bytes::equal_bytes;
 use std::alloc::Global;
-use std::mem::replace;
+use std::mem::{drop, replace};
 
 /// Where in a script a line stands.
 #[derive(Drop)]
@@ -47,6 +61,33 @@ pub struct Draft {
     pub procs: DraftProcs,
     /// Where the next line stands.
     pub section: Section,
+}
+
+impl Draft {
+    /// Before the first line.
+    pub fn new(alloc: Global) -> Draft
+        ensures { result ≡ blank }
+    {
+        Draft {
+            turns: None,
+            procs: Sequence::new(alloc),
+            section: Section::Before,
+        }
+    }
+}
+
+/// Refuses what can't stand where it is.
+fn refuse<T: Drop>(_said: T) -> Result<(), Stop>
+    ensures { result ≡ Err (Fault Syntax) }
+{
+    Err(Stop::Fault(FaultKind::Syntax))
+}
+
+/// Lets this section stand in the place of another.
+fn enter(section: &mut Section, next: Section)
+    ensures { section.new ≡ next }
+{
+    drop(replace(section, next));
 }
 
 /// Closes the process that was being read.
@@ -75,6 +116,30 @@ fn is_proc_among(procs: &[DraftProc], name: &[u8]) -> bool
         .any(|proc| equal_bytes(proc.name.bytes(), name))
 }
 
+/// Whether there is room behind these processes for one of this name.
+fn check_room(procs: &[DraftProc], name: &[u8]) -> Result<(), Stop>
+    ensures { Gives (λ u. u) result (has_room procs.now name.now) }
+{
+    if is_proc_among(procs, name) {
+        return Err(Stop::Fault(FaultKind::DuplicateName));
+    }
+    if procs.len() >= MOST_PROCESSES {
+        return Err(Stop::Fault(FaultKind::TooManyProcesses));
+    }
+    Ok(())
+}
+
+/// A process of which only its first line was read.
+fn blank_proc(alloc: Global, name: Name) -> DraftProc
+    ensures { result ≡ record { name = name; labels = []; instrs = [] } }
+{
+    DraftProc {
+        name,
+        labels: LabelTable::new(alloc),
+        instrs: Sequence::new(alloc),
+    }
+}
+
 /// A process line.
 fn begin(alloc: Global, draft: &mut Draft, name: Name) -> Result<(), Stop>
     ensures { Gives (λ u. draft.new) result (begun draft.old name) }
@@ -83,33 +148,25 @@ fn begin(alloc: Global, draft: &mut Draft, name: Name) -> Result<(), Stop>
         &mut draft.procs,
         replace(&mut draft.section, Section::Before),
     )?;
-    if is_proc_among(draft.procs.as_slice(), name.bytes()) {
-        return Err(Stop::Fault(FaultKind::DuplicateName));
-    }
-    if draft.procs.len() >= MOST_PROCESSES {
-        return Err(Stop::Fault(FaultKind::TooManyProcesses));
-    }
-    draft.section = Section::Outside(DraftProc {
-        name,
-        labels: LabelTable::new(alloc),
-        instrs: Sequence::new(alloc),
-    });
+    check_room(draft.procs.as_slice(), name.bytes())?;
+    enter(
+        &mut draft.section,
+        Section::Outside(blank_proc(alloc, name)),
+    );
     Ok(())
 }
 
 /// A label line.
-#[tactic(auto, using(crate::proofs::LabelLemmas::any_place))]
 fn add_label(alloc: Global, proc: &mut DraftProc, name: Name) -> Result<(), Stop>
     requires instrs { length proc.old.instrs + 1 < 2 ^ 32 }
     requires labels { length proc.old.labels < 2 ^ 32 }
     ensures { Gives (λ u. proc.new) result (labelled proc.old name) }
 {
-    if proc.labels.place_of(name.bytes()).is_some() {
+    if proc.labels.has(name.bytes()) {
         return Err(Stop::Fault(FaultKind::DuplicateLabel));
     }
     let place = proc.instrs.len() as u32 + 1;
-    let labels = replace(&mut proc.labels, LabelTable::new(alloc));
-    proc.labels = labels.with(Label { name, place })?;
+    proc.labels.add(alloc, Label { name, place })?;
     Ok(())
 }
 
@@ -164,7 +221,17 @@ fn place_instr(section: &mut Section, instr: Instr) -> Result<(), Stop>
 {
     match section {
         Section::Outside(proc) => add_instr(proc, instr),
-        _ => Err(Stop::Fault(FaultKind::Syntax)),
+        _ => refuse(instr),
+    }
+}
+
+/// A receive begins in the process that is being read.
+fn inside(alloc: Global, section: Section, marker: Option<Var>) -> Section
+    ensures { result ≡ inside_of section marker }
+{
+    match section {
+        Section::Outside(proc) => Section::Inside(proc, marker, Sequence::new(alloc), None),
+        other => other,
     }
 }
 
@@ -172,9 +239,10 @@ fn place_instr(section: &mut Section, instr: Instr) -> Result<(), Stop>
 fn place_receive(alloc: Global, section: &mut Section, marker: Option<Var>) -> Result<(), Stop>
     ensures { Gives (λ u. section.new) result (section_taken section.old (Form.Receive marker)) }
 {
-    match replace(section, Section::Before) {
-        Section::Outside(proc) => {
-            *section = Section::Inside(proc, marker, Sequence::new(alloc), None);
+    match section {
+        Section::Outside(_) => {
+            let outside = replace(section, Section::Before);
+            enter(section, inside(alloc, outside, marker));
             Ok(())
         }
         _ => Err(Stop::Fault(FaultKind::Syntax)),
@@ -191,6 +259,14 @@ fn pins_marker(marker: &Option<Var>, pattern: &Pattern) -> bool
     }
 }
 
+/// A clause behind these.
+fn add_pinned(clauses: &mut Clauses, clause: Clause) -> Result<(), Stop>
+    ensures { Gives (λ u. clauses.new) result (Ok (clauses.old ++ clause ∷ [])) }
+{
+    clauses.add(clause)?;
+    Ok(())
+}
+
 /// A clause behind these, in a receive with this marker.
 fn add_clause(
     marker: &Option<Var>,
@@ -200,11 +276,12 @@ fn add_clause(
 ) -> Result<(), Stop>
     ensures { Gives (λ u. clauses.new) result (with_clause marker.now clauses.old pattern target) }
 {
-    if !pins_marker(marker, &pattern) {
-        return Err(Stop::Fault(FaultKind::MarkerNotInClause));
+    if pins_marker(marker, &pattern) {
+        add_pinned(clauses, Clause { pattern, target })
+    } else {
+        drop(pattern);
+        Err(Stop::Fault(FaultKind::MarkerNotInClause))
     }
-    clauses.add(Clause { pattern, target })?;
-    Ok(())
 }
 
 /// A clause line in a receive.
@@ -213,7 +290,7 @@ fn place_clause(section: &mut Section, pattern: Pattern, target: Option<u32>) ->
 {
     match section {
         Section::Inside(_, marker, clauses, _) => add_clause(marker, clauses, pattern, target),
-        _ => Err(Stop::Fault(FaultKind::Syntax)),
+        _ => refuse(pattern),
     }
 }
 
@@ -230,38 +307,48 @@ fn place_after(section: &mut Section, next: After) -> Result<(), Stop>
     }
 }
 
-/// The last line of a receive, which is one instruction.
-fn place_end(section: &mut Section) -> Result<(), Stop>
-    ensures { Gives (λ u. section.new) result (section_taken section.old Form.End) }
+/// The process with one instruction more.
+fn longer(proc: DraftProc, instr: Instr) -> Result<DraftProc, Stop>
+    ensures { Gives (λ p. p) result (Ok (with_instr proc instr)) }
 {
-    match replace(section, Section::Before) {
+    let mut proc = proc;
+    match add_instr(&mut proc, instr) {
+        Ok(()) => Ok(proc),
+        Err(stop) => {
+            drop(proc);
+            Err(stop)
+        }
+    }
+}
+
+/// A receive ends, which is one instruction of the process that is being read.
+fn outside(section: Section) -> Result<Section, Stop>
+    ensures { Gives (λ s. s) result (Ok (outside_of section)) }
+{
+    match section {
         Section::Inside(proc, using, clauses, after) => {
             let receive = Instr::Receive {
                 using,
                 clauses,
                 after,
             };
-            let mut proc = proc;
-            add_instr(&mut proc, receive)?;
-            *section = Section::Outside(proc);
-            Ok(())
+            let proc = longer(proc, receive)?;
+            Ok(Section::Outside(proc))
         }
-        _ => Err(Stop::Fault(FaultKind::Syntax)),
+        other => Ok(other),
     }
 }
 
-/// A form that begins no process and tells no turns.
-fn place(alloc: Global, section: &mut Section, form: Form) -> Result<(), Stop>
-    requires { All (IsSmall (2 ^ 31)) (open_proc section.old) }
-    ensures { Gives (λ u. section.new) result (section_taken section.old form) }
+/// The last line of a receive.
+fn place_end(section: &mut Section) -> Result<(), Stop>
+    ensures { Gives (λ u. section.new) result (section_taken section.old Form.End) }
 {
-    match form {
-        Form::Label(name) => place_label(alloc, section, name),
-        Form::Do(instr) => place_instr(section, instr),
-        Form::Receive { using } => place_receive(alloc, section, using),
-        Form::On(pattern, target) => place_clause(section, pattern, target),
-        Form::After(next) => place_after(section, next),
-        Form::End => place_end(section),
+    match section {
+        Section::Inside(_, _, _, _) => {
+            let receive = replace(section, Section::Before);
+            enter(section, outside(receive)?);
+            Ok(())
+        }
         _ => Err(Stop::Fault(FaultKind::Syntax)),
     }
 }
@@ -276,19 +363,12 @@ fn take_form(alloc: Global, draft: &mut Draft, n: u64, form: Form) -> Result<(),
     match form {
         Form::Turns(n) => take_turns(draft, n),
         Form::Process(name) => take_process(alloc, draft, name),
-        other => place(alloc, &mut draft.section, other),
-    }
-}
-
-/// A form behind what was read so far, or none.
-fn take_any(alloc: Global, draft: &mut Draft, n: u64, form: Option<Form>) -> Result<(), Stop>
-    requires few { n < 2 ^ 31 }
-    requires fit { IsFit n draft.old }
-    ensures { Gives (λ u. draft.new) result (taken_if draft.old form) }
-{
-    match form {
-        Some(form) => take_form(alloc, draft, n, form),
-        None => Ok(()),
+        Form::Label(name) => place_label(alloc, &mut draft.section, name),
+        Form::Do(instr) => place_instr(&mut draft.section, instr),
+        Form::Receive { using } => place_receive(alloc, &mut draft.section, using),
+        Form::On(pattern, target) => place_clause(&mut draft.section, pattern, target),
+        Form::After(next) => place_after(&mut draft.section, next),
+        Form::End => place_end(&mut draft.section),
     }
 }
 
@@ -307,22 +387,39 @@ pub fn take_line(
     requires fit { IsFit n draft.old }
     ensures { Gives (λ u. draft.new) result (line_taken known.now draft.old line.now) }
 {
-    let form = read_line(alloc, known, draft, tokens, line)?;
-    take_any(alloc, draft, n, form)
+    match read_line(alloc, known, draft, tokens, line)? {
+        Some(form) => take_form(alloc, draft, n, form),
+        None => Ok(()),
+    }
+}
+
+/// Lets go of what was read, where a line is refused.
+pub fn discard(draft: Draft) {
+    drop(draft);
+}
+
+/// Whether the text may end before line `n`.
+fn check_end(section: &Section, n: u64) -> Result<(), ScriptError>
+    ensures { MayEnd n section.now result }
+{
+    if let Section::Inside(_, _, _, _) = section {
+        return Err(ScriptError::Fault {
+            line: n,
+            kind: FaultKind::Syntax,
+        });
+    }
+    Ok(())
 }
 
 /// The script, where the text may end before line `n`.
 pub fn finish(draft: Draft, n: u64) -> Result<DraftScript, ScriptError>
     ensures { IsReading (finished n draft draft.section) result }
 {
-    if let Section::Inside(_, _, _, _) = &draft.section {
-        return Err(ScriptError::Fault {
-            line: n,
-            kind: FaultKind::Syntax,
-        });
-    }
+    let ended = check_end(&draft.section, n);
     let mut procs = draft.procs;
-    match close(&mut procs, draft.section) {
+    let closed = close(&mut procs, draft.section);
+    ended?;
+    match closed {
         Ok(()) => Ok(DraftScript {
             turns: draft.turns.unwrap_or(DEFAULT_TURNS),
             procs,

@@ -33,7 +33,7 @@ pub enum FaultKind {
 }
 
 /// Why a reader stops.
-#[derive(Clone, Copy, Debug, PartialEq, Eq)]
+#[derive(Clone, Copy)]
 pub enum Stop {
     /// The line is refused.
     Fault(FaultKind),

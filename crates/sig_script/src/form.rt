@@ -1,10 +1,11 @@
-ghost use Rattle.std.specs.Prelude.{◌≡◌, ◌∷◌, [], length, IfOk};
+ghost use Rattle.std.specs.Prelude.{◌≡◌, ◌∷◌, [], length, true, IfOk};
 ghost use Rattle.sig_script.specs.Faults.{Gives};
-ghost use Rattle.sig_script.specs.Tokens.{AreWellSpelled};
+ghost use Rattle.sig_script.specs.Tokens.{AreWellSpelled, is_token_in_range};
 ghost use Rattle.sig_script.specs.Instructions.{Operand};
 ghost use Rattle.sig_script.specs.Forms.{
   may_stand,
   ends,
+  target_of,
   arrow_of,
   count_from,
   turns_of,
@@ -13,6 +14,8 @@ ghost use Rattle.sig_script.specs.Forms.{
   flag_of,
   all_said,
   whole_name,
+  marked_by,
+  using_at,
   marker_of,
   on_of,
   instr_of,
@@ -29,7 +32,7 @@ use crate::instruction::{After, Instr};
 use crate::keyword::{Keyword, Verb, read_keyword};
 use crate::known::Known;
 use crate::line::{read_tokens, text_of};
-use crate::names::{take_name, take_target, take_variable};
+use crate::names::{name_of, take_target, take_variable, take_word};
 use crate::number::read_count;
 use crate::phrases::take_phrase;
 use crate::token::{Token, TokenKind, Tokens};
@@ -38,6 +41,7 @@ use sig_patterns::{Expr, Pattern, Var};
 use sig_terms::Name;
 use sig_terms::bytes::equal_bytes;
 use std::alloc::Global;
+use std::mem::drop;
 
 /// What a line says.
 #[derive(Drop)]
@@ -71,9 +75,24 @@ fn end(tokens: &[Token]) -> Result<(), Stop>
     }
 }
 
+/// A label of the process with this place among the processes, and nothing behind it.
+fn some_target(
+    known: &Known,
+    here: usize,
+    line: &[u8],
+    tokens: &[Token],
+) -> Result<Option<u32>, Stop>
+    requires known { IsFewKnown known.now }
+    requires spelled { AreWellSpelled line.now tokens.now }
+    ensures { Gives (λ t. t) result (target_of known.now here line.now tokens.now) }
+{
+    let (target, rest) = take_target(known, here, line, tokens)?;
+    end(rest)?;
+    Ok(Some(target))
+}
+
 /// Nothing, or `->` and a label of the process with this place among the processes.
 fn take_arrow(
-    alloc: Global,
     known: &Known,
     here: usize,
     line: &[u8],
@@ -85,11 +104,26 @@ fn take_arrow(
 {
     match tokens {
         [] => Ok(None),
-        [token, rest @ ..] if token.kind.is_arrow() => {
-            let (target, rest) = take_target(alloc, known, here, line, rest)?;
-            end(rest)?;
-            Ok(Some(target))
+        [token, rest @ ..] => {
+            if token.kind.is_arrow() {
+                some_target(known, here, line, rest)
+            } else {
+                Err(Stop::Fault(FaultKind::Syntax))
+            }
         }
+    }
+}
+
+/// The number of an integer token that isn't below 0.
+fn count_from(kind: TokenKind, word: &[u8]) -> Result<u64, Stop>
+    requires { is_token_in_range word.now kind ≡ true }
+    ensures { Gives (λ n. n) result (count_from kind word.now) }
+{
+    match kind {
+        TokenKind::Integer => match read_count(word) {
+            Some(count) => Ok(count),
+            None => Err(Stop::Fault(FaultKind::Syntax)),
+        },
         _ => Err(Stop::Fault(FaultKind::Syntax)),
     }
 }
@@ -99,16 +133,12 @@ fn read_turns(line: &[u8], tokens: &[Token]) -> Result<Form, Stop>
     ensures { Gives (λ f. f) result (turns_of line.now tokens.now) }
 {
     match tokens {
-        [token, rest @ ..] if token.kind == TokenKind::Integer => {
-            match read_count(text_of(line, *token)) {
-                Some(turns) => {
-                    end(rest)?;
-                    Ok(Form::Turns(turns))
-                }
-                None => Err(Stop::Fault(FaultKind::Syntax)),
-            }
+        [] => Err(Stop::Fault(FaultKind::Syntax)),
+        [token, rest @ ..] => {
+            let turns = count_from(token.kind, text_of(line, *token))?;
+            end(rest)?;
+            Ok(Form::Turns(turns))
         }
-        _ => Err(Stop::Fault(FaultKind::Syntax)),
     }
 }
 
@@ -119,8 +149,13 @@ fn one_expr(alloc: Global, known: &Known, line: &[u8], tokens: &[Token]) -> Resu
     ensures { Gives (λ e. (e, tt)) result (all_said known.now 0 line.now (Operand.an_expr ∷ []) tokens.now) }
 {
     let (value, rest) = take_phrase(alloc, known, line, tokens)?;
-    end(rest)?;
-    Ok(value)
+    match end(rest) {
+        Ok(()) => Ok(value),
+        Err(stop) => {
+            drop(value);
+            Err(stop)
+        }
+    }
 }
 
 /// Two expressions, and nothing behind them.
@@ -135,8 +170,13 @@ fn two_exprs(
     ensures { Gives (λ x. (x.0, (x.1, tt))) result (all_said known.now 0 line.now (Operand.an_expr ∷ Operand.an_expr ∷ []) tokens.now) }
 {
     let (first, rest) = take_phrase(alloc, known, line, tokens)?;
-    let second = one_expr(alloc, known, line, rest)?;
-    Ok((first, second))
+    match one_expr(alloc, known, line, rest) {
+        Ok(second) => Ok((first, second)),
+        Err(stop) => {
+            drop(first);
+            Err(stop)
+        }
+    }
 }
 
 /// A variable and an expression, and nothing behind them.
@@ -173,14 +213,10 @@ fn one_switch(line: &[u8], tokens: &[Token]) -> Result<bool, Stop>
     requires { AreWellSpelled line.now tokens.now }
     ensures { Gives (λ on. (on, tt)) result (all_said Known.Any 0 line.now (Operand.a_switch ∷ []) tokens.now) }
 {
-    match tokens {
-        [token, rest @ ..] if token.kind == TokenKind::Name => {
-            let on = read_switch(text_of(line, *token))?;
-            end(rest)?;
-            Ok(on)
-        }
-        _ => Err(Stop::Fault(FaultKind::Syntax)),
-    }
+    let (word, rest) = take_word(line, tokens)?;
+    let on = read_switch(word)?;
+    end(rest)?;
+    Ok(on)
 }
 
 /// The mode of a monitor's alias.
@@ -205,12 +241,23 @@ fn one_mode(line: &[u8], tokens: &[Token]) -> Result<Option<AliasMode>, Stop>
 {
     match tokens {
         [] => Ok(None),
-        [token, rest @ ..] if token.kind == TokenKind::Name => {
-            let mode = read_mode(text_of(line, *token))?;
+        [_, ..] => {
+            let (word, rest) = take_word(line, tokens)?;
+            let mode = read_mode(word)?;
             end(rest)?;
             Ok(Some(mode))
         }
-        _ => Err(Stop::Fault(FaultKind::Syntax)),
+    }
+}
+
+/// The flag. Another word is refused.
+fn read_flag(flag: &[u8], word: &[u8]) -> Result<bool, Stop>
+    ensures { Gives (λ on. on) result (flag_of flag.now word.now) }
+{
+    if equal_bytes(word, flag) {
+        Ok(true)
+    } else {
+        Err(Stop::Fault(FaultKind::Syntax))
     }
 }
 
@@ -221,28 +268,22 @@ fn one_flag(flag: &[u8], line: &[u8], tokens: &[Token]) -> Result<bool, Stop>
 {
     match tokens {
         [] => Ok(false),
-        [token, rest @ ..]
-            if token.kind == TokenKind::Name && equal_bytes(text_of(line, *token), flag) => {
+        [_, ..] => {
+            let (word, rest) = take_word(line, tokens)?;
+            let on = read_flag(flag, word)?;
             end(rest)?;
-            Ok(true)
+            Ok(on)
         }
-        _ => Err(Stop::Fault(FaultKind::Syntax)),
     }
 }
 
 /// A label of the process with this place among the processes, and nothing behind it.
-fn one_label(
-    alloc: Global,
-    known: &Known,
-    here: usize,
-    line: &[u8],
-    tokens: &[Token],
-) -> Result<u32, Stop>
+fn one_label(known: &Known, here: usize, line: &[u8], tokens: &[Token]) -> Result<u32, Stop>
     requires known { IsFewKnown known.now }
     requires spelled { AreWellSpelled line.now tokens.now }
     ensures { Gives (λ l. (l, tt)) result (all_said known.now here line.now (Operand.a_label ∷ []) tokens.now) }
 {
-    let (label, rest) = take_target(alloc, known, here, line, tokens)?;
+    let (label, rest) = take_target(known, here, line, tokens)?;
     end(rest)?;
     Ok(label)
 }
@@ -266,8 +307,13 @@ fn read_monitor(alloc: Global, known: &Known, line: &[u8], tokens: &[Token]) -> 
 {
     let (var, rest) = take_variable(alloc, line, tokens)?;
     let (target, rest) = take_phrase(alloc, known, line, rest)?;
-    let mode = one_mode(line, rest)?;
-    Ok(Instr::Monitor { var, target, mode })
+    match one_mode(line, rest) {
+        Ok(mode) => Ok(Instr::Monitor { var, target, mode }),
+        Err(stop) => {
+            drop(target);
+            Err(stop)
+        }
+    }
 }
 
 /// What stands behind `demonitor`: the reference, and whether `flush` does.
@@ -283,8 +329,13 @@ fn read_demonitor(
     ensures { Gives (λ i. i) result (instr_of known.now 0 Verb.Demonitor line.now tokens.now) }
 {
     let (reference, rest) = take_phrase(alloc, known, line, tokens)?;
-    let flush = one_flag(b"flush", line, rest)?;
-    Ok(Instr::Demonitor { reference, flush })
+    match one_flag(b"flush", line, rest) {
+        Ok(flush) => Ok(Instr::Demonitor { reference, flush }),
+        Err(stop) => {
+            drop(reference);
+            Err(stop)
+        }
+    }
 }
 
 /// What stands behind `alias`: the variable, and whether `reply` does.
@@ -302,9 +353,29 @@ fn read_name(alloc: Global, line: &[u8], tokens: &[Token]) -> Result<Name, Stop>
     requires { AreWellSpelled line.now tokens.now }
     ensures { Gives (λ n. n) result (whole_name line.now tokens.now) }
 {
-    let (name, rest) = take_name(alloc, line, tokens)?;
+    let (word, rest) = take_word(line, tokens)?;
     end(rest)?;
-    Ok(name)
+    name_of(alloc, word)
+}
+
+/// The variable of a receive's marker, and nothing behind it.
+fn marker_variable(alloc: Global, line: &[u8], tokens: &[Token]) -> Result<Option<Var>, Stop>
+    requires { AreWellSpelled line.now tokens.now }
+    ensures { Gives (λ v. v) result (marked_by line.now tokens.now) }
+{
+    let (var, rest) = take_variable(alloc, line, tokens)?;
+    end(rest)?;
+    Ok(Some(var))
+}
+
+/// `using` and a variable.
+fn some_marker(alloc: Global, line: &[u8], tokens: &[Token]) -> Result<Option<Var>, Stop>
+    requires { AreWellSpelled line.now tokens.now }
+    ensures { Gives (λ v. v) result (using_at line.now tokens.now) }
+{
+    let (word, rest) = take_word(line, tokens)?;
+    read_flag(b"using", word)?;
+    marker_variable(alloc, line, rest)
 }
 
 /// Nothing, or `using` and a variable.
@@ -314,13 +385,7 @@ fn read_marker(alloc: Global, line: &[u8], tokens: &[Token]) -> Result<Option<Va
 {
     match tokens {
         [] => Ok(None),
-        [token, rest @ ..]
-            if token.kind == TokenKind::Name && equal_bytes(text_of(line, *token), b"using") => {
-            let (var, rest) = take_variable(alloc, line, rest)?;
-            end(rest)?;
-            Ok(Some(var))
-        }
-        _ => Err(Stop::Fault(FaultKind::Syntax)),
+        [_token, _rest @ ..] => some_marker(alloc, line, tokens),
     }
 }
 
@@ -336,8 +401,13 @@ fn read_on(
     ensures { Gives (λ f. f) result (on_of known.now here line.now tokens.now) }
 {
     let (pattern, rest) = take_phrase(alloc, known, line, tokens)?;
-    let target = take_arrow(alloc, known, here, line, rest)?;
-    Ok(Form::On(pattern, target))
+    match take_arrow(known, here, line, rest) {
+        Ok(target) => Ok(Form::On(pattern, target)),
+        Err(stop) => {
+            drop(pattern);
+            Err(stop)
+        }
+    }
 }
 
 /// The instruction of the verb, of the process with this place among the processes.
@@ -355,65 +425,65 @@ fn read_instr(
     ensures { Gives (λ i. i) result (instr_of known.now here verb line.now tokens.now) }
 {
     match verb {
-        Verb::Send => {
-            let (to, message) = two_exprs(alloc, known, line, tokens)?;
-            Ok(Instr::Send { to, message })
-        }
-        Verb::Set => {
-            let (var, value) = variable_and_expr(alloc, known, line, tokens)?;
-            Ok(Instr::Set { var, value })
-        }
-        Verb::MakeRef => {
-            let var = one_variable(alloc, line, tokens)?;
-            Ok(Instr::MakeRef { var })
-        }
-        Verb::Link => {
-            let peer = one_expr(alloc, known, line, tokens)?;
-            Ok(Instr::Link { peer })
-        }
-        Verb::Unlink => {
-            let peer = one_expr(alloc, known, line, tokens)?;
-            Ok(Instr::Unlink { peer })
-        }
+        Verb::Send => match two_exprs(alloc, known, line, tokens) {
+            Ok((to, message)) => Ok(Instr::Send { to, message }),
+            Err(stop) => Err(stop),
+        },
+        Verb::Set => match variable_and_expr(alloc, known, line, tokens) {
+            Ok((var, value)) => Ok(Instr::Set { var, value }),
+            Err(stop) => Err(stop),
+        },
+        Verb::MakeRef => match one_variable(alloc, line, tokens) {
+            Ok(var) => Ok(Instr::MakeRef { var }),
+            Err(stop) => Err(stop),
+        },
+        Verb::Link => match one_expr(alloc, known, line, tokens) {
+            Ok(peer) => Ok(Instr::Link { peer }),
+            Err(stop) => Err(stop),
+        },
+        Verb::Unlink => match one_expr(alloc, known, line, tokens) {
+            Ok(peer) => Ok(Instr::Unlink { peer }),
+            Err(stop) => Err(stop),
+        },
         Verb::Monitor => read_monitor(alloc, known, line, tokens),
         Verb::Demonitor => read_demonitor(alloc, known, line, tokens),
         Verb::Alias => read_alias(alloc, line, tokens),
-        Verb::Unalias => {
-            let reference = one_expr(alloc, known, line, tokens)?;
-            Ok(Instr::Unalias { reference })
-        }
-        Verb::Exit => {
-            let reason = one_expr(alloc, known, line, tokens)?;
-            Ok(Instr::Exit { reason })
-        }
-        Verb::ExitTo => {
-            let (target, reason) = two_exprs(alloc, known, line, tokens)?;
-            Ok(Instr::ExitTo { target, reason })
-        }
-        Verb::Trap => {
-            let on = one_switch(line, tokens)?;
-            Ok(Instr::Trap { on })
-        }
-        Verb::Reserve => {
-            end(tokens)?;
-            Ok(Instr::Reserve)
-        }
-        Verb::Bind => {
-            let var = one_variable(alloc, line, tokens)?;
-            Ok(Instr::Bind { var })
-        }
-        Verb::Clear => {
-            let var = one_variable(alloc, line, tokens)?;
-            Ok(Instr::Clear { var })
-        }
-        Verb::Goto => {
-            let label = one_label(alloc, known, here, line, tokens)?;
-            Ok(Instr::Goto { label })
-        }
-        Verb::Stop => {
-            end(tokens)?;
-            Ok(Instr::Stop)
-        }
+        Verb::Unalias => match one_expr(alloc, known, line, tokens) {
+            Ok(reference) => Ok(Instr::Unalias { reference }),
+            Err(stop) => Err(stop),
+        },
+        Verb::Exit => match one_expr(alloc, known, line, tokens) {
+            Ok(reason) => Ok(Instr::Exit { reason }),
+            Err(stop) => Err(stop),
+        },
+        Verb::ExitTo => match two_exprs(alloc, known, line, tokens) {
+            Ok((target, reason)) => Ok(Instr::ExitTo { target, reason }),
+            Err(stop) => Err(stop),
+        },
+        Verb::Trap => match one_switch(line, tokens) {
+            Ok(on) => Ok(Instr::Trap { on }),
+            Err(stop) => Err(stop),
+        },
+        Verb::Reserve => match end(tokens) {
+            Ok(()) => Ok(Instr::Reserve),
+            Err(stop) => Err(stop),
+        },
+        Verb::Bind => match one_variable(alloc, line, tokens) {
+            Ok(var) => Ok(Instr::Bind { var }),
+            Err(stop) => Err(stop),
+        },
+        Verb::Clear => match one_variable(alloc, line, tokens) {
+            Ok(var) => Ok(Instr::Clear { var }),
+            Err(stop) => Err(stop),
+        },
+        Verb::Goto => match one_label(known, here, line, tokens) {
+            Ok(label) => Ok(Instr::Goto { label }),
+            Err(stop) => Err(stop),
+        },
+        Verb::Stop => match end(tokens) {
+            Ok(()) => Ok(Instr::Stop),
+            Err(stop) => Err(stop),
+        },
     }
 }
 
@@ -433,22 +503,31 @@ fn read_form(
 {
     match word {
         Keyword::Turns => read_turns(line, tokens),
-        Keyword::Process => Ok(Form::Process(read_name(alloc, line, tokens)?)),
-        Keyword::Label => Ok(Form::Label(read_name(alloc, line, tokens)?)),
-        Keyword::Receive => {
-            let using = read_marker(alloc, line, tokens)?;
-            Ok(Form::Receive { using })
-        }
+        Keyword::Process => match read_name(alloc, line, tokens) {
+            Ok(name) => Ok(Form::Process(name)),
+            Err(stop) => Err(stop),
+        },
+        Keyword::Label => match read_name(alloc, line, tokens) {
+            Ok(name) => Ok(Form::Label(name)),
+            Err(stop) => Err(stop),
+        },
+        Keyword::Receive => match read_marker(alloc, line, tokens) {
+            Ok(using) => Ok(Form::Receive { using }),
+            Err(stop) => Err(stop),
+        },
         Keyword::On => read_on(alloc, known, here, line, tokens),
-        Keyword::After => {
-            let target = take_arrow(alloc, known, here, line, tokens)?;
-            Ok(Form::After(After { target }))
-        }
-        Keyword::End => {
-            end(tokens)?;
-            Ok(Form::End)
-        }
-        Keyword::Do(verb) => Ok(Form::Do(read_instr(alloc, known, here, verb, line, tokens)?)),
+        Keyword::After => match take_arrow(known, here, line, tokens) {
+            Ok(target) => Ok(Form::After(After { target })),
+            Err(stop) => Err(stop),
+        },
+        Keyword::End => match end(tokens) {
+            Ok(()) => Ok(Form::End),
+            Err(stop) => Err(stop),
+        },
+        Keyword::Do(verb) => match read_instr(alloc, known, here, verb, line, tokens) {
+            Ok(instr) => Ok(Form::Do(instr)),
+            Err(stop) => Err(stop),
+        },
     }
 }
 

@@ -1,9 +1,10 @@
 //! The names of a script's processes and labels, as the lines tell them that seem to name one.
 
-ghost use Rattle.std.specs.Prelude.{◌+◌, ◌<◌, ◌^◌, length, IfOk, OnOk};
+ghost use Rattle.std.specs.Prelude.{◌≡◌, ◌+◌, ◌<◌, ◌^◌, length, IfOk, OnOk};
+ghost use Rattle.sig_script.specs.Drafts.{blank};
 ghost use Rattle.sig_script.specs.Fitting.{IsFewKnown, IsFit};
 
-use crate::draft::{Draft, Section, finish, take_line};
+use crate::draft::{Draft, discard, finish, take_line};
 use crate::fault::Stop;
 use crate::known::Known;
 use crate::line::first_line;
@@ -39,33 +40,63 @@ fn note_line(
     }
 }
 
+/// Notes the names in the text. The number is that of the line behind it.
+fn note_lines(alloc: Global, draft: &mut Draft, bytes: &[u8]) -> Result<u64, Stop>
+    requires short { length bytes.now < 2 ^ 30 }
+    requires first { draft.old ≡ blank }
+    ensures few { IfOk result (λ n. n < 2 ^ 31) }
+    ensures fit { IfOk result (λ n. IsFit n draft.new) }
+{
+    let mut tokens = Sequence::new(alloc);
+    let mut n: u64 = 2;
+    let mut at = 0;
+    while at < bytes.len() {
+        let line = first_line(&bytes[at..]);
+        match note_line(alloc, draft, n, &mut tokens, line) {
+            Ok(()) => {}
+            Err(stop) => return Err(stop),
+        }
+        at += line.len() + 1;
+        n += 1;
+    }
+    Ok(n)
+}
+
+/// The names of what was read, where the text may end before line `n`.
+fn names_of(draft: Draft, n: u64) -> Result<Known, AllocError>
+    requires few { n < 2 ^ 31 }
+    requires fit { IsFit n draft }
+    ensures { IfOk result IsFewKnown }
+{
+    match finish(draft, n) {
+        Ok(names) => Ok(Known::Among(names)),
+        Err(ScriptError::Fault { .. }) => Ok(Known::Any),
+        Err(ScriptError::Memory) => Err(AllocError),
+    }
+}
+
+/// No names, where a line is refused.
+fn no_names(stop: Stop) -> Result<Known, AllocError>
+    ensures { IfOk result IsFewKnown }
+{
+    match stop {
+        Stop::Fault(_) => Ok(Known::Any),
+        Stop::Memory => Err(AllocError),
+    }
+}
+
 /// The names of processes and labels in the text, for a reader that asks whether they are right. It
 /// passes over the lines that can name none, and knows no names where one of the others is refused.
 pub fn guess_names(alloc: Global, bytes: &[u8]) -> Result<Known, AllocError>
     requires { length bytes.now < 2 ^ 30 }
     ensures { IfOk result IsFewKnown }
 {
-    let mut draft = Draft {
-        turns: None,
-        procs: Sequence::new(alloc),
-        section: Section::Before,
-    };
-    let mut tokens = Sequence::new(alloc);
-    let mut n: u64 = 2;
-    let mut at = 0;
-    while at < bytes.len() {
-        let line = first_line(&bytes[at..]);
-        match note_line(alloc, &mut draft, n, &mut tokens, line) {
-            Ok(()) => {}
-            Err(Stop::Fault(_)) => return Ok(Known::Any),
-            Err(Stop::Memory) => return Err(AllocError),
+    let mut draft = Draft::new(alloc);
+    match note_lines(alloc, &mut draft, bytes) {
+        Ok(n) => names_of(draft, n),
+        Err(stop) => {
+            discard(draft);
+            no_names(stop)
         }
-        at += line.len() + 1;
-        n += 1;
-    }
-    match finish(draft, n) {
-        Ok(names) => Ok(Known::Among(names)),
-        Err(ScriptError::Fault { .. }) => Ok(Known::Any),
-        Err(ScriptError::Memory) => Err(AllocError),
     }
 }

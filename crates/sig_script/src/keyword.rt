@@ -10,7 +10,7 @@ ghost use Rattle.sig_script.specs.Forms.{
 use sig_terms::bytes::equal_bytes;
 
 /// The word of an instruction that is no receive.
-#[derive(Clone, Copy, Debug, PartialEq, Eq)]
+#[derive(Clone, Copy)]
 pub enum Verb {
     Send,
     Set,
@@ -32,7 +32,7 @@ pub enum Verb {
 }
 
 /// The word with which a line begins.
-#[derive(Clone, Copy, Debug, PartialEq, Eq)]
+#[derive(Clone, Copy)]
 pub enum Keyword {
     Turns,
     Process,

@@ -1,4 +1,5 @@
-ghost use Rattle.std.specs.Prelude.{◌≡◌, ◌<◌, ◌^◌, ◌++◌, [], ◌∷◌, length, position, None, IfOk};
+ghost use Rattle.std.specs.Prelude.{◌≡◌, ◌<◌, ◌^◌, ◌++◌, [], ◌∷◌, length, position, false, None, IfOk};
+ghost use Rattle.std.specs.List.{list_any};
 ghost use Rattle.std.specs.Str.{bytes_eq};
 ghost use Rattle.sig_script.specs.declared.label.Label.{Label};
 
@@ -8,6 +9,7 @@ use sig_terms::Name;
 use std::alloc::{AllocError, Global};
 use std::collections::BTreeMap;
 use std::marker::Model;
+use std::mem::{drop, replace};
 
 /// The labels of a process while it is read, each with a name of its own. A name is looked up in
 /// time in the logarithm of their count. Contracts see the labels alone.
@@ -50,8 +52,17 @@ impl LabelTable {
         self.places.get(name).copied()
     }
 
+    /// Whether a label has the name.
+    #[tactic(auto, using(crate::proofs::LabelLemmas::any_place))]
+    pub fn has(&self, name: &[u8]) -> bool
+        ensures any { result ≡ list_any (λ (l : Label). bytes_eq l.name name.now) self.now }
+        ensures none { result ≡ false → position (λ (l : Label). bytes_eq l.name name.now) self.now ≡ None }
+    {
+        self.place_of(name).is_some()
+    }
+
     /// The labels, with a further one at the end.
-    pub fn with(self, label: Label) -> Result<LabelTable, AllocError>
+    fn with(self, label: Label) -> Result<LabelTable, AllocError>
         requires new { position (λ (l : Label). bytes_eq l.name label.name) self ≡ None }
         requires few { length self < 2 ^ 32 }
         ensures { IfOk result (λ t. t ≡ self ++ label ∷ []) }
@@ -69,6 +80,17 @@ impl LabelTable {
             labels,
             places,
         })
+    }
+
+    /// Adds a label at the end. Without memory for it the labels are of no use.
+    pub fn add(&mut self, alloc: Global, label: Label) -> Result<(), AllocError>
+        requires new { position (λ (l : Label). bytes_eq l.name label.name) self.old ≡ None }
+        requires few { length self.old < 2 ^ 32 }
+        ensures { IfOk result (λ u. self.new ≡ self.old ++ label ∷ []) }
+    {
+        let labels = replace(self, LabelTable::new(alloc)).with(label)?;
+        drop(replace(self, labels));
+        Ok(())
     }
 
     /// The labels, in the order of their lines.

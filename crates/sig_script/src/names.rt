@@ -1,6 +1,7 @@
 //! The names at the front of tokens, and the tokens behind them.
 
-ghost use Rattle.std.specs.Prelude.{◌≡◌, IfOk};
+ghost use Rattle.std.specs.Prelude.{◌≡◌, true, Ok, IfOk};
+ghost use Rattle.sig_terms.specs.Words.{is_token};
 ghost use Rattle.sig_script.specs.Faults.{Gives};
 ghost use Rattle.sig_script.specs.Tokens.{AreWellSpelled};
 ghost use Rattle.sig_script.specs.Names.{name_at, variable_at};
@@ -15,24 +16,33 @@ use sig_patterns::Var;
 use sig_terms::Name;
 use std::alloc::Global;
 
-/// A name.
-pub fn take_name<'t>(
-    alloc: Global,
-    line: &[u8],
+/// The bytes of a name.
+pub fn take_word<'l, 't>(
+    line: &'l [u8],
     tokens: &'t [Token],
-) -> Result<(Name, &'t [Token]), Stop>
+) -> Result<(&'l [u8], &'t [Token]), Stop>
     requires { AreWellSpelled line.now tokens.now }
-    ensures name { Gives (λ x. (x.0, x.1.now)) result (name_at line.now tokens.now) }
+    ensures word { Gives (λ x. (x.0.now, x.1.now)) result (name_at line.now tokens.now) }
+    ensures token { IfOk result (λ x. is_token x.0.now ≡ true) }
     ensures spelled { IfOk result (λ x. AreWellSpelled line.now x.1.now) }
 {
     match tokens {
-        [token, rest @ ..] if token.kind == TokenKind::Name => {
-            match Name::new(alloc, text_of(line, *token))? {
-                Some(name) => Ok((name, rest)),
-                None => unreachable!(),
-            }
-        }
-        _ => Err(Stop::Fault(FaultKind::Syntax)),
+        [] => Err(Stop::Fault(FaultKind::Syntax)),
+        [token, rest @ ..] => match token.kind {
+            TokenKind::Name => Ok((text_of(line, *token), rest)),
+            _ => Err(Stop::Fault(FaultKind::Syntax)),
+        },
+    }
+}
+
+/// The name of these bytes.
+pub fn name_of(alloc: Global, word: &[u8]) -> Result<Name, Stop>
+    requires { is_token word.now ≡ true }
+    ensures { Gives (λ name. name) result (Ok word.now) }
+{
+    match Name::new(alloc, word)? {
+        Some(name) => Ok(name),
+        None => unreachable!(),
     }
 }
 
@@ -47,19 +57,16 @@ pub fn take_variable<'t>(
     ensures spelled { IfOk result (λ x. AreWellSpelled line.now x.1.now) }
 {
     match tokens {
-        [token, rest @ ..] if token.kind == TokenKind::Variable => {
-            match Name::new(alloc, text_of(line, *token))? {
-                Some(name) => Ok((Var(name), rest)),
-                None => unreachable!(),
-            }
-        }
-        _ => Err(Stop::Fault(FaultKind::Syntax)),
+        [] => Err(Stop::Fault(FaultKind::Syntax)),
+        [token, rest @ ..] => match token.kind {
+            TokenKind::Variable => Ok((Var(name_of(alloc, text_of(line, *token))?), rest)),
+            _ => Err(Stop::Fault(FaultKind::Syntax)),
+        },
     }
 }
 
 /// A label of the process with this place among the processes: its place among its labels.
 pub fn take_target<'t>(
-    alloc: Global,
     known: &Known,
     here: usize,
     line: &[u8],
@@ -70,7 +77,7 @@ pub fn take_target<'t>(
     ensures target { Gives (λ x. (x.0, x.1.now)) result (target_at known.now here line.now tokens.now) }
     ensures spelled { IfOk result (λ x. AreWellSpelled line.now x.1.now) }
 {
-    let (name, rest) = take_name(alloc, line, tokens)?;
-    let target = find_label(known, here, name.bytes())?;
+    let (word, rest) = take_word(line, tokens)?;
+    let target = find_label(known, here, word)?;
     Ok((target, rest))
 }

@@ -11,12 +11,13 @@ ghost use Rattle.sig_script.specs.Grammar.{
   script_of_lines,
   script_of,
 };
+ghost use Rattle.sig_script.specs.Drafts.{blank};
 ghost use Rattle.sig_script.specs.Scripts.{IsWithin, IsSound};
 ghost use Rattle.sig_script.specs.Fitting.{IsFewKnown};
-ghost use Rattle.sig_script.specs.Reading.{IsReading};
+ghost use Rattle.sig_script.specs.Reading.{IsReading, IsWalked};
 ghost use Rattle.sig_script.specs.declared.reader.ScriptError.TheVariants.{Memory};
 
-use crate::draft::{Draft, Section, finish, take_line};
+use crate::draft::{Draft, discard, finish, take_line};
 use crate::drafted::{DraftProcs, DraftScript};
 use crate::fault::{FaultKind, Stop};
 use crate::guess::guess_names;
@@ -54,23 +55,24 @@ impl From<AllocError> for ScriptError {
     }
 }
 
-/// The script of the lines after the first.
-fn read_lines(alloc: Global, known: &Known, bytes: &[u8]) -> Result<DraftScript, ScriptError>
+/// Reads the lines after the first. The number is that of the line behind them.
+fn walk_lines(
+    alloc: Global,
+    known: &Known,
+    draft: &mut Draft,
+    bytes: &[u8],
+) -> Result<u64, ScriptError>
     requires short { length bytes.now < 2 ^ 30 }
     requires known { IsFewKnown known.now }
-    ensures { IsReading (walk known.now (lines_of bytes.now)) result }
+    requires first { draft.old ≡ blank }
+    ensures { IsWalked (walk known.now (lines_of bytes.now)) draft.new result }
 {
-    let mut draft = Draft {
-        turns: None,
-        procs: Sequence::new(alloc),
-        section: Section::Before,
-    };
     let mut tokens = Sequence::new(alloc);
     let mut n: u64 = 2;
     let mut at = 0;
     while at < bytes.len() {
         let line = first_line(&bytes[at..]);
-        match take_line(alloc, known, &mut draft, n, &mut tokens, line) {
+        match take_line(alloc, known, draft, n, &mut tokens, line) {
             Ok(()) => {}
             Err(Stop::Fault(kind)) => return Err(ScriptError::Fault { line: n, kind }),
             Err(Stop::Memory) => return Err(ScriptError::Memory),
@@ -78,7 +80,23 @@ fn read_lines(alloc: Global, known: &Known, bytes: &[u8]) -> Result<DraftScript,
         at += line.len() + 1;
         n += 1;
     }
-    finish(draft, n)
+    Ok(n)
+}
+
+/// The script of the lines after the first.
+fn read_lines(alloc: Global, known: &Known, bytes: &[u8]) -> Result<DraftScript, ScriptError>
+    requires short { length bytes.now < 2 ^ 30 }
+    requires known { IsFewKnown known.now }
+    ensures { IsReading (walk known.now (lines_of bytes.now)) result }
+{
+    let mut draft = Draft::new(alloc);
+    match walk_lines(alloc, known, &mut draft, bytes) {
+        Ok(n) => finish(draft, n),
+        Err(e) => {
+            discard(draft);
+            Err(e)
+        }
+    }
 }
 
 /// Whether a token is an integer of value 1.
@@ -187,19 +205,38 @@ fn read_once(alloc: Global, known: &Known, bytes: &[u8]) -> Result<Option<Script
     }
 }
 
+/// The script by one walk where these are its names, else by two.
+fn read_named(alloc: Global, names: &Known, bytes: &[u8]) -> Result<Script, ScriptError>
+    requires short { length bytes.now < 2 ^ 30 }
+    requires known { IsFewKnown names.now }
+    ensures { IsReading (walk_twice (lines_of bytes.now)) result }
+{
+    match read_once(alloc, names, bytes)? {
+        Some(script) => Ok(script),
+        None => read_twice(alloc, bytes),
+    }
+}
+
+/// The script, whose names were guessed or not.
+fn read_guessed(alloc: Global, names: &Known, bytes: &[u8]) -> Result<Script, ScriptError>
+    requires short { length bytes.now < 2 ^ 30 }
+    requires known { IsFewKnown names.now }
+    ensures { IsReading (walk_twice (lines_of bytes.now)) result }
+{
+    match names {
+        Known::Any => read_twice(alloc, bytes),
+        Known::Among(_) => read_named(alloc, names, bytes),
+    }
+}
+
 /// The script of the lines after the first. Most are read by one walk, since their names are guessed
 /// before; a text whose names were guessed wrong, or with a line that is refused, is walked twice.
 fn read_body(alloc: Global, bytes: &[u8]) -> Result<Script, ScriptError>
     requires { length bytes.now < 2 ^ 30 }
     ensures { IsReading (walk_twice (lines_of bytes.now)) result }
 {
-    match guess_names(alloc, bytes)? {
-        Known::Any => read_twice(alloc, bytes),
-        names => match read_once(alloc, &names, bytes)? {
-            Some(script) => Ok(script),
-            None => read_twice(alloc, bytes),
-        },
-    }
+    let names = guess_names(alloc, bytes)?;
+    read_guessed(alloc, &names, bytes)
 }
 
 /// The script of the text, or the first line that is refused.

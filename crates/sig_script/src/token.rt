@@ -30,7 +30,7 @@ use sig_terms::bytes::{
 };
 
 /// A token that stands for itself.
-#[derive(Clone, Copy, Debug, PartialEq, Eq)]
+#[derive(Clone, Copy)]
 pub enum Sign {
     OpenBrace,
     CloseBrace,
@@ -44,7 +44,7 @@ pub enum Sign {
     Underscore,
 }
 
-#[derive(Clone, Copy, Debug, PartialEq, Eq)]
+#[derive(Clone, Copy)]
 pub enum TokenKind {
     Name,
     Variable,
@@ -117,7 +117,7 @@ impl TokenKind {
 }
 
 /// A token: the bytes from `start` to below `end`.
-#[derive(Clone, Copy, Debug, PartialEq, Eq)]
+#[derive(Clone, Copy)]
 pub struct Token {
     pub kind: TokenKind,
     pub start: usize,

@@ -1,25 +1,4 @@
-use Rattle.std.proofs.Common.{◌≡◌, Err, arith}
-use Rattle.sig_script.specs.Grammar.{line_taken}
-use Rattle.sig_script.proofs.LineLemmas.{line-within}
-use Rattle.sig_script.proofs.BoundLemmas.{fit_taken}
-use Rattle.sig_script.proofs.ReaderLemmas.{step_taken, step_refused, lines_end}
 use Rattle.sig_script.proofs.reader.read_lines.Goals as goal
 
-pub returns-in-Err-Fault : goal.returns-in-Err-Fault
-returns-in-Err-Fault c =
-    let refused : line_taken c.args.known.now c.loop-at.draft c.first_line-line.result.now ≡ Err c.in-Err-Fault.kind = rw c.in-Err-Fault.field-0-is at c.in-Err-Fault.ensures in
-    rw c.in-Err-Fault.kind-is (step_refused c.args.known.now c.loop-at.n c.loop-at.at c.args.bytes.now c.first_line-line.result.now c.loop-at.draft c.in-Err-Fault.kind _
-    c.loop-at-test.true c.first_line-line.ensures.line refused c.loop-at.invariant.whole)
-
-pub loop-at-preserved : goal.loop-at-preserved
-loop-at-preserved c = record {
-  within = line-within c.loop-at.at c.first_line-line.result.now c.args.bytes.now c.loop-at-test.true c.first_line-line.ensures.bound;
-  number = omega (arith, c.loop-at.invariant.number);
-  fit = fit_taken c.args.known.now c.loop-at.n c.loop-at.draft c.take_line.new.draft c.first_line-line.result.now c.loop-at.invariant.fit c.in-Ok.ensures;
-  whole = step_taken c.args.known.now c.loop-at.n c.loop-at.at c.args.bytes.now c.first_line-line.result.now c.loop-at.draft c.take_line.new.draft _
-      c.loop-at-test.true c.first_line-line.ensures.line c.in-Ok.ensures c.loop-at.invariant.whole;
-}
-
-pub returns : goal.returns
-returns c =
-    rw (lines_end c.args.known.now c.loop-at.n c.loop-at.at c.args.bytes.now c.loop-at.draft _ c.loop-at-test.false c.loop-at.invariant.whole) at c.finish.ensures
+pub returns-in-Ok : goal.returns-in-Ok
+returns-in-Ok c = rw c.in-Ok.ensures at c.finish.ensures

@@ -2,7 +2,7 @@ use Rattle.std.proofs.Common.{◌≡◌, ◌+◌, ◌-◌, ◌≤◌, drop, leng
 use Rattle.sig_script.specs.Lines.{lines_of}
 use Rattle.sig_script.specs.Fitting.{IsFit}
 use Rattle.sig_script.specs.Grammar.{body, walk}
-use Rattle.sig_script.proofs.reader.read_lines.Given as goal
+use Rattle.sig_script.proofs.reader.walk_lines.Given as goal
 
 -- the lines from here on, behind what was read, say what all lines say
 abbrev pub invariant-loop-at : goal.invariant-loop-at

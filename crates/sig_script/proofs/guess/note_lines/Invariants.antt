@@ -1,6 +1,6 @@
 use Rattle.std.proofs.Common.{◌+◌, ◌-◌, ◌≤◌, length}
 use Rattle.sig_script.specs.Fitting.{IsFit}
-use Rattle.sig_script.proofs.guess.guess_names.Given as goal
+use Rattle.sig_script.proofs.guess.note_lines.Given as goal
 
 abbrev pub invariant-loop-at : goal.invariant-loop-at
 invariant-loop-at l = record {
