@@ -26,9 +26,12 @@ call_clause = record {
 abbrev pub hub_receive : Instr
 hub_receive = instr.Receive None (call_clause ∷ []) None
 
+abbrev pub answer_message : Expr
+answer_message = expr.Tuple (expr.Var (var_named (codes "R")) ∷ expr.Var (var_named (codes "V")) ∷ [])
+
 -- `send R {R,V}`
 abbrev pub hub_answer : Instr
-hub_answer = instr.Send (expr.Var (var_named (codes "R"))) (expr.Tuple (expr.Var (var_named (codes "R")) ∷ expr.Var (var_named (codes "V")) ∷ []))
+hub_answer = instr.Send (expr.Var (var_named (codes "R"))) answer_message
 
 -- it answers each call, and goes on at label 0
 unfoldable pub hub : Declared
@@ -50,9 +53,12 @@ watch_hub = instr.Monitor (var_named (codes "M")) to_hub (Some alias_mode.ReplyD
 abbrev pub bind_mark : Instr
 bind_mark = instr.Bind (var_named (codes "M"))
 
+abbrev pub call_message : ℕ → Expr
+call_message k = expr.Tuple (expr.Atom (codes "call") ∷ expr.Var (var_named (codes "M")) ∷ expr.Int (pos k) ∷ [])
+
 -- `send @hub {call,M,K}`
 abbrev pub send_call : ℕ → Instr
-send_call k = instr.Send to_hub (expr.Tuple (expr.Atom (codes "call") ∷ expr.Var (var_named (codes "M")) ∷ expr.Int (pos k) ∷ []))
+send_call k = instr.Send to_hub (call_message k)
 
 -- `on {^M,V}`
 abbrev pub answer_clause : Clause
