@@ -4,7 +4,7 @@ use Rattle.std.proofs.lemmas.List.{take-take, take_at, take_all, take_more, flat
 use Rattle.std.proofs.lemmas.List.Folds.{flat_map-map}
 use Rattle.std.proofs.lemmas.Grind.{flat_map-append}
 use Rattle.std.specs.List.{flat_map}
-use Rattle.std.specs.Prelude.{IsErr}
+use Rattle.std.specs.Prelude.{IsErr, OnOk, OnErr}
 use Rattle.sig_script.specs.declared.instruction.Instr.{Instr}
 use Rattle.sig_script.specs.Instructions.{Spoken, Says, Receives, spoken}
 use Rattle.sig_script.specs.Scripts.{Declared}
@@ -74,3 +74,24 @@ lines_of_each {X} f (x ∷ xs) = flat_map-append line_text (f x) (flat_map f xs)
 pub refused : {T E : Type 0} (a c x : List ℕ) (r : Result T E) → IsErr r → take (length a) c ≡ a → IsPut a c x r
 refused a c x (Ok v) e h = cc
 refused a c x (Err y) e h = (tt, h)
+
+-- an error is returned
+pub on_error : {T E : Type 0} {P : Type 0} (r : Result T E) → P → OnErr r P
+on_error (Ok v) h = tt
+on_error (Err y) h = h
+
+-- one piece, and two, leave the front
+pub kept_one : (a b x : List ℕ) → b ≡ a ++ x → take (length a) b ≡ a
+kept_one a b x e = ap (take (length a)) e ∙ take_at a x (length a) refl
+
+pub kept_two : (a b c x y : List ℕ) → b ≡ a ++ x → c ≡ b ++ y → take (length a) c ≡ a
+kept_two a b c x y p q = kept_more a b y c (kept_one a b x p) q
+
+-- a last piece, whose result is returned
+pub last_text : {T E : Type 0} (r : Result T E) (c d w z : List ℕ) → OnOk r (d ≡ c ++ z) → c ≡ w → OnOk r (d ≡ w ++ z)
+last_text (Ok v) c d w z h e = h ∙ ap (λ (xs : List ℕ). xs ++ z) e
+last_text (Err y) c d w z h e = tt
+
+pub last_front : {T E : Type 0} (r : Result T E) (a c d : List ℕ) → OnErr r (take (length c) d ≡ c) → take (length a) c ≡ a → OnErr r (take (length a) d ≡ a)
+last_front (Ok v) a c d h p = tt
+last_front (Err y) a c d h p = front_on a c d p h
