@@ -7,6 +7,7 @@ use Rattle.sig_patterns.specs.declared.var.Var.{Var}
 use Rattle.sig_patterns.specs.declared.clause.Clause.{Clause}
 use Rattle.sig_patterns.specs.declared.expression.Expr.{Expr}
 use Rattle.sig_patterns.specs.declared.expression.Expr.TheVariants as expr
+use Rattle.sig_patterns.specs.declared.pattern.Pattern.{Pattern}
 use Rattle.sig_patterns.specs.declared.pattern.Pattern.TheVariants as pattern
 use Rattle.sig_script.specs.declared.instruction.Instr.{Instr}
 use Rattle.sig_script.specs.declared.instruction.Instr.TheVariants as instr
@@ -16,12 +17,12 @@ use Rattle.sig_script.specs.Scripts.{Declared, Program}
 abbrev pub var_named : List ℕ → Var
 var_named word = record { 0 = word }
 
+abbrev pub call_parts : List Pattern
+call_parts = pattern.Atom (codes "call") ∷ pattern.Bind (var_named (codes "R")) ∷ pattern.Bind (var_named (codes "V")) ∷ []
+
 -- `receive`, `on {call,R,V} -> answer`, `end`, where `answer` is label 1
 abbrev pub call_clause : Clause
-call_clause = record {
-  pattern = pattern.Tuple (pattern.Atom (codes "call") ∷ pattern.Bind (var_named (codes "R")) ∷ pattern.Bind (var_named (codes "V")) ∷ []);
-  target = Some 1;
-}
+call_clause = record { pattern = pattern.Tuple call_parts; target = Some 1 }
 
 abbrev pub hub_receive : Instr
 hub_receive = instr.Receive None (call_clause ∷ []) None

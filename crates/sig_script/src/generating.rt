@@ -7,7 +7,7 @@ ghost use Rattle.sig_patterns.specs.declared.expression.Expr.TheVariants as expr
 ghost use Rattle.sig_patterns.specs.declared.pattern.Pattern.TheVariants as pattern;
 ghost use Rattle.sig_script.specs.Generated.{
   var_named,
-  call_clause,
+  call_parts,
   hub_receive,
   answer_message,
   hub_answer,
@@ -102,26 +102,26 @@ fn add_var(alloc: Global, parts: &mut Exprs, word: &[u8]) -> Result<(), AllocErr
     parts.add(Expr::Var(var))
 }
 
-/// `on {call,R,V} -> answer`
-fn make_call_clause(alloc: Global) -> Result<Clause, AllocError>
-    ensures { IfOk result (λ c. c ≡ call_clause) }
+/// `call`, `R` and `V`
+fn add_call_parts(alloc: Global, parts: &mut Patterns) -> Result<(), AllocError>
+    ensures { OnOk result (parts.new ≡ parts.old ++ call_parts) }
 {
-    let mut parts = Sequence::new(alloc);
-    add_word(alloc, &mut parts, b"call")?;
-    add_bind(alloc, &mut parts, b"R")?;
-    add_bind(alloc, &mut parts, b"V")?;
-    Ok(Clause {
-        pattern: Pattern::Tuple(parts),
-        target: Some(1),
-    })
+    add_word(alloc, parts, b"call")?;
+    add_bind(alloc, parts, b"R")?;
+    add_bind(alloc, parts, b"V")
 }
 
+/// `receive` with `on {call,R,V} -> answer`
 fn add_hub_receive(alloc: Global, instrs: &mut Instrs) -> Result<(), AllocError>
     ensures { OnOk result (instrs.new ≡ instrs.old ++ hub_receive ∷ []) }
 {
-    let clause = make_call_clause(alloc)?;
+    let mut parts = Sequence::new(alloc);
+    add_call_parts(alloc, &mut parts)?;
     let mut clauses = Sequence::new(alloc);
-    clauses.add(clause)?;
+    clauses.add(Clause {
+        pattern: Pattern::Tuple(parts),
+        target: Some(1),
+    })?;
     instrs.add(Instr::Receive {
         using: None,
         clauses,
