@@ -1,5 +1,5 @@
 -- Texts with a comma between two, as they are put one after another.
-use Rattle.std.proofs.Common.{◌≡◌, ℕ, suc, ◌+◌, ◌-◌, ◌<◌, ◌≤◌, List, [], ◌∷◌, ◌++◌, map, take, drop, length, get_or, append_assoc, append-nil, refl, sym, ap, ◌∙◌, arith, codes}
+use Rattle.std.proofs.Common.{◌≡◌, ℕ, suc, ◌+◌, ◌-◌, ◌<◌, ◌≤◌, List, [], ◌∷◌, ◌++◌, map, take, drop, length, get_or, append_assoc, append-nil, sym, ap, ◌∙◌, arith, codes}
 use Rattle.std.proofs.lemmas.List.{take_all, drop_more, drop_all}
 use Rattle.std.specs.List.{concat}
 use Rattle.sig_terms.specs.TermText.{after_comma, joined}
@@ -11,7 +11,6 @@ first_and_rest [] x long is = absurd (omega arith)
 first_and_rest {X} (y ∷ ys) x long is = ap (λ (z : X). z ∷ ys) (sym is) ∙ ap (λ (zs : List X). x ∷ zs) (sym (take_all (suc (length ys) - 1) ys (omega arith)))
 
 module _ {X : Type 0} (text : X → List ℕ) (texts : List X → List (List ℕ)) where
-
   -- behind a text, those that are left
   abbrev pub left : List X → List ℕ
   left xs = concat (map after_comma (texts xs))
@@ -31,9 +30,10 @@ module _ {X : Type 0} (text : X → List ℕ) (texts : List X → List (List ℕ
   next_put rest i x a b c d whole law lt is p q h =
       let more : List X = drop (i + 1) rest in
       let these : texts (drop i rest) ≡ text x ∷ texts more = ap texts (drop_more rest i x lt ∙ ap (λ (y : X). y ∷ more) (sym is)) ∙ law x more in
-      let put : d ≡ b ++ after_comma (text x) = q ∙ ap (λ (ys : List ℕ). ys ++ text x) p ∙ append_assoc b (codes ",") (text x) in
-      (ap (λ (ys : List ℕ). ys ++ left more) put ∙ append_assoc b (after_comma (text x)) (left more) ∙ ap (λ (ts : List (List ℕ)). b ++ concat (map after_comma ts)) (sym these) ∙ h.0,
-        kept_more a c (text x) d (kept_more a b (codes ",") c h.1 p) q)
+      let put : d ≡ b ++ after_comma (text x) = q ∙ ap (λ (ys : List ℕ). ys ++ text x) p ∙ append_assoc b (codes ",") (text x) in (
+        ap (λ (ys : List ℕ). ys ++ left more) put ∙ append_assoc b (after_comma (text x)) (left more) ∙ ap (λ (ts : List (List ℕ)). b ++ concat (map after_comma ts)) (sym these) ∙ h.0,
+        kept_more a c (text x) d (kept_more a b (codes ",") c h.1 p) q,
+      )
 
   -- no text is left
   pub none_left : (rest : List X) (i : ℕ) (b whole : List ℕ) → texts [] ≡ [] → length rest ≤ i → b ++ left (drop i rest) ≡ whole → b ≡ whole

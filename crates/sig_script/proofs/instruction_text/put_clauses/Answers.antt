@@ -22,6 +22,8 @@ loop-clause-preserved c =
 
 pub returns : goal.returns
 returns c =
-    let line : Clause → List ℕ = clause_line (names_of c.args.procs.now) (map (λ (l : Label). l.name) c.args.labels.now) in
-    (all_put (λ k. line_text (line k)) c.args.clauses.now c.loop-clause.clause-index c.args.into.now.items c.loop-clause.into.items _
-      (grind (arith, nat_tests, c.loop-clause-test.false)) c.loop-clause.invariant (flat_map-map line_text line c.args.clauses.now), tt)
+    let line : Clause → List ℕ = clause_line (names_of c.args.procs.now) (map (λ (l : Label). l.name) c.args.labels.now) in (
+      all_put (λ k. line_text (line k)) c.args.clauses.now c.loop-clause.clause-index c.args.into.now.items c.loop-clause.into.items _
+          (grind (arith, nat_tests, c.loop-clause-test.false)) c.loop-clause.invariant (flat_map-map line_text line c.args.clauses.now),
+      tt,
+    )

@@ -33,7 +33,7 @@ pub returns-in_err-put_instr : goal.returns-in_err-put_instr
 returns-in_err-put_instr c =
     refused c.args.into.now.items c.put_instr.new.into.items _ c.from_residual-in_err-put_instr.result c.from_residual-in_err-put_instr.ensures.0
     (front_behind c.args.into.now.items c.loop-instr.into.items (flat_map line_text (labels_there c.loop-instr.rest.now c.loop-instr.place)) c.put_labels.new.into.items c.put_instr.new.into.items
-      c.loop-instr.invariant.3 c.in_ok-rest.ensures.put.0 c.in_err-put_instr.ensures.1)
+    c.loop-instr.invariant.3 c.in_ok-rest.ensures.put.0 c.in_err-put_instr.ensures.1)
 
 pub returns-in_err-put_labels : goal.returns-in_err-put_labels
 returns-in_err-put_labels c =

@@ -20,6 +20,8 @@ loop-proc-preserved c =
 
 pub returns : goal.returns
 returns c =
-    let lines : Declared → List (List ℕ) = process_lines (names_of c.args.procs.now) in
-    (all_put (λ p. flat_map line_text (lines p)) c.args.procs.now c.loop-proc.proc-index c.args.into.now.items c.loop-proc.into.items _
-      (grind (arith, nat_tests, c.loop-proc-test.false)) c.loop-proc.invariant (lines_of_each lines c.args.procs.now), tt)
+    let lines : Declared → List (List ℕ) = process_lines (names_of c.args.procs.now) in (
+      all_put (λ p. flat_map line_text (lines p)) c.args.procs.now c.loop-proc.proc-index c.args.into.now.items c.loop-proc.into.items _
+          (grind (arith, nat_tests, c.loop-proc-test.false)) c.loop-proc.invariant (lines_of_each lines c.args.procs.now),
+      tt,
+    )
