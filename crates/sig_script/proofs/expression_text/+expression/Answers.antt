@@ -1,10 +1,10 @@
-use Rattle.std.proofs.Common.{arith, ◌++◌, ◌∙◌, ap, refl, List, ℕ, map, codes}
+use Rattle.std.proofs.Common.{arith, sym, ◌++◌, ◌∙◌, ap, refl, List, ℕ, map, codes}
 use Rattle.std.proofs.lemmas.Bool.Decides.{nat_tests}
 use Rattle.sig_terms.specs.TermText.{joined}
 use Rattle.sig_patterns.specs.declared.expression.Expr.{Expr}
 use Rattle.sig_script.specs.ScriptText.{names_of, expr_text}
 use Rattle.sig_script.proofs.PrintLemmas.{on_error, front_on, front_behind, kept_front, kept_two, last_text, last_front}
-use Rattle.sig_script.proofs.JoinedLemmas.{first_put, next_put, none_left}
+use Rattle.sig_script.proofs.JoinedLemmas.{first_put, next_put, none_left, text_put, three_pieces, expr-Atom, expr-Pid, expr-Var, expr-Tuple, expr-List}
 use Rattle.sig_script.proofs.expression_text.+expression.Goals as goal
 
 pub put_between-returns-in_err-put_elements-clause-front : goal.put_between-returns-in_err-put_elements-clause-front
@@ -53,3 +53,32 @@ put_elements-returns-after-loop-item-clause-text t c =
     let text : Expr → List ℕ = expr_text (names_of c.args.procs.now) in
     let texts : List Expr → List (List ℕ) = map (expr_text (names_of c.args.procs.now)) in
     none_left text texts _ c.loop-item.item-index c.loop-item.into.items _ refl (grind (arith, nat_tests, c.loop-item-test.false)) c.loop-item.invariant.0
+
+pub put_expr-returns-in-Atom-clause-text : goal.put_expr-returns-in-Atom-clause-text
+put_expr-returns-in-Atom-clause-text t c =
+    let names : List (List ℕ) = names_of c.args.procs.now in
+    text_put c.print.result c.args.into.now.items c.print.new.into.items _ _ (ap (expr_text names) c.in-Atom.is ∙ expr-Atom names c.in-Atom.atom) c.print.ensures.text
+
+pub put_expr-returns-in-Pid-clause-text : goal.put_expr-returns-in-Pid-clause-text
+put_expr-returns-in-Pid-clause-text t c =
+    let names : List (List ℕ) = names_of c.args.procs.now in
+    text_put c.put_process.result c.args.into.now.items c.put_process.new.into.items _ _ (ap (expr_text names) c.in-Pid.is ∙ expr-Pid names c.in-Pid.pid) c.put_process.ensures.0
+
+pub put_expr-returns-in-Var-clause-text : goal.put_expr-returns-in-Var-clause-text
+put_expr-returns-in-Var-clause-text t c =
+    let names : List (List ℕ) = names_of c.args.procs.now in
+    text_put c.put.result c.args.into.now.items c.put.new.into.items _ _ (ap (expr_text names) c.in-Var.is ∙ expr-Var names c.in-Var.var ∙ sym c.bytes.ensures.bytes) c.put.ensures.0
+
+pub put_expr-returns-in-Tuple-clause-text : goal.put_expr-returns-in-Tuple-clause-text
+put_expr-returns-in-Tuple-clause-text t c =
+    let names : List (List ℕ) = names_of c.args.procs.now in
+    three_pieces c.put_between.result c.args.into.now.items c.put_between.new.into.items _ (codes "{") _ (codes "}")
+    (ap (expr_text names) c.in-Tuple.is ∙ expr-Tuple names c.in-Tuple.items ∙ ap (λ (es : List Expr). codes "{" ++ joined (map (expr_text names) es) ++ codes "}") (sym c.as_slice.ensures))
+    c.put_between.ensures.text
+
+pub put_expr-returns-in-List-clause-text : goal.put_expr-returns-in-List-clause-text
+put_expr-returns-in-List-clause-text t c =
+    let names : List (List ℕ) = names_of c.args.procs.now in
+    three_pieces c.put_between-in-List.result c.args.into.now.items c.put_between-in-List.new.into.items _ (codes "[") _ (codes "]")
+    (ap (expr_text names) c.in-List.is ∙ expr-List names c.in-List.items ∙ ap (λ (es : List Expr). codes "[" ++ joined (map (expr_text names) es) ++ codes "]") (sym c.as_slice-in-List.ensures))
+    c.put_between-in-List.ensures.text
