@@ -32,6 +32,7 @@ pub mod SeenLemmas
 pub mod FormTexts
 pub mod CleanLines
 pub mod PrintLemmas
+pub mod JoinedLemmas
 pub mod LabelTextLemmas
 pub mod GeneratedLemmas
 pub mod OtherPhrases

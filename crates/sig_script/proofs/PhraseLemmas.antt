@@ -1,18 +1,38 @@
 -- Elements, one after another.
-use Rattle.std.proofs.Common.{◌≡◌, ℕ, zero, suc, ◌+◌, ◌-◌, ◌<◌, ◌≤◌, List, [], ◌∷◌, ◌++◌, length, get_or, take, drop, Ok, true, refl, sym, ap, subst, ◌∙◌, arith}
+use Rattle.std.proofs.Common.{◌≡◌, ℕ, zero, suc, ◌+◌, ◌-◌, ◌<◌, ◌≤◌, List, [], ◌∷◌, ◌++◌, length, get_or, take, drop, Ok, Err, true, false, refl, sym, ap, subst, ◌∙◌, arith}
 use Rattle.std.proofs.lemmas.List.{take_all}
 use Rattle.sig_script.specs.declared.token.TokenKind.TheVariants.{Name}
+use Rattle.sig_script.specs.declared.token.Sign as signs
 use Rattle.sig_script.specs.declared.token.Token.{Token}
+use Rattle.sig_script.specs.declared.fault.FaultKind.TheVariants.{Syntax}
 use Rattle.sig_script.specs.declared.known.Known.{Known}
 use Rattle.sig_script.specs.Faults.{◌>>=◌}
 use Rattle.sig_script.specs.Tokens.{text, AreWellSpelled}
-use Rattle.sig_script.specs.Signs.{is_comma}
-use Rattle.sig_script.specs.Phrases.{Read, Spelling, behind, elements, phrase_by, phrase_front, phrase_at}
+use Rattle.sig_script.specs.Signs.{is_comma, closes}
+use Rattle.sig_script.specs.Phrases.{Read, Spelling, behind, elements, ending, bracketed, phrase_by, phrase_front, phrase_at}
 
 -- tokens, by the first and the rest
 head_and_rest : (ts : List Token) (d : Token) → 1 ≤ length ts → ts ≡ get_or ts 0 d ∷ take (length ts - 1) (drop 1 ts)
 head_and_rest [] d h = absurd (omega arith)
 head_and_rest (t ∷ ts) d h = ap (λ (us : List Token). t ∷ us) (sym (take_all (suc (length ts) - 1) ts (omega arith)))
+
+-- behind a bracket: no token, the sign that closes it, or elements
+pub bracketed_none : {A : Type 0} (s : Spelling A) (close : signs.Sign) (read : ℕ → List Token → Read A) (nodes : ℕ) (ts : List Token) → length ts < 1 → bracketed s close read nodes ts ≡ Err Syntax
+unfolding bracketed
+bracketed_none s close read nodes [] h = refl
+bracketed_none s close read nodes (t ∷ ts) h = absurd (omega arith)
+
+pub bracketed_closed : {A : Type 0} (s : Spelling A) (close : signs.Sign) (read : ℕ → List Token → Read A) (nodes : ℕ) (ts : List Token) (d : Token) → 1 ≤ length ts → closes close (get_or ts 0 d).kind ≡ true →
+    bracketed s close read nodes ts ≡ Ok (s.enclosing close [], nodes, take (length ts - 1) (drop 1 ts))
+unfolding bracketed
+bracketed_closed s close read nodes [] d long h = absurd (omega arith)
+bracketed_closed s close read nodes (t ∷ ts) d long h = rw h (ap (λ (us : List Token). Ok (s.enclosing close [], nodes, us)) (sym (take_all (suc (length ts) - 1) ts (omega arith))))
+
+pub bracketed_some : {A : Type 0} (s : Spelling A) (close : signs.Sign) (read : ℕ → List Token → Read A) (nodes : ℕ) (ts : List Token) (d : Token) → 1 ≤ length ts → closes close (get_or ts 0 d).kind ≡ false →
+    bracketed s close read nodes ts ≡ elements read (ending s close read) (length ts) nodes [] ts
+unfolding bracketed
+bracketed_some s close read nodes [] d long h = absurd (omega arith)
+bracketed_some s close read nodes (t ∷ ts) d long h = rw h refl
 
 -- one element, and what is behind it
 pub one_more : {A B : Type 0} (read : ℕ → List Token → Read A) (finish : List A → ℕ → List Token → Read B) (n i left : ℕ) (items : List A) (ts : List Token) (total : Read B) →

@@ -7,6 +7,7 @@ use Rattle.sig_patterns.specs.declared.var.Var.{Var}
 use Rattle.sig_patterns.specs.declared.clause.Clause.{Clause}
 use Rattle.sig_patterns.specs.declared.expression.Expr.{Expr}
 use Rattle.sig_patterns.specs.declared.expression.Expr.TheVariants as expr
+use Rattle.sig_patterns.specs.declared.pattern.Pattern.{Pattern}
 use Rattle.sig_patterns.specs.declared.pattern.Pattern.TheVariants as pattern
 use Rattle.sig_script.specs.declared.instruction.Instr.{Instr}
 use Rattle.sig_script.specs.declared.instruction.Instr.TheVariants as instr
@@ -16,19 +17,22 @@ use Rattle.sig_script.specs.Scripts.{Declared, Program}
 abbrev pub var_named : List ℕ → Var
 var_named word = record { 0 = word }
 
+abbrev pub call_parts : List Pattern
+call_parts = pattern.Atom (codes "call") ∷ pattern.Bind (var_named (codes "R")) ∷ pattern.Bind (var_named (codes "V")) ∷ []
+
 -- `receive`, `on {call,R,V} -> answer`, `end`, where `answer` is label 1
 abbrev pub call_clause : Clause
-call_clause = record {
-  pattern = pattern.Tuple (pattern.Atom (codes "call") ∷ pattern.Bind (var_named (codes "R")) ∷ pattern.Bind (var_named (codes "V")) ∷ []);
-  target = Some 1;
-}
+call_clause = record { pattern = pattern.Tuple call_parts; target = Some 1 }
 
 abbrev pub hub_receive : Instr
 hub_receive = instr.Receive None (call_clause ∷ []) None
 
+abbrev pub answer_message : Expr
+answer_message = expr.Tuple (expr.Var (var_named (codes "R")) ∷ expr.Var (var_named (codes "V")) ∷ [])
+
 -- `send R {R,V}`
 abbrev pub hub_answer : Instr
-hub_answer = instr.Send (expr.Var (var_named (codes "R"))) (expr.Tuple (expr.Var (var_named (codes "R")) ∷ expr.Var (var_named (codes "V")) ∷ []))
+hub_answer = instr.Send (expr.Var (var_named (codes "R"))) answer_message
 
 -- it answers each call, and goes on at label 0
 unfoldable pub hub : Declared
@@ -50,9 +54,12 @@ watch_hub = instr.Monitor (var_named (codes "M")) to_hub (Some alias_mode.ReplyD
 abbrev pub bind_mark : Instr
 bind_mark = instr.Bind (var_named (codes "M"))
 
+abbrev pub call_message : ℕ → Expr
+call_message k = expr.Tuple (expr.Atom (codes "call") ∷ expr.Var (var_named (codes "M")) ∷ expr.Int (pos k) ∷ [])
+
 -- `send @hub {call,M,K}`
 abbrev pub send_call : ℕ → Instr
-send_call k = instr.Send to_hub (expr.Tuple (expr.Atom (codes "call") ∷ expr.Var (var_named (codes "M")) ∷ expr.Int (pos k) ∷ []))
+send_call k = instr.Send to_hub (call_message k)
 
 -- `on {^M,V}`
 abbrev pub answer_clause : Clause

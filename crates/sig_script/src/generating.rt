@@ -1,31 +1,37 @@
 //! The generated script.
 
-ghost use Rattle.std.specs.Prelude.{◌≡◌, ◌≤◌, ◌∷◌, [], ◌++◌, true, codes, pos, IfOk, OnOk};
+ghost use Rattle.std.specs.Prelude.{◌≡◌, ◌≤◌, ◌∷◌, [], ◌++◌, map, true, IfOk, OnOk};
+ghost use Rattle.std.specs.List.{flat_map, range_with_len};
 ghost use Rattle.sig_terms.specs.Words.{is_token, is_atom};
 ghost use Rattle.sig_patterns.specs.declared.expression.Expr.TheVariants as expr;
+ghost use Rattle.sig_patterns.specs.declared.pattern.Pattern.TheVariants as pattern;
 ghost use Rattle.sig_script.specs.Generated.{
-  call_clause,
+  var_named,
+  call_parts,
   hub_receive,
+  answer_message,
   hub_answer,
   hub,
   watch_hub,
   bind_mark,
+  call_message,
   send_call,
   answer_clause,
   down_clause,
   await_answer,
   call,
   client,
+  client_names,
   generated,
 };
 
 use crate::instruction::{Instr, Instrs};
-use crate::label::Label;
+use crate::label::{Label, Labels};
 use crate::process::{Proc, Procs};
 use crate::script::{MOST_TURNS, Script};
 use sig_kinds::AliasMode;
 use sig_lists::Sequence;
-use sig_patterns::{Clause, Expr, Pattern, Var};
+use sig_patterns::{Clause, Clauses, Expr, Exprs, Pattern, Patterns, Var};
 use sig_terms::{Atom, Name, Pid};
 use std::alloc::{AllocError, Global};
 
@@ -60,44 +66,114 @@ fn atom_of(alloc: Global, word: &[u8]) -> Result<Atom, AllocError>
     }
 }
 
-/// `on {call,R,V} -> answer`
-fn make_call_clause(alloc: Global) -> Result<Clause, AllocError>
-    ensures { IfOk result (λ c. c ≡ call_clause) }
+/// Adds the atom as a pattern.
+fn add_word(alloc: Global, parts: &mut Patterns, word: &[u8]) -> Result<(), AllocError>
+    requires { is_atom word.now ≡ true }
+    ensures { OnOk result (parts.new ≡ parts.old ++ pattern.Atom word.now ∷ []) }
 {
-    let word = Pattern::Atom(atom_of(alloc, b"call")?);
-    let reference = Pattern::Bind(var_of(alloc, b"R")?);
-    let value = Pattern::Bind(var_of(alloc, b"V")?);
-    let parts = vec![in alloc; word, reference, value]?;
-    Ok(Clause {
-        pattern: Pattern::Tuple(Sequence::from_vec(parts)),
-        target: Some(1),
-    })
+    let atom = atom_of(alloc, word)?;
+    parts.add(Pattern::Atom(atom))
 }
 
-fn make_hub_receive(alloc: Global) -> Result<Instr, AllocError>
-    ensures { IfOk result (λ i. i ≡ hub_receive) }
+/// Adds the variable as a pattern that anything matches.
+fn add_bind(alloc: Global, parts: &mut Patterns, word: &[u8]) -> Result<(), AllocError>
+    requires { is_token word.now ≡ true }
+    ensures { OnOk result (parts.new ≡ parts.old ++ pattern.Bind (var_named word.now) ∷ []) }
 {
-    let clause = make_call_clause(alloc)?;
-    let clauses = vec![in alloc; clause]?;
-    Ok(Instr::Receive {
+    let var = var_of(alloc, word)?;
+    parts.add(Pattern::Bind(var))
+}
+
+/// Adds the variable as a pattern that its value matches.
+fn add_pin(alloc: Global, parts: &mut Patterns, word: &[u8]) -> Result<(), AllocError>
+    requires { is_token word.now ≡ true }
+    ensures { OnOk result (parts.new ≡ parts.old ++ pattern.Pin (var_named word.now) ∷ []) }
+{
+    let var = var_of(alloc, word)?;
+    parts.add(Pattern::Pin(var))
+}
+
+/// Adds the variable as an expression.
+fn add_var(alloc: Global, parts: &mut Exprs, word: &[u8]) -> Result<(), AllocError>
+    requires { is_token word.now ≡ true }
+    ensures { OnOk result (parts.new ≡ parts.old ++ expr.Var (var_named word.now) ∷ []) }
+{
+    let var = var_of(alloc, word)?;
+    parts.add(Expr::Var(var))
+}
+
+/// `call`, `R` and `V`
+fn add_call_parts(alloc: Global, parts: &mut Patterns) -> Result<(), AllocError>
+    ensures { OnOk result (parts.new ≡ parts.old ++ call_parts) }
+{
+    add_word(alloc, parts, b"call")?;
+    add_bind(alloc, parts, b"R")?;
+    add_bind(alloc, parts, b"V")
+}
+
+/// `receive` with `on {call,R,V} -> answer`
+fn add_hub_receive(alloc: Global, instrs: &mut Instrs) -> Result<(), AllocError>
+    ensures { OnOk result (instrs.new ≡ instrs.old ++ hub_receive ∷ []) }
+{
+    let mut parts = Sequence::new(alloc);
+    add_call_parts(alloc, &mut parts)?;
+    let mut clauses = Sequence::new(alloc);
+    clauses.add(Clause {
+        pattern: Pattern::Tuple(parts),
+        target: Some(1),
+    })?;
+    instrs.add(Instr::Receive {
         using: None,
-        clauses: Sequence::from_vec(clauses),
+        clauses,
         after: None,
     })
 }
 
-/// `send R {R,V}`
-fn make_hub_answer(alloc: Global) -> Result<Instr, AllocError>
-    ensures { IfOk result (λ i. i ≡ hub_answer) }
+/// `{R,V}`
+fn make_answer(alloc: Global) -> Result<Expr, AllocError>
+    ensures { IfOk result (λ e. e ≡ answer_message) }
 {
-    let to = Expr::Var(var_of(alloc, b"R")?);
-    let reference = Expr::Var(var_of(alloc, b"R")?);
-    let value = Expr::Var(var_of(alloc, b"V")?);
-    let parts = vec![in alloc; reference, value]?;
-    Ok(Instr::Send {
-        to,
-        message: Expr::Tuple(Sequence::from_vec(parts)),
+    let mut parts = Sequence::new(alloc);
+    add_var(alloc, &mut parts, b"R")?;
+    add_var(alloc, &mut parts, b"V")?;
+    Ok(Expr::Tuple(parts))
+}
+
+/// `send R {R,V}`
+fn add_hub_answer(alloc: Global, instrs: &mut Instrs) -> Result<(), AllocError>
+    ensures { OnOk result (instrs.new ≡ instrs.old ++ hub_answer ∷ []) }
+{
+    let message = make_answer(alloc)?;
+    let to = var_of(alloc, b"R")?;
+    instrs.add(Instr::Send {
+        to: Expr::Var(to),
+        message,
     })
+}
+
+fn add_label(alloc: Global, labels: &mut Labels, word: &[u8], place: u32) -> Result<(), AllocError>
+    requires { is_token word.now ≡ true }
+    ensures { OnOk result (labels.new ≡ labels.old ++ record { name = word.now; place = place } ∷ []) }
+{
+    let name = name_of(alloc, word)?;
+    labels.add(Label { name, place })
+}
+
+#[tactic(auto, unfolding(crate::specs::Generated::hub))]
+fn add_hub_labels(alloc: Global, labels: &mut Labels) -> Result<(), AllocError>
+    ensures { OnOk result (labels.new ≡ labels.old ++ hub.labels) }
+{
+    add_label(alloc, labels, b"loop", 1)?;
+    add_label(alloc, labels, b"answer", 2)
+}
+
+#[tactic(auto, unfolding(crate::specs::Generated::hub))]
+fn add_hub_instrs(alloc: Global, instrs: &mut Instrs) -> Result<(), AllocError>
+    ensures { OnOk result (instrs.new ≡ instrs.old ++ hub.instrs) }
+{
+    add_hub_receive(alloc, instrs)?;
+    add_hub_answer(alloc, instrs)?;
+    instrs.add(Instr::Goto { label: 0 })
 }
 
 /// The process that answers each call.
@@ -105,97 +181,109 @@ fn make_hub_answer(alloc: Global) -> Result<Instr, AllocError>
 fn make_hub(alloc: Global) -> Result<Proc, AllocError>
     ensures { IfOk result (λ p. p ≡ hub) }
 {
-    let awaiting = Label {
-        name: name_of(alloc, b"loop")?,
-        place: 1,
-    };
-    let answering = Label {
-        name: name_of(alloc, b"answer")?,
-        place: 2,
-    };
-    let labels = vec![in alloc; awaiting, answering]?;
-    let receive = make_hub_receive(alloc)?;
-    let answer = make_hub_answer(alloc)?;
-    let instrs = vec![in alloc; receive, answer, Instr::Goto { label: 0 }]?;
+    let mut labels = Sequence::new(alloc);
+    let mut instrs = Sequence::new(alloc);
+    add_hub_labels(alloc, &mut labels)?;
+    add_hub_instrs(alloc, &mut instrs)?;
+    let name = name_of(alloc, b"hub")?;
     Ok(Proc {
-        name: name_of(alloc, b"hub")?,
-        labels: Sequence::from_vec(labels),
-        instrs: Sequence::from_vec(instrs),
+        name,
+        labels,
+        instrs,
     })
 }
 
 /// `monitor M @hub reply_demonitor`
-fn make_watch(alloc: Global) -> Result<Instr, AllocError>
-    ensures { IfOk result (λ i. i ≡ watch_hub) }
+fn add_watch(alloc: Global, instrs: &mut Instrs) -> Result<(), AllocError>
+    ensures { OnOk result (instrs.new ≡ instrs.old ++ watch_hub ∷ []) }
 {
-    Ok(Instr::Monitor {
-        var: var_of(alloc, b"M")?,
+    let var = var_of(alloc, b"M")?;
+    instrs.add(Instr::Monitor {
+        var,
         target: Expr::Pid(Pid(0)),
         mode: Some(AliasMode::ReplyDemonitor),
     })
 }
 
 /// `bind M`
-fn make_bind(alloc: Global) -> Result<Instr, AllocError>
-    ensures { IfOk result (λ i. i ≡ bind_mark) }
+fn add_mark(alloc: Global, instrs: &mut Instrs) -> Result<(), AllocError>
+    ensures { OnOk result (instrs.new ≡ instrs.old ++ bind_mark ∷ []) }
 {
-    Ok(Instr::Bind {
-        var: var_of(alloc, b"M")?,
-    })
+    let var = var_of(alloc, b"M")?;
+    instrs.add(Instr::Bind { var })
+}
+
+/// `{call,M,K}`
+fn make_message(alloc: Global, k: u32) -> Result<Expr, AllocError>
+    ensures { IfOk result (λ e. e ≡ call_message k) }
+{
+    let word = atom_of(alloc, b"call")?;
+    let mut parts = Sequence::new(alloc);
+    parts.add(Expr::Atom(word))?;
+    add_var(alloc, &mut parts, b"M")?;
+    parts.add(Expr::Int(i64::from(k)))?;
+    Ok(Expr::Tuple(parts))
 }
 
 /// `send @hub {call,M,K}`
-fn make_call(alloc: Global, k: u32) -> Result<Instr, AllocError>
-    ensures { IfOk result (λ i. i ≡ send_call k) }
+fn add_send(alloc: Global, instrs: &mut Instrs, k: u32) -> Result<(), AllocError>
+    ensures { OnOk result (instrs.new ≡ instrs.old ++ send_call k ∷ []) }
 {
-    let word = Expr::Atom(atom_of(alloc, b"call")?);
-    let reference = Expr::Var(var_of(alloc, b"M")?);
-    let parts = vec![in alloc; word, reference, Expr::Int(i64::from(k))]?;
-    Ok(Instr::Send {
+    let message = make_message(alloc, k)?;
+    instrs.add(Instr::Send {
         to: Expr::Pid(Pid(0)),
-        message: Expr::Tuple(Sequence::from_vec(parts)),
+        message,
     })
 }
 
 /// `on {^M,V}`
-fn make_answer_clause(alloc: Global) -> Result<Clause, AllocError>
-    ensures { IfOk result (λ c. c ≡ answer_clause) }
+fn add_answer_clause(alloc: Global, clauses: &mut Clauses) -> Result<(), AllocError>
+    ensures { OnOk result (clauses.new ≡ clauses.old ++ answer_clause ∷ []) }
 {
-    let reference = Pattern::Pin(var_of(alloc, b"M")?);
-    let value = Pattern::Bind(var_of(alloc, b"V")?);
-    let parts = vec![in alloc; reference, value]?;
-    Ok(Clause {
-        pattern: Pattern::Tuple(Sequence::from_vec(parts)),
+    let mut parts = Sequence::new(alloc);
+    add_pin(alloc, &mut parts, b"M")?;
+    add_bind(alloc, &mut parts, b"V")?;
+    clauses.add(Clause {
+        pattern: Pattern::Tuple(parts),
         target: None,
     })
 }
 
-/// `on {'DOWN',^M,process,_,V}`
-fn make_down_clause(alloc: Global) -> Result<Clause, AllocError>
-    ensures { IfOk result (λ c. c ≡ down_clause) }
+/// `{'DOWN',^M,process,_,V}`
+fn make_down(alloc: Global) -> Result<Pattern, AllocError>
+    ensures { IfOk result (λ p. p ≡ down_clause.pattern) }
 {
-    let down = Pattern::Atom(atom_of(alloc, b"DOWN")?);
-    let reference = Pattern::Pin(var_of(alloc, b"M")?);
-    let process = Pattern::Atom(atom_of(alloc, b"process")?);
-    let value = Pattern::Bind(var_of(alloc, b"V")?);
-    let parts = vec![in alloc; down, reference, process, Pattern::Any, value]?;
-    Ok(Clause {
-        pattern: Pattern::Tuple(Sequence::from_vec(parts)),
+    let mut parts = Sequence::new(alloc);
+    add_word(alloc, &mut parts, b"DOWN")?;
+    add_pin(alloc, &mut parts, b"M")?;
+    add_word(alloc, &mut parts, b"process")?;
+    parts.add(Pattern::Any)?;
+    add_bind(alloc, &mut parts, b"V")?;
+    Ok(Pattern::Tuple(parts))
+}
+
+/// `on {'DOWN',^M,process,_,V}`
+fn add_down_clause(alloc: Global, clauses: &mut Clauses) -> Result<(), AllocError>
+    ensures { OnOk result (clauses.new ≡ clauses.old ++ down_clause ∷ []) }
+{
+    let pattern = make_down(alloc)?;
+    clauses.add(Clause {
+        pattern,
         target: None,
     })
 }
 
 /// `receive using M` with the clauses of the answer and of the hub's end.
-fn make_await(alloc: Global) -> Result<Instr, AllocError>
-    ensures { IfOk result (λ i. i ≡ await_answer) }
+fn add_await(alloc: Global, instrs: &mut Instrs) -> Result<(), AllocError>
+    ensures { OnOk result (instrs.new ≡ instrs.old ++ await_answer ∷ []) }
 {
+    let mut clauses = Sequence::new(alloc);
+    add_answer_clause(alloc, &mut clauses)?;
+    add_down_clause(alloc, &mut clauses)?;
     let using = var_of(alloc, b"M")?;
-    let answer = make_answer_clause(alloc)?;
-    let down = make_down_clause(alloc)?;
-    let clauses = vec![in alloc; answer, down]?;
-    Ok(Instr::Receive {
+    instrs.add(Instr::Receive {
         using: Some(using),
-        clauses: Sequence::from_vec(clauses),
+        clauses,
         after: None,
     })
 }
@@ -204,53 +292,80 @@ fn make_await(alloc: Global) -> Result<Instr, AllocError>
 fn add_call(alloc: Global, instrs: &mut Instrs, k: u32) -> Result<(), AllocError>
     ensures { OnOk result (instrs.new ≡ instrs.old ++ call k) }
 {
-    let watch = make_watch(alloc)?;
-    let bind = make_bind(alloc)?;
-    let send = make_call(alloc, k)?;
-    let receive = make_await(alloc)?;
     instrs.add(Instr::Reserve)?;
-    instrs.add(watch)?;
-    instrs.add(bind)?;
-    instrs.add(send)?;
-    instrs.add(receive)?;
-    Ok(())
+    add_watch(alloc, instrs)?;
+    add_mark(alloc, instrs)?;
+    add_send(alloc, instrs, k)?;
+    add_await(alloc, instrs)
 }
 
-/// A client that makes `n` calls.
-#[tactic(auto, unfolding(crate::specs::Generated::client), using(crate::proofs::GeneratedLemmas::call_more, crate::proofs::GeneratedLemmas::client_within))]
-fn make_client(alloc: Global, name: &[u8], n: u32) -> Result<Proc, AllocError>
-    requires few { n ≤ MOST_CALLS }
-    requires name { is_token name.now ≡ true }
-    ensures { IfOk result (λ p. p ≡ client n name.now) }
+/// The instructions of `n` calls.
+#[tactic(auto, using(crate::proofs::GeneratedLemmas::call_more))]
+fn make_calls(alloc: Global, n: u32) -> Result<Instrs, AllocError>
+    requires { n ≤ MOST_CALLS }
+    ensures { IfOk result (λ is. is ≡ flat_map call (range_with_len 1 n)) }
 {
     let mut instrs = Sequence::new(alloc);
     for k in 0..n {
         add_call(alloc, &mut instrs, k + 1)?;
     }
-    Ok(Proc {
-        name: name_of(alloc, name)?,
-        labels: Sequence::new(alloc),
-        instrs,
-    })
+    Ok(instrs)
 }
 
-/// The nine processes.
-#[tactic(auto, unfolding(crate::specs::Generated::generated))]
-fn make_procs(alloc: Global, n: u32) -> Result<Procs, AllocError>
-    requires { n ≤ MOST_CALLS }
-    ensures { IfOk result (λ ps. ps ≡ (generated n).procs) }
+/// Adds a client that makes `n` calls.
+#[tactic(auto, unfolding(crate::specs::Generated::client))]
+fn add_client(alloc: Global, procs: &mut Procs, name: &[u8], n: u32) -> Result<(), AllocError>
+    requires few { n ≤ MOST_CALLS }
+    requires name { is_token name.now ≡ true }
+    ensures { OnOk result (procs.new ≡ procs.old ++ client n name.now ∷ []) }
 {
-    let mut procs = Sequence::new(alloc);
-    procs.add(make_hub(alloc)?)?;
-    procs.add(make_client(alloc, b"c0", n)?)?;
-    procs.add(make_client(alloc, b"c1", n)?)?;
-    procs.add(make_client(alloc, b"c2", n)?)?;
-    procs.add(make_client(alloc, b"c3", n)?)?;
-    procs.add(make_client(alloc, b"c4", n)?)?;
-    procs.add(make_client(alloc, b"c5", n)?)?;
-    procs.add(make_client(alloc, b"c6", n)?)?;
-    procs.add(make_client(alloc, b"c7", n)?)?;
-    Ok(procs)
+    let instrs = make_calls(alloc, n)?;
+    let name = name_of(alloc, name)?;
+    let client = Proc {
+        name,
+        labels: Sequence::new(alloc),
+        instrs,
+    };
+    procs.add(client)
+}
+
+/// Adds two clients.
+fn add_two(
+    alloc: Global,
+    procs: &mut Procs,
+    first: &[u8],
+    second: &[u8],
+    n: u32,
+) -> Result<(), AllocError>
+    requires few { n ≤ MOST_CALLS }
+    requires first { is_token first.now ≡ true }
+    requires second { is_token second.now ≡ true }
+    ensures { OnOk result (procs.new ≡ procs.old ++ client n first.now ∷ client n second.now ∷ []) }
+{
+    add_client(alloc, procs, first, n)?;
+    add_client(alloc, procs, second, n)
+}
+
+/// Adds the eight clients.
+fn add_clients(alloc: Global, procs: &mut Procs, n: u32) -> Result<(), AllocError>
+    requires { n ≤ MOST_CALLS }
+    ensures { OnOk result (procs.new ≡ procs.old ++ map (client n) client_names) }
+{
+    add_two(alloc, procs, b"c0", b"c1", n)?;
+    add_two(alloc, procs, b"c2", b"c3", n)?;
+    add_two(alloc, procs, b"c4", b"c5", n)?;
+    add_two(alloc, procs, b"c6", b"c7", n)
+}
+
+/// Adds the nine processes.
+#[tactic(auto, unfolding(crate::specs::Generated::generated))]
+fn add_procs(alloc: Global, procs: &mut Procs, n: u32) -> Result<(), AllocError>
+    requires { n ≤ MOST_CALLS }
+    ensures { OnOk result (procs.new ≡ procs.old ++ (generated n).procs) }
+{
+    let hub = make_hub(alloc)?;
+    procs.add(hub)?;
+    add_clients(alloc, procs, n)
 }
 
 /// The generated script: a hub that answers calls, and eight clients, each of which makes `n` calls
@@ -263,7 +378,8 @@ pub fn generate(alloc: Global, n: u32) -> Result<Script, AllocError>
     requires few { n ≤ MOST_CALLS }
     ensures { IfOk result (λ s. s ≡ generated n) }
 {
-    let procs = make_procs(alloc, n)?;
+    let mut procs = Sequence::new(alloc);
+    add_procs(alloc, &mut procs, n)?;
     Ok(Script {
         turns: MOST_TURNS,
         procs,

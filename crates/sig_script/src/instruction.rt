@@ -1,4 +1,5 @@
 ghost use Rattle.std.specs.Prelude.{◌≡◌, IfOk};
+ghost use Rattle.sig_script.specs.declared.instruction.Instr.TheVariants as instr;
 
 use sig_kinds::AliasMode;
 use sig_lists::Sequence;
@@ -152,22 +153,69 @@ fn copy_clauses(alloc: Global, clauses: &Clauses) -> Result<Clauses, AllocError>
     Ok(copies)
 }
 
+fn copy_send(alloc: Global, to: &Expr, message: &Expr) -> Result<Instr, AllocError>
+    ensures { IfOk result (λ i. i ≡ instr.Send to.now message.now) }
+{
+    let to = to.copy(alloc)?;
+    let message = message.copy(alloc)?;
+    Ok(Instr::Send { to, message })
+}
+
+fn copy_set(alloc: Global, var: &Var, value: &Expr) -> Result<Instr, AllocError>
+    ensures { IfOk result (λ i. i ≡ instr.Set var.now value.now) }
+{
+    let var = var.copy(alloc)?;
+    let value = value.copy(alloc)?;
+    Ok(Instr::Set { var, value })
+}
+
+fn copy_receive(
+    alloc: Global,
+    marker: &Option<Var>,
+    clauses: &Clauses,
+    after: &Option<After>,
+) -> Result<Instr, AllocError>
+    ensures { IfOk result (λ i. i ≡ instr.Receive marker.now clauses.now after.now) }
+{
+    let using = copy_marker(alloc, marker)?;
+    let clauses = copy_clauses(alloc, clauses)?;
+    let after = copy_after(after);
+    Ok(Instr::Receive {
+        using,
+        clauses,
+        after,
+    })
+}
+
+fn copy_monitor(
+    alloc: Global,
+    var: &Var,
+    target: &Expr,
+    mode: Option<AliasMode>,
+) -> Result<Instr, AllocError>
+    ensures { IfOk result (λ i. i ≡ instr.Monitor var.now target.now mode) }
+{
+    let var = var.copy(alloc)?;
+    let target = target.copy(alloc)?;
+    Ok(Instr::Monitor { var, target, mode })
+}
+
+fn copy_exit_to(alloc: Global, target: &Expr, reason: &Expr) -> Result<Instr, AllocError>
+    ensures { IfOk result (λ i. i ≡ instr.ExitTo target.now reason.now) }
+{
+    let target = target.copy(alloc)?;
+    let reason = reason.copy(alloc)?;
+    Ok(Instr::ExitTo { target, reason })
+}
+
 impl Instr {
     /// An equal instruction.
     pub fn copy(&self, alloc: Global) -> Result<Instr, AllocError>
         ensures { IfOk result (λ i. i ≡ self.now) }
     {
         match self {
-            Instr::Send { to, message } => {
-                let to = to.copy(alloc)?;
-                let message = message.copy(alloc)?;
-                Ok(Instr::Send { to, message })
-            }
-            Instr::Set { var, value } => {
-                let var = var.copy(alloc)?;
-                let value = value.copy(alloc)?;
-                Ok(Instr::Set { var, value })
-            }
+            Instr::Send { to, message } => copy_send(alloc, to, message),
+            Instr::Set { var, value } => copy_set(alloc, var, value),
             Instr::MakeRef { var } => {
                 let var = var.copy(alloc)?;
                 Ok(Instr::MakeRef { var })
@@ -176,16 +224,7 @@ impl Instr {
                 using,
                 clauses,
                 after,
-            } => {
-                let using = copy_marker(alloc, using)?;
-                let clauses = copy_clauses(alloc, clauses)?;
-                let after = copy_after(after);
-                Ok(Instr::Receive {
-                    using,
-                    clauses,
-                    after,
-                })
-            }
+            } => copy_receive(alloc, using, clauses, after),
             Instr::Link { peer } => {
                 let peer = peer.copy(alloc)?;
                 Ok(Instr::Link { peer })
@@ -194,15 +233,7 @@ impl Instr {
                 let peer = peer.copy(alloc)?;
                 Ok(Instr::Unlink { peer })
             }
-            Instr::Monitor { var, target, mode } => {
-                let var = var.copy(alloc)?;
-                let target = target.copy(alloc)?;
-                Ok(Instr::Monitor {
-                    var,
-                    target,
-                    mode: *mode,
-                })
-            }
+            Instr::Monitor { var, target, mode } => copy_monitor(alloc, var, target, *mode),
             Instr::Demonitor { reference, flush } => {
                 let reference = reference.copy(alloc)?;
                 Ok(Instr::Demonitor {
@@ -222,11 +253,7 @@ impl Instr {
                 let reason = reason.copy(alloc)?;
                 Ok(Instr::Exit { reason })
             }
-            Instr::ExitTo { target, reason } => {
-                let target = target.copy(alloc)?;
-                let reason = reason.copy(alloc)?;
-                Ok(Instr::ExitTo { target, reason })
-            }
+            Instr::ExitTo { target, reason } => copy_exit_to(alloc, target, reason),
             Instr::Trap { on } => Ok(Instr::Trap { on: *on }),
             Instr::Reserve => Ok(Instr::Reserve),
             Instr::Bind { var } => {

@@ -202,7 +202,6 @@ fn put_clause(
     put(into, b"\n")
 }
 
-#[tactic(auto, using(crate::proofs::PrintLemmas::kept_front))]
 fn put_clauses(
     into: &mut Vec<u8>,
     procs: &[Proc],

@@ -62,7 +62,6 @@ fn put_labels<'l>(
 
 /// Appends the instructions, each behind the labels at its place, and the labels behind the last.
 /// The labels' places never fall, so those of a place stand at the front of those that are left.
-#[tactic(auto, using(crate::proofs::PrintLemmas::kept_front))]
 fn put_placed(
     into: &mut Vec<u8>,
     procs: &[Proc],
@@ -95,7 +94,6 @@ fn put_proc(into: &mut Vec<u8>, procs: &[Proc], proc: &Proc) -> Result<(), Alloc
 }
 
 /// Appends the lines of the processes.
-#[tactic(auto, using(crate::proofs::PrintLemmas::kept_front))]
 fn put_procs(into: &mut Vec<u8>, procs: &[Proc]) -> Result<(), AllocError>
     ensures { IsPut into.old.items into.new.items (flat_map line_text (procs_lines procs.now)) result }
 {

@@ -1,6 +1,6 @@
-use Rattle.std.proofs.Common.{rules, ◌≡◌, ◌++◌, ◌∷◌, [], length, sym}
+use Rattle.std.proofs.Common.{rules, Ok, take, drop, ◌-◌, ◌∙◌, ap, refl, ◌≡◌, ◌++◌, ◌∷◌, [], length, sym}
 use Rattle.sig_script.specs.Phrases.{elements, ending, phrase_at}
-use Rattle.sig_script.proofs.PhraseLemmas.{one_more, goes_on, phrase_step, well_spelled_rest, no_token}
+use Rattle.sig_script.proofs.PhraseLemmas.{bracketed_none, bracketed_closed, bracketed_some, one_more, goes_on, phrase_step, well_spelled_rest, no_token}
 use Rattle.sig_script.proofs.phrases.+front.Goals as goal
 
 pub front-returns-in-len1-up-clause-value : goal.front-returns-in-len1-up-clause-value
@@ -32,3 +32,27 @@ some_elements-loop-preserved g t c =
       items = rw added (goes_on read finish (length c.args.tokens.now) c.loop.counter c.loop.left c.loop.items c.loop.rest.now
           c.in_ok-item.item c.in_ok-item.fewer c.in_ok-item.behind.now no_token whole c.loop-test.true c.in-len1-up.len_at_least (sym c.if-is_comma.ensures) c.in_ok-item.ensures.value c.loop.invariant.items);
     }
+
+pub behind_bracket-returns-in-empty-clause-value : goal.behind_bracket-returns-in-empty-clause-value
+behind_bracket-returns-in-empty-clause-value g t c = bracketed_none g.T.Phrase.spelling c.args.close _ c.args.nodes c.args.tokens.now c.in-empty.len_below
+
+pub behind_bracket-returns-in-len1-up-clause-value : goal.behind_bracket-returns-in-len1-up-clause-value
+behind_bracket-returns-in-len1-up-clause-value g t c =
+    bracketed_closed g.T.Phrase.spelling c.args.close _ c.args.nodes c.args.tokens.now no_token c.in-len1-up.len_at_least (sym c.if-closes.ensures)
+    ∙ ap (λ list. Ok (list, c.args.nodes, take (length c.args.tokens.now - 1) (drop 1 c.args.tokens.now))) (sym (c.enclosing.ensures ∙ ap (g.T.Phrase.spelling.enclosing c.args.close) c.new.ensures))
+
+pub behind_bracket-returns-in_default-clause-value : goal.behind_bracket-returns-in_default-clause-value
+behind_bracket-returns-in_default-clause-value g t c =
+    rw (bracketed_some g.T.Phrase.spelling c.args.close (phrase_at g.T.Phrase.spelling c.args.known.now c.args.line.now c.args.depth) c.args.nodes c.args.tokens.now no_token c.in-len1-up.len_at_least (sym c.if-closes.ensures))
+    c.some_elements.ensures.value
+
+pub behind_token-returns-then-is_open_brace-clause-value : goal.behind_token-returns-then-is_open_brace-clause-value
+behind_token-returns-then-is_open_brace-clause-value g t c = rw (sym c.if-is_open_brace.ensures) c.behind_bracket.ensures.value
+
+pub behind_token-returns-then-is_open_bracket-clause-value : goal.behind_token-returns-then-is_open_bracket-clause-value
+behind_token-returns-then-is_open_bracket-clause-value g t c =
+    rw (sym c.if-is_open_brace.ensures, sym c.if-is_open_bracket.ensures) c.behind_bracket-then-is_open_bracket.ensures.value
+
+pub behind_token-returns-in_ok-phrase-clause-value : goal.behind_token-returns-in_ok-phrase-clause-value
+behind_token-returns-in_ok-phrase-clause-value g t c =
+    rw (sym c.if-is_open_brace.ensures, sym c.if-is_open_bracket.ensures, c.in_ok-phrase.ensures.value) refl

@@ -2,7 +2,7 @@ use Rattle.std.proofs.Common.{arith, ◌≡◌, ◌==◌, ◌∷◌, ◌+◌, �
 use Rattle.std.proofs.lemmas.Bool.Decides.{nat_tests}
 use Rattle.sig_script.specs.declared.label.Label.{Label}
 use Rattle.sig_script.specs.ScriptText.{label_line, line_text}
-use Rattle.sig_script.proofs.PrintLemmas.{kept_more}
+use Rattle.sig_script.proofs.PrintLemmas.{refused, front_on, kept_more}
 use Rattle.sig_script.proofs.LabelTextLemmas.{stop_behind, stop_from, stop_text, step_text, step_from, step_rising, step_behind}
 use Rattle.sig_script.proofs.printing.put_labels.Goals as goal
 
@@ -20,6 +20,11 @@ returns-then-label-place-clause-rest c =
     stop_behind c.args.place c.loop-label.rest.now c.in-Some.others.now c.in-Some.label.now c.in-Some.ensures.cases.0 ne c.loop-label.invariant.2 c.loop-label.invariant.3 in
     let is = stop_from c.args.place c.loop-label.rest.now behind in
     is ∙ c.loop-label.invariant.1
+
+pub returns-in_err-put_named-clause-put : goal.returns-in_err-put_named-clause-put
+returns-in_err-put_named-clause-put c =
+    refused c.args.into.now.items c.put_named.new.into.items _ c.from_residual.result c.from_residual.ensures.0
+    (front_on c.args.into.now.items c.loop-label.into.items c.put_named.new.into.items c.loop-label.invariant.4 c.in_err-put_named.ensures.1)
 
 pub loop-label-preserved : goal.loop-label-preserved
 loop-label-preserved c =

@@ -5,7 +5,7 @@ use Rattle.std.proofs.lemmas.List.{drop_all, drop_more}
 use Rattle.std.proofs.Math.Seq.{take-length}
 use Rattle.sig_script.specs.declared.label.Label.{Label}
 use Rattle.sig_script.specs.ScriptText.{names_of, labels_there, instr_lines, line_text}
-use Rattle.sig_script.proofs.PrintLemmas.{kept_more}
+use Rattle.sig_script.proofs.PrintLemmas.{refused, kept_more, front_on, front_behind}
 use Rattle.sig_script.proofs.LabelTextLemmas.{all_from, placed_step, placed_end, next_from, rest_rising, rest_behind}
 use Rattle.sig_script.proofs.printing.put_placed.Goals as goal
 
@@ -23,6 +23,22 @@ put_labels-requires-2-clause-rising c = rest_rising c.loop-instr.place c.args.la
 
 pub put_labels-requires-2-clause-behind : goal.put_labels-requires-2-clause-behind
 put_labels-requires-2-clause-behind c = rest_behind c.loop-instr.place c.args.labels.now c.loop-instr.rest.now c.loop-instr.invariant.1
+
+pub returns-in_err-rest : goal.returns-in_err-rest
+returns-in_err-rest c =
+    refused c.args.into.now.items c.put_labels.new.into.items _ c.from_residual.result c.from_residual.ensures.0
+    (front_on c.args.into.now.items c.loop-instr.into.items c.put_labels.new.into.items c.loop-instr.invariant.3 c.in_err-rest.ensures.put.1)
+
+pub returns-in_err-put_instr : goal.returns-in_err-put_instr
+returns-in_err-put_instr c =
+    refused c.args.into.now.items c.put_instr.new.into.items _ c.from_residual-in_err-put_instr.result c.from_residual-in_err-put_instr.ensures.0
+    (front_behind c.args.into.now.items c.loop-instr.into.items (flat_map line_text (labels_there c.loop-instr.rest.now c.loop-instr.place)) c.put_labels.new.into.items c.put_instr.new.into.items
+    c.loop-instr.invariant.3 c.in_ok-rest.ensures.put.0 c.in_err-put_instr.ensures.1)
+
+pub returns-in_err-put_labels : goal.returns-in_err-put_labels
+returns-in_err-put_labels c =
+    refused c.args.into.now.items c.put_labels-2.new.into.items _ c.from_residual-in_err-put_labels.result c.from_residual-in_err-put_labels.ensures.0
+    (front_on c.args.into.now.items c.loop-instr.into.items c.put_labels-2.new.into.items c.loop-instr.invariant.3 c.in_err-put_labels.ensures.put.1)
 
 pub loop-instr-preserved : goal.loop-instr-preserved
 loop-instr-preserved c =

@@ -1,8 +1,9 @@
 use Rattle.std.proofs.Common.{◌≡◌, ◌++◌, take}
 use Rattle.std.specs.List.{flat_map}
+use Rattle.sig_script.specs.Scripts.{Declared}
 use Rattle.sig_script.specs.ScriptText.{names_of, process_lines, line_text}
 use Rattle.sig_script.proofs.printing.put_procs.Given as goal
 
 -- the processes so far
 abbrev pub invariant-loop-proc : goal.invariant-loop-proc
-invariant-loop-proc l = l.into.items ≡ l.fn.into.items ++ flat_map line_text (flat_map (process_lines (names_of l.procs)) (take l.proc-index l.procs))
+invariant-loop-proc l = l.into.items ≡ l.fn.into.items ++ flat_map (λ (p : Declared). flat_map line_text (process_lines (names_of l.procs) p)) (take l.proc-index l.procs)

@@ -1,7 +1,7 @@
 use Rattle.std.proofs.Common.{◌≡◌}
 use Rattle.std.specs.List.{flat_map, range_with_len}
 use Rattle.sig_script.specs.Generated.{call}
-use Rattle.sig_script.proofs.generating.make_client.Given as goal
+use Rattle.sig_script.proofs.generating.make_calls.Given as goal
 
 -- the calls so far
 abbrev pub invariant-loop-k : goal.invariant-loop-k
