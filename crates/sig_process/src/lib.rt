@@ -19,6 +19,7 @@ mod progress;
 mod queues;
 mod reacting;
 mod receiving;
+mod rows;
 mod telling;
 mod values;
 mod waiting;

@@ -1,29 +1,36 @@
-ghost use Rattle.std.specs.Prelude.{◌≡◌, ◌+◌, ◌-◌, ◌≤◌, [], ◌∷◌, length, slice_get, option_copied, Some, None, true, false, IfOk};
+ghost use Rattle.std.specs.Prelude.{◌≡◌, ◌+◌, ◌≤◌, [], ◌∷◌, length, map, Some, false, IfOk};
 ghost use Rattle.sig_model.specs.ProcessState.{ProcessState};
-ghost use Rattle.sig_model.specs.Bodies.{place_after, going_on};
-ghost use Rattle.sig_model.specs.Executing.{sending, setting, linking, unlinking, sending_exit, trapping, new_ref, making_ref, monitoring, aliasing, demonitoring, unaliasing, reserving, marked_by, binding, clearing, from_mark, exec_body};
-ghost use Rattle.sig_process.specs.Planning.{IsPlanned, is_receive};
-ghost use Rattle.sig_process.specs.Plans.{changed, body_of, executed_body};
+ghost use Rattle.sig_model.specs.Bodies.{place_after, going_on, at_next};
+ghost use Rattle.sig_model.specs.Executing.{sending, setting, linking, unlinking, sending_exit, trapping, new_ref, making_ref, monitoring, aliasing, demonitoring, unaliasing, reserving, marked_by, binding, clearing};
+ghost use Rattle.sig_process.specs.Plans.{changed, post_of, body_of, executed_body};
 ghost use Rattle.sig_process.specs.Progressing.{state_of};
 
-use crate::changing::Change;
+use crate::changing::{Change, LinkChange, WatchChange};
 use crate::plan::{Binding, Execution, InboxChange, Outgoing, Plan};
 use crate::progress::Progress;
-use crate::values::ValueFault;
 use sig_kinds::{AliasMode, Kind};
 use sig_model::{Outcome, Target};
 use sig_patterns::Var;
-use sig_script::{Instr, Proc};
+use sig_script::Proc;
 use sig_terms::{Pid, Ref, Term};
 use std::alloc::{AllocError, Global};
+
+/// One signal that an event sends.
+fn one_post(alloc: Global, to: Pid, kind: Kind) -> Result<Vec<Outgoing>, AllocError>
+    ensures { IfOk result (λ posts. map post_of posts.items ≡ record { to = to.0; kind = kind } ∷ []) }
+{
+    let posts = vec![in alloc; Outgoing { to, kind }]?;
+    Ok(posts)
+}
 
 impl Plan {
     /// The same plan, with one signal sent.
     pub(crate) fn sending(self, alloc: Global, to: Pid, kind: Kind) -> Result<Plan, AllocError>
         ensures { IfOk result (λ plan. (s : ProcessState) → body_of s plan ≡ record (body_of s self) { posts = record { to = to.0; kind = kind } ∷ [] }) }
     {
-        let posts = vec![in alloc; Outgoing { to, kind }]?;
-        Ok(Plan { posts, ..self })
+        let mut plan = self;
+        plan.posts = one_post(alloc, to, kind)?;
+        Ok(plan)
     }
 }
 
@@ -68,54 +75,104 @@ impl Progress {
         }
     }
 
-    /// A message to a process, or through an alias to the process that made it.
-    fn plan_send(&self, proc: &Proc, to: Target, message: Term) -> Result<Execution, AllocError>
+    /// The execution that changes nothing and sends one signal.
+    fn telling(
+        &self,
+        proc: &Proc,
+        outcome: Outcome,
+        to: Pid,
+        kind: Kind,
+    ) -> Result<Execution, AllocError>
         requires { self.now.counts.place ≤ length proc.now.instrs }
-        ensures { IfOk result (λ x. sending (state_of self.now) message to ≡ executed_body (state_of self.now) x) }
+        ensures { IfOk result (λ x. executed_body (state_of self.now) x ≡ record { state = at_next (state_of self.now); outcome = outcome; posts = record { to = to.0; kind = kind } ∷ [] }) }
     {
-        let told = message.copy(self.alloc)?;
-        let (receiver, named, kind) = match to {
-            Target::Process(pid) => (pid, Term::Pid(pid), Kind::Message { term: message }),
-            Target::Alias(reference) => {
-                let kind = Kind::AliasMessage {
-                    reference,
-                    term: message,
-                };
-                (reference.owner, Term::Ref(reference), kind)
-            }
-        };
-        let outcome = Outcome::Sent {
-            to: named,
-            message: told,
-        };
         let plan = self.silent(Change::Nothing, outcome);
-        let plan = plan.sending(self.alloc, receiver, kind)?;
+        let plan = plan.sending(self.alloc, to, kind)?;
         Ok(self.going(proc, None, plan))
     }
 
+    /// A message to a process.
+    fn plan_message(&self, proc: &Proc, to: Pid, term: Term) -> Result<Execution, AllocError>
+        requires { self.now.counts.place ≤ length proc.now.instrs }
+        ensures { IfOk result (λ x. sending (state_of self.now) term (Target.Process to) ≡ executed_body (state_of self.now) x) }
+    {
+        let outcome = Outcome::Sent {
+            to: Term::Pid(to),
+            message: term.copy(self.alloc)?,
+        };
+        self.telling(proc, outcome, to, Kind::Message { term })
+    }
+
+    /// A message through an alias to the process that made it.
+    fn plan_alias_message(
+        &self,
+        proc: &Proc,
+        reference: Ref,
+        term: Term,
+    ) -> Result<Execution, AllocError>
+        requires { self.now.counts.place ≤ length proc.now.instrs }
+        ensures { IfOk result (λ x. sending (state_of self.now) term (Target.Alias reference) ≡ executed_body (state_of self.now) x) }
+    {
+        let outcome = Outcome::Sent {
+            to: Term::Ref(reference),
+            message: term.copy(self.alloc)?,
+        };
+        let kind = Kind::AliasMessage { reference, term };
+        self.telling(proc, outcome, reference.owner, kind)
+    }
+
+    /// A message to a process, or through an alias.
+    pub(crate) fn plan_send(
+        &self,
+        proc: &Proc,
+        to: Target,
+        message: Term,
+    ) -> Result<Execution, AllocError>
+        requires { self.now.counts.place ≤ length proc.now.instrs }
+        ensures { IfOk result (λ x. sending (state_of self.now) message to ≡ executed_body (state_of self.now) x) }
+    {
+        match to {
+            Target::Process(pid) => self.plan_message(proc, pid, message),
+            Target::Alias(reference) => self.plan_alias_message(proc, reference, message),
+        }
+    }
+
+    /// The variable gets the value, and the event tells this copy of it.
+    fn assigning(&self, proc: &Proc, var: Var, value: Term, told: Term) -> Execution
+        requires within { self.now.counts.place ≤ length proc.now.instrs }
+        requires copy { told ≡ value }
+        ensures { setting (state_of self.now) var.0 value ≡ executed_body (state_of self.now) result }
+    {
+        Execution {
+            binding: Binding::Value { var, value },
+            inbox: InboxChange::Nothing,
+            place: self.place_after(proc, None),
+            plan: self.silent(Change::Nothing, Outcome::Set { value: told }),
+        }
+    }
+
     /// The variable gets the value.
-    fn plan_set(&self, proc: &Proc, var: &Var, value: Term) -> Result<Execution, AllocError>
+    pub(crate) fn plan_set(
+        &self,
+        proc: &Proc,
+        var: &Var,
+        value: Term,
+    ) -> Result<Execution, AllocError>
         requires { self.now.counts.place ≤ length proc.now.instrs }
         ensures { IfOk result (λ x. setting (state_of self.now) var.now.0 value ≡ executed_body (state_of self.now) x) }
     {
-        let outcome = Outcome::Set {
-            value: value.copy(self.alloc)?,
-        };
+        let told = value.copy(self.alloc)?;
         let var = var.copy(self.alloc)?;
-        let plan = self.silent(Change::Nothing, outcome);
-        Ok(Execution {
-            binding: Binding::Value { var, value },
-            ..self.going(proc, None, plan)
-        })
+        Ok(self.assigning(proc, var, value, told))
     }
 
     /// A link to a process. Its signal is sent but to oneself or where the link is active.
-    fn plan_link(&self, proc: &Proc, peer: Pid) -> Result<Execution, AllocError>
+    pub(crate) fn plan_link(&self, proc: &Proc, peer: Pid) -> Result<Execution, AllocError>
         requires { self.now.counts.place ≤ length proc.now.instrs }
         ensures { IfOk result (λ x. linking (state_of self.now) peer ≡ executed_body (state_of self.now) x) }
     {
         let links = &self.tables.links;
-        let mut plan = self.silent(Change::Link { peer }, Outcome::Done);
+        let mut plan = self.silent(Change::Links(LinkChange::Link { peer }), Outcome::Done);
         if peer != links.owner() && !links.active(peer) {
             plan = plan.sending(self.alloc, peer, Kind::Link)?;
         }
@@ -123,12 +180,12 @@ impl Progress {
     }
 
     /// The end of the link to a process. Its signal is sent where the link is active.
-    fn plan_unlink(&self, proc: &Proc, peer: Pid) -> Result<Execution, AllocError>
+    pub(crate) fn plan_unlink(&self, proc: &Proc, peer: Pid) -> Result<Execution, AllocError>
         requires { self.now.counts.place ≤ length proc.now.instrs }
         ensures { IfOk result (λ x. unlinking (state_of self.now) peer ≡ executed_body (state_of self.now) x) }
     {
         let links = &self.tables.links;
-        let mut plan = self.silent(Change::Unlink { peer }, Outcome::Done);
+        let mut plan = self.silent(Change::Links(LinkChange::Unlink { peer }), Outcome::Done);
         if links.active(peer) {
             let id = links.next_id();
             plan = plan.sending(self.alloc, peer, Kind::Unlink { id })?;
@@ -137,7 +194,12 @@ impl Progress {
     }
 
     /// An exit signal to a process.
-    fn plan_exit_to(&self, proc: &Proc, target: Pid, reason: Term) -> Result<Execution, AllocError>
+    pub(crate) fn plan_exit_to(
+        &self,
+        proc: &Proc,
+        target: Pid,
+        reason: Term,
+    ) -> Result<Execution, AllocError>
         requires { self.now.counts.place ≤ length proc.now.instrs }
         ensures { IfOk result (λ x. sending_exit (state_of self.now) reason target ≡ executed_body (state_of self.now) x) }
     {
@@ -145,13 +207,11 @@ impl Progress {
             reason,
             linked: false,
         };
-        let plan = self.silent(Change::Nothing, Outcome::Done);
-        let plan = plan.sending(self.alloc, target, kind)?;
-        Ok(self.going(proc, None, plan))
+        self.telling(proc, Outcome::Done, target, kind)
     }
 
     /// The process traps exits from now on, or does no more.
-    fn plan_trap(&self, proc: &Proc, on: bool) -> Execution
+    pub(crate) fn plan_trap(&self, proc: &Proc, on: bool) -> Execution
         requires { self.now.counts.place ≤ length proc.now.instrs }
         ensures { trapping (state_of self.now) on ≡ executed_body (state_of self.now) result }
     {
@@ -160,7 +220,7 @@ impl Progress {
     }
 
     /// The process goes on at a label.
-    fn plan_goto(&self, proc: &Proc, label: u32) -> Execution
+    pub(crate) fn plan_goto(&self, proc: &Proc, label: u32) -> Execution
         requires { self.now.counts.place ≤ length proc.now.instrs }
         ensures { going_on (state_of self.now) (place_after proc.now.labels (Some label) self.now.counts.place) Outcome.Done ≡ executed_body (state_of self.now) result }
     {
@@ -187,35 +247,31 @@ impl Progress {
     }
 
     /// The execution of this plan, by which the variable gets the reference.
-    fn making(
-        &self,
-        proc: &Proc,
-        var: &Var,
-        reference: Ref,
-        plan: Plan,
-    ) -> Result<Execution, AllocError>
+    fn making(&self, proc: &Proc, var: Var, reference: Ref, plan: Plan) -> Execution
         requires { self.now.counts.place ≤ length proc.now.instrs }
-        ensures { IfOk result (λ x. x ≡ record { binding = Binding.Made var.now reference; inbox = InboxChange.Nothing; place = self.now.counts.place + 1; plan = plan }) }
+        ensures { result ≡ record { binding = Binding.Made var reference; inbox = InboxChange.Nothing; place = self.now.counts.place + 1; plan = plan } }
     {
-        let var = var.copy(self.alloc)?;
-        Ok(Execution {
+        Execution {
             binding: Binding::Made { var, reference },
-            ..self.going(proc, None, plan)
-        })
+            inbox: InboxChange::Nothing,
+            place: self.place_after(proc, None),
+            plan,
+        }
     }
 
     /// A reference that is nothing else.
-    fn plan_make_ref(&self, proc: &Proc, var: &Var) -> Result<Execution, AllocError>
+    pub(crate) fn plan_make_ref(&self, proc: &Proc, var: &Var) -> Result<Execution, AllocError>
         requires { self.now.counts.place ≤ length proc.now.instrs }
         ensures { IfOk result (λ x. making_ref (state_of self.now) var.now.0 ≡ executed_body (state_of self.now) x) }
     {
+        let var = var.copy(self.alloc)?;
         let reference = self.new_ref();
         let plan = self.made(Change::Nothing, reference);
-        self.making(proc, var, reference, plan)
+        Ok(self.making(proc, var, reference, plan))
     }
 
     /// A monitor of a process. Its signal is sent but to oneself.
-    fn plan_monitor(
+    pub(crate) fn plan_monitor(
         &self,
         proc: &Proc,
         var: &Var,
@@ -225,31 +281,41 @@ impl Progress {
         requires { self.now.counts.place ≤ length proc.now.instrs }
         ensures { IfOk result (λ x. monitoring (state_of self.now) var.now.0 mode target ≡ executed_body (state_of self.now) x) }
     {
+        let var = var.copy(self.alloc)?;
         let reference = self.new_ref();
-        let change = Change::Monitor {
+        let change = WatchChange::Monitor {
             reference,
             target,
             mode,
         };
-        let mut plan = self.made(change, reference);
+        let mut plan = self.made(Change::Watch(change), reference);
         if target != self.tables.watch.owner() {
             plan = plan.sending(self.alloc, target, Kind::Monitor { reference })?;
         }
-        self.making(proc, var, reference, plan)
+        Ok(self.making(proc, var, reference, plan))
     }
 
     /// A new alias.
-    fn plan_alias(&self, proc: &Proc, var: &Var, reply: bool) -> Result<Execution, AllocError>
+    pub(crate) fn plan_alias(
+        &self,
+        proc: &Proc,
+        var: &Var,
+        reply: bool,
+    ) -> Result<Execution, AllocError>
         requires { self.now.counts.place ≤ length proc.now.instrs }
         ensures { IfOk result (λ x. aliasing (state_of self.now) var.now.0 reply ≡ executed_body (state_of self.now) x) }
     {
+        let var = var.copy(self.alloc)?;
         let reference = self.new_ref();
-        let plan = self.made(Change::Alias { reference, reply }, reference);
-        self.making(proc, var, reference, plan)
+        let plan = self.made(
+            Change::Watch(WatchChange::Alias { reference, reply }),
+            reference,
+        );
+        Ok(self.making(proc, var, reference, plan))
     }
 
     /// The end of the monitor of a reference. With `flush` the message of its end is removed.
-    fn plan_demonitor(
+    pub(crate) fn plan_demonitor(
         &self,
         proc: &Proc,
         reference: Ref,
@@ -264,7 +330,7 @@ impl Progress {
         } else {
             Outcome::Done
         };
-        let mut plan = self.silent(Change::Demonitor { reference }, outcome);
+        let mut plan = self.silent(Change::Watch(WatchChange::Demonitor { reference }), outcome);
         if let Some(target) = self.tables.watch.told(reference) {
             plan = plan.sending(self.alloc, target, Kind::Demonitor { reference })?;
         }
@@ -274,18 +340,23 @@ impl Progress {
             InboxChange::Nothing
         };
         Ok(Execution {
+            binding: Binding::Nothing,
             inbox,
-            ..self.going(proc, None, plan)
+            place: self.place_after(proc, None),
+            plan,
         })
     }
 
     /// The end of an alias.
-    fn plan_unalias(&self, proc: &Proc, reference: Ref) -> Execution
+    pub(crate) fn plan_unalias(&self, proc: &Proc, reference: Ref) -> Execution
         requires { self.now.counts.place ≤ length proc.now.instrs }
         ensures { unaliasing (state_of self.now) reference ≡ executed_body (state_of self.now) result }
     {
         let value = self.tables.watch.alias_mode(reference).is_some();
-        let plan = self.silent(Change::Unalias { reference }, Outcome::Answered { value });
+        let plan = self.silent(
+            Change::Watch(WatchChange::Unalias { reference }),
+            Outcome::Answered { value },
+        );
         self.going(proc, None, plan)
     }
 
@@ -297,8 +368,10 @@ impl Progress {
     {
         let plan = self.silent(Change::Nothing, Outcome::Answered { value });
         Execution {
+            binding: Binding::Nothing,
             inbox,
-            ..self.going(proc, None, plan)
+            place: self.place_after(proc, None),
+            plan,
         }
     }
 
@@ -311,20 +384,22 @@ impl Progress {
     }
 
     /// A place behind all messages is reserved for the next references.
-    fn plan_reserve(&self, proc: &Proc) -> Execution
+    pub(crate) fn plan_reserve(&self, proc: &Proc) -> Execution
         requires { self.now.counts.place ≤ length proc.now.instrs }
         ensures { reserving (state_of self.now) ≡ executed_body (state_of self.now) result }
     {
         let serial = self.counts.next_serial;
         let plan = self.silent(Change::Nothing, Outcome::Done);
         Execution {
+            binding: Binding::Nothing,
             inbox: InboxChange::Reserve { serial },
-            ..self.going(proc, None, plan)
+            place: self.place_after(proc, None),
+            plan,
         }
     }
 
     /// The reserve is bound to the reference that the variable's value is.
-    fn plan_bind(&self, proc: &Proc, var: &Var) -> Execution
+    pub(crate) fn plan_bind(&self, proc: &Proc, var: &Var) -> Execution
         requires within { self.now.counts.place ≤ length proc.now.instrs }
         requires owner { self.now.tables.inner.queue.owner ≡ self.now.tables.watch.watch.owner }
         ensures { binding (state_of self.now) var.now ≡ executed_body (state_of self.now) result }
@@ -339,7 +414,7 @@ impl Progress {
     }
 
     /// The mark of the reference that the variable's value is is taken out.
-    fn plan_clear(&self, proc: &Proc, var: &Var) -> Execution
+    pub(crate) fn plan_clear(&self, proc: &Proc, var: &Var) -> Execution
         requires { self.now.counts.place ≤ length proc.now.instrs }
         ensures { clearing (state_of self.now) var.now ≡ executed_body (state_of self.now) result }
     {
@@ -349,93 +424,6 @@ impl Progress {
                 let value = self.tables.inner.has_mark(reference);
                 self.answering(proc, value, InboxChange::Clear { reference })
             }
-        }
-    }
-
-    /// What an instruction of the process does, one arm for each row of the table of instructions.
-    fn plan_row(&self, proc: &Proc, instr: &Instr) -> Result<Execution, ValueFault>
-        requires within { self.now.counts.place ≤ length proc.now.instrs }
-        requires other { is_receive (Some instr.now) ≡ false }
-        requires owner { self.now.tables.inner.queue.owner ≡ self.now.tables.watch.watch.owner }
-        ensures { IsPlanned (state_of self.now) (exec_body from_mark proc.now (state_of self.now) (Some instr.now)) result }
-    {
-        match instr {
-            Instr::Send { to, message } => {
-                let (to, message) = self.values_of(to, message)?;
-                let to = self.address_of(to)?;
-                Ok(self.plan_send(proc, to, message)?)
-            }
-            Instr::Set { var, value } => {
-                let value = self.value_of(value)?;
-                Ok(self.plan_set(proc, var, value)?)
-            }
-            Instr::MakeRef { var } => Ok(self.plan_make_ref(proc, var)?),
-            Instr::Receive {
-                using: _,
-                clauses: _,
-                after: _,
-            } => unreachable!(),
-            Instr::Link { peer } => {
-                let peer = self.target_of(peer)?;
-                Ok(self.plan_link(proc, peer)?)
-            }
-            Instr::Unlink { peer } => {
-                let peer = self.target_of(peer)?;
-                Ok(self.plan_unlink(proc, peer)?)
-            }
-            Instr::Monitor { var, target, mode } => {
-                let target = self.target_of(target)?;
-                Ok(self.plan_monitor(proc, var, target, *mode)?)
-            }
-            Instr::Demonitor { reference, flush } => {
-                let reference = self.reference_of(reference)?;
-                Ok(self.plan_demonitor(proc, reference, *flush)?)
-            }
-            Instr::Alias { var, reply } => Ok(self.plan_alias(proc, var, *reply)?),
-            Instr::Unalias { reference } => {
-                let reference = self.reference_of(reference)?;
-                Ok(self.plan_unalias(proc, reference))
-            }
-            Instr::Reserve => Ok(self.plan_reserve(proc)),
-            Instr::Bind { var } => Ok(self.plan_bind(proc, var)),
-            Instr::Clear { var } => Ok(self.plan_clear(proc, var)),
-            Instr::Exit { reason } => {
-                let reason = self.value_of(reason)?;
-                Ok(self.exiting(reason)?)
-            }
-            Instr::ExitTo { target, reason } => {
-                let (target, reason) = self.values_of(target, reason)?;
-                let target = self.pid_of(target)?;
-                Ok(self.plan_exit_to(proc, target, reason)?)
-            }
-            Instr::Trap { on } => Ok(self.plan_trap(proc, *on)),
-            Instr::Goto { label } => Ok(self.plan_goto(proc, *label)),
-            Instr::Stop => Ok(self.exiting_with(b"normal")?),
-        }
-    }
-
-    /// What an instruction that is no receive does. The place after the last instruction is a stop.
-    /// A value that is too large ends the process with `system_limit`, and one that has to be a pid
-    /// or a reference and is none with `badarg`.
-    pub(crate) fn plan_instr(
-        &self,
-        proc: &Proc,
-        instr: Option<&Instr>,
-    ) -> Result<Execution, AllocError>
-        requires first { 1 ≤ self.now.counts.place }
-        requires instr { option_copied instr ≡ slice_get proc.now.instrs (self.now.counts.place - 1) }
-        requires other { is_receive (option_copied instr) ≡ false }
-        requires owner { self.now.tables.inner.queue.owner ≡ self.now.tables.watch.watch.owner }
-        ensures { IfOk result (λ x. exec_body from_mark proc.now (state_of self.now) (option_copied instr.entry) ≡ Some (executed_body (state_of self.now) x)) }
-    {
-        let Some(instr) = instr else {
-            return self.exiting_with(b"normal");
-        };
-        match self.plan_row(proc, instr) {
-            Ok(plan) => Ok(plan),
-            Err(ValueFault::TooLarge) => self.exiting_with(b"system_limit"),
-            Err(ValueFault::BadArg) => self.exiting_with(b"badarg"),
-            Err(ValueFault::Memory) => Err(AllocError),
         }
     }
 }

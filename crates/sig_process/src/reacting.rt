@@ -1,15 +1,17 @@
-ghost use Rattle.std.specs.Prelude.{◌≡◌, IfOk, None};
+ghost use Rattle.std.specs.Prelude.{◌≡◌, IfOk, None, Some, []};
 ghost use Rattle.sig_kinds.specs.LinkRules.{on_link, on_unlink, on_ack};
-ghost use Rattle.sig_kinds.specs.WatchRules.{on_alias_message, on_monitor, on_demonitor, on_down};
+ghost use Rattle.sig_kinds.specs.WatchRules.{mode_of, by_mode, on_alias_message, on_monitor, on_demonitor, on_down};
+ghost use Rattle.sig_kinds.specs.declared.alias_answer.AliasAnswer.TheVariants as alias_answer;
+ghost use Rattle.sig_model.specs.ProcessState.{ProcessState};
 ghost use Rattle.sig_model.specs.Bodies.{appending, dropping};
 ghost use Rattle.sig_model.specs.ExitRule.{exit_message, exit_rule, plain_exit, linked_exit};
 ghost use Rattle.sig_model.specs.Handling.{linking_up, unlinking_from, acknowledging, through_alias, watching, unwatching, down_message, told_down, live_body, answering_noproc, ended_body, handling};
-ghost use Rattle.sig_process.specs.Keeping.{message_of};
-ghost use Rattle.sig_process.specs.Plans.{after_obeying, body_of};
+ghost use Rattle.sig_process.specs.KeptMessage.{message_of};
+ghost use Rattle.sig_process.specs.Plans.{after_obeying, body_of, changed};
 ghost use Rattle.sig_process.specs.Planning.{noproc_answer};
 ghost use Rattle.sig_process.specs.Progressing.{state_of};
 
-use crate::changing::Change;
+use crate::changing::{Change, LinkChange, WatchChange};
 use crate::plan::Plan;
 use crate::progress::Progress;
 use sig_kinds::{AliasMode, Kind, Signal};
@@ -32,12 +34,13 @@ fn down_message(
     alloc: Global,
     reference: Ref,
     sender: Pid,
-    reason: Term,
+    reason: &Term,
 ) -> Result<Term, AllocError>
-    ensures { IfOk result (λ message. message ≡ down_message reference sender.0 reason) }
+    ensures { IfOk result (λ message. message ≡ down_message reference sender.0 reason.now) }
 {
     let down = Term::plain_atom(alloc, b"DOWN")?;
     let process = Term::plain_atom(alloc, b"process")?;
+    let reason = reason.copy(alloc)?;
     let parts = vec![in alloc;
         down,
         Term::Ref(reference),
@@ -84,14 +87,14 @@ impl Progress {
         } else {
             Outcome::Linked
         };
-        self.silent(Change::LinkUp { peer: sender }, outcome)
+        self.silent(Change::Links(LinkChange::LinkUp { peer: sender }), outcome)
     }
 
     /// An unlink signal ends the link, and gets its id back.
     fn plan_unlink_by(&self, sender: Pid, id: u64) -> Result<Plan, AllocError>
         ensures { IfOk result (λ plan. unlinking_from (state_of self.now) sender.0 id (on_unlink self.now.tables.links.links sender.0) ≡ body_of (state_of self.now) plan) }
     {
-        let change = Change::UnlinkBy { peer: sender };
+        let change = Change::Links(LinkChange::UnlinkBy { peer: sender });
         let plan = self.silent(change, Outcome::Unlinked);
         plan.sending(self.alloc, sender, Kind::UnlinkAck { id })
     }
@@ -105,7 +108,10 @@ impl Progress {
         } else {
             Outcome::Dropped
         };
-        self.silent(Change::Acknowledge { peer: sender, id }, outcome)
+        self.silent(
+            Change::Links(LinkChange::Acknowledge { peer: sender, id }),
+            outcome,
+        )
     }
 
     /// The exit rule. (Erlang Reference Manual, Processes, Receiving Exit Signals.)
@@ -150,25 +156,52 @@ impl Progress {
         self.plan_exit_rule(pid, Some(sender), sender, reason)
     }
 
-    /// A message through an alias: kept where the alias is active, whose mode may end it then, and
-    /// the monitor with it.
+    /// A message through an alias that is active comes to the end of the list.
+    fn keeping_through(&self, reference: Ref, term: &Term) -> Result<Plan, AllocError>
+        ensures { IfOk result (λ plan. (s : ProcessState) → body_of s plan ≡ record { state = changed s (Change.ThroughAlias reference term.now); outcome = Outcome.Kept term.now; posts = [] }) }
+    {
+        let told = term.copy(self.alloc)?;
+        let message = term.copy(self.alloc)?;
+        let outcome = Outcome::Kept { message: told };
+        Ok(self.silent(Change::ThroughAlias { reference, message }, outcome))
+    }
+
+    /// Who is told that the monitor ends, where the alias of its reference has this mode.
+    fn told_by(&self, mode: AliasMode, reference: Ref) -> Option<Pid>
+        ensures { (by_mode self.now.tables.watch.watch reference (Some mode)).0 ≡ alias_answer.Kept result }
+    {
+        if mode == AliasMode::ReplyDemonitor {
+            self.tables.watch.told(reference)
+        } else {
+            None
+        }
+    }
+
+    /// A message through an alias of this mode, which may end it then, and the monitor with it.
+    #[tactic(auto, using(crate::proofs::PlanLemmas::through_kept))]
+    fn plan_through_active(
+        &self,
+        mode: AliasMode,
+        reference: Ref,
+        term: &Term,
+    ) -> Result<Plan, AllocError>
+        requires { mode_of self.now.tables.watch.watch reference ≡ Some mode }
+        ensures { IfOk result (λ plan. through_alias (state_of self.now) reference term.now (by_mode self.now.tables.watch.watch reference (Some mode)) ≡ body_of (state_of self.now) plan) }
+    {
+        let plan = self.keeping_through(reference, term)?;
+        match self.told_by(mode, reference) {
+            None => Ok(plan),
+            Some(target) => plan.sending(self.alloc, target, Kind::Demonitor { reference }),
+        }
+    }
+
+    /// A message through an alias: kept where the alias is active.
     fn plan_through_alias(&self, reference: Ref, term: &Term) -> Result<Plan, AllocError>
         ensures { IfOk result (λ plan. through_alias (state_of self.now) reference term.now (on_alias_message self.now.tables.watch.watch reference) ≡ body_of (state_of self.now) plan) }
     {
-        let Some(mode) = self.tables.watch.alias_mode(reference) else {
-            return Ok(self.dropping(None));
-        };
-        let told = Outcome::Kept {
-            message: term.copy(self.alloc)?,
-        };
-        let message = term.copy(self.alloc)?;
-        let plan = self.silent(Change::ThroughAlias { reference, message }, told);
-        if mode != AliasMode::ReplyDemonitor {
-            return Ok(plan);
-        }
-        match self.tables.watch.told(reference) {
-            None => Ok(plan),
-            Some(target) => plan.sending(self.alloc, target, Kind::Demonitor { reference }),
+        match self.tables.watch.alias_mode(reference) {
+            None => Ok(self.dropping(None)),
+            Some(mode) => self.plan_through_active(mode, reference, term),
         }
     }
 
@@ -176,11 +209,11 @@ impl Progress {
     fn plan_watched(&self, sender: Pid, reference: Ref) -> Plan
         ensures { watching (state_of self.now) (on_monitor self.now.tables.watch.watch reference sender.0) ≡ body_of (state_of self.now) result }
     {
-        let change = Change::Watched {
+        let change = WatchChange::Watched {
             reference,
             watcher: sender,
         };
-        self.silent(change, Outcome::Watched)
+        self.silent(Change::Watch(change), Outcome::Watched)
     }
 
     /// A demonitor signal: the process bears the monitor no more.
@@ -192,7 +225,17 @@ impl Progress {
         } else {
             Outcome::Dropped
         };
-        self.silent(Change::Unwatched { reference }, outcome)
+        self.silent(Change::Watch(WatchChange::Unwatched { reference }), outcome)
+    }
+
+    /// The message of a down comes to the end of the list.
+    fn keeping_down(&self, reference: Ref, message: Term) -> Result<Plan, AllocError>
+        ensures { IfOk result (λ plan. (s : ProcessState) → body_of s plan ≡ record { state = changed s (Change.ToldDown reference message); outcome = Outcome.Kept message; posts = [] }) }
+    {
+        let told = Outcome::Kept {
+            message: message.copy(self.alloc)?,
+        };
+        Ok(self.silent(Change::ToldDown { reference, message }, told))
     }
 
     /// A down signal: a message, where the monitor is held.
@@ -202,12 +245,8 @@ impl Progress {
         if self.tables.watch.target(reference).is_none() {
             return Ok(self.dropping(None));
         }
-        let reason = reason.copy(self.alloc)?;
         let message = down_message(self.alloc, reference, sender, reason)?;
-        let told = Outcome::Kept {
-            message: message.copy(self.alloc)?,
-        };
-        Ok(self.silent(Change::ToldDown { reference, message }, told))
+        self.keeping_down(reference, message)
     }
 
     /// A signal to a live process, one arm for each cell of the table of handling. A message isn't
