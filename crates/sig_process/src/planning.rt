@@ -1,7 +1,7 @@
-ghost use Rattle.std.specs.Prelude.{◌≡◌, ◌+◌, ◌≤◌, [], ◌∷◌, length, map, Some, false, IfOk};
+ghost use Rattle.std.specs.Prelude.{◌≡◌, ◌+◌, ◌≤◌, [], ◌∷◌, length, map, ◌==◌, if◌then◌else◌, Some, false, IfOk};
 ghost use Rattle.sig_model.specs.ProcessState.{ProcessState};
 ghost use Rattle.sig_model.specs.Bodies.{place_after, going_on, at_next};
-ghost use Rattle.sig_model.specs.Executing.{sending, setting, linking, unlinking, sending_exit, trapping, new_ref, making_ref, monitoring, aliasing, demonitoring, unaliasing, reserving, marked_by, binding, clearing};
+ghost use Rattle.sig_model.specs.Executing.{sending, setting, linking, unlinking, sending_exit, trapping, new_ref, making_ref, monitoring, aliasing, demonitor_posts, demonitoring, unaliasing, reserving, marked_by, binding, clearing};
 ghost use Rattle.sig_process.specs.Plans.{changed, post_of, body_of, executed_body};
 ghost use Rattle.sig_process.specs.Progressing.{state_of};
 
@@ -16,21 +16,38 @@ use sig_terms::{Pid, Ref, Term};
 use std::alloc::{AllocError, Global};
 
 /// One signal that an event sends.
-fn one_post(alloc: Global, to: Pid, kind: Kind) -> Result<Vec<Outgoing>, AllocError>
+pub(crate) fn one_post(alloc: Global, to: Pid, kind: Kind) -> Result<Vec<Outgoing>, AllocError>
     ensures { IfOk result (λ posts. map post_of posts.items ≡ record { to = to.0; kind = kind } ∷ []) }
 {
     let posts = vec![in alloc; Outgoing { to, kind }]?;
     Ok(posts)
 }
 
+/// A demonitor signal, where a process is told.
+pub(crate) fn demonitor_posts(
+    alloc: Global,
+    reference: Ref,
+    told: Option<Pid>,
+) -> Result<Vec<Outgoing>, AllocError>
+    ensures { IfOk result (λ posts. map post_of posts.items ≡ demonitor_posts reference told) }
+{
+    match told {
+        None => Ok(Vec::new(alloc)),
+        Some(target) => one_post(alloc, target, Kind::Demonitor { reference }),
+    }
+}
+
 impl Plan {
-    /// The same plan, with one signal sent.
-    pub(crate) fn sending(self, alloc: Global, to: Pid, kind: Kind) -> Result<Plan, AllocError>
-        ensures { IfOk result (λ plan. (s : ProcessState) → body_of s plan ≡ record (body_of s self) { posts = record { to = to.0; kind = kind } ∷ [] }) }
+    /// A change by which these signals are sent.
+    pub(crate) fn sending(change: Change, outcome: Outcome, posts: Vec<Outgoing>) -> Plan
+        ensures { (s : ProcessState) → body_of s result ≡ record { state = changed s change; outcome = outcome; posts = map post_of posts.items } }
     {
-        let mut plan = self;
-        plan.posts = one_post(alloc, to, kind)?;
-        Ok(plan)
+        Plan {
+            obeyed: None,
+            change,
+            outcome,
+            posts,
+        }
     }
 }
 
@@ -39,12 +56,7 @@ impl Progress {
     pub(crate) fn silent(&self, change: Change, outcome: Outcome) -> Plan
         ensures { (s : ProcessState) → body_of s result ≡ record { state = changed s change; outcome = outcome; posts = [] } }
     {
-        Plan {
-            obeyed: None,
-            change,
-            outcome,
-            posts: Vec::new(self.alloc),
-        }
+        Plan::sending(change, outcome, Vec::new(self.alloc))
     }
 
     /// Where the process goes on from the next instruction: at the label of the target, or at the
@@ -75,20 +87,13 @@ impl Progress {
         }
     }
 
-    /// The execution that changes nothing and sends one signal.
-    fn telling(
-        &self,
-        proc: &Proc,
-        outcome: Outcome,
-        to: Pid,
-        kind: Kind,
-    ) -> Result<Execution, AllocError>
+    /// The execution that changes nothing and sends these signals.
+    fn telling(&self, proc: &Proc, outcome: Outcome, posts: Vec<Outgoing>) -> Execution
         requires { self.now.counts.place ≤ length proc.now.instrs }
-        ensures { IfOk result (λ x. executed_body (state_of self.now) x ≡ record { state = at_next (state_of self.now); outcome = outcome; posts = record { to = to.0; kind = kind } ∷ [] }) }
+        ensures { executed_body (state_of self.now) result ≡ record { state = at_next (state_of self.now); outcome = outcome; posts = map post_of posts.items } }
     {
-        let plan = self.silent(Change::Nothing, outcome);
-        let plan = plan.sending(self.alloc, to, kind)?;
-        Ok(self.going(proc, None, plan))
+        let plan = Plan::sending(Change::Nothing, outcome, posts);
+        self.going(proc, None, plan)
     }
 
     /// A message to a process.
@@ -96,11 +101,10 @@ impl Progress {
         requires { self.now.counts.place ≤ length proc.now.instrs }
         ensures { IfOk result (λ x. sending (state_of self.now) term (Target.Process to) ≡ executed_body (state_of self.now) x) }
     {
-        let outcome = Outcome::Sent {
-            to: Term::Pid(to),
-            message: term.copy(self.alloc)?,
-        };
-        self.telling(proc, outcome, to, Kind::Message { term })
+        let message = term.copy(self.alloc)?;
+        let posts = one_post(self.alloc, to, Kind::Message { term })?;
+        let to = Term::Pid(to);
+        Ok(self.telling(proc, Outcome::Sent { to, message }, posts))
     }
 
     /// A message through an alias to the process that made it.
@@ -113,12 +117,11 @@ impl Progress {
         requires { self.now.counts.place ≤ length proc.now.instrs }
         ensures { IfOk result (λ x. sending (state_of self.now) term (Target.Alias reference) ≡ executed_body (state_of self.now) x) }
     {
-        let outcome = Outcome::Sent {
-            to: Term::Ref(reference),
-            message: term.copy(self.alloc)?,
-        };
+        let message = term.copy(self.alloc)?;
         let kind = Kind::AliasMessage { reference, term };
-        self.telling(proc, outcome, reference.owner, kind)
+        let posts = one_post(self.alloc, reference.owner, kind)?;
+        let to = Term::Ref(reference);
+        Ok(self.telling(proc, Outcome::Sent { to, message }, posts))
     }
 
     /// A message to a process, or through an alias.
@@ -166,30 +169,50 @@ impl Progress {
         Ok(self.assigning(proc, var, value, told))
     }
 
-    /// A link to a process. Its signal is sent but to oneself or where the link is active.
+    /// The signal of a link, which is sent but to oneself or where the link is active.
+    fn link_posts(&self, peer: Pid) -> Result<Vec<Outgoing>, AllocError>
+        ensures { IfOk result (λ posts. map post_of posts.items ≡ (linking (state_of self.now) peer).posts) }
+    {
+        let links = &self.tables.links;
+        if peer != links.owner() && !links.active(peer) {
+            one_post(self.alloc, peer, Kind::Link)
+        } else {
+            Ok(Vec::new(self.alloc))
+        }
+    }
+
+    /// A link to a process.
     pub(crate) fn plan_link(&self, proc: &Proc, peer: Pid) -> Result<Execution, AllocError>
         requires { self.now.counts.place ≤ length proc.now.instrs }
         ensures { IfOk result (λ x. linking (state_of self.now) peer ≡ executed_body (state_of self.now) x) }
     {
-        let links = &self.tables.links;
-        let mut plan = self.silent(Change::Links(LinkChange::Link { peer }), Outcome::Done);
-        if peer != links.owner() && !links.active(peer) {
-            plan = plan.sending(self.alloc, peer, Kind::Link)?;
-        }
+        let posts = self.link_posts(peer)?;
+        let change = Change::Links(LinkChange::Link { peer });
+        let plan = Plan::sending(change, Outcome::Done, posts);
         Ok(self.going(proc, None, plan))
     }
 
-    /// The end of the link to a process. Its signal is sent where the link is active.
+    /// The signal of the end of a link, which is sent where the link is active.
+    fn unlink_posts(&self, peer: Pid) -> Result<Vec<Outgoing>, AllocError>
+        ensures { IfOk result (λ posts. map post_of posts.items ≡ (unlinking (state_of self.now) peer).posts) }
+    {
+        let links = &self.tables.links;
+        if links.active(peer) {
+            let id = links.next_id();
+            one_post(self.alloc, peer, Kind::Unlink { id })
+        } else {
+            Ok(Vec::new(self.alloc))
+        }
+    }
+
+    /// The end of the link to a process.
     pub(crate) fn plan_unlink(&self, proc: &Proc, peer: Pid) -> Result<Execution, AllocError>
         requires { self.now.counts.place ≤ length proc.now.instrs }
         ensures { IfOk result (λ x. unlinking (state_of self.now) peer ≡ executed_body (state_of self.now) x) }
     {
-        let links = &self.tables.links;
-        let mut plan = self.silent(Change::Links(LinkChange::Unlink { peer }), Outcome::Done);
-        if links.active(peer) {
-            let id = links.next_id();
-            plan = plan.sending(self.alloc, peer, Kind::Unlink { id })?;
-        }
+        let posts = self.unlink_posts(peer)?;
+        let change = Change::Links(LinkChange::Unlink { peer });
+        let plan = Plan::sending(change, Outcome::Done, posts);
         Ok(self.going(proc, None, plan))
     }
 
@@ -207,7 +230,8 @@ impl Progress {
             reason,
             linked: false,
         };
-        self.telling(proc, Outcome::Done, target, kind)
+        let posts = one_post(self.alloc, target, kind)?;
+        Ok(self.telling(proc, Outcome::Done, posts))
     }
 
     /// The process traps exits from now on, or does no more.
@@ -238,12 +262,12 @@ impl Progress {
         }
     }
 
-    /// A change with nothing sent, by which a variable gets the reference.
-    fn made(&self, change: Change, reference: Ref) -> Plan
-        ensures { (s : ProcessState) → body_of s result ≡ record { state = changed s change; outcome = Outcome.Set (Term.Ref reference); posts = [] } }
+    /// A change by which these signals are sent, and a variable gets the reference.
+    fn made(&self, change: Change, reference: Ref, posts: Vec<Outgoing>) -> Plan
+        ensures { (s : ProcessState) → body_of s result ≡ record { state = changed s change; outcome = Outcome.Set (Term.Ref reference); posts = map post_of posts.items } }
     {
         let value = Term::Ref(reference);
-        self.silent(change, Outcome::Set { value })
+        Plan::sending(change, Outcome::Set { value }, posts)
     }
 
     /// The execution of this plan, by which the variable gets the reference.
@@ -266,11 +290,22 @@ impl Progress {
     {
         let var = var.copy(self.alloc)?;
         let reference = self.new_ref();
-        let plan = self.made(Change::Nothing, reference);
+        let plan = self.made(Change::Nothing, reference, Vec::new(self.alloc));
         Ok(self.making(proc, var, reference, plan))
     }
 
-    /// A monitor of a process. Its signal is sent but to oneself.
+    /// The signal of a monitor, which is sent but to oneself.
+    fn monitor_posts(&self, target: Pid, reference: Ref) -> Result<Vec<Outgoing>, AllocError>
+        ensures { IfOk result (λ posts. map post_of posts.items ≡ (if target.0 == self.now.tables.watch.watch.owner then [] else record { to = target.0; kind = Kind.Monitor reference } ∷ [])) }
+    {
+        if target == self.tables.watch.owner() {
+            Ok(Vec::new(self.alloc))
+        } else {
+            one_post(self.alloc, target, Kind::Monitor { reference })
+        }
+    }
+
+    /// A monitor of a process.
     pub(crate) fn plan_monitor(
         &self,
         proc: &Proc,
@@ -288,10 +323,8 @@ impl Progress {
             target,
             mode,
         };
-        let mut plan = self.made(Change::Watch(change), reference);
-        if target != self.tables.watch.owner() {
-            plan = plan.sending(self.alloc, target, Kind::Monitor { reference })?;
-        }
+        let posts = self.monitor_posts(target, reference)?;
+        let plan = self.made(Change::Watch(change), reference, posts);
         Ok(self.making(proc, var, reference, plan))
     }
 
@@ -307,10 +340,8 @@ impl Progress {
     {
         let var = var.copy(self.alloc)?;
         let reference = self.new_ref();
-        let plan = self.made(
-            Change::Watch(WatchChange::Alias { reference, reply }),
-            reference,
-        );
+        let change = Change::Watch(WatchChange::Alias { reference, reply });
+        let plan = self.made(change, reference, Vec::new(self.alloc));
         Ok(self.making(proc, var, reference, plan))
     }
 
@@ -330,10 +361,10 @@ impl Progress {
         } else {
             Outcome::Done
         };
-        let mut plan = self.silent(Change::Watch(WatchChange::Demonitor { reference }), outcome);
-        if let Some(target) = self.tables.watch.told(reference) {
-            plan = plan.sending(self.alloc, target, Kind::Demonitor { reference })?;
-        }
+        let told = self.tables.watch.told(reference);
+        let posts = demonitor_posts(self.alloc, reference, told)?;
+        let change = Change::Watch(WatchChange::Demonitor { reference });
+        let plan = Plan::sending(change, outcome, posts);
         let inbox = if flush {
             InboxChange::Flush { reference }
         } else {

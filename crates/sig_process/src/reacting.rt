@@ -1,4 +1,4 @@
-ghost use Rattle.std.specs.Prelude.{◌≡◌, IfOk, None, Some, []};
+ghost use Rattle.std.specs.Prelude.{◌≡◌, IfOk, None, Some, [], map};
 ghost use Rattle.sig_kinds.specs.LinkRules.{on_link, on_unlink, on_ack};
 ghost use Rattle.sig_kinds.specs.WatchRules.{mode_of, by_mode, on_alias_message, on_monitor, on_demonitor, on_down};
 ghost use Rattle.sig_kinds.specs.declared.alias_answer.AliasAnswer.TheVariants as alias_answer;
@@ -7,12 +7,13 @@ ghost use Rattle.sig_model.specs.Bodies.{appending, dropping};
 ghost use Rattle.sig_model.specs.ExitRule.{exit_message, exit_rule, plain_exit, linked_exit};
 ghost use Rattle.sig_model.specs.Handling.{linking_up, unlinking_from, acknowledging, through_alias, watching, unwatching, down_message, told_down, live_body, answering_noproc, ended_body, handling};
 ghost use Rattle.sig_process.specs.KeptMessage.{message_of};
-ghost use Rattle.sig_process.specs.Plans.{after_obeying, body_of, changed};
+ghost use Rattle.sig_process.specs.Plans.{after_obeying, body_of, changed, post_of};
 ghost use Rattle.sig_process.specs.Planning.{noproc_answer};
 ghost use Rattle.sig_process.specs.Progressing.{state_of};
 
 use crate::changing::{Change, LinkChange, WatchChange};
-use crate::plan::Plan;
+use crate::plan::{Outgoing, Plan};
+use crate::planning::{demonitor_posts, one_post};
 use crate::progress::Progress;
 use sig_kinds::{AliasMode, Kind, Signal};
 use sig_lists::Sequence;
@@ -94,9 +95,9 @@ impl Progress {
     fn plan_unlink_by(&self, sender: Pid, id: u64) -> Result<Plan, AllocError>
         ensures { IfOk result (λ plan. unlinking_from (state_of self.now) sender.0 id (on_unlink self.now.tables.links.links sender.0) ≡ body_of (state_of self.now) plan) }
     {
+        let posts = one_post(self.alloc, sender, Kind::UnlinkAck { id })?;
         let change = Change::Links(LinkChange::UnlinkBy { peer: sender });
-        let plan = self.silent(change, Outcome::Unlinked);
-        plan.sending(self.alloc, sender, Kind::UnlinkAck { id })
+        Ok(Plan::sending(change, Outcome::Unlinked, posts))
     }
 
     /// An acknowledgement counts where its id is the awaited one.
@@ -156,14 +157,21 @@ impl Progress {
         self.plan_exit_rule(pid, Some(sender), sender, reason)
     }
 
-    /// A message through an alias that is active comes to the end of the list.
-    fn keeping_through(&self, reference: Ref, term: &Term) -> Result<Plan, AllocError>
-        ensures { IfOk result (λ plan. (s : ProcessState) → body_of s plan ≡ record { state = changed s (Change.ThroughAlias reference term.now); outcome = Outcome.Kept term.now; posts = [] }) }
+    /// A message through an alias that is active comes to the end of the list, and these signals are
+    /// sent.
+    fn keeping_through(
+        &self,
+        reference: Ref,
+        term: &Term,
+        posts: Vec<Outgoing>,
+    ) -> Result<Plan, AllocError>
+        ensures { IfOk result (λ plan. (s : ProcessState) → body_of s plan ≡ record { state = changed s (Change.ThroughAlias reference term.now); outcome = Outcome.Kept term.now; posts = map post_of posts.items }) }
     {
         let told = term.copy(self.alloc)?;
         let message = term.copy(self.alloc)?;
         let outcome = Outcome::Kept { message: told };
-        Ok(self.silent(Change::ThroughAlias { reference, message }, outcome))
+        let change = Change::ThroughAlias { reference, message };
+        Ok(Plan::sending(change, outcome, posts))
     }
 
     /// Who is told that the monitor ends, where the alias of its reference has this mode.
@@ -188,11 +196,9 @@ impl Progress {
         requires { mode_of self.now.tables.watch.watch reference ≡ Some mode }
         ensures { IfOk result (λ plan. through_alias (state_of self.now) reference term.now (by_mode self.now.tables.watch.watch reference (Some mode)) ≡ body_of (state_of self.now) plan) }
     {
-        let plan = self.keeping_through(reference, term)?;
-        match self.told_by(mode, reference) {
-            None => Ok(plan),
-            Some(target) => plan.sending(self.alloc, target, Kind::Demonitor { reference }),
-        }
+        let told = self.told_by(mode, reference);
+        let posts = demonitor_posts(self.alloc, reference, told)?;
+        self.keeping_through(reference, term, posts)
     }
 
     /// A message through an alias: kept where the alias is active.
@@ -287,8 +293,8 @@ impl Progress {
             },
             Some(reference) => Kind::Down { reference, reason },
         };
-        let plan = self.silent(Change::Nothing, Outcome::NoProc);
-        plan.sending(self.alloc, sender, kind)
+        let posts = one_post(self.alloc, sender, kind)?;
+        Ok(Plan::sending(Change::Nothing, Outcome::NoProc, posts))
     }
 
     /// A signal to a process that has ended.
