@@ -81,6 +81,13 @@ impl Progress {
         );
     }
 
+    /// Takes back the event that was noted last.
+    fn take_back(&mut self)
+        ensures { (before : List Event) (event : Event) → self.old.events ≡ before ++ event ∷ [] → self.new ≡ record self.old { events = before } }
+    {
+        let _ = self.events.pop();
+    }
+
     /// Binds the variable of an instruction, or takes back the event that was noted last.
     fn bind_noted(&mut self, binding: Binding) -> Result<(), AllocError>
         requires { self.old.counts.next_serial < 2 ^ 63 }
@@ -91,7 +98,7 @@ impl Progress {
         ensures err { OnErr result ((before : List Event) (event : Event) → self.old.events ≡ before ++ event ∷ [] → self.new ≡ record self.old { events = before }) }
     {
         if let Err(fault) = self.bind(binding) {
-            let _ = self.events.pop();
+            self.take_back();
             return Err(fault);
         }
         Ok(())

@@ -2,13 +2,13 @@
 
 ghost use Rattle.std.specs.Prelude.{◌≡◌, ◌<◌, ◌^◌, option_copied, IfSome, IsSome, IsSomeAnd, MatchResult, OnOk, Some};
 ghost use Rattle.sig_model.specs.Running.{next_of};
-ghost use Rattle.sig_process.specs.KeptMessage.{message_of, kept_message, CanKeep, HasMoved, HasKept};
+ghost use Rattle.sig_process.specs.KeptMessage.{message_of, kept_message, HasMoved, HasKept};
 ghost use Rattle.sig_process.specs.Progressing.{IsSame};
 
 use crate::progress::Progress;
 use crate::waiting::{next_signal, pop_next};
 use sig_kinds::Kind;
-use sig_model::{Event, LAST_STAMP, Outcome};
+use sig_model::{LAST_STAMP, Outcome};
 use sig_terms::Term;
 use std::alloc::AllocError;
 
@@ -51,17 +51,6 @@ impl Progress {
         self.tables.inner.room()
     }
 
-    /// Makes room for a message and for its signal, and notes the event. Where memory is refused all
-    /// but the room is as before.
-    fn begin_keeping(&mut self, event: Event) -> Result<(), AllocError>
-        ensures { MatchResult result (λ _. CanKeep self.old self.new event) (λ _. IsSame self.old self.new) }
-    {
-        match self.keeping_room() {
-            Ok(()) => self.events.add(event),
-            Err(fault) => Err(fault),
-        }
-    }
-
     /// The next signal waits no more, and is the last of those that were handled; its message comes
     /// to the end of the list.
     fn move_message(&mut self)
@@ -94,9 +83,10 @@ impl Progress {
             (λ _. IfSome (next_of self.old.own.items self.old.taken_in.items) (λ x. HasKept self.old self.new x told))
             (λ _. IsSame self.old self.new) }
     {
+        self.keeping_room()?;
         let event = self.handling_event(Outcome::Kept { message: told });
         let stamp = event.stamp;
-        self.begin_keeping(event)?;
+        self.events.add(event)?;
         self.move_message();
         self.counts.stamp = stamp;
         Ok(())

@@ -345,6 +345,18 @@ impl Progress {
         Ok(self.making(proc, var, reference, plan))
     }
 
+    /// How the end of a monitor goes: with `flush` it is told whether a message of its end is there.
+    fn flushing(&self, reference: Ref, flush: bool) -> Outcome
+        ensures { result ≡ (demonitoring (state_of self.now) flush reference).outcome }
+    {
+        if flush {
+            let value = self.tables.inner.has_down(reference);
+            Outcome::Answered { value }
+        } else {
+            Outcome::Done
+        }
+    }
+
     /// The end of the monitor of a reference. With `flush` the message of its end is removed.
     pub(crate) fn plan_demonitor(
         &self,
@@ -355,14 +367,9 @@ impl Progress {
         requires { self.now.counts.place ≤ length proc.now.instrs }
         ensures { IfOk result (λ x. demonitoring (state_of self.now) flush reference ≡ executed_body (state_of self.now) x) }
     {
-        let outcome = if flush {
-            let value = self.tables.inner.has_down(reference);
-            Outcome::Answered { value }
-        } else {
-            Outcome::Done
-        };
         let told = self.tables.watch.told(reference);
         let posts = demonitor_posts(self.alloc, reference, told)?;
+        let outcome = self.flushing(reference, flush);
         let change = Change::Watch(WatchChange::Demonitor { reference });
         let plan = Plan::sending(change, outcome, posts);
         let inbox = if flush {

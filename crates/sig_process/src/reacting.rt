@@ -2,7 +2,7 @@ ghost use Rattle.std.specs.Prelude.{◌≡◌, IfOk, None, Some, [], map};
 ghost use Rattle.sig_kinds.specs.LinkRules.{on_link, on_unlink, on_ack};
 ghost use Rattle.sig_kinds.specs.WatchRules.{mode_of, by_mode, on_alias_message, on_monitor, on_demonitor, on_down};
 ghost use Rattle.sig_kinds.specs.declared.alias_answer.AliasAnswer.TheVariants as alias_answer;
-ghost use Rattle.sig_model.specs.ProcessState.{ProcessState};
+ghost use Rattle.sig_model.specs.ProcessState.{ProcessState, rewatched};
 ghost use Rattle.sig_model.specs.Bodies.{appending, dropping};
 ghost use Rattle.sig_model.specs.ExitRule.{exit_message, exit_rule, plain_exit, linked_exit};
 ghost use Rattle.sig_model.specs.Handling.{linking_up, unlinking_from, acknowledging, through_alias, watching, unwatching, down_message, told_down, live_body, answering_noproc, ended_body, handling};
@@ -22,10 +22,11 @@ use sig_terms::{Pid, Ref, Term};
 use std::alloc::{AllocError, Global};
 
 /// The message of an exit signal that is trapped.
-fn exit_message(alloc: Global, sender: Pid, reason: Term) -> Result<Term, AllocError>
-    ensures { IfOk result (λ message. message ≡ exit_message sender.0 reason) }
+fn exit_message(alloc: Global, sender: Pid, reason: &Term) -> Result<Term, AllocError>
+    ensures { IfOk result (λ message. message ≡ exit_message sender.0 reason.now) }
 {
     let exit = Term::plain_atom(alloc, b"EXIT")?;
+    let reason = reason.copy(alloc)?;
     let parts = vec![in alloc; exit, Term::Pid(sender), reason]?;
     Ok(Term::Tuple(Sequence::from_vec(parts)))
 }
@@ -125,7 +126,6 @@ impl Progress {
     ) -> Result<Plan, AllocError>
         ensures { IfOk result (λ plan. exit_rule pid.0 (after_obeying (state_of self.now) obeyed) sender.0 reason.now ≡ body_of (state_of self.now) plan) }
     {
-        let reason = reason.copy(self.alloc)?;
         if self.traps {
             let message = exit_message(self.alloc, sender, reason)?;
             return self.appending(obeyed, message);
@@ -133,6 +133,7 @@ impl Progress {
         if reason.is_atom(b"normal") && sender != pid {
             return Ok(self.dropping(obeyed));
         }
+        let reason = reason.copy(self.alloc)?;
         self.ending(obeyed, reason)
     }
 
@@ -244,6 +245,14 @@ impl Progress {
         Ok(self.silent(Change::ToldDown { reference, message }, told))
     }
 
+    /// A down signal of a monitor that is held: a message.
+    fn plan_held_down(&self, sender: Pid, reference: Ref, reason: &Term) -> Result<Plan, AllocError>
+        ensures { IfOk result (λ plan. appending (rewatched (state_of self.now) (on_down self.now.tables.watch.watch reference).1) (down_message reference sender.0 reason.now) ≡ body_of (state_of self.now) plan) }
+    {
+        let message = down_message(self.alloc, reference, sender, reason)?;
+        self.keeping_down(reference, message)
+    }
+
     /// A down signal: a message, where the monitor is held.
     fn plan_told_down(&self, sender: Pid, reference: Ref, reason: &Term) -> Result<Plan, AllocError>
         ensures { IfOk result (λ plan. told_down (state_of self.now) reference sender.0 reason.now (on_down self.now.tables.watch.watch reference) ≡ body_of (state_of self.now) plan) }
@@ -251,8 +260,7 @@ impl Progress {
         if self.tables.watch.target(reference).is_none() {
             return Ok(self.dropping(None));
         }
-        let message = down_message(self.alloc, reference, sender, reason)?;
-        self.keeping_down(reference, message)
+        self.plan_held_down(sender, reference, reason)
     }
 
     /// A signal to a live process, one arm for each cell of the table of handling. A message isn't
