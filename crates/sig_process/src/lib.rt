@@ -19,7 +19,6 @@ mod progress;
 mod queues;
 mod reacting;
 mod receiving;
-mod rows;
 mod telling;
 mod values;
 mod waiting;

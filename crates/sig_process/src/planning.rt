@@ -1,17 +1,19 @@
-ghost use Rattle.std.specs.Prelude.{◌≡◌, ◌+◌, ◌≤◌, [], ◌∷◌, length, map, ◌==◌, if◌then◌else◌, Some, false, IfOk};
+ghost use Rattle.std.specs.Prelude.{◌≡◌, ◌+◌, ◌-◌, ◌≤◌, [], ◌∷◌, length, map, ◌==◌, if◌then◌else◌, slice_get, option_copied, Some, false, IfOk};
 ghost use Rattle.sig_model.specs.ProcessState.{ProcessState};
-ghost use Rattle.sig_model.specs.Bodies.{place_after, going_on, at_next};
-ghost use Rattle.sig_model.specs.Executing.{sending, setting, linking, unlinking, sending_exit, trapping, new_ref, making_ref, monitoring, aliasing, demonitor_posts, demonitoring, unaliasing, reserving, marked_by, binding, clearing};
+ghost use Rattle.sig_model.specs.Bodies.{Body, place_after, going_on, at_next};
+ghost use Rattle.sig_model.specs.Executing.{sending, setting, linking, unlinking, sending_exit, trapping, new_ref, making_ref, monitoring, aliasing, demonitor_posts, demonitoring, unaliasing, reserving, marked_by, binding, clearing, with_pid, with_target, from_mark, exec_body};
+ghost use Rattle.sig_process.specs.Planning.{IsPlanned, IsRow, is_receive};
 ghost use Rattle.sig_process.specs.Plans.{changed, post_of, body_of, executed_body};
 ghost use Rattle.sig_process.specs.Progressing.{state_of};
 
 use crate::changing::{Change, LinkChange, WatchChange};
 use crate::plan::{Binding, Execution, InboxChange, Outgoing, Plan};
 use crate::progress::Progress;
+use crate::values::ValueFault;
 use sig_kinds::{AliasMode, Kind};
 use sig_model::{Outcome, Target};
-use sig_patterns::Var;
-use sig_script::Proc;
+use sig_patterns::{Expr, Var};
+use sig_script::{Instr, Proc};
 use sig_terms::{Pid, Ref, Term};
 use std::alloc::{AllocError, Global};
 
@@ -34,6 +36,16 @@ pub(crate) fn demonitor_posts(
     match told {
         None => Ok(Vec::new(alloc)),
         Some(target) => one_post(alloc, target, Kind::Demonitor { reference }),
+    }
+}
+
+/// The execution that was planned, or its want of memory as the fault of a value.
+fn in_memory(planned: Result<Execution, AllocError>) -> Result<Execution, ValueFault>
+    ensures { (s : ProcessState) (body : Body) → IfOk planned (λ x. body ≡ executed_body s x) → IsPlanned s (Some body) result }
+{
+    match planned {
+        Ok(execution) => Ok(execution),
+        Err(AllocError) => Err(ValueFault::Memory),
     }
 }
 
@@ -125,12 +137,7 @@ impl Progress {
     }
 
     /// A message to a process, or through an alias.
-    pub(crate) fn plan_send(
-        &self,
-        proc: &Proc,
-        to: Target,
-        message: Term,
-    ) -> Result<Execution, AllocError>
+    fn plan_send(&self, proc: &Proc, to: Target, message: Term) -> Result<Execution, AllocError>
         requires { self.now.counts.place ≤ length proc.now.instrs }
         ensures { IfOk result (λ x. sending (state_of self.now) message to ≡ executed_body (state_of self.now) x) }
     {
@@ -155,12 +162,7 @@ impl Progress {
     }
 
     /// The variable gets the value.
-    pub(crate) fn plan_set(
-        &self,
-        proc: &Proc,
-        var: &Var,
-        value: Term,
-    ) -> Result<Execution, AllocError>
+    fn plan_set(&self, proc: &Proc, var: &Var, value: Term) -> Result<Execution, AllocError>
         requires { self.now.counts.place ≤ length proc.now.instrs }
         ensures { IfOk result (λ x. setting (state_of self.now) var.now.0 value ≡ executed_body (state_of self.now) x) }
     {
@@ -182,7 +184,7 @@ impl Progress {
     }
 
     /// A link to a process.
-    pub(crate) fn plan_link(&self, proc: &Proc, peer: Pid) -> Result<Execution, AllocError>
+    fn plan_link(&self, proc: &Proc, peer: Pid) -> Result<Execution, AllocError>
         requires { self.now.counts.place ≤ length proc.now.instrs }
         ensures { IfOk result (λ x. linking (state_of self.now) peer ≡ executed_body (state_of self.now) x) }
     {
@@ -206,7 +208,7 @@ impl Progress {
     }
 
     /// The end of the link to a process.
-    pub(crate) fn plan_unlink(&self, proc: &Proc, peer: Pid) -> Result<Execution, AllocError>
+    fn plan_unlink(&self, proc: &Proc, peer: Pid) -> Result<Execution, AllocError>
         requires { self.now.counts.place ≤ length proc.now.instrs }
         ensures { IfOk result (λ x. unlinking (state_of self.now) peer ≡ executed_body (state_of self.now) x) }
     {
@@ -217,12 +219,7 @@ impl Progress {
     }
 
     /// An exit signal to a process.
-    pub(crate) fn plan_exit_to(
-        &self,
-        proc: &Proc,
-        target: Pid,
-        reason: Term,
-    ) -> Result<Execution, AllocError>
+    fn plan_exit_to(&self, proc: &Proc, target: Pid, reason: Term) -> Result<Execution, AllocError>
         requires { self.now.counts.place ≤ length proc.now.instrs }
         ensures { IfOk result (λ x. sending_exit (state_of self.now) reason target ≡ executed_body (state_of self.now) x) }
     {
@@ -235,7 +232,7 @@ impl Progress {
     }
 
     /// The process traps exits from now on, or does no more.
-    pub(crate) fn plan_trap(&self, proc: &Proc, on: bool) -> Execution
+    fn plan_trap(&self, proc: &Proc, on: bool) -> Execution
         requires { self.now.counts.place ≤ length proc.now.instrs }
         ensures { trapping (state_of self.now) on ≡ executed_body (state_of self.now) result }
     {
@@ -244,7 +241,7 @@ impl Progress {
     }
 
     /// The process goes on at a label.
-    pub(crate) fn plan_goto(&self, proc: &Proc, label: u32) -> Execution
+    fn plan_goto(&self, proc: &Proc, label: u32) -> Execution
         requires { self.now.counts.place ≤ length proc.now.instrs }
         ensures { going_on (state_of self.now) (place_after proc.now.labels (Some label) self.now.counts.place) Outcome.Done ≡ executed_body (state_of self.now) result }
     {
@@ -284,7 +281,7 @@ impl Progress {
     }
 
     /// A reference that is nothing else.
-    pub(crate) fn plan_make_ref(&self, proc: &Proc, var: &Var) -> Result<Execution, AllocError>
+    fn plan_make_ref(&self, proc: &Proc, var: &Var) -> Result<Execution, AllocError>
         requires { self.now.counts.place ≤ length proc.now.instrs }
         ensures { IfOk result (λ x. making_ref (state_of self.now) var.now.0 ≡ executed_body (state_of self.now) x) }
     {
@@ -306,7 +303,7 @@ impl Progress {
     }
 
     /// A monitor of a process.
-    pub(crate) fn plan_monitor(
+    fn plan_monitor(
         &self,
         proc: &Proc,
         var: &Var,
@@ -329,12 +326,7 @@ impl Progress {
     }
 
     /// A new alias.
-    pub(crate) fn plan_alias(
-        &self,
-        proc: &Proc,
-        var: &Var,
-        reply: bool,
-    ) -> Result<Execution, AllocError>
+    fn plan_alias(&self, proc: &Proc, var: &Var, reply: bool) -> Result<Execution, AllocError>
         requires { self.now.counts.place ≤ length proc.now.instrs }
         ensures { IfOk result (λ x. aliasing (state_of self.now) var.now.0 reply ≡ executed_body (state_of self.now) x) }
     {
@@ -358,7 +350,7 @@ impl Progress {
     }
 
     /// The end of the monitor of a reference. With `flush` the message of its end is removed.
-    pub(crate) fn plan_demonitor(
+    fn plan_demonitor(
         &self,
         proc: &Proc,
         reference: Ref,
@@ -386,7 +378,7 @@ impl Progress {
     }
 
     /// The end of an alias.
-    pub(crate) fn plan_unalias(&self, proc: &Proc, reference: Ref) -> Execution
+    fn plan_unalias(&self, proc: &Proc, reference: Ref) -> Execution
         requires { self.now.counts.place ≤ length proc.now.instrs }
         ensures { unaliasing (state_of self.now) reference ≡ executed_body (state_of self.now) result }
     {
@@ -422,7 +414,7 @@ impl Progress {
     }
 
     /// A place behind all messages is reserved for the next references.
-    pub(crate) fn plan_reserve(&self, proc: &Proc) -> Execution
+    fn plan_reserve(&self, proc: &Proc) -> Execution
         requires { self.now.counts.place ≤ length proc.now.instrs }
         ensures { reserving (state_of self.now) ≡ executed_body (state_of self.now) result }
     {
@@ -437,7 +429,7 @@ impl Progress {
     }
 
     /// The reserve is bound to the reference that the variable's value is.
-    pub(crate) fn plan_bind(&self, proc: &Proc, var: &Var) -> Execution
+    fn plan_bind(&self, proc: &Proc, var: &Var) -> Execution
         requires within { self.now.counts.place ≤ length proc.now.instrs }
         requires owner { self.now.tables.inner.queue.owner ≡ self.now.tables.watch.watch.owner }
         ensures { binding (state_of self.now) var.now ≡ executed_body (state_of self.now) result }
@@ -452,7 +444,7 @@ impl Progress {
     }
 
     /// The mark of the reference that the variable's value is is taken out.
-    pub(crate) fn plan_clear(&self, proc: &Proc, var: &Var) -> Execution
+    fn plan_clear(&self, proc: &Proc, var: &Var) -> Execution
         requires { self.now.counts.place ≤ length proc.now.instrs }
         ensures { clearing (state_of self.now) var.now ≡ executed_body (state_of self.now) result }
     {
@@ -462,6 +454,204 @@ impl Progress {
                 let value = self.tables.inner.has_mark(reference);
                 self.answering(proc, value, InboxChange::Clear { reference })
             }
+        }
+    }
+}
+
+// The rows of the table of instructions: first the values of an instruction's expressions, and then its
+// plan.
+impl Progress {
+    /// A message to the process or the alias that the value names.
+    fn send_to(&self, proc: &Proc, to: Term, message: Term) -> Result<Execution, ValueFault>
+        requires { self.now.counts.place ≤ length proc.now.instrs }
+        ensures { IsPlanned (state_of self.now) (Some (with_target (state_of self.now) to (sending (state_of self.now) message))) result }
+    {
+        match self.address_of(to) {
+            Ok(to) => in_memory(self.plan_send(proc, to, message)),
+            Err(fault) => Err(fault),
+        }
+    }
+
+    /// The row of a send.
+    fn send_row(&self, proc: &Proc, to: &Expr, message: &Expr) -> Result<Execution, ValueFault>
+        requires { self.now.counts.place ≤ length proc.now.instrs }
+        ensures { IsRow proc.now (state_of self.now) (Instr.Send to.now message.now) result }
+    {
+        match self.values_of(to, message) {
+            Ok((to, message)) => self.send_to(proc, to, message),
+            Err(fault) => Err(fault),
+        }
+    }
+
+    /// The row of a match with a variable.
+    fn set_row(&self, proc: &Proc, var: &Var, value: &Expr) -> Result<Execution, ValueFault>
+        requires { self.now.counts.place ≤ length proc.now.instrs }
+        ensures { IsRow proc.now (state_of self.now) (Instr.Set var.now value.now) result }
+    {
+        match self.value_of(value) {
+            Ok(value) => in_memory(self.plan_set(proc, var, value)),
+            Err(fault) => Err(fault),
+        }
+    }
+
+    /// The row of a link.
+    fn link_row(&self, proc: &Proc, peer: &Expr) -> Result<Execution, ValueFault>
+        requires { self.now.counts.place ≤ length proc.now.instrs }
+        ensures { IsRow proc.now (state_of self.now) (Instr.Link peer.now) result }
+    {
+        match self.target_of(peer) {
+            Ok(peer) => in_memory(self.plan_link(proc, peer)),
+            Err(fault) => Err(fault),
+        }
+    }
+
+    /// The row of the end of a link.
+    fn unlink_row(&self, proc: &Proc, peer: &Expr) -> Result<Execution, ValueFault>
+        requires { self.now.counts.place ≤ length proc.now.instrs }
+        ensures { IsRow proc.now (state_of self.now) (Instr.Unlink peer.now) result }
+    {
+        match self.target_of(peer) {
+            Ok(peer) => in_memory(self.plan_unlink(proc, peer)),
+            Err(fault) => Err(fault),
+        }
+    }
+
+    /// The row of a monitor.
+    fn monitor_row(
+        &self,
+        proc: &Proc,
+        var: &Var,
+        target: &Expr,
+        mode: Option<AliasMode>,
+    ) -> Result<Execution, ValueFault>
+        requires { self.now.counts.place ≤ length proc.now.instrs }
+        ensures { IsRow proc.now (state_of self.now) (Instr.Monitor var.now target.now mode) result }
+    {
+        match self.target_of(target) {
+            Ok(target) => in_memory(self.plan_monitor(proc, var, target, mode)),
+            Err(fault) => Err(fault),
+        }
+    }
+
+    /// The row of the end of a monitor.
+    fn demonitor_row(
+        &self,
+        proc: &Proc,
+        reference: &Expr,
+        flush: bool,
+    ) -> Result<Execution, ValueFault>
+        requires { self.now.counts.place ≤ length proc.now.instrs }
+        ensures { IsRow proc.now (state_of self.now) (Instr.Demonitor reference.now flush) result }
+    {
+        match self.reference_of(reference) {
+            Ok(reference) => in_memory(self.plan_demonitor(proc, reference, flush)),
+            Err(fault) => Err(fault),
+        }
+    }
+
+    /// The row of the end of an alias.
+    fn unalias_row(&self, proc: &Proc, reference: &Expr) -> Result<Execution, ValueFault>
+        requires { self.now.counts.place ≤ length proc.now.instrs }
+        ensures { IsRow proc.now (state_of self.now) (Instr.Unalias reference.now) result }
+    {
+        match self.reference_of(reference) {
+            Ok(reference) => Ok(self.plan_unalias(proc, reference)),
+            Err(fault) => Err(fault),
+        }
+    }
+
+    /// The row of the end of the process.
+    fn exit_row(&self, proc: &Proc, reason: &Expr) -> Result<Execution, ValueFault>
+        ensures { IsRow proc.now (state_of self.now) (Instr.Exit reason.now) result }
+    {
+        match self.value_of(reason) {
+            Ok(reason) => in_memory(self.exiting(reason)),
+            Err(fault) => Err(fault),
+        }
+    }
+
+    /// An exit signal to the process that the value names.
+    fn exit_with(&self, proc: &Proc, target: Term, reason: Term) -> Result<Execution, ValueFault>
+        requires { self.now.counts.place ≤ length proc.now.instrs }
+        ensures { IsPlanned (state_of self.now) (Some (with_pid (state_of self.now) target (sending_exit (state_of self.now) reason))) result }
+    {
+        match self.pid_of(target) {
+            Ok(target) => in_memory(self.plan_exit_to(proc, target, reason)),
+            Err(fault) => Err(fault),
+        }
+    }
+
+    /// The row of an exit signal.
+    fn exit_to_row(
+        &self,
+        proc: &Proc,
+        target: &Expr,
+        reason: &Expr,
+    ) -> Result<Execution, ValueFault>
+        requires { self.now.counts.place ≤ length proc.now.instrs }
+        ensures { IsRow proc.now (state_of self.now) (Instr.ExitTo target.now reason.now) result }
+    {
+        match self.values_of(target, reason) {
+            Ok((target, reason)) => self.exit_with(proc, target, reason),
+            Err(fault) => Err(fault),
+        }
+    }
+
+    /// What an instruction of the process does, one arm for each row of the table of instructions.
+    fn plan_row(&self, proc: &Proc, instr: &Instr) -> Result<Execution, ValueFault>
+        requires within { self.now.counts.place ≤ length proc.now.instrs }
+        requires other { is_receive (Some instr.now) ≡ false }
+        requires owner { self.now.tables.inner.queue.owner ≡ self.now.tables.watch.watch.owner }
+        ensures { IsRow proc.now (state_of self.now) instr.now result }
+    {
+        match instr {
+            Instr::Send { to, message } => self.send_row(proc, to, message),
+            Instr::Set { var, value } => self.set_row(proc, var, value),
+            Instr::MakeRef { var } => in_memory(self.plan_make_ref(proc, var)),
+            Instr::Receive {
+                using: _,
+                clauses: _,
+                after: _,
+            } => unreachable!(),
+            Instr::Link { peer } => self.link_row(proc, peer),
+            Instr::Unlink { peer } => self.unlink_row(proc, peer),
+            Instr::Monitor { var, target, mode } => self.monitor_row(proc, var, target, *mode),
+            Instr::Demonitor { reference, flush } => self.demonitor_row(proc, reference, *flush),
+            Instr::Alias { var, reply } => in_memory(self.plan_alias(proc, var, *reply)),
+            Instr::Unalias { reference } => self.unalias_row(proc, reference),
+            Instr::Reserve => Ok(self.plan_reserve(proc)),
+            Instr::Bind { var } => Ok(self.plan_bind(proc, var)),
+            Instr::Clear { var } => Ok(self.plan_clear(proc, var)),
+            Instr::Exit { reason } => self.exit_row(proc, reason),
+            Instr::ExitTo { target, reason } => self.exit_to_row(proc, target, reason),
+            Instr::Trap { on } => Ok(self.plan_trap(proc, *on)),
+            Instr::Goto { label } => Ok(self.plan_goto(proc, *label)),
+            Instr::Stop => in_memory(self.exiting_with(b"normal")),
+        }
+    }
+
+    /// What an instruction that is no receive does. The place after the last instruction is a stop.
+    /// A value that is too large ends the process with `system_limit`, and one that has to be a pid
+    /// or a reference and is none with `badarg`.
+    pub(crate) fn plan_instr(
+        &self,
+        proc: &Proc,
+        instr: Option<&Instr>,
+    ) -> Result<Execution, AllocError>
+        requires first { 1 ≤ self.now.counts.place }
+        requires instr { option_copied instr ≡ slice_get proc.now.instrs (self.now.counts.place - 1) }
+        requires other { is_receive (option_copied instr) ≡ false }
+        requires owner { self.now.tables.inner.queue.owner ≡ self.now.tables.watch.watch.owner }
+        ensures { IfOk result (λ x. exec_body from_mark proc.now (state_of self.now) (option_copied instr.entry) ≡ Some (executed_body (state_of self.now) x)) }
+    {
+        let Some(instr) = instr else {
+            return self.exiting_with(b"normal");
+        };
+        match self.plan_row(proc, instr) {
+            Ok(plan) => Ok(plan),
+            Err(ValueFault::TooLarge) => self.exiting_with(b"system_limit"),
+            Err(ValueFault::BadArg) => self.exiting_with(b"badarg"),
+            Err(ValueFault::Memory) => Err(AllocError),
         }
     }
 }
