@@ -47,11 +47,27 @@ pub record IsFinished (Q : Body → Type 0) (pid : ℕ) (s : ProcessState) (e : 
   pub low : stamp ≤ LAST_STAMP
   pub is : finished pid s executed stamp what body ≡ e
 
+-- stamps, by numbers alone
+next_later : (n : ℕ) → n < n + 1
+next_later n = omega arith
+
+next_low : (n : ℕ) → n < LAST_STAMP → n + 1 ≤ LAST_STAMP
+next_low n low = omega (arith, low)
+
+max_later : (n m : ℕ) → n < max n m + 1
+max_later n m = omega arith
+
+max_low : (n m : ℕ) → n < LAST_STAMP → m < LAST_STAMP → max n m + 1 ≤ LAST_STAMP
+max_low n m low early = omega (arith, low, early)
+
+none_given : {A : Type 0} {C : Type 0} (x : A) → None ≡ Some x → C
+none_given x e = cc
+
 -- what an act does, where Q holds of what the instruction does, if it can be executed, and of what the signal does
 module _ (limit : ℕ) (part : ℕ → Option Declared) (pid : ℕ) (s : ProcessState) (own : List Signal) (Q : Body → Type 0) (e : Effect ProcessState Signal Event) where
   exec_finished : (o : Option Declared) → IfSome o (λ p. IfSome (executing p s) Q) → s.counts.stamp < LAST_STAMP → execution_of pid o s ≡ Some e
       → IsFinished Q pid s e
-  exec_finished None h low is = cc
+  exec_finished None h low is = none_given e is
   exec_finished (Some p) h low is =
       let w : (body : Body) × (executing p s ≡ Some body) × (finished_exec pid s body ≡ e) = mapped_tells (finished_exec pid s) (executing p s) e is in
       record {
@@ -60,8 +76,8 @@ module _ (limit : ℕ) (part : ℕ → Option Declared) (pid : ℕ) (s : Process
         executed = s.counts.executed + 1;
         stamp = s.counts.stamp + 1;
         what = did.Exec s.counts.place;
-        later = omega arith;
-        low = omega (arith, low);
+        later = next_later s.counts.stamp;
+        low = next_low s.counts.stamp low;
         is = w.2;
       }
 
@@ -78,8 +94,8 @@ module _ (limit : ℕ) (part : ℕ → Option Declared) (pid : ℕ) (s : Process
         executed = s.counts.executed;
         stamp = max s.counts.stamp x.stamp + 1;
         what = did.From x.from x.number;
-        later = omega arith;
-        low = omega (arith, low, early);
+        later = max_later s.counts.stamp x.stamp;
+        low = max_low s.counts.stamp x.stamp low early;
         is = can.3;
       }
 
@@ -88,7 +104,7 @@ module _ (turns : ℕ) (part : ℕ → Option Declared) where
   exec_stamped : (pid : ℕ) (o : Option Declared) (s : ProcessState) (effect : Effect ProcessState Signal Event) →
       execution_of pid o s ≡ Some effect → IsStamped (rules_with turns part) effect (s.counts.stamp + 1) Exec
   unfolding rules_with
-  exec_stamped pid None s effect e = cc
+  exec_stamped pid None s effect e = none_given effect e
   exec_stamped pid (Some p) s effect e =
       let w : (body : Body) × (executing p s ≡ Some body) × (finished_exec pid s body ≡ effect) = mapped_tells (finished_exec pid s) (executing p s) effect e in
       subst (λ (x : Effect ProcessState Signal Event). IsStamped (rules_with turns part) x (s.counts.stamp + 1) Exec) w.2

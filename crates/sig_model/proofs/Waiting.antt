@@ -1,6 +1,6 @@
 -- An instruction can't be executed exactly where it is a receive without `after` for which the scan finds no message.
 use Rattle.std.proofs.Common.{◌≡◌, ℕ, ◌-◌, Option, Some, None, slice_get, refl, ap, ◌∙◌}
-use Rattle.std.specs.Prelude.{◌↔◌}
+use Rattle.std.specs.Prelude.{◌↔◌, IsSome}
 use Rattle.sig_patterns.specs.Scanning.{Hit}
 use Rattle.sig_script.specs.declared.instruction.Instr.{Instr}
 use Rattle.sig_script.specs.declared.instruction.Instr.TheVariants as instr
@@ -9,14 +9,19 @@ use Rattle.sig_script.specs.Scripts.{Declared}
 use Rattle.sig_model.specs.ProcessState.{ProcessState}
 use Rattle.sig_model.specs.Executing.{marked_start, from_mark, hit_from, receiving, exec_body, executing, IsWaiting}
 
+-- what is something is not nothing
+some_none : {A C : Type 0} (o : Option A) → o ≡ None → IsSome o → C
+some_none (Some x) e some = cc
+some_none None e some = cc
+
 module _ (p : Declared) (s : ProcessState) where
   -- a receive can't go on
   abbrev IsStuck : Option After → Option Hit → Type 0
   IsStuck after found = (after ≡ None) × (found ≡ None)
 
   stuck : (after : Option After) (start from : ℕ) (found : Option Hit) → receiving p s after start from found ≡ None → IsStuck after found
-  stuck after start from (Some h) e = cc
-  stuck (Some after) start from None e = cc
+  stuck after start from (Some h) e = some_none (receiving p s after start from (Some h)) e refl
+  stuck (Some after) start from None e = some_none (receiving p s (Some after) start from None) e refl
   stuck None start from None e = (refl, refl)
 
   waits : (o : Option Instr) → slice_get p.instrs (s.counts.place - 1) ≡ o → exec_body from_mark p s o ≡ None → IsWaiting p s
@@ -24,7 +29,7 @@ module _ (p : Declared) (s : ProcessState) where
       let start : ℕ = marked_start s using in
       let w : IsStuck after (hit_from start clauses s) = stuck after start start (hit_from start clauses s) e in
       record { using = using; clauses = clauses; at = at ∙ ap (λ a. Some (instr.Receive using clauses a)) w.0; none = w.1 }
-  waits _ at e = cc
+  waits o at e = some_none (exec_body from_mark p s o) e refl
 
   blocked : IsWaiting p s → executing p s ≡ None
   unfolding executing

@@ -1,7 +1,7 @@
 -- What an execution leaves, from what its steps leave.
-use Rattle.std.proofs.Common.{◌≡◌, ℕ, ◌+◌, List, ◌++◌, map, Bool, true, false, Option, Some, None, refl, sym, ap, ◌∙◌, subst}
+use Rattle.std.proofs.Common.{◌≡◌, ℕ, ◌+◌, List, [], ◌∷◌, ◌++◌, map, Bool, true, false, Option, Some, None, refl, sym, ap, ◌∙◌, subst}
 use Rattle.sig_kinds.specs.declared.signal.Signal.{Signal}
-use Rattle.std.specs.Prelude.{MatchResult, Result, Ok, Err}
+use Rattle.std.specs.Prelude.{MatchResult, OnOk, OnErr, Result, Ok, Err}
 use Rattle.std.specs.Option.{option_map_or}
 use Rattle.std.proofs.lemmas.Bool.{cond_both}
 use Rattle.sig_terms.specs.declared.reference.Ref.{Ref}
@@ -10,20 +10,25 @@ use Rattle.sig_patterns.specs.declared.pattern.Pattern.{Pattern}
 use Rattle.sig_patterns.specs.Inbox.{Inbox, is_made_since, bound_in, cleared_in}
 use Rattle.sig_patterns.specs.Inbox.{bound_by as rule_of}
 use Rattle.sig_patterns.proofs.MarkLemmas.{cleared_none}
-use Rattle.sig_inner.specs.InnerQueue.{InnerQueue, InnerTable, marked_by, cleared}
+use Rattle.sig_inner.specs.InnerQueue.{InnerQueue, marked_by, cleared}
 use Rattle.sig_inner.specs.InnerQueue.{bound as bound_queue}
-use Rattle.sig_inner.specs.Receiving.{forgotten}
 use Rattle.sig_model.specs.declared.event.Event.{Event}
 use Rattle.sig_model.specs.declared.event.Did.TheVariants as did
+use Rattle.sig_model.specs.declared.event.Outcome.{Outcome}
 use Rattle.sig_model.specs.ProcessState.{ProcessState, Post}
 use Rattle.sig_model.specs.Finishing.{numbered, finished_exec}
 use Rattle.sig_model.specs.Running.{to_itself, to_others}
 use Rattle.sig_process.specs.declared.changing.Growing.{Growing}
+use Rattle.sig_process.specs.declared.changing.Growing.TheVariants.{Nothing, Messages, Links, Monitors}
+use Rattle.sig_process.specs.declared.plan.Binding.{Binding}
+use Rattle.sig_process.specs.declared.plan.Outgoing.{Outgoing}
 use Rattle.sig_process.specs.declared.plan.Execution.{Execution}
 use Rattle.sig_process.specs.declared.progress.Progress.{Progress}
+use Rattle.sig_process.specs.declared.progress.Tables.{Tables}
+use Rattle.sig_patterns.specs.Environment.{Environment}
 use Rattle.sig_process.specs.Plans.{post_of, bound, bound_by, serial_by, inbox_by, changed, after_obeying, executed_body}
-use Rattle.sig_process.specs.Committing.{HasBegun, HasTaken, gone_on}
-use Rattle.sig_process.specs.Progressing.{state_of, HasAdvanced}
+use Rattle.sig_process.specs.Committing.{HasRoom, HasBegun, HasBound, HasTaken, IsCommittable, gone_on}
+use Rattle.sig_process.specs.Progressing.{state_of, HaveRoom, IsSame, HasAdvanced}
 
 -- the messages and markers after the rules of the inner queue
 marked : (q : InnerQueue) (answer : Bool × Inbox) → (answer.0 ≡ false → answer.1 ≡ q.inbox) → ((marked_by q answer).inbox ≡ answer.1) × ((marked_by q answer).owner ≡ q.owner)
@@ -41,15 +46,67 @@ bound_so q r = marked q (bound_in q.owner q.inbox r) (bound_none q.owner q.inbox
 pub cleared_so : (q : InnerQueue) (r : Ref) → ((cleared q r).inbox ≡ (cleared_in q.inbox r).1) × ((cleared q r).owner ≡ q.owner)
 cleared_so q r = marked q (cleared_in q.inbox r) (cleared_none q.inbox r)
 
-module _ (pid : ℕ) (x : Execution) (old begun bound_one gone arranged : Progress) (inner : InnerTable) where
+-- the room for a change stays where a variable is bound
+room_bound : (g : Growing) (t : Tables) (env : Environment) → HaveRoom g t → HaveRoom g (record t { env = env })
+room_bound Nothing t env room = room
+room_bound Messages t env room = room
+room_bound Links t env room = room
+room_bound Monitors t env room = room
+
+-- the event is noted, and the variable is bound
+abbrev pub with_binding : Progress → Binding → Progress
+with_binding p b = record p { tables = record p.tables { env = bound_by p.tables.env b }; counts = record p.counts { next_serial = serial_by p.counts.next_serial b } }
+
+room_with : (posts : ℕ) (grows : Growing) (p : Progress) (b : Binding) → HasRoom posts grows p → HasRoom posts grows (with_binding p b)
+room_with posts grows p b room = record { own = room.own; outbox = room.outbox; tables = room_bound grows p.tables (bound_by p.tables.env b) room.tables }
+
+begun_bound : (posts : ℕ) (grows : Growing) (b : Binding) (old begun after : Progress) (how : Outcome) →
+    HasBegun posts grows old begun (record { stamp = old.counts.stamp + 1; did = did.Exec old.counts.place; outcome = how }) → after ≡ with_binding begun b →
+    HasBound posts grows b old after how
+begun_bound posts grows b old begun after how begins is = record {
+  room = subst (HasRoom posts grows) (sym is) (room_with posts grows begun b begins.room);
+  state = ap state_of is ∙ ap (λ (s : ProcessState). bound s b) begins.state;
+  queue = ap (λ (p : Progress). p.tables.inner.queue) is ∙ begins.queue;
+  events = ap (λ (p : Progress). p.events) is ∙ begins.events;
+  handled = ap (λ (p : Progress). p.handled.items) is ∙ begins.handled;
+  own = ap (λ (p : Progress). p.own.items) is ∙ begins.own;
+  taken_in = ap (λ (p : Progress). p.taken_in.items) is ∙ begins.taken_in;
+  outbox = ap (λ (p : Progress). p.outbox.items) is ∙ begins.outbox;
+}
+
+-- where no memory is there to bind it, the event is taken back
+pub begun_bound_so : {T E : Type 0} (posts : ℕ) (grows : Growing) (b : Binding) (old begun after : Progress) (how : Outcome) →
+    HasBegun posts grows old begun (record { stamp = old.counts.stamp + 1; did = did.Exec old.counts.place; outcome = how }) →
+    (o : Result T E) → OnOk o (after ≡ with_binding begun b) → OnErr o ((before : List Event) (event : Event) → begun.events ≡ before ++ event ∷ [] → after ≡ record begun { events = before }) →
+    MatchResult o (λ _. HasBound posts grows b old after how) (λ _. IsSame old after)
+begun_bound_so posts grows b old begun after how begins (Ok _) is back = begun_bound posts grows b old begun after how begins is
+begun_bound_so posts grows b old begun after how begins (Err _) is back =
+    let same : after ≡ record begun { events = old.events } = back old.events (record { stamp = old.counts.stamp + 1; did = did.Exec old.counts.place; outcome = how }) begins.events in
+    record {
+      state = ap state_of same ∙ begins.state;
+      queue = ap (λ (p : Progress). p.tables.inner.queue) same ∙ begins.queue;
+      events = ap (λ (p : Progress). p.events) same;
+      handled = ap (λ (p : Progress). p.handled.items) same ∙ begins.handled;
+      own = ap (λ (p : Progress). p.own.items) same ∙ begins.own;
+      taken_in = ap (λ (p : Progress). p.taken_in.items) same ∙ begins.taken_in;
+      outbox = ap (λ (p : Progress). p.outbox.items) same ∙ begins.outbox;
+    }
+
+-- no count is at its end, where a variable is bound
+pub bound_committable : (posts : List Outgoing) (b : Binding) (old bound_one : Progress) → state_of bound_one ≡ bound (state_of old) b → IsCommittable posts old → IsCommittable posts bound_one
+bound_committable posts b old bound_one is k = record {
+  stamp = rw (ap (λ (s : ProcessState). s.counts.stamp) is) k.stamp;
+  arrivals = rw (ap (λ (s : ProcessState). s.tables.inbox.next_arrival) is) k.arrivals;
+  ids = rw (ap (λ (s : ProcessState). s.tables.links.next_id) is) k.ids;
+  numbers = rw (ap (λ (s : ProcessState). s.counts.next_numbers) is) k.numbers;
+}
+
+module _ (pid : ℕ) (x : Execution) (old bound_one gone after : Progress) where
   abbrev posts : List Post
   posts = map post_of x.plan.posts.items
 
   abbrev stamp : ℕ
   stamp = old.counts.stamp + 1
-
-  abbrev event : Event
-  event = record { stamp = stamp; did = did.Exec old.counts.place; outcome = x.plan.outcome }
 
   -- the signals are sent, and the changes made
   pub record HasGoneOn : Type 0 where
@@ -64,53 +121,41 @@ module _ (pid : ℕ) (x : Execution) (old begun bound_one gone arranged : Progre
 
   -- the messages and markers are changed, and what a scan left is forgotten
   pub record HasArranged : Type 0 where
-    pub inbox : arranged.tables.inner.queue.inbox ≡ inbox_by gone.tables.inner.queue.owner gone.tables.inner.queue.inbox x.inbox
-    pub owner : arranged.tables.inner.queue.owner ≡ gone.tables.inner.queue.owner
-    pub rest : arranged ≡ record gone { tables = record gone.tables { inner = arranged.tables.inner } }
-    pub queue : inner.queue ≡ forgotten arranged.tables.inner.queue
+    pub inbox : after.tables.inner.queue.inbox ≡ inbox_by gone.tables.inner.queue.owner gone.tables.inner.queue.inbox x.inbox
+    pub owner : after.tables.inner.queue.owner ≡ gone.tables.inner.queue.owner
+    pub rest : after ≡ record gone { tables = record gone.tables { inner = after.tables.inner }; counts = record gone.counts { place = x.place; executed = gone.counts.executed + 1 } }
 
-  abbrev after : Progress
-  after = record arranged { tables = record arranged.tables { inner = inner }; counts = record arranged.counts { place = x.place; executed = arranged.counts.executed + 1 } }
-
-  module _ {n : ℕ} {w : Growing} (b : HasBegun n w old begun event)
-      (m : bound_one ≡ record begun {
-        tables = record begun.tables { env = bound_by begun.tables.env x.binding };
-        counts = record begun.counts { next_serial = serial_by begun.counts.next_serial x.binding };
-      })
-      (g : HasGoneOn) (f : HasArranged) (own : old.tables.inner.queue.owner ≡ old.tables.watch.watch.owner) where
-    same_bound : state_of bound_one ≡ bound (state_of old) x.binding
-    same_bound = ap state_of m ∙ ap (λ (s : ProcessState). bound s x.binding) b.state
-
+  module _ {n : ℕ} {w : Growing} (b : HasBound n w x.binding old bound_one x.plan.outcome) (g : HasGoneOn) (f : HasArranged) (own : old.tables.inner.queue.owner ≡ old.tables.watch.watch.owner) where
     same_numbers : bound_one.counts.next_numbers.items ≡ old.counts.next_numbers.items
-    same_numbers = ap (λ (s : ProcessState). s.counts.next_numbers) same_bound
+    same_numbers = ap (λ (s : ProcessState). s.counts.next_numbers) b.state
 
-    same_executed : arranged.counts.executed ≡ old.counts.executed
-    same_executed = ap (λ (p : Progress). p.counts.executed) f.rest ∙ g.executed ∙ ap (λ (s : ProcessState). s.counts.executed) same_bound
+    same_executed : gone.counts.executed ≡ old.counts.executed
+    same_executed = g.executed ∙ ap (λ (s : ProcessState). s.counts.executed) b.state
+
+    same_owner : gone.tables.inner.queue.owner ≡ old.tables.inner.queue.owner
+    same_owner = g.owner ∙ ap (λ (q : InnerQueue). q.owner) b.queue
+
+    same_inbox : after.tables.inner.queue.inbox ≡ inbox_by old.tables.watch.watch.owner gone.tables.inner.queue.inbox x.inbox
+    same_inbox = f.inbox ∙ ap (λ (n : ℕ). inbox_by n gone.tables.inner.queue.inbox x.inbox) (same_owner ∙ own)
 
     -- the state with its messages and markers, at the place
     abbrev settled : ProcessState → ℕ → ProcessState
-    settled s executed = record s { tables = record s.tables { inbox = inbox_by old.tables.watch.watch.owner s.tables.inbox x.inbox }; counts = record s.counts { place = x.place; executed = executed } }
+    settled s executed = record s { tables = record s.tables { inbox = inbox_by old.tables.watch.watch.owner s.tables.inbox x.inbox }; counts = record s.counts { place = x.place; executed = executed + 1 } }
 
-    same_owner : gone.tables.inner.queue.owner ≡ old.tables.inner.queue.owner
-    same_owner = g.owner ∙ ap (λ (p : Progress). p.tables.inner.queue.owner) m ∙ ap (λ (q : InnerQueue). q.owner) b.queue
-
-    same_inbox : inner.queue.inbox ≡ inbox_by old.tables.watch.watch.owner gone.tables.inner.queue.inbox x.inbox
-    same_inbox = ap (λ (q : InnerQueue). q.inbox) f.queue ∙ f.inbox ∙ ap (λ (n : ℕ). inbox_by n gone.tables.inner.queue.inbox x.inbox) (same_owner ∙ own)
-
-    abbrev with_inbox : Inbox → Progress → ℕ → ProcessState
-    with_inbox inbox p executed = record (state_of p) { tables = record (state_of p).tables { inbox = inbox }; counts = record (state_of p).counts { place = x.place; executed = executed } }
+    abbrev with_inbox : Inbox → ProcessState
+    with_inbox inbox = record (state_of gone) { tables = record (state_of gone).tables { inbox = inbox }; counts = record (state_of gone).counts { place = x.place; executed = gone.counts.executed + 1 } }
 
     state_is : state_of after ≡ (finished_exec pid (state_of old) (executed_body (state_of old) x)).state
     state_is =
         let s : ProcessState = bound (state_of old) x.binding in
         let all : ProcessState → List ℕ → ProcessState = λ s numbers. gone_on (changed (after_obeying s x.plan.obeyed) x.plan.change) stamp numbers posts in
-        ap (λ (p : Progress). with_inbox inner.queue.inbox p (arranged.counts.executed + 1)) f.rest
-        ∙ ap (λ (i : Inbox). with_inbox i gone (arranged.counts.executed + 1)) same_inbox
-        ∙ ap (λ (n : ℕ). settled (state_of gone) (n + 1)) same_executed
-        ∙ ap (λ (t : ProcessState). settled t (old.counts.executed + 1)) (g.state ∙ ap (λ t. all t bound_one.counts.next_numbers.items) same_bound ∙ ap (all s) same_numbers)
+        ap state_of f.rest
+        ∙ ap with_inbox same_inbox
+        ∙ ap (settled (state_of gone)) same_executed
+        ∙ ap (λ (t : ProcessState). settled t old.counts.executed) (g.state ∙ ap (λ t. all t bound_one.counts.next_numbers.items) b.state ∙ ap (all s) same_numbers)
 
     sent_from : (field : Progress → List Signal) (part : List Signal → List Signal) → field gone ≡ field bound_one ++ part (numbered pid stamp bound_one.counts.next_numbers.items posts) →
-        field bound_one ≡ field old → field arranged ≡ field gone → field arranged ≡ field old ++ part (numbered pid stamp old.counts.next_numbers.items posts)
+        field bound_one ≡ field old → field after ≡ field gone → field after ≡ field old ++ part (numbered pid stamp old.counts.next_numbers.items posts)
     sent_from field part e same rest =
         rest ∙ e ∙ ap (λ (l : List Signal). l ++ part (numbered pid stamp bound_one.counts.next_numbers.items posts)) same
         ∙ ap (λ (numbers : List ℕ). field old ++ part (numbered pid stamp numbers posts)) same_numbers
@@ -118,12 +163,12 @@ module _ (pid : ℕ) (x : Execution) (old begun bound_one gone arranged : Progre
     pub executed_so : HasAdvanced pid old after (finished_exec pid (state_of old) (executed_body (state_of old) x))
     executed_so = record {
       state = state_is;
-      owner = ap (λ (q : InnerQueue). q.owner) f.queue ∙ f.owner ∙ same_owner;
-      events = ap (λ (p : Progress). p.events) f.rest ∙ g.events ∙ ap (λ (p : Progress). p.events) m ∙ b.events;
-      handled = ap (λ (p : Progress). p.handled.items) f.rest ∙ ap (λ l. l.items) g.handled ∙ ap (λ (p : Progress). p.handled.items) m ∙ b.handled;
-      own = sent_from (λ p. p.own.items) (to_itself pid) g.own (ap (λ (p : Progress). p.own.items) m ∙ b.own) (ap (λ (p : Progress). p.own.items) f.rest);
-      taken_in = ap (λ (p : Progress). p.taken_in.items) f.rest ∙ ap (λ l. l.items) g.taken_in ∙ ap (λ (p : Progress). p.taken_in.items) m ∙ b.taken_in;
-      outbox = sent_from (λ p. p.outbox.items) (to_others pid) g.outbox (ap (λ (p : Progress). p.outbox.items) m ∙ b.outbox) (ap (λ (p : Progress). p.outbox.items) f.rest);
+      owner = f.owner ∙ same_owner;
+      events = ap (λ (p : Progress). p.events) f.rest ∙ g.events ∙ b.events;
+      handled = ap (λ (p : Progress). p.handled.items) f.rest ∙ ap (λ l. l.items) g.handled ∙ b.handled;
+      own = sent_from (λ p. p.own.items) (to_itself pid) g.own b.own (ap (λ (p : Progress). p.own.items) f.rest);
+      taken_in = ap (λ (p : Progress). p.taken_in.items) f.rest ∙ ap (λ l. l.items) g.taken_in ∙ b.taken_in;
+      outbox = sent_from (λ p. p.outbox.items) (to_others pid) g.outbox b.outbox (ap (λ (p : Progress). p.outbox.items) f.rest);
     }
 
 -- what a message that is taken leaves, where the events lay beside the process

@@ -1,6 +1,6 @@
 -- What a planned event needs so that it may happen.
-use Rattle.std.proofs.Common.{◌≡◌, ℕ, ◌+◌, ◌-◌, ◌<◌, ◌≤◌, ◌^◌, List, map, Option, Some, refl, ap, ◌∙◌, subst, arith}
-use Rattle.std.specs.Prelude.{IfSome, slice_get}
+use Rattle.std.proofs.Common.{◌≡◌, ℕ, ◌+◌, ◌-◌, ◌<◌, ◌≤◌, ◌^◌, List, map, Option, Some, None, refl, ap, ◌∙◌, subst, arith}
+use Rattle.std.specs.Prelude.{IfSome, IsSomeAnd, slice_get}
 use Rattle.std.specs.Option.{option_map}
 use Rattle.sig_kinds.specs.declared.signal.Signal.{Signal}
 use Rattle.sig_script.specs.Scripts.{Declared}
@@ -12,6 +12,7 @@ use Rattle.sig_model.specs.Executing.{from_mark, executing, exec_body}
 use Rattle.sig_model.specs.Handling.{handling}
 use Rattle.sig_model.specs.Finishing.{finished_exec}
 use Rattle.sig_model.specs.Machine.{execution}
+use Rattle.sig_model.specs.Running.{next_of}
 use Rattle.sig_model.proofs.BoundLemmas.{executing_bounded, handling_bounded}
 use Rattle.sig_process.specs.declared.plan.Outgoing.{Outgoing}
 use Rattle.sig_process.specs.declared.plan.Plan.{Plan}
@@ -58,7 +59,16 @@ module _ (proc : Declared) (p : Progress) where
       committable proc p x.plan.posts.items due.bounds due.stamp (λ peer. omega (arith, b.posts peer))
 
   -- the next signal
-  pub signal_committable : (plan : Plan) (pid : ℕ) (x : Signal) → IsHandleDue proc p → handling pid (state_of p) x ≡ body_of (state_of p) plan → IsCommittable plan.posts.items p
+  signal_committable : (plan : Plan) (pid : ℕ) (x : Signal) → IsHandleDue proc p → handling pid (state_of p) x ≡ body_of (state_of p) plan → IsCommittable plan.posts.items p
   signal_committable plan pid x due e =
       let b : IsBoundedBody proc (state_of p) (body_of (state_of p) plan) = subst (IsBoundedBody proc (state_of p)) e (handling_bounded proc (state_of p) due.bounds pid x) in
       committable proc p plan.posts.items due.bounds due.stamp (λ peer. omega (arith, b.posts peer))
+
+  next_committable : (plan : Plan) (pid : ℕ) (o : Option Signal) → IsHandleDue proc p → IsSomeAnd o (λ x. x.stamp < LAST_STAMP) →
+      IfSome o (λ x. handling pid (state_of p) x ≡ body_of (state_of p) plan) → IsCommittable plan.posts.items p
+  next_committable plan pid (Some x) due early e = signal_committable plan pid x due e
+  next_committable plan pid None due early e = absurd early
+
+  pub plan_committable : (plan : Plan) (pid : ℕ) → IsHandleDue proc p → IfSome (next_of p.own.items p.taken_in.items) (λ x. handling pid (state_of p) x ≡ body_of (state_of p) plan) →
+      IsCommittable plan.posts.items p
+  plan_committable plan pid due e = next_committable plan pid (next_of p.own.items p.taken_in.items) due due.next e

@@ -1,6 +1,6 @@
 -- What the handling of a signal keeps of the saved place.
 use Rattle.std.proofs.Common.{◌≡◌, ℕ, ◌≤◌, List, length, All, Option, Some, None, refl, sym, ap, ◌∙◌, subst}
-use Rattle.std.specs.Prelude.{IsSome, OnOk, Result, Ok, Err, is_some, if◌then◌else◌}
+use Rattle.std.specs.Prelude.{IsSome, IfSome, OnOk, MatchResult, Result, Ok, Err, is_some, if◌then◌else◌}
 use Rattle.sig_terms.specs.declared.pid.Pid.{Pid}
 use Rattle.sig_terms.specs.declared.reference.Ref.{Ref}
 use Rattle.sig_terms.specs.declared.term.Term.{Term}
@@ -14,15 +14,22 @@ use Rattle.sig_inner.proofs.Resuming.{passed_append, passed_appended, passed_uns
 use Rattle.sig_inner.specs.Receiving.{passed, HasPassed}
 use Rattle.sig_script.specs.declared.instruction.Instr.{Instr}
 use Rattle.sig_script.specs.declared.instruction.Instr.TheVariants as instr
+use Rattle.sig_kinds.specs.declared.signal.Signal.{Signal}
 use Rattle.sig_model.specs.ProcessState.{ProcessState}
+use Rattle.sig_model.specs.Bodies.{Body}
+use Rattle.sig_model.specs.Finishing.{finished_handle}
+use Rattle.sig_model.specs.Handling.{handling}
+use Rattle.sig_model.specs.Machine.{handling_of}
+use Rattle.sig_model.specs.Running.{next_of}
 use Rattle.sig_model.specs.Executing.{using_ref}
 use Rattle.sig_process.specs.declared.changing.Change.{Change}
 use Rattle.sig_process.specs.declared.changing.Change.TheVariants as change
+use Rattle.sig_process.specs.declared.plan.Plan.{Plan}
 use Rattle.sig_process.specs.declared.progress.Progress.{Progress}
-use Rattle.sig_process.specs.Plans.{changed, after_obeying}
-use Rattle.sig_process.specs.Progressing.{state_of}
-use Rattle.sig_process.specs.Executions.{KeepsSaved}
-use Rattle.sig_process.specs.Committing.{queue_after}
+use Rattle.sig_process.specs.Plans.{changed, after_obeying, body_of}
+use Rattle.sig_process.specs.Progressing.{state_of, IsSame}
+use Rattle.sig_process.specs.Executions.{KeepsSaved, HasHandledNext, IsPlacedWithin}
+use Rattle.sig_process.specs.Committing.{queue_after, HasHandled}
 use Rattle.sig_process.specs.Soundness.{HasPassedAt}
 
 -- what a change keeps of the place
@@ -69,12 +76,12 @@ obeyed_end s None = refl
 obeyed_end s (Some peer) = refl
 
 -- a signal was handled by this plan
-pub handled_keeps : {T E : Type 0} (o : Result T E) (before after : Progress) (peer : Option Pid) (c : Change) →
-    OnOk o ((after.tables.env ≡ before.tables.env) × (after.counts.place ≡ before.counts.place)) → OnOk o (after.tables.end ≡ (changed (after_obeying (state_of before) peer) c).tables.end) →
-    OnOk o (after.tables.inner.queue ≡ queue_after before.tables.inner.queue c) → passed before.tables.inner.queue.last ≤ length before.tables.inner.queue.inbox.messages →
+pub handled_keeps : (before after : Progress) (peer : Option Pid) (c : Change) →
+    (after.tables.env ≡ before.tables.env) × (after.counts.place ≡ before.counts.place) → after.tables.end ≡ (changed (after_obeying (state_of before) peer) c).tables.end →
+    after.tables.inner.queue ≡ queue_after before.tables.inner.queue c → passed before.tables.inner.queue.last ≤ length before.tables.inner.queue.inbox.messages →
     All (λ (m : Mark). m.arrival ≤ before.tables.inner.queue.inbox.next_arrival) before.tables.inner.queue.inbox.marks →
-    (IsSome before.tables.end → passed before.tables.inner.queue.last ≡ 0) → OnOk o (KeepsSaved before after)
-handled_keeps (Ok _) before after peer c steady end queue within early ended =
+    (IsSome before.tables.end → passed before.tables.inner.queue.last ≡ 0) → KeepsSaved before after
+handled_keeps before after peer c steady end queue within early ended =
     let q = before.tables.inner.queue in
     record {
       owner = ap (λ (r : InnerQueue). r.owner) queue ∙ changed_owner q within early c;
@@ -85,4 +92,25 @@ handled_keeps (Ok _) before after peer c steady end queue within early ended =
           ∙ ap (λ (o : Option Term). if is_some o then 0 else passed q.last) (sym end);
       none = λ i k. rw (queue, steady.0) (passes_at q within early c before.tables.env i k);
     }
-handled_keeps (Err _) before after peer c steady end queue within early ended = tt
+
+-- a signal was handled as it was planned
+next_handled : (n : Option Signal) (pid : ℕ) (before after : Progress) (b : Body) → IfSome n (λ x. handling pid (state_of before) x ≡ b) →
+    IfSome n (λ x. HasHandled pid before after x (finished_handle pid (state_of before) x b)) → IfSome n (λ x. HasHandled pid before after x (handling_of pid (state_of before) x))
+next_handled (Some x) pid before after b e h = subst (λ (body : Body). HasHandled pid before after x (finished_handle pid (state_of before) x body)) (sym e) h
+next_handled None pid before after b e h = tt
+
+module _ (pid : ℕ) (before after : Progress) (plan : Plan) (placed : IsPlacedWithin before.tables.inner.queue) (ended : IsSome before.tables.end → passed before.tables.inner.queue.last ≡ 0) where
+  abbrev next : Option Signal
+  next = next_of before.own.items before.taken_in.items
+
+  pub planned_handled : {T E : Type 0} (o : Result T E) → IfSome next (λ x. handling pid (state_of before) x ≡ body_of (state_of before) plan) →
+      MatchResult o (λ _. IfSome next (λ x. HasHandled pid before after x (finished_handle pid (state_of before) x (body_of (state_of before) plan)))) (λ _. IsSame before after) →
+      OnOk o ((after.tables.env ≡ before.tables.env) × (after.counts.place ≡ before.counts.place)) →
+      OnOk o (after.tables.end ≡ (changed (after_obeying (state_of before) plan.obeyed) plan.change).tables.end) →
+      OnOk o (after.tables.inner.queue ≡ queue_after before.tables.inner.queue plan.change) →
+      MatchResult o (λ _. HasHandledNext pid before after) (λ _. IsSame before after)
+  planned_handled (Ok _) e h steady end queue = record {
+    handled = next_handled next pid before after (body_of (state_of before) plan) e h;
+    saved = handled_keeps before after plan.obeyed plan.change steady end queue placed.within placed.early ended;
+  }
+  planned_handled (Err _) e h steady end queue = h

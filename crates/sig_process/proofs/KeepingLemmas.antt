@@ -1,6 +1,6 @@
 -- A message that is moved from its signal is handled as the table of handling says.
-use Rattle.std.proofs.Common.{◌≡◌, ℕ, ◌+◌, ◌≤◌, max, List, [], ◌∷◌, ◌++◌, length, All, Option, Some, None, refl, sym, ap, ◌∙◌, subst}
-use Rattle.std.specs.Prelude.{IsSome, IfSome, OnOk, MatchResult, Result, Ok, Err, is_some, option_and_then, if◌then◌else◌}
+use Rattle.std.proofs.Common.{◌≡◌, ℕ, ◌+◌, max, List, [], ◌∷◌, ◌++◌, Option, Some, None, refl, sym, ap, ◌∙◌, subst}
+use Rattle.std.specs.Prelude.{IsSome, IfSome, MatchResult, Result, Ok, Err, is_some, option_and_then, if◌then◌else◌}
 use Rattle.std.specs.Option.{unwrap_or}
 use Rattle.std.proofs.lemmas.Bool.{true≢false}
 use Rattle.std.proofs.lemmas.List.{append-nil}
@@ -8,7 +8,6 @@ use Rattle.sig_terms.specs.declared.term.Term.{Term}
 use Rattle.sig_kinds.specs.declared.signal.Kind.{Kind}
 use Rattle.sig_kinds.specs.declared.signal.Kind.TheVariants as kind
 use Rattle.sig_kinds.specs.declared.signal.Signal.{Signal}
-use Rattle.sig_patterns.specs.declared.mark.Mark.{Mark}
 use Rattle.sig_patterns.specs.Inbox.{Inbox}
 use Rattle.sig_inner.specs.InnerQueue.{InnerQueue}
 use Rattle.sig_inner.specs.Receiving.{passed}
@@ -22,8 +21,8 @@ use Rattle.sig_model.specs.Running.{next_of, to_itself, to_others}
 use Rattle.sig_process.specs.declared.changing.Change.TheVariants as change
 use Rattle.sig_process.specs.declared.progress.Progress.{Progress}
 use Rattle.sig_process.specs.Committing.{HasHandled, behind_first}
-use Rattle.sig_process.specs.Executions.{KeepsSaved}
-use Rattle.sig_process.specs.Keeping.{message_of, kept_message, HasKept}
+use Rattle.sig_process.specs.Executions.{KeepsSaved, HasHandledNext, IsPlacedWithin}
+use Rattle.sig_process.specs.KeptMessage.{message_of, kept_message, HasKept}
 use Rattle.sig_process.specs.Progressing.{state_of, IsSame}
 use Rattle.sig_process.proofs.HandleLemmas.{handled_keeps}
 
@@ -86,20 +85,15 @@ module _ (p q : Progress) (t : Term) (message : kept_message p ≡ Some t) where
   handled_next pid None is k = tt
   handled_next pid (Some x) is k = handled_so pid x is k
 
-  pub kept_handled : {T E : Type 0} (o : Result T E) (pid : ℕ) → MatchResult o (λ _. IfSome next (λ x. HasKept p q x t)) (λ _. IsSame p q)
-      → MatchResult o (λ _. IfSome next (λ x. HasHandled pid p q x (handling_of pid (state_of p) x))) (λ _. IsSame p q)
-  kept_handled (Ok _) pid h = handled_next pid next refl h
-  kept_handled (Err _) pid h = h
-
-  module _ (within : passed p.tables.inner.queue.last ≤ length p.tables.inner.queue.inbox.messages)
-      (early : All (λ (m : Mark). m.arrival ≤ p.tables.inner.queue.inbox.next_arrival) p.tables.inner.queue.inbox.marks) (ended : IsSome p.tables.end → passed p.tables.inner.queue.last ≡ 0) where
+  module _ (placed : IsPlacedWithin p.tables.inner.queue) (ended : IsSome p.tables.end → passed p.tables.inner.queue.last ≡ 0) where
     keeps_next : (n : Option Signal) → next ≡ n → IfSome n (λ x. HasKept p q x t) → KeepsSaved p q
     keeps_next None is k = no_message t (subst (λ (o : Option Signal). option_and_then (λ (y : Signal). message_of y.kind) o ≡ Some t) is lives.1)
     keeps_next (Some x) is k =
-        handled_keeps {T = Unit {0}} {E = Unit {0}} (Ok tt) p q None (change.Append t)
+        handled_keeps p q None (change.Append t)
         (ap (λ (z : Progress). z.tables.env) k.rest, ap (λ (z : Progress). z.counts.place) k.rest)
-        (ap (λ (z : Progress). z.tables.end) k.rest) k.queue within early ended
+        (ap (λ (z : Progress). z.tables.end) k.rest) k.queue placed.within placed.early ended
 
-    pub kept_keeps : {T E : Type 0} (o : Result T E) → MatchResult o (λ _. IfSome next (λ x. HasKept p q x t)) (λ _. IsSame p q) → OnOk o (KeepsSaved p q)
-    kept_keeps (Ok _) h = keeps_next next refl h
-    kept_keeps (Err _) h = tt
+    pub kept_handled : {T E : Type 0} (o : Result T E) (pid : ℕ) → MatchResult o (λ _. IfSome next (λ x. HasKept p q x t)) (λ _. IsSame p q)
+        → MatchResult o (λ _. HasHandledNext pid p q) (λ _. IsSame p q)
+    kept_handled (Ok _) pid h = record { handled = handled_next pid next refl h; saved = keeps_next next refl h }
+    kept_handled (Err _) pid h = h

@@ -1,14 +1,11 @@
 -- What the calls of a process keep, and what they lead to.
-use Rattle.std.proofs.Common.{◌≡◌, ℕ, ◌-◌, ◌<◌, ◌^◌, List, [], ◌∷◌, length, true, false, Option, Some, None, refl, sym, ap, ◌∙◌, subst, arith}
+use Rattle.std.proofs.Common.{◌≡◌, ℕ, ◌-◌, ◌<◌, ◌^◌, List, [], ◌∷◌, ◌++◌, length, true, false, Option, Some, None, refl, sym, ap, ◌∙◌, subst, arith}
 use Rattle.std.specs.Prelude.{All, IfSome, IfOk, IsSome, IsSomeAnd, MatchOption, MatchResult, OnOk, Result, Ok, Err, slice_get, is_some, if◌then◌else◌}
 use Rattle.std.specs.Option.{option_map}
 use Rattle.std.proofs.lemmas.List.Elements.{All-nil, All-head, All-tail}
 use Rattle.std.proofs.lemmas.Option.{slice_get_within, get_or_from_slice_get}
 use Rattle.sig_terms.specs.declared.term.Term.{Term}
 use Rattle.sig_kinds.specs.declared.signal.Signal.{Signal}
-use Rattle.sig_kinds.specs.declared.signals.Push.{Push}
-use Rattle.sig_kinds.specs.declared.signals.Push.TheVariants.{Added, Memory}
-use Rattle.sig_kinds.specs.Pushes.{IsPush}
 use Rattle.sig_kinds.specs.SignalList.{SignalList}
 use Rattle.sig_kinds.specs.SignalNames.{IsSignalBelow}
 use Rattle.sig_script.specs.declared.instruction.Instr.{Instr}
@@ -33,7 +30,7 @@ use Rattle.sig_process.specs.Standing.{Standing}
 use Rattle.sig_process.specs.Progressing.{state_of, running_of, standing_of, IsSame, HasAdvanced}
 use Rattle.sig_process.specs.Committing.{HasHandled}
 use Rattle.sig_process.specs.Soundness.{IsSaved, IsSound}
-use Rattle.sig_process.specs.Executions.{IsExecDue, IsHandleDue, IsUnmoved, HasExecuted, HasGone, KeepsSaved}
+use Rattle.sig_process.specs.Executions.{IsExecDue, IsHandleDue, IsUnmoved, HasExecuted, HasGone, HasHandledNext}
 use Rattle.sig_process.specs.Steps.{IsExec, IsWholeExec, IsHandled}
 use Rattle.sig_process.proofs.SavedPlace.{unsaved_none, unsaved_passes}
 
@@ -155,47 +152,44 @@ module _ (pid count turns : ℕ) (proc : Declared) where
         cc
 
     handled_next : can_handle (runs before) ≡ true →
-        IfSome (next_of before.own.items before.taken_in.items) (λ x. HasHandled pid before after x (handling_of pid (state_of before) x)) → handle_next (runs before) ≡ Some (runs after)
+        HasHandledNext pid before after → handle_next (runs before) ≡ Some (runs after)
     handled_next h x =
         let can : CanHandle (runs before) = can_handle_tells (runs before) h in
         handle_due (runs before) h
         ∙ handled_by can.next before.own.items before.taken_in.items refl refl
-        (subst (λ (o : Option Signal). IfSome o (λ x. HasHandled pid before after x (handling_of pid (state_of before) x))) can.is_next x)
+        (subst (λ (o : Option Signal). IfSome o (λ x. HasHandled pid before after x (handling_of pid (state_of before) x))) can.is_next x.handled)
 
     pub handle_tells : can_handle (runs before) ≡ true →
-        IfSome (next_of before.own.items before.taken_in.items) (λ x. HasHandled pid before after x (handling_of pid (state_of before) x)) → KeepsSaved before after →
+        HasHandledNext pid before after →
         IsHandled (standing_of pid count turns proc before) (standing_of pid count turns proc after)
-    handle_tells h x s = (handled_next h x, s.saved)
+    handle_tells h x = (handled_next h x, x.saved.saved)
 
     ended_unsaved : (o : Option Term) (n m : ℕ) → n ≡ (if is_some o then 0 else m) → IsSome o → n ≡ 0
     ended_unsaved (Some reason) n m e some = e
     ended_unsaved None n m e some = cc
 
     pub handle_sound : IsSound pid count turns proc before → can_handle (runs before) ≡ true →
-        IfSome (next_of before.own.items before.taken_in.items) (λ x. HasHandled pid before after x (handling_of pid (state_of before) x)) → KeepsSaved before after →
+        HasHandledNext pid before after →
         IsSound pid count turns proc after
-    handle_sound k h x s = record {
+    handle_sound k h x = record {
       keeps = handle_keeps (runs before) (runs after) k.keeps (handled_next h x);
-      owner = s.owner ∙ k.owner;
+      owner = x.saved.owner ∙ k.owner;
       saved = record {
-        none = rw s.place (s.none (here before) k.saved.none);
-        ended = ended_unsaved after.tables.end (passed after.tables.inner.queue.last) (passed before.tables.inner.queue.last) s.saved;
+        none = rw x.saved.place (x.saved.none (here before) k.saved.none);
+        ended = ended_unsaved after.tables.end (passed after.tables.inner.queue.last) (passed before.tables.inner.queue.last) x.saved.saved;
       };
     }
 
     -- the answers of both
-    abbrev pub HasHandledNext : Type 0
-    HasHandledNext = IfSome (next_of before.own.items before.taken_in.items) (λ x. HasHandled pid before after x (handling_of pid (state_of before) x))
-
     pub exec_keeps_sound : {E : Type 0} (o : Result Exec E) → IsSound pid count turns proc before → can_exec (runs before) ≡ true →
         MatchResult o (HasGone pid proc before after) (λ _. IsUnmoved before after) → IsSaved (here after) after → IsSound pid count turns proc after
     exec_keeps_sound (Ok how) k h x s = exec_sound how k h x s
     exec_keeps_sound (Err _) k h u s = unmoved_sound k u s
 
     pub handle_keeps_sound : {T E : Type 0} (o : Result T E) → IsSound pid count turns proc before → can_handle (runs before) ≡ true →
-        MatchResult o (λ _. HasHandledNext) (λ _. IsSame before after) → OnOk o (KeepsSaved before after) → IsSound pid count turns proc after
-    handle_keeps_sound (Ok _) k h x s = handle_sound k h x s
-    handle_keeps_sound (Err _) k h same s = same_sound k same
+        MatchResult o (λ _. HasHandledNext pid before after) (λ _. IsSame before after) → IsSound pid count turns proc after
+    handle_keeps_sound (Ok _) k h x = handle_sound k h x
+    handle_keeps_sound (Err _) k h same = same_sound k same
 
   -- what they tell of how the process stood
   module _ {E : Type 0} (o : Result Exec E) (stood : Standing) (after : Progress) where
@@ -224,21 +218,22 @@ module _ (pid count turns : ℕ) (proc : Declared) where
     exec_tells_so (Err _) h u = unmoved_is before after u
 
     pub handle_tells_so : {T E : Type 0} (o : Result T E) → can_handle (runs before) ≡ true →
-        MatchResult o (λ _. HasHandledNext before after) (λ _. IsSame before after) → OnOk o (KeepsSaved before after) →
+        MatchResult o (λ _. HasHandledNext pid before after) (λ _. IsSame before after) →
         handle_answer o (standing_of pid count turns proc before) after
-    handle_tells_so (Ok _) h x s = handle_tells before after h x s
-    handle_tells_so (Err _) h same s = same_is before after same
+    handle_tells_so (Ok _) h x = handle_tells before after h x
+    handle_tells_so (Err _) h same = same_is before after same
 
   -- a signal of another arrives, or there is no room and no memory for it
   module _ (p : Progress) (k : IsSound pid count turns proc p) (left : SignalList) where
-    pub arrived_sound : (x : Signal) (o : Push) → IsArriving pid count x → IsPush p.taken_in left x o → IsSound pid count turns proc (record p { taken_in = left })
-    arrived_sound x Added h e = record {
-      keeps = rw e.0 (arrived_keeps (runs p) x k.keeps h);
+    pub arrived_sound : {T E : Type 0} (x : Signal) (o : Result T E) → IsArriving pid count x →
+        MatchResult o (λ _. left.items ≡ p.taken_in.items ++ x ∷ []) (λ _. left.items ≡ p.taken_in.items) → IsSound pid count turns proc (record p { taken_in = left })
+    arrived_sound x (Ok _) h e = record {
+      keeps = rw e (arrived_keeps (runs p) x k.keeps h);
       owner = k.owner;
       saved = record { none = k.saved.none; ended = k.saved.ended };
     }
-    arrived_sound x (Memory back) h e = record {
-      keeps = rw e.0 k.keeps;
+    arrived_sound x (Err _) h e = record {
+      keeps = rw e k.keeps;
       owner = k.owner;
       saved = record { none = k.saved.none; ended = k.saved.ended };
     }

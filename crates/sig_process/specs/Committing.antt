@@ -9,6 +9,7 @@ use Rattle.sig_inner.specs.InnerQueue.{InnerQueue, appended, emptied, found_mess
 use Rattle.sig_runs.specs.Rules.{Effect}
 use Rattle.sig_model.specs.declared.event.Event.{Event}
 use Rattle.sig_model.specs.declared.event.Did.TheVariants as did
+use Rattle.sig_model.specs.declared.event.Outcome.{Outcome}
 use Rattle.sig_model.specs.declared.event.Outcome.TheVariants as outcome
 use Rattle.sig_model.specs.declared.state.TheConstants.{LAST_STAMP}
 use Rattle.sig_model.specs.ProcessState.{ProcessState, Post}
@@ -18,9 +19,10 @@ use Rattle.sig_model.specs.Running.{to_itself, to_others, next_of}
 use Rattle.sig_process.specs.declared.changing.Change.{Change}
 use Rattle.sig_process.specs.declared.changing.Change.TheVariants.{Append, ThroughAlias, ToldDown, End}
 use Rattle.sig_process.specs.declared.changing.Growing.{Growing}
+use Rattle.sig_process.specs.declared.plan.Binding.{Binding}
 use Rattle.sig_process.specs.declared.plan.Outgoing.{Outgoing}
 use Rattle.sig_process.specs.declared.progress.Progress.{Progress}
-use Rattle.sig_process.specs.Plans.{post_of}
+use Rattle.sig_process.specs.Plans.{post_of, bound}
 use Rattle.sig_process.specs.Progressing.{state_of, HaveRoom}
 
 -- there is room for all that an event changes, with so many signals to be sent
@@ -82,6 +84,17 @@ pub record HasBegun (posts : ℕ) (grows : Growing) (before after : Progress) (e
   pub queue : after.tables.inner.queue ≡ before.tables.inner.queue
   pub counts : after.counts ≡ before.counts
   pub events : after.events ≡ before.events ++ e ∷ []
+  pub handled : after.handled.items ≡ before.handled.items
+  pub own : after.own.items ≡ before.own.items
+  pub taken_in : after.taken_in.items ≡ before.taken_in.items
+  pub outbox : after.outbox.items ≡ before.outbox.items
+
+-- room is made, the event of an instruction is noted, and its variable is bound
+pub record HasBound (posts : ℕ) (grows : Growing) (binding : Binding) (before after : Progress) (how : Outcome) : Type 0 where
+  pub room : HasRoom posts grows after
+  pub state : state_of after ≡ bound (state_of before) binding
+  pub queue : after.tables.inner.queue ≡ before.tables.inner.queue
+  pub events : after.events ≡ before.events ++ record { stamp = before.counts.stamp + 1; did = did.Exec before.counts.place; outcome = how } ∷ []
   pub handled : after.handled.items ≡ before.handled.items
   pub own : after.own.items ≡ before.own.items
   pub taken_in : after.taken_in.items ≡ before.taken_in.items

@@ -1,8 +1,10 @@
 -- What an execution and a handling do to the fields of a process.
-use Rattle.std.specs.Prelude.{◌≡◌, ℕ, ◌+◌, ◌-◌, ◌<◌, ◌^◌, List, length, slice_get, Some, None, is_some, IsSomeAnd, false, if◌then◌else◌, Option}
+use Rattle.std.specs.Prelude.{◌≡◌, ℕ, ◌+◌, ◌-◌, ◌<◌, ◌≤◌, ◌^◌, List, length, All, slice_get, Some, None, is_some, IfSome, IsSomeAnd, false, if◌then◌else◌, Option}
 use Rattle.sig_kinds.specs.declared.signal.Signal.{Signal}
 use Rattle.sig_patterns.specs.declared.clause.Clause.{Clause}
+use Rattle.sig_patterns.specs.declared.mark.Mark.{Mark}
 use Rattle.sig_patterns.specs.Scanning.{Hit}
+use Rattle.sig_inner.specs.InnerQueue.{InnerQueue}
 use Rattle.sig_inner.specs.declared.last_scan.LastScan.TheVariants as last
 use Rattle.sig_script.specs.declared.instruction.Instr.{Instr}
 use Rattle.sig_script.specs.Scripts.{Declared, IsWithin}
@@ -13,12 +15,13 @@ use Rattle.sig_model.specs.declared.state.TheConstants.{LAST_STAMP}
 use Rattle.sig_model.specs.ProcessState.{ProcessState}
 use Rattle.sig_model.specs.Bounds.{IsBounded}
 use Rattle.sig_model.specs.Executing.{hit_from, IsWaiting}
-use Rattle.sig_model.specs.Machine.{execution}
+use Rattle.sig_model.specs.Machine.{execution, handling_of}
 use Rattle.sig_model.specs.Running.{next_of}
 use Rattle.sig_process.specs.declared.executing.Exec.{Exec}
 use Rattle.sig_process.specs.declared.executing.Exec.TheVariants.{Stepped, Waiting}
 use Rattle.sig_process.specs.declared.progress.Progress.{Progress}
 use Rattle.sig_process.specs.Progressing.{state_of, HasAdvanced}
+use Rattle.sig_process.specs.Committing.{HasHandled}
 use Rattle.sig_process.specs.Soundness.{IsSaved, HasPassedAt}
 
 -- the next instruction may be executed
@@ -81,3 +84,13 @@ pub record KeepsSaved (before after : Progress) : Type 0 where
   pub place : after.counts.place ≡ before.counts.place
   pub saved : passed after.tables.inner.queue.last ≡ (if is_some after.tables.end then 0 else passed before.tables.inner.queue.last)
   pub none : (i : Option Instr) → HasPassedAt i before.tables.inner.queue before.tables.env → HasPassedAt i after.tables.inner.queue after.tables.env
+
+-- the process pid has handled the next signal as the table of handling says
+pub record HasHandledNext (pid : ℕ) (before after : Progress) : Type 0 where
+  pub handled : IfSome (next_of before.own.items before.taken_in.items) (λ x. HasHandled pid before after x (handling_of pid (state_of before) x))
+  pub saved : KeepsSaved before after
+
+-- the saved place and the marks lie among the messages
+pub record IsPlacedWithin (q : InnerQueue) : Type 0 where
+  pub within : passed q.last ≤ length q.inbox.messages
+  pub early : All (λ (m : Mark). m.arrival ≤ q.inbox.next_arrival) q.inbox.marks

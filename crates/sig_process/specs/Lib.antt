@@ -3,7 +3,7 @@ pub mod Plans
 pub mod Planning
 pub mod Progressing
 pub mod Committing
-pub mod Keeping
+pub mod KeptMessage
 pub mod Soundness
 pub mod Executions
 pub mod Steps

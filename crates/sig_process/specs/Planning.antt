@@ -5,8 +5,10 @@ use Rattle.sig_kinds.specs.declared.signal.Kind.{Kind}
 use Rattle.sig_kinds.specs.declared.signal.Kind.TheVariants as kind
 use Rattle.sig_script.specs.declared.instruction.Instr.{Instr}
 use Rattle.sig_script.specs.declared.instruction.Instr.TheVariants as instr
+use Rattle.sig_script.specs.Scripts.{Declared}
 use Rattle.sig_model.specs.ProcessState.{ProcessState}
 use Rattle.sig_model.specs.Bodies.{Body, ending, badarg, system_limit, noproc}
+use Rattle.sig_model.specs.Executing.{from_mark, exec_body}
 use Rattle.sig_process.specs.declared.values.ValueFault.{ValueFault}
 use Rattle.sig_process.specs.declared.values.ValueFault.TheVariants.{TooLarge, BadArg, Memory}
 use Rattle.sig_process.specs.declared.plan.Execution.{Execution}
@@ -27,6 +29,10 @@ IsUsed {A} s row (Err fault) = (go : A → Body) → IsRefused s (Some (row go))
 abbrev pub IsPlanned : ProcessState → Option Body → Result Execution ValueFault → Type 0
 IsPlanned s body (Ok x) = body ≡ Some (executed_body s x)
 IsPlanned s body (Err fault) = IsRefused s body fault
+
+-- the same of the row of this instruction
+abbrev pub IsRow : Declared → ProcessState → Instr → Result Execution ValueFault → Type 0
+IsRow proc s i r = IsPlanned s (exec_body from_mark proc s (Some i)) r
 
 -- what answers a link signal, or the monitor signal of a reference, where the process has ended
 abbrev pub noproc_answer : Option Ref → Kind

@@ -4,14 +4,18 @@ use Rattle.std.specs.FinMap.{insert}
 use Rattle.sig_terms.specs.declared.pid.Pid.{Pid}
 use Rattle.sig_terms.specs.declared.term.Term.TheVariants as term
 use Rattle.sig_patterns.specs.Environment.{Environment}
-use Rattle.sig_kinds.specs.LinkRules.{link, unlink, on_link, on_unlink, on_ack, deactivated}
-use Rattle.sig_kinds.specs.WatchRules.{monitor, demonitor, alias, unalias, on_alias_message, on_monitor, on_demonitor, on_down}
+use Rattle.sig_kinds.specs.LinkRules.{LinkState, link, unlink, on_link, on_unlink, on_ack, deactivated}
+use Rattle.sig_kinds.specs.WatchRules.{WatchState, monitor, demonitor, alias, unalias, on_alias_message, on_monitor, on_demonitor, on_down}
 use Rattle.sig_patterns.specs.Inbox.{Inbox, arrived_in, flushed_down, reserved, bound_in, cleared_in}
 use Rattle.sig_model.specs.ProcessState.{ProcessState, owner_of, Post, with_tables, inboxed, relinked, rewatched, ended_tables}
 use Rattle.sig_model.specs.Bodies.{Body, at_place}
 use Rattle.sig_process.specs.declared.plan.Outgoing.{Outgoing}
 use Rattle.sig_process.specs.declared.changing.Change.{Change}
-use Rattle.sig_process.specs.declared.changing.Change.TheVariants.{Nothing, Link, Unlink, Trap, Append, LinkUp, UnlinkBy, Acknowledge, Monitor, Demonitor, Alias, Unalias, Watched, Unwatched, ThroughAlias, ToldDown, End}
+use Rattle.sig_process.specs.declared.changing.Change.TheVariants.{Nothing, Links, Watch, Trap, Append, ThroughAlias, ToldDown, End}
+use Rattle.sig_process.specs.declared.changing.LinkChange.{LinkChange}
+use Rattle.sig_process.specs.declared.changing.LinkChange.TheVariants.{Link, Unlink, LinkUp, UnlinkBy, Acknowledge}
+use Rattle.sig_process.specs.declared.changing.WatchChange.{WatchChange}
+use Rattle.sig_process.specs.declared.changing.WatchChange.TheVariants.{Monitor, Demonitor, Alias, Unalias, Watched, Unwatched}
 use Rattle.sig_process.specs.declared.changing.Growing.{Growing}
 use Rattle.sig_process.specs.declared.changing.Growing.TheVariants as grows
 use Rattle.sig_process.specs.declared.plan.Plan.{Plan}
@@ -22,34 +26,47 @@ use Rattle.sig_process.specs.declared.plan.InboxChange.TheVariants as inbox_chan
 use Rattle.sig_process.specs.declared.plan.Execution.{Execution}
 
 -- the table that the change may make larger
-abbrev pub growing : Change → Growing
-growing (Append message) = grows.Messages
-growing (ThroughAlias reference message) = grows.Messages
-growing (ToldDown reference message) = grows.Messages
-growing (Link peer) = grows.Links
-growing (Unlink peer) = grows.Links
-growing (LinkUp peer) = grows.Links
-growing (Monitor reference target mode) = grows.Monitors
-growing (Alias reference reply) = grows.Monitors
-growing (Watched reference watcher) = grows.Monitors
-growing _ = grows.Nothing
+abbrev pub links_growing : LinkChange → Growing
+links_growing (UnlinkBy peer) = grows.Nothing
+links_growing (Acknowledge peer id) = grows.Nothing
+links_growing _ = grows.Links
 
--- one equation for each change
+abbrev pub watch_growing : WatchChange → Growing
+watch_growing (Demonitor reference) = grows.Nothing
+watch_growing (Unalias reference) = grows.Nothing
+watch_growing (Unwatched reference) = grows.Nothing
+watch_growing _ = grows.Monitors
+
+abbrev pub growing : Change → Growing
+growing Nothing = grows.Nothing
+growing (Links c) = links_growing c
+growing (Watch c) = watch_growing c
+growing (Trap on) = grows.Nothing
+growing (End reason) = grows.Nothing
+growing _ = grows.Messages
+
+-- one equation for each change: in the links, in the monitors and aliases, and in all tables
+abbrev pub links_by : LinkState → LinkChange → LinkState
+links_by l (Link peer) = (link l peer.0).1
+links_by l (Unlink peer) = (unlink l peer.0).1
+links_by l (LinkUp peer) = (on_link l peer.0).1
+links_by l (UnlinkBy peer) = (on_unlink l peer.0).1
+links_by l (Acknowledge peer id) = (on_ack l peer.0 id).1
+
+abbrev pub watch_by : WatchState → WatchChange → WatchState
+watch_by w (Monitor reference target mode) = (monitor w reference target.0 mode).1
+watch_by w (Demonitor reference) = (demonitor w reference).1
+watch_by w (Alias reference reply) = alias w reference reply
+watch_by w (Unalias reference) = (unalias w reference).1
+watch_by w (Watched reference watcher) = on_monitor w reference watcher.0
+watch_by w (Unwatched reference) = (on_demonitor w reference).1
+
 abbrev pub changed : ProcessState → Change → ProcessState
 changed s Nothing = s
-changed s (Link peer) = relinked s (link s.tables.links peer.0).1
-changed s (Unlink peer) = relinked s (unlink s.tables.links peer.0).1
+changed s (Links c) = relinked s (links_by s.tables.links c)
+changed s (Watch c) = rewatched s (watch_by s.tables.watch c)
 changed s (Trap on) = record s { traps = on }
 changed s (Append message) = inboxed s (arrived_in s.tables.inbox message)
-changed s (LinkUp peer) = relinked s (on_link s.tables.links peer.0).1
-changed s (UnlinkBy peer) = relinked s (on_unlink s.tables.links peer.0).1
-changed s (Acknowledge peer id) = relinked s (on_ack s.tables.links peer.0 id).1
-changed s (Monitor reference target mode) = rewatched s (monitor s.tables.watch reference target.0 mode).1
-changed s (Demonitor reference) = rewatched s (demonitor s.tables.watch reference).1
-changed s (Alias reference reply) = rewatched s (alias s.tables.watch reference reply)
-changed s (Unalias reference) = rewatched s (unalias s.tables.watch reference).1
-changed s (Watched reference watcher) = rewatched s (on_monitor s.tables.watch reference watcher.0)
-changed s (Unwatched reference) = rewatched s (on_demonitor s.tables.watch reference).1
 changed s (ThroughAlias reference message) =
     with_tables s (record s.tables { inbox = arrived_in s.tables.inbox message; watch = (on_alias_message s.tables.watch reference).1 })
 changed s (ToldDown reference message) = with_tables s (record s.tables { inbox = arrived_in s.tables.inbox message; watch = (on_down s.tables.watch reference).1 })

@@ -1,15 +1,15 @@
 //! An event that was planned happens.
 
-ghost use Rattle.std.specs.Prelude.{◌≡◌, ◌+◌, ◌<◌, ◌≤◌, ◌^◌, ◌++◌, ◌∷◌, [], length, map, max, false, IfSome, IsSome, IsSomeAnd, MatchResult, OnOk, OnErr, Some};
+ghost use Rattle.std.specs.Prelude.{List, ◌≡◌, ◌+◌, ◌<◌, ◌≤◌, ◌^◌, ◌++◌, ◌∷◌, [], length, map, max, false, IfSome, IsSome, IsSomeAnd, MatchResult, OnOk, OnErr, Some};
 ghost use Rattle.sig_inner.specs.Receiving.{is_saved};
 ghost use Rattle.sig_model.specs.Finishing.{numbered, finished_exec, finished_handle};
 ghost use Rattle.sig_model.specs.Running.{to_itself, to_others, next_of};
-ghost use Rattle.sig_process.specs.Committing.{HasRoom, IsCommittable, HasBegun, HasHandled, HasTaken, gone_on, env_found, queue_after, behind_first, others_behind};
-ghost use Rattle.sig_process.specs.Plans.{growing, changed, after_obeying, post_of, body_of, executed_body};
+ghost use Rattle.sig_process.specs.Committing.{HasRoom, IsCommittable, HasBegun, HasBound, HasHandled, HasTaken, gone_on, env_found, queue_after, behind_first, others_behind};
+ghost use Rattle.sig_process.specs.Plans.{growing, bound_by, serial_by, inbox_by, changed, after_obeying, post_of, body_of, executed_body};
 ghost use Rattle.sig_process.specs.Progressing.{state_of, IsSame, HasAdvanced};
 
 use crate::changing::{Change, Growing};
-use crate::plan::{Execution, Outgoing, Plan};
+use crate::plan::{Binding, Execution, InboxChange, Outgoing, Plan};
 use crate::posting::send_all;
 use crate::progress::Progress;
 use crate::waiting::{next_signal, pop_next};
@@ -38,8 +38,10 @@ impl Progress {
     fn begin(&mut self, event: Event, posts: usize, grows: Growing) -> Result<(), AllocError>
         ensures { MatchResult result (λ _. HasBegun posts grows self.old self.new event) (λ _. IsSame self.old self.new) }
     {
-        self.make_room(posts, grows)?;
-        self.events.add(event)
+        match self.make_room(posts, grows) {
+            Ok(()) => self.events.add(event),
+            Err(fault) => Err(fault),
+        }
     }
 
     /// Changes what is left, with this stamp, and sends. There is room for it.
@@ -79,8 +81,74 @@ impl Progress {
         );
     }
 
-    /// The plan of an instruction happens, or for want of memory nothing does: a binding is the last
-    /// that can be refused, and then only the event has to be taken back.
+    /// Takes back the event that was noted last.
+    fn take_back(&mut self)
+        ensures { (before : List Event) (event : Event) → self.old.events ≡ before ++ event ∷ [] → self.new ≡ record self.old { events = before } }
+    {
+        let _ = self.events.pop();
+    }
+
+    /// Binds the variable of an instruction, or takes back the event that was noted last.
+    fn bind_noted(&mut self, binding: Binding) -> Result<(), AllocError>
+        requires { self.old.counts.next_serial < 2 ^ 63 }
+        ensures ok { OnOk result (self.new ≡ record self.old {
+          tables = record self.old.tables { env = bound_by self.old.tables.env binding };
+          counts = record self.old.counts { next_serial = serial_by self.old.counts.next_serial binding };
+        }) }
+        ensures err { OnErr result ((before : List Event) (event : Event) → self.old.events ≡ before ++ event ∷ [] → self.new ≡ record self.old { events = before }) }
+    {
+        if let Err(fault) = self.bind(binding) {
+            self.take_back();
+            return Err(fault);
+        }
+        Ok(())
+    }
+
+    /// Makes all room, notes the event of an instruction, and binds its variable. Where memory is
+    /// refused all but the room is as before: a binding is the last that can be refused, and then only
+    /// the event has to be taken back.
+    fn begin_exec(
+        &mut self,
+        outcome: Outcome,
+        binding: Binding,
+        posts: usize,
+        grows: Growing,
+    ) -> Result<(), AllocError>
+        requires stamp { self.old.counts.stamp < LAST_STAMP }
+        requires serials { self.old.counts.next_serial < 2 ^ 63 }
+        ensures { MatchResult result (λ _. HasBound posts grows binding self.old self.new outcome) (λ _. IsSame self.old self.new) }
+    {
+        let event = Event {
+            stamp: self.counts.stamp + 1,
+            did: Did::Exec {
+                place: self.counts.place,
+            },
+            outcome,
+        };
+        match self.begin(event, posts, grows) {
+            Ok(()) => self.bind_noted(binding),
+            Err(fault) => Err(fault),
+        }
+    }
+
+    /// Makes the last change of an execution, which goes on at this place. Nothing is left of a scan.
+    fn end_exec(&mut self, inbox: InboxChange, place: u32)
+        requires { self.old.counts.executed + 1 < 2 ^ 32 }
+        ensures inbox { self.new.tables.inner.queue.inbox ≡ inbox_by self.old.tables.inner.queue.owner self.old.tables.inner.queue.inbox inbox }
+        ensures owner { self.new.tables.inner.queue.owner ≡ self.old.tables.inner.queue.owner }
+        ensures unsaved { is_saved self.new.tables.inner.queue.last ≡ false }
+        ensures rest { self.new ≡ record self.old {
+          tables = record self.old.tables { inner = self.new.tables.inner };
+          counts = record self.old.counts { place = place; executed = self.old.counts.executed + 1 };
+        } }
+    {
+        self.change_inbox(inbox);
+        self.tables.inner.forget();
+        self.counts.place = place;
+        self.counts.executed += 1;
+    }
+
+    /// The plan of an instruction happens, or for want of memory nothing does.
     pub(crate) fn commit_exec(&mut self, pid: Pid, execution: Execution) -> Result<(), AllocError>
         requires committable { IsCommittable execution.plan.posts.items self.old }
         requires turns { self.old.counts.executed + 1 < 2 ^ 32 }
@@ -98,25 +166,15 @@ impl Progress {
             plan,
         } = execution;
         let stamp = self.counts.stamp + 1;
-        let did = Did::Exec {
-            place: self.counts.place,
-        };
-        let event = Event {
-            stamp,
-            did,
-            outcome: plan.outcome,
-        };
-        self.begin(event, plan.posts.len(), plan.change.growing())?;
-        if let Err(fault) = self.bind(binding) {
-            let _ = self.events.pop();
-            return Err(fault);
+        let grows = plan.change.growing();
+        match self.begin_exec(plan.outcome, binding, plan.posts.len(), grows) {
+            Ok(()) => {
+                self.go_on(pid, stamp, plan.obeyed, plan.change, plan.posts);
+                self.end_exec(inbox, place);
+                Ok(())
+            }
+            Err(fault) => Err(fault),
         }
-        self.go_on(pid, stamp, plan.obeyed, plan.change, plan.posts);
-        self.change_inbox(inbox);
-        self.counts.place = place;
-        self.counts.executed += 1;
-        self.tables.inner.forget();
-        Ok(())
     }
 
     /// What the handling of the next signal did is told by its event.
@@ -171,10 +229,14 @@ impl Progress {
     {
         let event = self.handling_event(plan.outcome);
         let stamp = event.stamp;
-        self.begin(event, plan.posts.len(), plan.change.growing())?;
-        self.move_next();
-        self.go_on(pid, stamp, plan.obeyed, plan.change, plan.posts);
-        Ok(())
+        match self.begin(event, plan.posts.len(), plan.change.growing()) {
+            Ok(()) => {
+                self.move_next();
+                self.go_on(pid, stamp, plan.obeyed, plan.change, plan.posts);
+                Ok(())
+            }
+            Err(fault) => Err(fault),
+        }
     }
 
     /// The message of the last scan is taken and told with the number of its clause, the variables of

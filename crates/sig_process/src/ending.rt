@@ -17,8 +17,8 @@ impl Progress {
     pub(crate) fn ending(&self, obeyed: Option<Pid>, reason: Term) -> Result<Plan, AllocError>
         ensures { IfOk result (λ plan. ending (after_obeying (state_of self.now) obeyed) reason ≡ body_of (state_of self.now) plan) }
     {
-        let posts = self.told_at_end(obeyed, &reason)?;
         let told = reason.copy(self.alloc)?;
+        let posts = self.told_at_end(obeyed, &reason)?;
         Ok(Plan {
             obeyed,
             change: Change::End { reason },

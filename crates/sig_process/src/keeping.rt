@@ -1,14 +1,14 @@
 //! A message to a process that lives isn't planned: it is moved from its signal.
 
-ghost use Rattle.std.specs.Prelude.{◌≡◌, ◌<◌, ◌^◌, option_copied, IfSome, IsSome, IsSomeAnd, MatchResult, Some};
+ghost use Rattle.std.specs.Prelude.{◌≡◌, ◌<◌, ◌^◌, option_copied, IfSome, IsSome, IsSomeAnd, MatchResult, OnOk, Some};
 ghost use Rattle.sig_model.specs.Running.{next_of};
-ghost use Rattle.sig_process.specs.Keeping.{message_of, kept_message, CanKeep, HasMoved, HasKept};
+ghost use Rattle.sig_process.specs.KeptMessage.{message_of, kept_message, HasMoved, HasKept};
 ghost use Rattle.sig_process.specs.Progressing.{IsSame};
 
 use crate::progress::Progress;
 use crate::waiting::{next_signal, pop_next};
 use sig_kinds::Kind;
-use sig_model::{Event, LAST_STAMP, Outcome};
+use sig_model::{LAST_STAMP, Outcome};
 use sig_terms::Term;
 use std::alloc::AllocError;
 
@@ -39,14 +39,16 @@ impl Progress {
         }
     }
 
-    /// Makes room for a message and for its signal, and notes the event. Where memory is refused all
-    /// but the room is as before.
-    fn begin_keeping(&mut self, event: Event) -> Result<(), AllocError>
-        ensures { MatchResult result (λ _. CanKeep self.old self.new event) (λ _. IsSame self.old self.new) }
+    /// Makes room for a message and for its signal.
+    fn keeping_room(&mut self) -> Result<(), AllocError>
+        ensures inner_room { OnOk result (0 < self.new.tables.inner.spare) }
+        ensures handled_room { OnOk result (0 < self.new.handled.spare) }
+        ensures queue { self.new.tables.inner.queue ≡ self.old.tables.inner.queue }
+        ensures handled { self.new.handled.items ≡ self.old.handled.items }
+        ensures rest { self.new ≡ record self.old { tables = record self.old.tables { inner = self.new.tables.inner }; handled = self.new.handled } }
     {
         self.handled.room()?;
-        self.tables.inner.room()?;
-        self.events.add(event)
+        self.tables.inner.room()
     }
 
     /// The next signal waits no more, and is the last of those that were handled; its message comes
@@ -63,7 +65,7 @@ impl Progress {
             Some(signal) => {
                 self.handled.add(&signal);
                 match message_in(signal.kind) {
-                    Some(message) => self.append(message),
+                    Some(message) => self.tables.append(message),
                     None => unreachable!(),
                 }
             }
@@ -81,9 +83,10 @@ impl Progress {
             (λ _. IfSome (next_of self.old.own.items self.old.taken_in.items) (λ x. HasKept self.old self.new x told))
             (λ _. IsSame self.old self.new) }
     {
+        self.keeping_room()?;
         let event = self.handling_event(Outcome::Kept { message: told });
         let stamp = event.stamp;
-        self.begin_keeping(event)?;
+        self.events.add(event)?;
         self.move_message();
         self.counts.stamp = stamp;
         Ok(())

@@ -1,29 +1,65 @@
-ghost use Rattle.std.specs.Prelude.{◌≡◌, ◌+◌, ◌-◌, ◌≤◌, [], ◌∷◌, length, slice_get, option_copied, Some, None, true, false, IfOk};
+ghost use Rattle.std.specs.Prelude.{◌≡◌, ◌+◌, ◌-◌, ◌≤◌, [], ◌∷◌, length, map, ◌==◌, if◌then◌else◌, slice_get, option_copied, Some, false, IfOk};
 ghost use Rattle.sig_model.specs.ProcessState.{ProcessState};
-ghost use Rattle.sig_model.specs.Bodies.{place_after, going_on};
-ghost use Rattle.sig_model.specs.Executing.{sending, setting, linking, unlinking, sending_exit, trapping, new_ref, making_ref, monitoring, aliasing, demonitoring, unaliasing, reserving, marked_by, binding, clearing, from_mark, exec_body};
-ghost use Rattle.sig_process.specs.Planning.{IsPlanned, is_receive};
-ghost use Rattle.sig_process.specs.Plans.{changed, body_of, executed_body};
+ghost use Rattle.sig_model.specs.Bodies.{Body, place_after, going_on, at_next};
+ghost use Rattle.sig_model.specs.Executing.{sending, setting, linking, unlinking, sending_exit, trapping, new_ref, making_ref, monitoring, aliasing, demonitor_posts, demonitoring, unaliasing, reserving, marked_by, binding, clearing, with_pid, with_target, from_mark, exec_body};
+ghost use Rattle.sig_process.specs.Planning.{IsPlanned, IsRow, is_receive};
+ghost use Rattle.sig_process.specs.Plans.{changed, post_of, body_of, executed_body};
 ghost use Rattle.sig_process.specs.Progressing.{state_of};
 
-use crate::changing::Change;
+use crate::changing::{Change, LinkChange, WatchChange};
 use crate::plan::{Binding, Execution, InboxChange, Outgoing, Plan};
 use crate::progress::Progress;
 use crate::values::ValueFault;
 use sig_kinds::{AliasMode, Kind};
 use sig_model::{Outcome, Target};
-use sig_patterns::Var;
+use sig_patterns::{Expr, Var};
 use sig_script::{Instr, Proc};
 use sig_terms::{Pid, Ref, Term};
 use std::alloc::{AllocError, Global};
 
+/// One signal that an event sends.
+pub(crate) fn one_post(alloc: Global, to: Pid, kind: Kind) -> Result<Vec<Outgoing>, AllocError>
+    ensures { IfOk result (λ posts. map post_of posts.items ≡ record { to = to.0; kind = kind } ∷ []) }
+{
+    let posts = vec![in alloc; Outgoing { to, kind }]?;
+    Ok(posts)
+}
+
+/// A demonitor signal, where a process is told.
+pub(crate) fn demonitor_posts(
+    alloc: Global,
+    reference: Ref,
+    told: Option<Pid>,
+) -> Result<Vec<Outgoing>, AllocError>
+    ensures { IfOk result (λ posts. map post_of posts.items ≡ demonitor_posts reference told) }
+{
+    match told {
+        None => Ok(Vec::new(alloc)),
+        Some(target) => one_post(alloc, target, Kind::Demonitor { reference }),
+    }
+}
+
+/// The execution that was planned, or its want of memory as the fault of a value.
+fn in_memory(planned: Result<Execution, AllocError>) -> Result<Execution, ValueFault>
+    ensures { (s : ProcessState) (body : Body) → IfOk planned (λ x. body ≡ executed_body s x) → IsPlanned s (Some body) result }
+{
+    match planned {
+        Ok(execution) => Ok(execution),
+        Err(AllocError) => Err(ValueFault::Memory),
+    }
+}
+
 impl Plan {
-    /// The same plan, with one signal sent.
-    pub(crate) fn sending(self, alloc: Global, to: Pid, kind: Kind) -> Result<Plan, AllocError>
-        ensures { IfOk result (λ plan. (s : ProcessState) → body_of s plan ≡ record (body_of s self) { posts = record { to = to.0; kind = kind } ∷ [] }) }
+    /// A change by which these signals are sent.
+    pub(crate) fn sending(change: Change, outcome: Outcome, posts: Vec<Outgoing>) -> Plan
+        ensures { (s : ProcessState) → body_of s result ≡ record { state = changed s change; outcome = outcome; posts = map post_of posts.items } }
     {
-        let posts = vec![in alloc; Outgoing { to, kind }]?;
-        Ok(Plan { posts, ..self })
+        Plan {
+            obeyed: None,
+            change,
+            outcome,
+            posts,
+        }
     }
 }
 
@@ -32,12 +68,7 @@ impl Progress {
     pub(crate) fn silent(&self, change: Change, outcome: Outcome) -> Plan
         ensures { (s : ProcessState) → body_of s result ≡ record { state = changed s change; outcome = outcome; posts = [] } }
     {
-        Plan {
-            obeyed: None,
-            change,
-            outcome,
-            posts: Vec::new(self.alloc),
-        }
+        Plan::sending(change, outcome, Vec::new(self.alloc))
     }
 
     /// Where the process goes on from the next instruction: at the label of the target, or at the
@@ -68,29 +99,66 @@ impl Progress {
         }
     }
 
-    /// A message to a process, or through an alias to the process that made it.
+    /// The execution that changes nothing and sends these signals.
+    fn telling(&self, proc: &Proc, outcome: Outcome, posts: Vec<Outgoing>) -> Execution
+        requires { self.now.counts.place ≤ length proc.now.instrs }
+        ensures { executed_body (state_of self.now) result ≡ record { state = at_next (state_of self.now); outcome = outcome; posts = map post_of posts.items } }
+    {
+        let plan = Plan::sending(Change::Nothing, outcome, posts);
+        self.going(proc, None, plan)
+    }
+
+    /// A message to a process.
+    fn plan_message(&self, proc: &Proc, to: Pid, term: Term) -> Result<Execution, AllocError>
+        requires { self.now.counts.place ≤ length proc.now.instrs }
+        ensures { IfOk result (λ x. sending (state_of self.now) term (Target.Process to) ≡ executed_body (state_of self.now) x) }
+    {
+        let message = term.copy(self.alloc)?;
+        let posts = one_post(self.alloc, to, Kind::Message { term })?;
+        let to = Term::Pid(to);
+        Ok(self.telling(proc, Outcome::Sent { to, message }, posts))
+    }
+
+    /// A message through an alias to the process that made it.
+    fn plan_alias_message(
+        &self,
+        proc: &Proc,
+        reference: Ref,
+        term: Term,
+    ) -> Result<Execution, AllocError>
+        requires { self.now.counts.place ≤ length proc.now.instrs }
+        ensures { IfOk result (λ x. sending (state_of self.now) term (Target.Alias reference) ≡ executed_body (state_of self.now) x) }
+    {
+        let message = term.copy(self.alloc)?;
+        let kind = Kind::AliasMessage { reference, term };
+        let posts = one_post(self.alloc, reference.owner, kind)?;
+        let to = Term::Ref(reference);
+        Ok(self.telling(proc, Outcome::Sent { to, message }, posts))
+    }
+
+    /// A message to a process, or through an alias.
     fn plan_send(&self, proc: &Proc, to: Target, message: Term) -> Result<Execution, AllocError>
         requires { self.now.counts.place ≤ length proc.now.instrs }
         ensures { IfOk result (λ x. sending (state_of self.now) message to ≡ executed_body (state_of self.now) x) }
     {
-        let told = message.copy(self.alloc)?;
-        let (receiver, named, kind) = match to {
-            Target::Process(pid) => (pid, Term::Pid(pid), Kind::Message { term: message }),
-            Target::Alias(reference) => {
-                let kind = Kind::AliasMessage {
-                    reference,
-                    term: message,
-                };
-                (reference.owner, Term::Ref(reference), kind)
-            }
-        };
-        let outcome = Outcome::Sent {
-            to: named,
-            message: told,
-        };
-        let plan = self.silent(Change::Nothing, outcome);
-        let plan = plan.sending(self.alloc, receiver, kind)?;
-        Ok(self.going(proc, None, plan))
+        match to {
+            Target::Process(pid) => self.plan_message(proc, pid, message),
+            Target::Alias(reference) => self.plan_alias_message(proc, reference, message),
+        }
+    }
+
+    /// The variable gets the value, and the event tells this copy of it.
+    fn assigning(&self, proc: &Proc, var: Var, value: Term, told: Term) -> Execution
+        requires within { self.now.counts.place ≤ length proc.now.instrs }
+        requires copy { told ≡ value }
+        ensures { setting (state_of self.now) var.0 value ≡ executed_body (state_of self.now) result }
+    {
+        Execution {
+            binding: Binding::Value { var, value },
+            inbox: InboxChange::Nothing,
+            place: self.place_after(proc, None),
+            plan: self.silent(Change::Nothing, Outcome::Set { value: told }),
+        }
     }
 
     /// The variable gets the value.
@@ -98,41 +166,55 @@ impl Progress {
         requires { self.now.counts.place ≤ length proc.now.instrs }
         ensures { IfOk result (λ x. setting (state_of self.now) var.now.0 value ≡ executed_body (state_of self.now) x) }
     {
-        let outcome = Outcome::Set {
-            value: value.copy(self.alloc)?,
-        };
+        let told = value.copy(self.alloc)?;
         let var = var.copy(self.alloc)?;
-        let plan = self.silent(Change::Nothing, outcome);
-        Ok(Execution {
-            binding: Binding::Value { var, value },
-            ..self.going(proc, None, plan)
-        })
+        Ok(self.assigning(proc, var, value, told))
     }
 
-    /// A link to a process. Its signal is sent but to oneself or where the link is active.
+    /// The signal of a link, which is sent but to oneself or where the link is active.
+    fn link_posts(&self, peer: Pid) -> Result<Vec<Outgoing>, AllocError>
+        ensures { IfOk result (λ posts. map post_of posts.items ≡ (linking (state_of self.now) peer).posts) }
+    {
+        let links = &self.tables.links;
+        if peer != links.owner() && !links.active(peer) {
+            one_post(self.alloc, peer, Kind::Link)
+        } else {
+            Ok(Vec::new(self.alloc))
+        }
+    }
+
+    /// A link to a process.
     fn plan_link(&self, proc: &Proc, peer: Pid) -> Result<Execution, AllocError>
         requires { self.now.counts.place ≤ length proc.now.instrs }
         ensures { IfOk result (λ x. linking (state_of self.now) peer ≡ executed_body (state_of self.now) x) }
     {
-        let links = &self.tables.links;
-        let mut plan = self.silent(Change::Link { peer }, Outcome::Done);
-        if peer != links.owner() && !links.active(peer) {
-            plan = plan.sending(self.alloc, peer, Kind::Link)?;
-        }
+        let posts = self.link_posts(peer)?;
+        let change = Change::Links(LinkChange::Link { peer });
+        let plan = Plan::sending(change, Outcome::Done, posts);
         Ok(self.going(proc, None, plan))
     }
 
-    /// The end of the link to a process. Its signal is sent where the link is active.
+    /// The signal of the end of a link, which is sent where the link is active.
+    fn unlink_posts(&self, peer: Pid) -> Result<Vec<Outgoing>, AllocError>
+        ensures { IfOk result (λ posts. map post_of posts.items ≡ (unlinking (state_of self.now) peer).posts) }
+    {
+        let links = &self.tables.links;
+        if links.active(peer) {
+            let id = links.next_id();
+            one_post(self.alloc, peer, Kind::Unlink { id })
+        } else {
+            Ok(Vec::new(self.alloc))
+        }
+    }
+
+    /// The end of the link to a process.
     fn plan_unlink(&self, proc: &Proc, peer: Pid) -> Result<Execution, AllocError>
         requires { self.now.counts.place ≤ length proc.now.instrs }
         ensures { IfOk result (λ x. unlinking (state_of self.now) peer ≡ executed_body (state_of self.now) x) }
     {
-        let links = &self.tables.links;
-        let mut plan = self.silent(Change::Unlink { peer }, Outcome::Done);
-        if links.active(peer) {
-            let id = links.next_id();
-            plan = plan.sending(self.alloc, peer, Kind::Unlink { id })?;
-        }
+        let posts = self.unlink_posts(peer)?;
+        let change = Change::Links(LinkChange::Unlink { peer });
+        let plan = Plan::sending(change, Outcome::Done, posts);
         Ok(self.going(proc, None, plan))
     }
 
@@ -145,9 +227,8 @@ impl Progress {
             reason,
             linked: false,
         };
-        let plan = self.silent(Change::Nothing, Outcome::Done);
-        let plan = plan.sending(self.alloc, target, kind)?;
-        Ok(self.going(proc, None, plan))
+        let posts = one_post(self.alloc, target, kind)?;
+        Ok(self.telling(proc, Outcome::Done, posts))
     }
 
     /// The process traps exits from now on, or does no more.
@@ -178,30 +259,25 @@ impl Progress {
         }
     }
 
-    /// A change with nothing sent, by which a variable gets the reference.
-    fn made(&self, change: Change, reference: Ref) -> Plan
-        ensures { (s : ProcessState) → body_of s result ≡ record { state = changed s change; outcome = Outcome.Set (Term.Ref reference); posts = [] } }
+    /// A change by which these signals are sent, and a variable gets the reference.
+    fn made(&self, change: Change, reference: Ref, posts: Vec<Outgoing>) -> Plan
+        ensures { (s : ProcessState) → body_of s result ≡ record { state = changed s change; outcome = Outcome.Set (Term.Ref reference); posts = map post_of posts.items } }
     {
         let value = Term::Ref(reference);
-        self.silent(change, Outcome::Set { value })
+        Plan::sending(change, Outcome::Set { value }, posts)
     }
 
     /// The execution of this plan, by which the variable gets the reference.
-    fn making(
-        &self,
-        proc: &Proc,
-        var: &Var,
-        reference: Ref,
-        plan: Plan,
-    ) -> Result<Execution, AllocError>
+    fn making(&self, proc: &Proc, var: Var, reference: Ref, plan: Plan) -> Execution
         requires { self.now.counts.place ≤ length proc.now.instrs }
-        ensures { IfOk result (λ x. x ≡ record { binding = Binding.Made var.now reference; inbox = InboxChange.Nothing; place = self.now.counts.place + 1; plan = plan }) }
+        ensures { result ≡ record { binding = Binding.Made var reference; inbox = InboxChange.Nothing; place = self.now.counts.place + 1; plan = plan } }
     {
-        let var = var.copy(self.alloc)?;
-        Ok(Execution {
+        Execution {
             binding: Binding::Made { var, reference },
-            ..self.going(proc, None, plan)
-        })
+            inbox: InboxChange::Nothing,
+            place: self.place_after(proc, None),
+            plan,
+        }
     }
 
     /// A reference that is nothing else.
@@ -209,12 +285,24 @@ impl Progress {
         requires { self.now.counts.place ≤ length proc.now.instrs }
         ensures { IfOk result (λ x. making_ref (state_of self.now) var.now.0 ≡ executed_body (state_of self.now) x) }
     {
+        let var = var.copy(self.alloc)?;
         let reference = self.new_ref();
-        let plan = self.made(Change::Nothing, reference);
-        self.making(proc, var, reference, plan)
+        let plan = self.made(Change::Nothing, reference, Vec::new(self.alloc));
+        Ok(self.making(proc, var, reference, plan))
     }
 
-    /// A monitor of a process. Its signal is sent but to oneself.
+    /// The signal of a monitor, which is sent but to oneself.
+    fn monitor_posts(&self, target: Pid, reference: Ref) -> Result<Vec<Outgoing>, AllocError>
+        ensures { IfOk result (λ posts. map post_of posts.items ≡ (if target.0 == self.now.tables.watch.watch.owner then [] else record { to = target.0; kind = Kind.Monitor reference } ∷ [])) }
+    {
+        if target == self.tables.watch.owner() {
+            Ok(Vec::new(self.alloc))
+        } else {
+            one_post(self.alloc, target, Kind::Monitor { reference })
+        }
+    }
+
+    /// A monitor of a process.
     fn plan_monitor(
         &self,
         proc: &Proc,
@@ -225,17 +313,16 @@ impl Progress {
         requires { self.now.counts.place ≤ length proc.now.instrs }
         ensures { IfOk result (λ x. monitoring (state_of self.now) var.now.0 mode target ≡ executed_body (state_of self.now) x) }
     {
+        let var = var.copy(self.alloc)?;
         let reference = self.new_ref();
-        let change = Change::Monitor {
+        let change = WatchChange::Monitor {
             reference,
             target,
             mode,
         };
-        let mut plan = self.made(change, reference);
-        if target != self.tables.watch.owner() {
-            plan = plan.sending(self.alloc, target, Kind::Monitor { reference })?;
-        }
-        self.making(proc, var, reference, plan)
+        let posts = self.monitor_posts(target, reference)?;
+        let plan = self.made(Change::Watch(change), reference, posts);
+        Ok(self.making(proc, var, reference, plan))
     }
 
     /// A new alias.
@@ -243,9 +330,23 @@ impl Progress {
         requires { self.now.counts.place ≤ length proc.now.instrs }
         ensures { IfOk result (λ x. aliasing (state_of self.now) var.now.0 reply ≡ executed_body (state_of self.now) x) }
     {
+        let var = var.copy(self.alloc)?;
         let reference = self.new_ref();
-        let plan = self.made(Change::Alias { reference, reply }, reference);
-        self.making(proc, var, reference, plan)
+        let change = Change::Watch(WatchChange::Alias { reference, reply });
+        let plan = self.made(change, reference, Vec::new(self.alloc));
+        Ok(self.making(proc, var, reference, plan))
+    }
+
+    /// How the end of a monitor goes: with `flush` it is told whether a message of its end is there.
+    fn flushing(&self, reference: Ref, flush: bool) -> Outcome
+        ensures { result ≡ (demonitoring (state_of self.now) flush reference).outcome }
+    {
+        if flush {
+            let value = self.tables.inner.has_down(reference);
+            Outcome::Answered { value }
+        } else {
+            Outcome::Done
+        }
     }
 
     /// The end of the monitor of a reference. With `flush` the message of its end is removed.
@@ -258,24 +359,21 @@ impl Progress {
         requires { self.now.counts.place ≤ length proc.now.instrs }
         ensures { IfOk result (λ x. demonitoring (state_of self.now) flush reference ≡ executed_body (state_of self.now) x) }
     {
-        let outcome = if flush {
-            let value = self.tables.inner.has_down(reference);
-            Outcome::Answered { value }
-        } else {
-            Outcome::Done
-        };
-        let mut plan = self.silent(Change::Demonitor { reference }, outcome);
-        if let Some(target) = self.tables.watch.told(reference) {
-            plan = plan.sending(self.alloc, target, Kind::Demonitor { reference })?;
-        }
+        let told = self.tables.watch.told(reference);
+        let posts = demonitor_posts(self.alloc, reference, told)?;
+        let outcome = self.flushing(reference, flush);
+        let change = Change::Watch(WatchChange::Demonitor { reference });
+        let plan = Plan::sending(change, outcome, posts);
         let inbox = if flush {
             InboxChange::Flush { reference }
         } else {
             InboxChange::Nothing
         };
         Ok(Execution {
+            binding: Binding::Nothing,
             inbox,
-            ..self.going(proc, None, plan)
+            place: self.place_after(proc, None),
+            plan,
         })
     }
 
@@ -285,7 +383,10 @@ impl Progress {
         ensures { unaliasing (state_of self.now) reference ≡ executed_body (state_of self.now) result }
     {
         let value = self.tables.watch.alias_mode(reference).is_some();
-        let plan = self.silent(Change::Unalias { reference }, Outcome::Answered { value });
+        let plan = self.silent(
+            Change::Watch(WatchChange::Unalias { reference }),
+            Outcome::Answered { value },
+        );
         self.going(proc, None, plan)
     }
 
@@ -297,8 +398,10 @@ impl Progress {
     {
         let plan = self.silent(Change::Nothing, Outcome::Answered { value });
         Execution {
+            binding: Binding::Nothing,
             inbox,
-            ..self.going(proc, None, plan)
+            place: self.place_after(proc, None),
+            plan,
         }
     }
 
@@ -318,8 +421,10 @@ impl Progress {
         let serial = self.counts.next_serial;
         let plan = self.silent(Change::Nothing, Outcome::Done);
         Execution {
+            binding: Binding::Nothing,
             inbox: InboxChange::Reserve { serial },
-            ..self.going(proc, None, plan)
+            place: self.place_after(proc, None),
+            plan,
         }
     }
 
@@ -351,66 +456,177 @@ impl Progress {
             }
         }
     }
+}
+
+// The rows of the table of instructions: first the values of an instruction's expressions, and then its
+// plan.
+impl Progress {
+    /// A message to the process or the alias that the value names.
+    fn send_to(&self, proc: &Proc, to: Term, message: Term) -> Result<Execution, ValueFault>
+        requires { self.now.counts.place ≤ length proc.now.instrs }
+        ensures { IsPlanned (state_of self.now) (Some (with_target (state_of self.now) to (sending (state_of self.now) message))) result }
+    {
+        match self.address_of(to) {
+            Ok(to) => in_memory(self.plan_send(proc, to, message)),
+            Err(fault) => Err(fault),
+        }
+    }
+
+    /// The row of a send.
+    fn send_row(&self, proc: &Proc, to: &Expr, message: &Expr) -> Result<Execution, ValueFault>
+        requires { self.now.counts.place ≤ length proc.now.instrs }
+        ensures { IsRow proc.now (state_of self.now) (Instr.Send to.now message.now) result }
+    {
+        match self.values_of(to, message) {
+            Ok((to, message)) => self.send_to(proc, to, message),
+            Err(fault) => Err(fault),
+        }
+    }
+
+    /// The row of a match with a variable.
+    fn set_row(&self, proc: &Proc, var: &Var, value: &Expr) -> Result<Execution, ValueFault>
+        requires { self.now.counts.place ≤ length proc.now.instrs }
+        ensures { IsRow proc.now (state_of self.now) (Instr.Set var.now value.now) result }
+    {
+        match self.value_of(value) {
+            Ok(value) => in_memory(self.plan_set(proc, var, value)),
+            Err(fault) => Err(fault),
+        }
+    }
+
+    /// The row of a link.
+    fn link_row(&self, proc: &Proc, peer: &Expr) -> Result<Execution, ValueFault>
+        requires { self.now.counts.place ≤ length proc.now.instrs }
+        ensures { IsRow proc.now (state_of self.now) (Instr.Link peer.now) result }
+    {
+        match self.target_of(peer) {
+            Ok(peer) => in_memory(self.plan_link(proc, peer)),
+            Err(fault) => Err(fault),
+        }
+    }
+
+    /// The row of the end of a link.
+    fn unlink_row(&self, proc: &Proc, peer: &Expr) -> Result<Execution, ValueFault>
+        requires { self.now.counts.place ≤ length proc.now.instrs }
+        ensures { IsRow proc.now (state_of self.now) (Instr.Unlink peer.now) result }
+    {
+        match self.target_of(peer) {
+            Ok(peer) => in_memory(self.plan_unlink(proc, peer)),
+            Err(fault) => Err(fault),
+        }
+    }
+
+    /// The row of a monitor.
+    fn monitor_row(
+        &self,
+        proc: &Proc,
+        var: &Var,
+        target: &Expr,
+        mode: Option<AliasMode>,
+    ) -> Result<Execution, ValueFault>
+        requires { self.now.counts.place ≤ length proc.now.instrs }
+        ensures { IsRow proc.now (state_of self.now) (Instr.Monitor var.now target.now mode) result }
+    {
+        match self.target_of(target) {
+            Ok(target) => in_memory(self.plan_monitor(proc, var, target, mode)),
+            Err(fault) => Err(fault),
+        }
+    }
+
+    /// The row of the end of a monitor.
+    fn demonitor_row(
+        &self,
+        proc: &Proc,
+        reference: &Expr,
+        flush: bool,
+    ) -> Result<Execution, ValueFault>
+        requires { self.now.counts.place ≤ length proc.now.instrs }
+        ensures { IsRow proc.now (state_of self.now) (Instr.Demonitor reference.now flush) result }
+    {
+        match self.reference_of(reference) {
+            Ok(reference) => in_memory(self.plan_demonitor(proc, reference, flush)),
+            Err(fault) => Err(fault),
+        }
+    }
+
+    /// The row of the end of an alias.
+    fn unalias_row(&self, proc: &Proc, reference: &Expr) -> Result<Execution, ValueFault>
+        requires { self.now.counts.place ≤ length proc.now.instrs }
+        ensures { IsRow proc.now (state_of self.now) (Instr.Unalias reference.now) result }
+    {
+        match self.reference_of(reference) {
+            Ok(reference) => Ok(self.plan_unalias(proc, reference)),
+            Err(fault) => Err(fault),
+        }
+    }
+
+    /// The row of the end of the process.
+    fn exit_row(&self, proc: &Proc, reason: &Expr) -> Result<Execution, ValueFault>
+        ensures { IsRow proc.now (state_of self.now) (Instr.Exit reason.now) result }
+    {
+        match self.value_of(reason) {
+            Ok(reason) => in_memory(self.exiting(reason)),
+            Err(fault) => Err(fault),
+        }
+    }
+
+    /// An exit signal to the process that the value names.
+    fn exit_with(&self, proc: &Proc, target: Term, reason: Term) -> Result<Execution, ValueFault>
+        requires { self.now.counts.place ≤ length proc.now.instrs }
+        ensures { IsPlanned (state_of self.now) (Some (with_pid (state_of self.now) target (sending_exit (state_of self.now) reason))) result }
+    {
+        match self.pid_of(target) {
+            Ok(target) => in_memory(self.plan_exit_to(proc, target, reason)),
+            Err(fault) => Err(fault),
+        }
+    }
+
+    /// The row of an exit signal.
+    fn exit_to_row(
+        &self,
+        proc: &Proc,
+        target: &Expr,
+        reason: &Expr,
+    ) -> Result<Execution, ValueFault>
+        requires { self.now.counts.place ≤ length proc.now.instrs }
+        ensures { IsRow proc.now (state_of self.now) (Instr.ExitTo target.now reason.now) result }
+    {
+        match self.values_of(target, reason) {
+            Ok((target, reason)) => self.exit_with(proc, target, reason),
+            Err(fault) => Err(fault),
+        }
+    }
 
     /// What an instruction of the process does, one arm for each row of the table of instructions.
     fn plan_row(&self, proc: &Proc, instr: &Instr) -> Result<Execution, ValueFault>
         requires within { self.now.counts.place ≤ length proc.now.instrs }
         requires other { is_receive (Some instr.now) ≡ false }
         requires owner { self.now.tables.inner.queue.owner ≡ self.now.tables.watch.watch.owner }
-        ensures { IsPlanned (state_of self.now) (exec_body from_mark proc.now (state_of self.now) (Some instr.now)) result }
+        ensures { IsRow proc.now (state_of self.now) instr.now result }
     {
         match instr {
-            Instr::Send { to, message } => {
-                let (to, message) = self.values_of(to, message)?;
-                let to = self.address_of(to)?;
-                Ok(self.plan_send(proc, to, message)?)
-            }
-            Instr::Set { var, value } => {
-                let value = self.value_of(value)?;
-                Ok(self.plan_set(proc, var, value)?)
-            }
-            Instr::MakeRef { var } => Ok(self.plan_make_ref(proc, var)?),
+            Instr::Send { to, message } => self.send_row(proc, to, message),
+            Instr::Set { var, value } => self.set_row(proc, var, value),
+            Instr::MakeRef { var } => in_memory(self.plan_make_ref(proc, var)),
             Instr::Receive {
                 using: _,
                 clauses: _,
                 after: _,
             } => unreachable!(),
-            Instr::Link { peer } => {
-                let peer = self.target_of(peer)?;
-                Ok(self.plan_link(proc, peer)?)
-            }
-            Instr::Unlink { peer } => {
-                let peer = self.target_of(peer)?;
-                Ok(self.plan_unlink(proc, peer)?)
-            }
-            Instr::Monitor { var, target, mode } => {
-                let target = self.target_of(target)?;
-                Ok(self.plan_monitor(proc, var, target, *mode)?)
-            }
-            Instr::Demonitor { reference, flush } => {
-                let reference = self.reference_of(reference)?;
-                Ok(self.plan_demonitor(proc, reference, *flush)?)
-            }
-            Instr::Alias { var, reply } => Ok(self.plan_alias(proc, var, *reply)?),
-            Instr::Unalias { reference } => {
-                let reference = self.reference_of(reference)?;
-                Ok(self.plan_unalias(proc, reference))
-            }
+            Instr::Link { peer } => self.link_row(proc, peer),
+            Instr::Unlink { peer } => self.unlink_row(proc, peer),
+            Instr::Monitor { var, target, mode } => self.monitor_row(proc, var, target, *mode),
+            Instr::Demonitor { reference, flush } => self.demonitor_row(proc, reference, *flush),
+            Instr::Alias { var, reply } => in_memory(self.plan_alias(proc, var, *reply)),
+            Instr::Unalias { reference } => self.unalias_row(proc, reference),
             Instr::Reserve => Ok(self.plan_reserve(proc)),
             Instr::Bind { var } => Ok(self.plan_bind(proc, var)),
             Instr::Clear { var } => Ok(self.plan_clear(proc, var)),
-            Instr::Exit { reason } => {
-                let reason = self.value_of(reason)?;
-                Ok(self.exiting(reason)?)
-            }
-            Instr::ExitTo { target, reason } => {
-                let (target, reason) = self.values_of(target, reason)?;
-                let target = self.pid_of(target)?;
-                Ok(self.plan_exit_to(proc, target, reason)?)
-            }
+            Instr::Exit { reason } => self.exit_row(proc, reason),
+            Instr::ExitTo { target, reason } => self.exit_to_row(proc, target, reason),
             Instr::Trap { on } => Ok(self.plan_trap(proc, *on)),
             Instr::Goto { label } => Ok(self.plan_goto(proc, *label)),
-            Instr::Stop => Ok(self.exiting_with(b"normal")?),
+            Instr::Stop => in_memory(self.exiting_with(b"normal")),
         }
     }
 

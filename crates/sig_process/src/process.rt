@@ -1,11 +1,11 @@
 ghost use Rattle.std.specs.Prelude.{ℕ, ◌≡◌, ◌+◌, ◌<◌, ◌≤◌, true, length, IfOk, IfSome, MatchResult, slice_get, replicate};
 ghost use Rattle.sig_inner.specs.InnerQueue.{opened as no_queue};
 ghost use Rattle.sig_script.specs.Scripts.{Declared, IsProcBelow};
-ghost use Rattle.sig_model.specs.ProcessState.{is_cut};
+ghost use Rattle.sig_model.specs.ProcessState.{is_cut, opening_tables};
 ghost use Rattle.sig_model.specs.Executing.{SkipsNone};
 ghost use Rattle.sig_model.specs.Keeping.{IsKeeping};
 ghost use Rattle.sig_model.specs.Running.{opened, can_exec, can_handle, next_of, is_early};
-ghost use Rattle.sig_process.specs.Progressing.{running_of};
+ghost use Rattle.sig_process.specs.Progressing.{tables_of, running_of};
 ghost use Rattle.sig_process.specs.Steps.{IsExec, IsWholeExec, IsHandled};
 ghost use Rattle.sig_process.specs.Tests.{most_tests};
 
@@ -64,20 +64,19 @@ fn first_numbers(alloc: Global, count: u32) -> Result<Vec<u64>, AllocError>
     vec![in alloc; 1; count as usize]
 }
 
-/// What a process begins with: place 1, and all else empty.
-fn beginning(alloc: Global, pid: Pid, count: u32) -> Result<Progress, AllocError>
-    ensures running { IfOk result (λ p. (turns : ℕ) (proc : Declared) → running_of pid.0 count turns proc p ≡ opened pid.0 count turns proc) }
-    ensures queue { IfOk result (λ p. p.tables.inner.queue ≡ no_queue pid.0) }
+/// A process that has done nothing, with these tables and first numbers.
+fn before_all(alloc: Global, tables: Tables, next_numbers: Vec<u64>) -> Progress
+    ensures running { (pid count turns : ℕ) (proc : Declared) → tables_of tables ≡ opening_tables pid → next_numbers.items ≡ replicate count 1 → running_of pid count turns proc result ≡ opened pid count turns proc }
+    ensures tables { result.tables ≡ tables }
 {
-    let tables = Tables::open(alloc, pid)?;
     let counts = Counts {
         place: 1,
         executed: 0,
         stamp: 0,
         next_serial: 1,
-        next_numbers: first_numbers(alloc, count)?,
+        next_numbers,
     };
-    Ok(Progress {
+    Progress {
         alloc,
         tables,
         traps: false,
@@ -87,7 +86,17 @@ fn beginning(alloc: Global, pid: Pid, count: u32) -> Result<Progress, AllocError
         own: Signals::new(alloc),
         taken_in: Signals::new(alloc),
         outbox: Signals::new(alloc),
-    })
+    }
+}
+
+/// What a process begins with: place 1, and all else empty.
+fn beginning(alloc: Global, pid: Pid, count: u32) -> Result<Progress, AllocError>
+    ensures running { IfOk result (λ p. (turns : ℕ) (proc : Declared) → running_of pid.0 count turns proc p ≡ opened pid.0 count turns proc) }
+    ensures queue { IfOk result (λ p. p.tables.inner.queue ≡ no_queue pid.0) }
+{
+    let numbers = first_numbers(alloc, count)?;
+    let tables = Tables::open(alloc, pid)?;
+    Ok(before_all(alloc, tables, numbers))
 }
 
 impl Process {

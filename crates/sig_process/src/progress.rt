@@ -40,9 +40,10 @@ impl Tables {
         ensures tables { IfOk result (λ t. tables_of t ≡ opening_tables pid.0) }
         ensures queue { IfOk result (λ t. t.inner.queue ≡ no_queue pid.0) }
     {
+        let inner = Inner::open(alloc, pid)?;
         Ok(Tables {
             env: Env::new(alloc),
-            inner: Inner::open(alloc, pid)?,
+            inner,
             links: Links::open(alloc, pid),
             watch: Watch::open(alloc, pid),
             end: None,

@@ -21,6 +21,16 @@ fn number_for(numbers: &[u64], peer: Pid) -> u64
     }
 }
 
+/// The signal joins the list. The error is want of memory; then the list is as before.
+fn push_signal(signals: &mut Signals, signal: Signal) -> Result<(), AllocError>
+    ensures { MatchResult result (λ _. signals.new.items ≡ signals.old.items ++ signal ∷ []) (λ _. signals.new.items ≡ signals.old.items) }
+{
+    match signals.push(signal) {
+        Push::Added => Ok(()),
+        Push::Memory { signal: _ } => Err(AllocError),
+    }
+}
+
 impl Process {
     /// How many signals to itself it has not handled.
     pub fn own_count(&self) -> usize
@@ -49,10 +59,7 @@ impl Process {
         requires { IsArriving self.old.running.pid self.old.running.count signal }
         ensures { MatchResult result (λ _. self.new ≡ record self.old { running = arrived self.old.running signal }) (λ _. self.new ≡ self.old) }
     {
-        match self.progress.taken_in.push(signal) {
-            Push::Added => Ok(()),
-            Push::Memory { signal: _ } => Err(AllocError),
-        }
+        push_signal(&mut self.progress.taken_in, signal)
     }
 
     /// Signals of other processes join those that wait for this one. They go on with the numbers of

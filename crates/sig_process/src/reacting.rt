@@ -1,16 +1,19 @@
-ghost use Rattle.std.specs.Prelude.{◌≡◌, IfOk, None};
+ghost use Rattle.std.specs.Prelude.{◌≡◌, IfOk, None, Some, [], map};
 ghost use Rattle.sig_kinds.specs.LinkRules.{on_link, on_unlink, on_ack};
-ghost use Rattle.sig_kinds.specs.WatchRules.{on_alias_message, on_monitor, on_demonitor, on_down};
+ghost use Rattle.sig_kinds.specs.WatchRules.{mode_of, by_mode, on_alias_message, on_monitor, on_demonitor, on_down};
+ghost use Rattle.sig_kinds.specs.declared.alias_answer.AliasAnswer.TheVariants as alias_answer;
+ghost use Rattle.sig_model.specs.ProcessState.{ProcessState, rewatched};
 ghost use Rattle.sig_model.specs.Bodies.{appending, dropping};
 ghost use Rattle.sig_model.specs.ExitRule.{exit_message, exit_rule, plain_exit, linked_exit};
 ghost use Rattle.sig_model.specs.Handling.{linking_up, unlinking_from, acknowledging, through_alias, watching, unwatching, down_message, told_down, live_body, answering_noproc, ended_body, handling};
-ghost use Rattle.sig_process.specs.Keeping.{message_of};
-ghost use Rattle.sig_process.specs.Plans.{after_obeying, body_of};
+ghost use Rattle.sig_process.specs.KeptMessage.{message_of};
+ghost use Rattle.sig_process.specs.Plans.{after_obeying, body_of, changed, post_of};
 ghost use Rattle.sig_process.specs.Planning.{noproc_answer};
 ghost use Rattle.sig_process.specs.Progressing.{state_of};
 
-use crate::changing::Change;
-use crate::plan::Plan;
+use crate::changing::{Change, LinkChange, WatchChange};
+use crate::plan::{Outgoing, Plan};
+use crate::planning::{demonitor_posts, one_post};
 use crate::progress::Progress;
 use sig_kinds::{AliasMode, Kind, Signal};
 use sig_lists::Sequence;
@@ -19,10 +22,11 @@ use sig_terms::{Pid, Ref, Term};
 use std::alloc::{AllocError, Global};
 
 /// The message of an exit signal that is trapped.
-fn exit_message(alloc: Global, sender: Pid, reason: Term) -> Result<Term, AllocError>
-    ensures { IfOk result (λ message. message ≡ exit_message sender.0 reason) }
+fn exit_message(alloc: Global, sender: Pid, reason: &Term) -> Result<Term, AllocError>
+    ensures { IfOk result (λ message. message ≡ exit_message sender.0 reason.now) }
 {
     let exit = Term::plain_atom(alloc, b"EXIT")?;
+    let reason = reason.copy(alloc)?;
     let parts = vec![in alloc; exit, Term::Pid(sender), reason]?;
     Ok(Term::Tuple(Sequence::from_vec(parts)))
 }
@@ -32,12 +36,13 @@ fn down_message(
     alloc: Global,
     reference: Ref,
     sender: Pid,
-    reason: Term,
+    reason: &Term,
 ) -> Result<Term, AllocError>
-    ensures { IfOk result (λ message. message ≡ down_message reference sender.0 reason) }
+    ensures { IfOk result (λ message. message ≡ down_message reference sender.0 reason.now) }
 {
     let down = Term::plain_atom(alloc, b"DOWN")?;
     let process = Term::plain_atom(alloc, b"process")?;
+    let reason = reason.copy(alloc)?;
     let parts = vec![in alloc;
         down,
         Term::Ref(reference),
@@ -84,16 +89,16 @@ impl Progress {
         } else {
             Outcome::Linked
         };
-        self.silent(Change::LinkUp { peer: sender }, outcome)
+        self.silent(Change::Links(LinkChange::LinkUp { peer: sender }), outcome)
     }
 
     /// An unlink signal ends the link, and gets its id back.
     fn plan_unlink_by(&self, sender: Pid, id: u64) -> Result<Plan, AllocError>
         ensures { IfOk result (λ plan. unlinking_from (state_of self.now) sender.0 id (on_unlink self.now.tables.links.links sender.0) ≡ body_of (state_of self.now) plan) }
     {
-        let change = Change::UnlinkBy { peer: sender };
-        let plan = self.silent(change, Outcome::Unlinked);
-        plan.sending(self.alloc, sender, Kind::UnlinkAck { id })
+        let posts = one_post(self.alloc, sender, Kind::UnlinkAck { id })?;
+        let change = Change::Links(LinkChange::UnlinkBy { peer: sender });
+        Ok(Plan::sending(change, Outcome::Unlinked, posts))
     }
 
     /// An acknowledgement counts where its id is the awaited one.
@@ -105,7 +110,10 @@ impl Progress {
         } else {
             Outcome::Dropped
         };
-        self.silent(Change::Acknowledge { peer: sender, id }, outcome)
+        self.silent(
+            Change::Links(LinkChange::Acknowledge { peer: sender, id }),
+            outcome,
+        )
     }
 
     /// The exit rule. (Erlang Reference Manual, Processes, Receiving Exit Signals.)
@@ -118,7 +126,6 @@ impl Progress {
     ) -> Result<Plan, AllocError>
         ensures { IfOk result (λ plan. exit_rule pid.0 (after_obeying (state_of self.now) obeyed) sender.0 reason.now ≡ body_of (state_of self.now) plan) }
     {
-        let reason = reason.copy(self.alloc)?;
         if self.traps {
             let message = exit_message(self.alloc, sender, reason)?;
             return self.appending(obeyed, message);
@@ -126,6 +133,7 @@ impl Progress {
         if reason.is_atom(b"normal") && sender != pid {
             return Ok(self.dropping(obeyed));
         }
+        let reason = reason.copy(self.alloc)?;
         self.ending(obeyed, reason)
     }
 
@@ -150,25 +158,57 @@ impl Progress {
         self.plan_exit_rule(pid, Some(sender), sender, reason)
     }
 
-    /// A message through an alias: kept where the alias is active, whose mode may end it then, and
-    /// the monitor with it.
+    /// A message through an alias that is active comes to the end of the list, and these signals are
+    /// sent.
+    fn keeping_through(
+        &self,
+        reference: Ref,
+        term: &Term,
+        posts: Vec<Outgoing>,
+    ) -> Result<Plan, AllocError>
+        ensures { IfOk result (λ plan. (s : ProcessState) → body_of s plan ≡ record { state = changed s (Change.ThroughAlias reference term.now); outcome = Outcome.Kept term.now; posts = map post_of posts.items }) }
+    {
+        let told = term.copy(self.alloc)?;
+        let message = term.copy(self.alloc)?;
+        let outcome = Outcome::Kept { message: told };
+        let change = Change::ThroughAlias { reference, message };
+        Ok(Plan::sending(change, outcome, posts))
+    }
+
+    /// Who is told that the monitor ends, where the alias of its reference has this mode.
+    fn told_by(&self, mode: AliasMode, reference: Ref) -> Option<Pid>
+        ensures { (by_mode self.now.tables.watch.watch reference (Some mode)).0 ≡ alias_answer.Kept result }
+    {
+        if mode == AliasMode::ReplyDemonitor {
+            self.tables.watch.told(reference)
+        } else {
+            None
+        }
+    }
+
+    /// A message through an alias of this mode, which may end it then, and the monitor with it.
+    #[tactic(auto, using(crate::proofs::PlanLemmas::through_kept))]
+    fn plan_through_active(
+        &self,
+        mode: AliasMode,
+        reference: Ref,
+        term: &Term,
+    ) -> Result<Plan, AllocError>
+        requires { mode_of self.now.tables.watch.watch reference ≡ Some mode }
+        ensures { IfOk result (λ plan. through_alias (state_of self.now) reference term.now (by_mode self.now.tables.watch.watch reference (Some mode)) ≡ body_of (state_of self.now) plan) }
+    {
+        let told = self.told_by(mode, reference);
+        let posts = demonitor_posts(self.alloc, reference, told)?;
+        self.keeping_through(reference, term, posts)
+    }
+
+    /// A message through an alias: kept where the alias is active.
     fn plan_through_alias(&self, reference: Ref, term: &Term) -> Result<Plan, AllocError>
         ensures { IfOk result (λ plan. through_alias (state_of self.now) reference term.now (on_alias_message self.now.tables.watch.watch reference) ≡ body_of (state_of self.now) plan) }
     {
-        let Some(mode) = self.tables.watch.alias_mode(reference) else {
-            return Ok(self.dropping(None));
-        };
-        let told = Outcome::Kept {
-            message: term.copy(self.alloc)?,
-        };
-        let message = term.copy(self.alloc)?;
-        let plan = self.silent(Change::ThroughAlias { reference, message }, told);
-        if mode != AliasMode::ReplyDemonitor {
-            return Ok(plan);
-        }
-        match self.tables.watch.told(reference) {
-            None => Ok(plan),
-            Some(target) => plan.sending(self.alloc, target, Kind::Demonitor { reference }),
+        match self.tables.watch.alias_mode(reference) {
+            None => Ok(self.dropping(None)),
+            Some(mode) => self.plan_through_active(mode, reference, term),
         }
     }
 
@@ -176,11 +216,11 @@ impl Progress {
     fn plan_watched(&self, sender: Pid, reference: Ref) -> Plan
         ensures { watching (state_of self.now) (on_monitor self.now.tables.watch.watch reference sender.0) ≡ body_of (state_of self.now) result }
     {
-        let change = Change::Watched {
+        let change = WatchChange::Watched {
             reference,
             watcher: sender,
         };
-        self.silent(change, Outcome::Watched)
+        self.silent(Change::Watch(change), Outcome::Watched)
     }
 
     /// A demonitor signal: the process bears the monitor no more.
@@ -192,7 +232,25 @@ impl Progress {
         } else {
             Outcome::Dropped
         };
-        self.silent(Change::Unwatched { reference }, outcome)
+        self.silent(Change::Watch(WatchChange::Unwatched { reference }), outcome)
+    }
+
+    /// The message of a down comes to the end of the list.
+    fn keeping_down(&self, reference: Ref, message: Term) -> Result<Plan, AllocError>
+        ensures { IfOk result (λ plan. (s : ProcessState) → body_of s plan ≡ record { state = changed s (Change.ToldDown reference message); outcome = Outcome.Kept message; posts = [] }) }
+    {
+        let told = Outcome::Kept {
+            message: message.copy(self.alloc)?,
+        };
+        Ok(self.silent(Change::ToldDown { reference, message }, told))
+    }
+
+    /// A down signal of a monitor that is held: a message.
+    fn plan_held_down(&self, sender: Pid, reference: Ref, reason: &Term) -> Result<Plan, AllocError>
+        ensures { IfOk result (λ plan. appending (rewatched (state_of self.now) (on_down self.now.tables.watch.watch reference).1) (down_message reference sender.0 reason.now) ≡ body_of (state_of self.now) plan) }
+    {
+        let message = down_message(self.alloc, reference, sender, reason)?;
+        self.keeping_down(reference, message)
     }
 
     /// A down signal: a message, where the monitor is held.
@@ -202,12 +260,7 @@ impl Progress {
         if self.tables.watch.target(reference).is_none() {
             return Ok(self.dropping(None));
         }
-        let reason = reason.copy(self.alloc)?;
-        let message = down_message(self.alloc, reference, sender, reason)?;
-        let told = Outcome::Kept {
-            message: message.copy(self.alloc)?,
-        };
-        Ok(self.silent(Change::ToldDown { reference, message }, told))
+        self.plan_held_down(sender, reference, reason)
     }
 
     /// A signal to a live process, one arm for each cell of the table of handling. A message isn't
@@ -248,8 +301,8 @@ impl Progress {
             },
             Some(reference) => Kind::Down { reference, reason },
         };
-        let plan = self.silent(Change::Nothing, Outcome::NoProc);
-        plan.sending(self.alloc, sender, kind)
+        let posts = one_post(self.alloc, sender, kind)?;
+        Ok(Plan::sending(Change::Nothing, Outcome::NoProc, posts))
     }
 
     /// A signal to a process that has ended.

@@ -11,7 +11,7 @@ use sig_terms::{Pid, Ref, Term};
 use std::alloc::AllocError;
 
 /// Why an instruction has no use of a value.
-#[derive(Clone, Copy, Debug, PartialEq, Eq)]
+#[derive(Clone, Copy)]
 pub(crate) enum ValueFault {
     /// It is too large to be built. The process ends with `system_limit`.
     TooLarge,

@@ -12,12 +12,10 @@ handle-requires c =
 pub invariant_of-self : goal.invariant_of-self
 invariant_of-self c =
     let s = c.self.inside in
-    handle_keeps_sound s.pid.0 s.count s.turns s.proc s.progress c.handle.new.self c.handle.result c.self.invariant (ap (λ (p : Standing). can_handle p.running) c.self.view_is ∙ c.requires)
-    c.handle.ensures.handled c.handle.ensures.saved
+    handle_keeps_sound s.pid.0 s.count s.turns s.proc s.progress c.handle.new.self c.handle.result c.self.invariant (ap (λ (p : Standing). can_handle p.running) c.self.view_is ∙ c.requires) c.handle.ensures
 
 pub returns : goal.returns
 returns c =
     let s = c.self.inside in
     subst (λ (p : Standing). handle_answer s.pid.0 s.count s.turns s.proc c.handle.result p c.handle.new.self) c.self.view_is
-    (handle_tells_so s.pid.0 s.count s.turns s.proc s.progress c.handle.new.self c.handle.result (ap (λ (p : Standing). can_handle p.running) c.self.view_is ∙ c.requires)
-    c.handle.ensures.handled c.handle.ensures.saved)
+    (handle_tells_so s.pid.0 s.count s.turns s.proc s.progress c.handle.new.self c.handle.result (ap (λ (p : Standing). can_handle p.running) c.self.view_is ∙ c.requires) c.handle.ensures)

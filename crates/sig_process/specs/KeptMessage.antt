@@ -1,11 +1,10 @@
 -- A message to a process that lives, which is moved from its signal. (Erlang Reference Manual, Processes, Receiving Signals.)
-use Rattle.std.specs.Prelude.{◌≡◌, ◌+◌, ◌<◌, ◌++◌, [], ◌∷◌, max, Option, Some, None, is_some, option_and_then, if◌then◌else◌}
+use Rattle.std.specs.Prelude.{◌≡◌, ◌+◌, ◌++◌, [], ◌∷◌, max, Option, Some, None, is_some, option_and_then, if◌then◌else◌}
 use Rattle.sig_terms.specs.declared.term.Term.{Term}
 use Rattle.sig_kinds.specs.declared.signal.Kind.{Kind}
 use Rattle.sig_kinds.specs.declared.signal.Kind.TheVariants as kind
 use Rattle.sig_kinds.specs.declared.signal.Signal.{Signal}
 use Rattle.sig_inner.specs.InnerQueue.{appended}
-use Rattle.sig_model.specs.declared.event.Event.{Event}
 use Rattle.sig_model.specs.declared.event.Did.TheVariants as did
 use Rattle.sig_model.specs.declared.event.Outcome.TheVariants as outcome
 use Rattle.sig_model.specs.Running.{next_of}
@@ -20,14 +19,6 @@ message_of _ = None
 -- the message of the next signal, where it is one to a process, and this one lives
 abbrev pub kept_message : Progress → Option Term
 kept_message p = if is_some p.tables.end then None else option_and_then (λ x. message_of x.kind) (next_of p.own.items p.taken_in.items)
-
--- room is made for a message and its signal, and the event is noted
-pub record CanKeep (before after : Progress) (e : Event) : Type 0 where
-  pub inner_room : 0 < after.tables.inner.spare
-  pub handled_room : 0 < after.handled.spare
-  pub queue : after.tables.inner.queue ≡ before.tables.inner.queue
-  pub handled : after.handled.items ≡ before.handled.items
-  pub rest : after ≡ record before { tables = record before.tables { inner = after.tables.inner }; events = before.events ++ e ∷ []; handled = after.handled }
 
 -- this signal, the next one, was handled, and this message came to the end of the list
 pub record HasMoved (before after : Progress) (x : Signal) (t : Term) : Type 0 where
