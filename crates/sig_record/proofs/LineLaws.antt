@@ -46,8 +46,9 @@ IsReadableState s = IsStoredState s × IsSizedState s
 pub event_law : Law Anything event_text IsReadableEvent event_front
 unfolding event_text event_front
 event_law =
-    read_as_law (ended_law (codes "\n") (λ rest. refl) (spaced_law (spaced_law wide_law did_law) outcome_law))
-    (λ x. record { stamp = x.0.0; did = x.0.1; outcome = x.1 }) (λ e. ((e.stamp, e.did), e.outcome)) event_text IsReadableEvent (λ e k. refl) (λ x. refl)
+    read_as_law (spaced_law (spaced_law wide_law did_law) (ended_law (codes "\n") (λ rest. refl) outcome_law))
+    (λ x. record { stamp = x.0.0; did = x.0.1; outcome = x.1 }) (λ e. ((e.stamp, e.did), e.outcome)) event_text IsReadableEvent (λ e k. refl)
+    (λ x. append_assoc (decimal x.0.0 ++ codes " " ++ did_text x.0.1 ++ codes " ") (outcome_text x.1) (codes "\n"))
     (λ x k. (((k.0.0, k.0.1.0), k.1.0), k.1.1)) (λ e k. ((k.0.0.0, (k.0.0.1, did_sized e.did)), (k.0.1, k.1)))
 
 digit_first : (most : ℕ) (bytes : List ℕ) (x : ℕ × List ℕ) → number_at most bytes ≡ Some x → begins_by_digit bytes ≡ true

@@ -28,7 +28,7 @@ name_front bytes =
 -- ---- lines
 
 unfoldable pub event_front : Reader Event
-event_front = read_as (λ x. record { stamp = x.0.0; did = x.0.1; outcome = x.1 }) (ended (codes "\n") (spaced (spaced wide did_front) outcome_front))
+event_front = read_as (λ x. record { stamp = x.0.0; did = x.0.1; outcome = x.1 }) (spaced (spaced wide did_front) (ended (codes "\n") outcome_front))
 
 unfoldable pub left_front : Reader Left
 left_front = read_as (λ x. record { arrival = x.0; message = x.1 }) (behind (codes "left ") (ended (codes "\n") (spaced wide term_front)))
