@@ -19,8 +19,11 @@ abbrev pub joined : {X Y : Type 0} → Reader X → Reader Y → Reader (X × Y)
 joined first second bytes = first bytes >>= λ x. second x.1 >>= λ y. Some ((x.0, y.0), y.1)
 
 -- with the text behind it
+abbrev pub closed : {X : Type 0} → List ℕ → Option (X × List ℕ) → Option (X × List ℕ)
+closed text front = front >>= λ x. after_text text x.1 >>= λ rest. Some (x.0, rest)
+
 abbrev pub ended : {X : Type 0} → List ℕ → Reader X → Reader X
-ended text read bytes = read bytes >>= λ x. after_text text x.1 >>= λ rest. Some (x.0, rest)
+ended text read bytes = closed text (read bytes)
 
 -- with the text before it
 abbrev pub behind : {X : Type 0} → List ℕ → Reader X → Reader X

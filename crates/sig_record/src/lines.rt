@@ -3,7 +3,7 @@
 ghost use Rattle.std.specs.Prelude.{◌≡◌, ℕ, List, Option, codes, length};
 ghost use Rattle.std.specs.Option.{option_map};
 ghost use Rattle.sig_terms.specs.Fronts.{Gives};
-ghost use Rattle.sig_record.specs.Readers.{spaced, ended};
+ghost use Rattle.sig_record.specs.Readers.{spaced, closed};
 ghost use Rattle.sig_record.specs.Sorting.{is_lower};
 ghost use Rattle.sig_record.specs.Refusing.{Yields};
 ghost use Rattle.sig_record.specs.Phrases.{narrow, wide, row_front};
@@ -31,6 +31,16 @@ use sig_terms::bytes::is_digit_byte;
 use sig_terms::{Name, Pid, ReadTerm};
 use std::alloc::Global;
 
+/// What was read, where the line ends behind it.
+fn line_end<'a, T: Drop>(read: Result<(T, &'a [u8]), ReadTerm>) -> Result<(T, &'a [u8]), ReadTerm>
+    ensures { (front : Option (T × List ℕ)) → Gives (λ x. (x.0, x.1.now)) read.entry front →
+        Gives (λ x. (x.0, x.1.now)) result (closed (codes "\n") front) }
+{
+    let (item, end) = read?;
+    let rest = after(b"\n", end).ok_or(ReadTerm::BadTerm)?;
+    Ok((item, rest))
+}
+
 /// An event's stamp, and what the process did.
 fn act(bytes: &[u8]) -> Option<((u64, Did), &[u8])>
     ensures { option_map (λ x. (x.0, x.1.now)) result ≡ spaced wide did_front bytes.now }
@@ -47,17 +57,6 @@ fn act(bytes: &[u8]) -> Option<((u64, Did), &[u8])>
     Some(((stamp, did), rest))
 }
 
-/// How an event went, at the end of its line.
-fn last_outcome(alloc: Global, bytes: &[u8]) -> Result<(Outcome, &[u8]), ReadTerm>
-    ensures { Gives (λ x. (x.0, x.1.now)) result (ended (codes "\n") outcome_front bytes.now) }
-{
-    let (outcome, rest) = outcome(alloc, bytes)?;
-    let Some(rest) = after(b"\n", rest) else {
-        return Err(ReadTerm::BadTerm);
-    };
-    Ok((outcome, rest))
-}
-
 #[tactic(auto, unfolding(crate::specs::RecordFronts::event_front))]
 fn event(alloc: Global, bytes: &[u8]) -> Result<(Event, &[u8]), ReadTerm>
     ensures { Gives (λ x. (x.0, x.1.now)) result (event_front bytes.now) }
@@ -68,7 +67,7 @@ fn event(alloc: Global, bytes: &[u8]) -> Result<(Event, &[u8]), ReadTerm>
     let Some(rest) = after(b" ", rest) else {
         return Err(ReadTerm::BadTerm);
     };
-    let (outcome, rest) = last_outcome(alloc, rest)?;
+    let (outcome, rest) = line_end(outcome(alloc, rest))?;
     let event = Event {
         stamp,
         did,
@@ -90,10 +89,7 @@ fn left(alloc: Global, bytes: &[u8]) -> Result<(Left, &[u8]), ReadTerm>
     let Some(rest) = after(b" ", rest) else {
         return Err(ReadTerm::BadTerm);
     };
-    let (message, rest) = term(alloc, rest)?;
-    let Some(rest) = after(b"\n", rest) else {
-        return Err(ReadTerm::BadTerm);
-    };
+    let (message, rest) = line_end(term(alloc, rest))?;
     Ok((Left { arrival, message }, rest))
 }
 
@@ -126,10 +122,7 @@ fn signal(alloc: Global, to: Pid, bytes: &[u8]) -> Result<(Signal, &[u8]), ReadT
     let Some(rest) = after(b" ", rest) else {
         return Err(ReadTerm::BadTerm);
     };
-    let (kind, rest) = kind(alloc, rest)?;
-    let Some(rest) = after(b"\n", rest) else {
-        return Err(ReadTerm::BadTerm);
-    };
+    let (kind, rest) = line_end(kind(alloc, rest))?;
     let from = Pid(from);
     let signal = Signal {
         from,
@@ -197,14 +190,6 @@ fn standing(alloc: Global, bytes: &[u8]) -> Result<(State, &[u8]), ReadTerm>
     Err(ReadTerm::BadTerm)
 }
 
-fn state(alloc: Global, bytes: &[u8]) -> Result<(State, &[u8]), ReadTerm>
-    ensures { Gives (λ x. (x.0, x.1.now)) result (state_front bytes.now) }
-{
-    let (state, end) = standing(alloc, bytes)?;
-    let rest = after(b"\n", end).ok_or(ReadTerm::BadTerm)?;
-    Ok((state, rest))
-}
-
 #[tactic(auto, unfolding(crate::specs::RecordFronts::head_front))]
 fn head(alloc: Global, pid: u32, bytes: &[u8]) -> Result<((u32, Name), &[u8]), ReadTerm>
     ensures { Gives (λ x. (x.0, x.1.now)) result (head_front pid bytes.now) }
@@ -218,10 +203,7 @@ fn head(alloc: Global, pid: u32, bytes: &[u8]) -> Result<((u32, Name), &[u8]), R
     let Some(rest) = after(b" ", rest) else {
         return Err(ReadTerm::BadTerm);
     };
-    let (name, rest) = name(alloc, rest)?;
-    let Some(rest) = after(b"\n", rest) else {
-        return Err(ReadTerm::BadTerm);
-    };
+    let (name, rest) = line_end(name(alloc, rest))?;
     if n == pid {
         Ok(((n, name), rest))
     } else {
@@ -319,7 +301,7 @@ impl Item for Signal {
 pub(crate) fn state_line(alloc: Global, bytes: &[u8]) -> Result<(State, &[u8]), Refusal>
     ensures { Yields (λ x. (x.0, x.1.now)) result (state_front bytes.now) }
 {
-    whole_line(state(alloc, bytes), bytes.len())
+    whole_line(line_end(standing(alloc, bytes)), bytes.len())
 }
 
 /// The first line of this process's part: its pid and its name.

@@ -1,17 +1,38 @@
 //! Readers of a process's part of a record.
 
-ghost use Rattle.std.specs.Prelude.{◌≡◌, ℕ, codes, length};
+ghost use Rattle.std.specs.Prelude.{◌≡◌, ℕ, List, [], codes, length};
+ghost use Rattle.sig_record.specs.Phrases.{alone};
 ghost use Rattle.sig_record.specs.Refusing.{Yields};
-ghost use Rattle.sig_record.specs.RecordFronts.{begins_by, report_front};
+ghost use Rattle.sig_record.specs.RecordFronts.{begins_by, parts_front, report_front};
 
 use crate::items::{Item, read_all};
 use crate::lines::{begins_by, head_line, state_line};
 use crate::refusal::Refusal;
-use crate::report::Report;
+use crate::report::{Lefts, Queued, Report};
 use sig_lists::Sequence;
-use sig_model::State;
+use sig_model::{Events, State};
 use sig_terms::Pid;
 use std::alloc::Global;
+
+/// Reads what stands behind the first line of a process's part into the empty lists.
+fn read_lists<'a>(
+    alloc: Global,
+    pid: u32,
+    events: &mut Events,
+    left: &mut Lefts,
+    queued: &mut Queued,
+    bytes: &'a [u8],
+) -> Result<(State, &'a [u8]), Refusal>
+    requires events { events.old ≡ [] }
+    requires left { left.old ≡ [] }
+    requires queued { queued.old ≡ [] }
+    ensures { (head : ℕ × List ℕ) → Yields (λ x. (((((head, events.new), left.new), queued.new), x.0), x.1.now)) result (parts_front pid (alone head) bytes.now) }
+{
+    let rest = read_all(alloc, pid, events, bytes)?;
+    let rest = read_all(alloc, pid, left, rest)?;
+    let rest = read_all(alloc, pid, queued, rest)?;
+    state_line(alloc, rest)
+}
 
 /// The part of this process.
 #[tactic(auto, unfolding(crate::specs::RecordFronts::report_front))]
@@ -19,19 +40,18 @@ fn report(alloc: Global, pid: u32, bytes: &[u8]) -> Result<(Report, &[u8]), Refu
     ensures { Yields (λ x. (x.0, x.1.now)) result (report_front pid bytes.now) }
 {
     let ((n, name), rest) = head_line(alloc, pid, bytes)?;
-    let mut report = Report {
+    let mut events = Sequence::new(alloc);
+    let mut left = Sequence::new(alloc);
+    let mut queued = Sequence::new(alloc);
+    let (state, rest) = read_lists(alloc, pid, &mut events, &mut left, &mut queued, rest)?;
+    let report = Report {
         pid: Pid(n),
         name,
-        events: Sequence::new(alloc),
-        left: Sequence::new(alloc),
-        queued: Sequence::new(alloc),
-        state: State::Waiting,
+        events,
+        left,
+        queued,
+        state,
     };
-    let rest = read_all(alloc, pid, &mut report.events, rest)?;
-    let rest = read_all(alloc, pid, &mut report.left, rest)?;
-    let rest = read_all(alloc, pid, &mut report.queued, rest)?;
-    let (state, rest) = state_line(alloc, rest)?;
-    report.state = state;
     Ok((report, rest))
 }
 

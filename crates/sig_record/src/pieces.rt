@@ -56,8 +56,10 @@ fn number(most: u64, bytes: &[u8]) -> Option<(u64, &[u8])>
 pub(crate) fn narrow(bytes: &[u8]) -> Option<(u32, &[u8])>
     ensures { option_map (λ x. (x.0, x.1.now)) result ≡ narrow bytes.now }
 {
-    let (n, rest) = number((1 << 32) - 1, bytes)?;
-    Some((n as u32, rest))
+    match number((1 << 32) - 1, bytes) {
+        Some((n, rest)) => Some((n as u32, rest)),
+        None => None,
+    }
 }
 
 /// The number of 64 bits at the front of the bytes.
