@@ -29,7 +29,7 @@ pub(crate) trait Item: Drop {
 }
 
 /// Reads as many as stand there into the empty list, and gives what is behind them.
-#[tactic(auto, using(crate::proofs::ItemSteps::goes_on, crate::proofs::ItemSteps::fails_here, crate::proofs::ItemSteps::stops_here, crate::proofs::ItemSteps::ran_out))]
+#[tactic(auto, using(crate::proofs::ItemSteps::fails_here))]
 pub(crate) fn read_all<'a, T: Item>(
     alloc: Global,
     pid: u32,
