@@ -159,9 +159,9 @@ fn queued<'a>(
 ) -> Result<(Signal, &'a [u8]), ReadTerm>
     ensures { Gives (λ x. (x.0, x.1.now)) result (queued_front to.0 before.now bytes.now) }
 {
-    let (signal, rest) = signal(alloc, to, bytes)?;
-    if may_follow(before, &signal) {
-        Ok((signal, rest))
+    let read = signal(alloc, to, bytes)?;
+    if may_follow(before, &read.0) {
+        Ok(read)
     } else {
         Err(ReadTerm::BadTerm)
     }
