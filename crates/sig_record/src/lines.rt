@@ -1,6 +1,6 @@
 //! Readers of a record's lines.
 
-ghost use Rattle.std.specs.Prelude.{◌≡◌, ℕ, List, Option, codes, length};
+ghost use Rattle.std.specs.Prelude.{◌≡◌, ℕ, List, Option, Some, None, if◌then◌else◌, codes, length};
 ghost use Rattle.std.specs.Option.{option_map};
 ghost use Rattle.sig_terms.specs.Fronts.{Gives};
 ghost use Rattle.sig_record.specs.Readers.{spaced, closed};
@@ -39,6 +39,17 @@ fn line_end<'a, T: Drop>(read: Result<(T, &'a [u8]), ReadTerm>) -> Result<(T, &'
     let (item, end) = read?;
     let rest = after(b"\n", end).ok_or(ReadTerm::BadTerm)?;
     Ok((item, rest))
+}
+
+/// What was read, where it passes a test.
+fn passing<'a, T: Drop>(passes: bool, read: (T, &'a [u8])) -> Result<(T, &'a [u8]), ReadTerm>
+    ensures { Gives {Y = T × List ℕ} (λ x. (x.0, x.1.now)) result (if passes then Some (read.entry.0, read.entry.1.now) else None) }
+{
+    if passes {
+        Ok(read)
+    } else {
+        Err(ReadTerm::BadTerm)
+    }
 }
 
 /// An event's stamp, and what the process did.
@@ -160,11 +171,8 @@ fn queued<'a>(
     ensures { Gives (λ x. (x.0, x.1.now)) result (queued_front to.0 before.now bytes.now) }
 {
     let read = signal(alloc, to, bytes)?;
-    if may_follow(before, &read.0) {
-        Ok(read)
-    } else {
-        Err(ReadTerm::BadTerm)
-    }
+    let follows = may_follow(before, &read.0);
+    passing(follows, read)
 }
 
 fn ended(alloc: Global, bytes: &[u8]) -> Result<(State, &[u8]), ReadTerm>
@@ -204,11 +212,7 @@ fn head(alloc: Global, pid: u32, bytes: &[u8]) -> Result<((u32, Name), &[u8]), R
         return Err(ReadTerm::BadTerm);
     };
     let (name, rest) = line_end(name(alloc, rest))?;
-    if n == pid {
-        Ok(((n, name), rest))
-    } else {
-        Err(ReadTerm::BadTerm)
-    }
+    passing(n == pid, ((n, name), rest))
 }
 
 /// What a line's reader answered; where it refused the line, with the length of the rest that begins there.
