@@ -1,5 +1,5 @@
 -- The loop over the items at the front of bytes, step by step.
-use Rattle.std.proofs.Common.{◌≡◌, ℕ, zero, suc, ◌+◌, ◌-◌, ◌<◌, Bool, true, false, List, [], ◌∷◌, ◌++◌, Option, Some, None, refl, sym, ap, ◌∙◌, arith}
+use Rattle.std.proofs.Common.{◌≡◌, ℕ, zero, suc, ◌+◌, ◌-◌, ◌<◌, ◌≤◌, Bool, true, false, List, [], ◌∷◌, ◌++◌, Option, Some, None, refl, sym, ap, ◌∙◌, arith}
 use Rattle.sig_terms.specs.Tokens.{◌>>=◌}
 use Rattle.sig_record.specs.Readers.{Reader, items_on}
 
@@ -32,8 +32,8 @@ module _ {X : Type 0} (begins : List ℕ → Bool) (read : List X → Reader X) 
   stops_here (suc room) items bytes total h so_far = sym so_far ∙ rw h refl
 
   -- where there is no room for one that begins, there is nothing
-  pub ran_out : (n : ℕ) (items : List X) (bytes : List ℕ) (total : Option (List X × List ℕ)) → begins bytes ≡ true → items_on begins read (n - n) items bytes ≡ total → total ≡ None
+  pub ran_out : (n i : ℕ) (items : List X) (bytes : List ℕ) (total : Option (List X × List ℕ)) → n ≤ i → begins bytes ≡ true → items_on begins read (n - i) items bytes ≡ total → total ≡ None
   unfolding items_on
-  ran_out n items bytes total h so_far =
-      let k : n - n ≡ 0 = omega arith in
+  ran_out n i items bytes total le h so_far =
+      let k : n - i ≡ 0 = omega arith in
       sym so_far ∙ ap (λ (room : ℕ). items_on begins read room items bytes) k ∙ rw h refl

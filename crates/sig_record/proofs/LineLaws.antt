@@ -15,13 +15,14 @@ use Rattle.sig_model.specs.declared.state.State.{State}
 use Rattle.sig_record.specs.declared.report.Left.{Left}
 use Rattle.sig_record.specs.Sorting.{is_lower}
 use Rattle.sig_record.specs.Phrases.{IsNarrow}
+use Rattle.sig_record.specs.KindRows.{kind_text}
 use Rattle.sig_record.specs.EventRows.{pid_of, did_text, outcome_text}
 use Rattle.sig_record.specs.RecordText.{event_text, left_text, queued_text, state_text, head_text}
 use Rattle.sig_record.specs.RecordFronts.{is_process_name, event_front, left_front, signal_of, signal_front, may_follow, queued_front, state_front, head_front, begins_by_digit, begins_by, events_front, lefts_front, all_queued_front}
 use Rattle.sig_record.specs.StoredRecord.{IsStoredEvent, IsStoredLeft, IsStoredSignal, IsStoredState}
 use Rattle.sig_record.specs.SizedRecord.{IsSizedEvent, IsSizedLeft, IsSizedSignal, IsSizedState}
 use Rattle.sig_record.proofs.Chains.{Chain, chain_from, adjacent_from}
-use Rattle.sig_record.proofs.ReaderLaws.{Law, Anything, spaced_law, ended_law, behind_law, read_as_law, passing_law}
+use Rattle.sig_record.proofs.ReaderLaws.{Law, Anything, text_law, spaced_law, ended_law, behind_law, read_as_law, passing_law}
 use Rattle.sig_record.proofs.PieceLaws.{narrow_law, wide_law, term_law, name_law}
 use Rattle.sig_record.proofs.PhraseLaws.{kept_term, readable_term}
 use Rattle.sig_record.proofs.PhraseRows.{did_law, did_sized, outcome_law, kind_law, standing_law}
@@ -46,8 +47,9 @@ IsReadableState s = IsStoredState s × IsSizedState s
 pub event_law : Law Anything event_text IsReadableEvent event_front
 unfolding event_text event_front
 event_law =
-    read_as_law (ended_law (codes "\n") (λ rest. refl) (spaced_law (spaced_law wide_law did_law) outcome_law))
-    (λ x. record { stamp = x.0.0; did = x.0.1; outcome = x.1 }) (λ e. ((e.stamp, e.did), e.outcome)) event_text IsReadableEvent (λ e k. refl) (λ x. refl)
+    read_as_law (spaced_law (spaced_law wide_law did_law) (ended_law (codes "\n") (λ rest. refl) outcome_law))
+    (λ x. record { stamp = x.0.0; did = x.0.1; outcome = x.1 }) (λ e. ((e.stamp, e.did), e.outcome)) event_text IsReadableEvent (λ e k. refl)
+    (λ x. append_assoc (decimal x.0.0 ++ codes " " ++ did_text x.0.1 ++ codes " ") (outcome_text x.1) (codes "\n"))
     (λ x k. (((k.0.0, k.0.1.0), k.1.0), k.1.1)) (λ e k. ((k.0.0.0, (k.0.0.1, did_sized e.did)), (k.0.1, k.1)))
 
 digit_first : (most : ℕ) (bytes : List ℕ) (x : ℕ × List ℕ) → number_at most bytes ≡ Some x → begins_by_digit bytes ≡ true
@@ -76,8 +78,8 @@ events_law = many_law begins_by_digit (λ _. event_front) event_text (λ _ e. Is
 pub left_law : Law Anything left_text IsReadableLeft left_front
 unfolding left_text left_front
 left_law =
-    read_as_law (behind_law (codes "left ") (ended_law (codes "\n") (λ rest. refl) (spaced_law wide_law term_law)))
-    (λ x. record { arrival = x.0; message = x.1 }) (λ l. (l.arrival, l.message)) left_text IsReadableLeft (λ l k. refl) (λ x. refl)
+    read_as_law (behind_law (codes "left ") (spaced_law wide_law (ended_law (codes "\n") (λ rest. refl) term_law)))
+    (λ x. record { arrival = x.0; message = x.1 }) (λ l. (l.arrival, l.message)) left_text IsReadableLeft (λ l k. refl) (λ x. simp append_assoc)
     (λ x k. ((k.0, k.1.term), kept_term x.1 k.1)) (λ l k. (k.0.0, readable_term l.message k.0.1 k.1))
 
 left_begins : (l : Left) (rest : List ℕ) → begins_by (codes "left ") (left_text l ++ rest) ≡ true
@@ -103,8 +105,9 @@ same_signal pid s e =
 pub signal_law : (pid : ℕ) → Law Anything queued_text (GoesTo pid) (signal_front pid)
 unfolding queued_text signal_front
 signal_law pid =
-    read_as_law (behind_law (codes "queued ") (ended_law (codes "\n") (λ rest. refl) (spaced_law (spaced_law (spaced_law narrow_law wide_law) wide_law) kind_law)))
-    (signal_of pid) parts_of_signal queued_text (GoesTo pid) (λ s k. same_signal pid s k.1) (λ x. refl)
+    read_as_law (behind_law (codes "queued ") (spaced_law (spaced_law (spaced_law narrow_law wide_law) wide_law) (ended_law (codes "\n") (λ rest. refl) kind_law)))
+    (signal_of pid) parts_of_signal queued_text (GoesTo pid) (λ s k. same_signal pid s k.1)
+    (λ x. ap (λ (e : List ℕ). codes "queued " ++ e) (append_assoc (decimal x.0.0.0 ++ codes " " ++ decimal x.0.0.1 ++ codes " " ++ decimal x.0.1 ++ codes " ") (kind_text x.1) (codes "\n")))
     (λ x k. (((k.0, k.1.0), k.1.1), refl)) (λ s k. (k.0.0.0, (k.0.0.1, k.0.1)))
 
 -- behind these, the signal may stand
@@ -173,4 +176,6 @@ state_law = ended_law (codes "\n") (λ rest. refl) standing_law
 
 pub head_law : (pid : ℕ) → Law Anything (λ (x : ℕ × List ℕ). head_text x.0 x.1) (λ (x : ℕ × List ℕ). (IsNarrow x.0 × (is_process_name x.1 ≡ true)) × ((x.0 == pid) ≡ true)) (head_front pid)
 unfolding head_front
-head_law pid = passing_law (λ x. x.0 == pid) (behind_law (codes "process ") (ended_law (codes "\n") (λ rest. refl) (spaced_law narrow_law name_law)))
+head_law pid =
+    passing_law (λ x. x.0 == pid)
+    (text_law (λ x. head_text x.0 x.1) (λ x. simp append_assoc) (behind_law (codes "process ") (spaced_law narrow_law (ended_law (codes "\n") (λ rest. refl) name_law))))

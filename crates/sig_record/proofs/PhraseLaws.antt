@@ -3,7 +3,6 @@
 use Rattle.std.proofs.Common.{◌≡◌, ℕ, Bool, true, false, List, [], ◌∷◌, ◌++◌, Some, None, refl, sym, ap, subst, ◌∙◌, append_assoc}
 use Rattle.std.specs.Prelude.{IfSome, codes}
 use Rattle.std.proofs.lemmas.List.{append-nil}
-use Rattle.std.proofs.lemmas.Option.{IfSome_then}
 use Rattle.sig_terms.specs.Tokens.{after_text}
 use Rattle.sig_terms.specs.Readable.{IsTerm, IsReadable}
 use Rattle.sig_terms.specs.declared.term.Term.{Term}
@@ -11,7 +10,7 @@ use Rattle.sig_terms.proofs.TokenReads.{Stops}
 use Rattle.sig_model.specs.TermSizes.{IsKeptTerm}
 use Rattle.sig_record.specs.Phrases.{Field, a_narrow, a_wide, a_reference, a_term, a_truth, a_link, Said, AllSaid, choice_text, said_text, values, values_text, choice_front, said_front, fields_front, IsStoredSaid, IsStoredValue, terms_of, Each, Row, Phrase, says, phrase_text, IsStoredPhrase, row_front, rows_front}
 use Rattle.sig_record.specs.SizedRecord.{IsSizedPhrase}
-use Rattle.sig_record.proofs.ReaderLaws.{IsReadAs, Law, after_again, joined_law, behind_law, stopped_law, word_found, alone_found, made_again}
+use Rattle.sig_record.proofs.ReaderLaws.{text_law, IsReadAs, Law, after_again, joined_law, behind_law, stopped_law, word_found, alone_found, made_again}
 use Rattle.sig_record.proofs.PieceLaws.{narrow_law, wide_law, term_law, ref_law}
 
 -- ---- fields
@@ -72,10 +71,7 @@ fields_law [] = record { found = λ bytes. (tt, refl); again = λ x rest k stop.
 fields_law (f ∷ fs) = joined_law (behind_law (codes " ") (said_law f)) (fields_law fs) (λ x rest k stop. fields_stop fs x rest stop)
 
 all_law : (fs : List Field) → Law Stops (all_text fs) (AreReadable fs) (fields_front fs)
-all_law fs = record {
-  found = λ bytes. IfSome_then (fields_front fs bytes) ((fields_law fs).found bytes) (λ x r. (r.0, r.1 ∙ ap (λ (e : List ℕ). e ++ x.1) (sym (by_fields fs x.0))));
-  again = λ x rest k stop. ap (λ (e : List ℕ). fields_front fs (e ++ rest)) (by_fields fs x) ∙ (fields_law fs).again x rest k stop;
-}
+all_law fs = text_law (all_text fs) (λ x. sym (by_fields fs x)) (fields_law fs)
 
 -- ---- what can be read lies in memory, and its terms are no larger than what is read
 

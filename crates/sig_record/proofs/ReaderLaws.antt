@@ -29,9 +29,6 @@ after_again text rest =
 two_parts : (a b rest : List ℕ) → (a ++ b) ++ rest ≡ a ++ (b ++ rest)
 two_parts a b rest = append_assoc a b rest
 
-three_parts : (a b c rest : List ℕ) → ((a ++ b) ++ c) ++ rest ≡ a ++ (b ++ (c ++ rest))
-three_parts a b c rest = append_assoc (a ++ b) c rest ∙ append_assoc a b (c ++ rest)
-
 -- ---- one behind the other
 
 pub joined_law : {X Y : Type 0} {s z : List ℕ → Type 0} {t : X → List ℕ} {u : Y → List ℕ} {P : X → Type 0} {Q : Y → Type 0} {f : Reader X} {g : Reader Y}
@@ -47,24 +44,6 @@ joined_law {X} {Y} {s} {z} {t} {u} {P} {Q} {f} {g} l m stops = record {
       let two : g (u x.1 ++ rest) ≡ Some (x.1, rest) = m.again x.1 rest k.1 stop in
       ap (joined f g) (two_parts (t x.0) (u x.1) rest) ∙ rw (one, two) refl;
 }
-
-pub spaced_law : {X Y : Type 0} {z : List ℕ → Type 0} {t : X → List ℕ} {u : Y → List ℕ} {P : X → Type 0} {Q : Y → Type 0} {f : Reader X} {g : Reader Y}
-    → Law Stops t P f → Law z u Q g
-    → Law z (λ (x : X × Y). t x.0 ++ codes " " ++ u x.1) (λ (x : X × Y). P x.0 × Q x.1) (spaced f g)
-spaced_law {X} {Y} {z} {t} {u} {P} {Q} {f} {g} l m =
-    let T : X × Y → List ℕ = λ x. t x.0 ++ codes " " ++ u x.1 in
-    let R : X × Y → Type 0 = λ x. P x.0 × Q x.1 in
-    record {
-      found = λ bytes.
-          if_bind (IsReadAs t P bytes) (IsReadAs T R bytes) (f bytes) (λ x. after_text (codes " ") x.1 >>= λ rest. g rest >>= λ y. Some ((x.0, y.0), y.1)) (l.found bytes) (λ x r.
-          if_bind (λ rest. x.1 ≡ codes " " ++ rest) (IsReadAs T R bytes) (after_text (codes " ") x.1) (λ rest. g rest >>= λ y. Some ((x.0, y.0), y.1)) (after_text_is (codes " ") x.1) (λ rest e.
-          if_bind (IsReadAs u Q rest) (IsReadAs T R bytes) (g rest) (λ y. Some ((x.0, y.0), y.1)) (m.found rest) (λ y q.
-          ((r.0, q.0), r.1 ∙ ap (λ (e : List ℕ). t x.0 ++ e) (e ∙ ap (λ (e : List ℕ). codes " " ++ e) q.1) ∙ sym (three_parts (t x.0) (codes " ") (u y.0) y.1)))));
-      again = λ x rest k stop.
-          let one : f (t x.0 ++ (codes " " ++ (u x.1 ++ rest))) ≡ Some (x.0, codes " " ++ (u x.1 ++ rest)) = l.again x.0 (codes " " ++ (u x.1 ++ rest)) k.0 refl in
-          let two : g (u x.1 ++ rest) ≡ Some (x.1, rest) = m.again x.1 rest k.1 stop in
-          ap (spaced f g) (three_parts (t x.0) (codes " ") (u x.1) rest) ∙ rw (one, two) refl;
-    }
 
 pub ended_law : {X : Type 0} {s : List ℕ → Type 0} {t : X → List ℕ} {P : X → Type 0} {f : Reader X} (text : List ℕ) → ((rest : List ℕ) → s (text ++ rest)) → Law s t P f
     → Law Anything (λ (x : X). t x ++ text) P (ended text f)
@@ -89,6 +68,19 @@ behind_law {X} {s} {t} {P} {f} text l = record {
   again = λ x rest k stop.
       ap (behind text f) (two_parts text (t x) rest) ∙ ap (λ (o : Option (List ℕ)). o >>= f) (after_again text (t x ++ rest)) ∙ l.again x rest k stop;
 }
+
+-- another spelling of the text
+pub text_law : {X : Type 0} {s : List ℕ → Type 0} {t : X → List ℕ} {P : X → Type 0} {f : Reader X} (text : X → List ℕ) → ((x : X) → t x ≡ text x) → Law s t P f → Law s text P f
+text_law {X} {s} {t} {P} {f} text same l = record {
+  found = λ bytes. IfSome_then (f bytes) (l.found bytes) (λ x r. (r.0, r.1 ∙ ap (λ (e : List ℕ). e ++ x.1) (same x.0)));
+  again = λ x rest k stop. ap (λ (e : List ℕ). f (e ++ rest)) (sym (same x)) ∙ l.again x rest k stop;
+}
+
+pub spaced_law : {X Y : Type 0} {z : List ℕ → Type 0} {t : X → List ℕ} {u : Y → List ℕ} {P : X → Type 0} {Q : Y → Type 0} {f : Reader X} {g : Reader Y}
+    → Law Stops t P f → Law z u Q g
+    → Law z (λ (x : X × Y). t x.0 ++ codes " " ++ u x.1) (λ (x : X × Y). P x.0 × Q x.1) (spaced f g)
+spaced_law {X} {Y} {z} {t} {u} {P} {Q} {f} {g} l m =
+    text_law (λ x. t x.0 ++ codes " " ++ u x.1) (λ x. sym (append_assoc (t x.0) (codes " ") (u x.1))) (joined_law l (behind_law (codes " ") m) (λ y rest k stop. refl))
 
 -- ---- other values, and tests
 

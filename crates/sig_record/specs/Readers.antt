@@ -18,18 +18,20 @@ passing test read bytes = read bytes >>= λ x. if test x.0 then Some x else None
 abbrev pub joined : {X Y : Type 0} → Reader X → Reader Y → Reader (X × Y)
 joined first second bytes = first bytes >>= λ x. second x.1 >>= λ y. Some ((x.0, y.0), y.1)
 
--- with a space between the two
-abbrev pub spaced : {X Y : Type 0} → Reader X → Reader Y → Reader (X × Y)
-spaced first second bytes =
-    first bytes >>= λ x. after_text (codes " ") x.1 >>= λ rest. second rest >>= λ y. Some ((x.0, y.0), y.1)
-
 -- with the text behind it
+abbrev pub closed : {X : Type 0} → List ℕ → Option (X × List ℕ) → Option (X × List ℕ)
+closed text front = front >>= λ x. after_text text x.1 >>= λ rest. Some (x.0, rest)
+
 abbrev pub ended : {X : Type 0} → List ℕ → Reader X → Reader X
-ended text read bytes = read bytes >>= λ x. after_text text x.1 >>= λ rest. Some (x.0, rest)
+ended text read bytes = closed text (read bytes)
 
 -- with the text before it
 abbrev pub behind : {X : Type 0} → List ℕ → Reader X → Reader X
 behind text read bytes = after_text text bytes >>= read
+
+-- with a space between the two
+abbrev pub spaced : {X Y : Type 0} → Reader X → Reader Y → Reader (X × Y)
+spaced first second = joined first (behind (codes " ") second)
 
 -- what is behind a text by read, and where there is none the other
 abbrev pub or_else : {X : Type 0} → Option (List ℕ) → (List ℕ → Option X) → Option X → Option X

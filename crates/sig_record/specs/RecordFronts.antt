@@ -28,17 +28,17 @@ name_front bytes =
 -- ---- lines
 
 unfoldable pub event_front : Reader Event
-event_front = read_as (λ x. record { stamp = x.0.0; did = x.0.1; outcome = x.1 }) (ended (codes "\n") (spaced (spaced wide did_front) outcome_front))
+event_front = read_as (λ x. record { stamp = x.0.0; did = x.0.1; outcome = x.1 }) (spaced (spaced wide did_front) (ended (codes "\n") outcome_front))
 
 unfoldable pub left_front : Reader Left
-left_front = read_as (λ x. record { arrival = x.0; message = x.1 }) (behind (codes "left ") (ended (codes "\n") (spaced wide term_front)))
+left_front = read_as (λ x. record { arrival = x.0; message = x.1 }) (behind (codes "left ") (spaced wide (ended (codes "\n") term_front)))
 
 -- a signal that waits for this process
 abbrev pub signal_of : ℕ → ((ℕ × ℕ) × ℕ) × Kind → Signal
 signal_of pid x = record { from = pid_of x.0.0.0; to = pid_of pid; number = x.0.0.1; stamp = x.0.1; kind = x.1 }
 
 unfoldable pub signal_front : ℕ → Reader Signal
-signal_front pid = read_as (signal_of pid) (behind (codes "queued ") (ended (codes "\n") (spaced (spaced (spaced narrow wide) wide) kind_front)))
+signal_front pid = read_as (signal_of pid) (behind (codes "queued ") (spaced (spaced (spaced narrow wide) wide) (ended (codes "\n") kind_front)))
 
 -- the signal isn't lower than the last of these
 abbrev pub may_follow : List Signal → Signal → Bool
@@ -51,7 +51,7 @@ abbrev pub state_front : Reader State
 state_front = ended (codes "\n") standing_front
 
 unfoldable pub head_front : ℕ → Reader (ℕ × List ℕ)
-head_front pid = passing (λ x. x.0 == pid) (behind (codes "process ") (ended (codes "\n") (spaced narrow name_front)))
+head_front pid = passing (λ x. x.0 == pid) (behind (codes "process ") (spaced narrow (ended (codes "\n") name_front)))
 
 -- ---- lists of lines, and records
 
@@ -74,8 +74,12 @@ all_queued_front pid = many (begins_by (codes "queued ")) (queued_front pid)
 abbrev pub report_of_parts : ((((ℕ × List ℕ) × List Event) × List Left) × List Signal) × State → Report
 report_of_parts x = record { pid = pid_of x.0.0.0.0.0; name = x.0.0.0.0.1; events = x.0.0.0.1; left = x.0.0.1; queued = x.0.1; state = x.1 }
 
+-- the parts of a process's part, of which the first one is read so
+abbrev pub parts_front : ℕ → Reader (ℕ × List ℕ) → Reader (((((ℕ × List ℕ) × List Event) × List Left) × List Signal) × State)
+parts_front pid head = joined (joined (joined (joined head events_front) lefts_front) (all_queued_front pid)) state_front
+
 unfoldable pub report_front : ℕ → Reader Report
-report_front pid = read_as report_of_parts (joined (joined (joined (joined (head_front pid) events_front) lefts_front) (all_queued_front pid)) state_front)
+report_front pid = read_as report_of_parts (parts_front pid (head_front pid))
 
 abbrev pub reports_front : Reader (List Report)
 reports_front = many (begins_by (codes "process ")) (λ before. report_front (length before))

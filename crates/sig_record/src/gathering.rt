@@ -53,6 +53,21 @@ fn queued_of(alloc: Global, own: Signals, taken_in: Signals) -> Result<Queued, A
     Ok(Sequence::from_vec(waiting))
 }
 
+/// What is left of the messages, and the signals that wait.
+fn waiting_of(
+    alloc: Global,
+    left: Inner,
+    own: Signals,
+    taken_in: Signals,
+) -> Result<(Lefts, Queued), AllocError>
+    ensures left { IfOk result (λ waiting. waiting.0 ≡ map left_of left.queue.inbox.messages) }
+    ensures queued { IfOk result (λ waiting. waiting.1 ≡ sorted_by is_lower (own.items ++ taken_in.items)) }
+{
+    let left = lefts_of(alloc, left)?;
+    let queued = queued_of(alloc, own, taken_in)?;
+    Ok((left, queued))
+}
+
 /// The report of a process.
 fn report(alloc: Global, process: Process) -> Result<Report, AllocError>
     requires { process.running.outbox ≡ [] }
@@ -60,8 +75,7 @@ fn report(alloc: Global, process: Process) -> Result<Report, AllocError>
     ensures keeps { IsKeeping process.running }
 {
     let parts = process.into_parts();
-    let left = lefts_of(alloc, parts.left)?;
-    let queued = queued_of(alloc, parts.own, parts.taken_in)?;
+    let (left, queued) = waiting_of(alloc, parts.left, parts.own, parts.taken_in)?;
     Ok(Report {
         pid: parts.pid,
         name: parts.name,

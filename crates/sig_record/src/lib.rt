@@ -2,6 +2,7 @@
 #![tactic(auto)]
 
 mod gathering;
+mod items;
 mod lines;
 mod merging;
 mod ordering;

@@ -1,14 +1,16 @@
 //! Readers of a record's lines.
 
-ghost use Rattle.std.specs.Prelude.{◌≡◌, length};
+ghost use Rattle.std.specs.Prelude.{◌≡◌, ℕ, List, Option, Some, None, if◌then◌else◌, codes, length};
 ghost use Rattle.std.specs.Option.{option_map};
 ghost use Rattle.sig_terms.specs.Fronts.{Gives};
-ghost use Rattle.sig_record.specs.Readers.{spaced};
+ghost use Rattle.sig_record.specs.Readers.{spaced, closed};
 ghost use Rattle.sig_record.specs.Sorting.{is_lower};
 ghost use Rattle.sig_record.specs.Refusing.{Yields};
 ghost use Rattle.sig_record.specs.Phrases.{narrow, wide, row_front};
-ghost use Rattle.sig_record.specs.EventRows.{has_ended, standing_front};
+ghost use Rattle.sig_record.specs.EventRows.{has_ended, did_front, outcome_front, standing_front};
 ghost use Rattle.sig_record.specs.RecordFronts.{
+  begins_by_digit,
+  begins_by,
   event_front,
   left_front,
   signal_front,
@@ -18,25 +20,65 @@ ghost use Rattle.sig_record.specs.RecordFronts.{
   head_front,
 };
 
+use crate::items::Item;
 use crate::outcomes::{did, kind, outcome};
-use crate::pieces::{after, name, narrow, term, term_field, two_numbers, wide};
+use crate::pieces::{after, name, narrow, term, term_field, wide, wide_field};
 use crate::refusal::Refusal;
 use crate::report::Left;
 use sig_kinds::Signal;
-use sig_model::{Event, State};
+use sig_model::{Did, Event, Outcome, State};
+use sig_terms::bytes::is_digit_byte;
 use sig_terms::{Name, Pid, ReadTerm};
 use std::alloc::Global;
+
+/// What was read, where the line ends behind it.
+fn line_end<'a, T: Drop>(read: Result<(T, &'a [u8]), ReadTerm>) -> Result<(T, &'a [u8]), ReadTerm>
+    ensures { (front : Option (T × List ℕ)) → Gives (λ x. (x.0, x.1.now)) read.entry front →
+        Gives (λ x. (x.0, x.1.now)) result (closed (codes "\n") front) }
+{
+    let (item, end) = read?;
+    let rest = after(b"\n", end).ok_or(ReadTerm::BadTerm)?;
+    Ok((item, rest))
+}
+
+/// What was read, where it passes a test.
+fn passing<'a, T: Drop>(passes: bool, read: (T, &'a [u8])) -> Result<(T, &'a [u8]), ReadTerm>
+    ensures { Gives {Y = T × List ℕ} (λ x. (x.0, x.1.now)) result (if passes then Some (read.entry.0, read.entry.1.now) else None) }
+{
+    if passes {
+        Ok(read)
+    } else {
+        Err(ReadTerm::BadTerm)
+    }
+}
+
+/// An event's stamp, and what the process did.
+fn act(bytes: &[u8]) -> Option<((u64, Did), &[u8])>
+    ensures { option_map (λ x. (x.0, x.1.now)) result ≡ spaced wide did_front bytes.now }
+{
+    let Some((stamp, rest)) = wide(bytes) else {
+        return None;
+    };
+    let Some(rest) = after(b" ", rest) else {
+        return None;
+    };
+    let Some((did, rest)) = did(rest) else {
+        return None;
+    };
+    Some(((stamp, did), rest))
+}
 
 #[tactic(auto, unfolding(crate::specs::RecordFronts::event_front))]
 fn event(alloc: Global, bytes: &[u8]) -> Result<(Event, &[u8]), ReadTerm>
     ensures { Gives (λ x. (x.0, x.1.now)) result (event_front bytes.now) }
 {
-    let (stamp, rest) = wide(bytes).ok_or(ReadTerm::BadTerm)?;
-    let rest = after(b" ", rest).ok_or(ReadTerm::BadTerm)?;
-    let (did, rest) = did(rest).ok_or(ReadTerm::BadTerm)?;
-    let rest = after(b" ", rest).ok_or(ReadTerm::BadTerm)?;
-    let (outcome, rest) = outcome(alloc, rest)?;
-    let rest = after(b"\n", rest).ok_or(ReadTerm::BadTerm)?;
+    let Some(((stamp, did), rest)) = act(bytes) else {
+        return Err(ReadTerm::BadTerm);
+    };
+    let Some(rest) = after(b" ", rest) else {
+        return Err(ReadTerm::BadTerm);
+    };
+    let (outcome, rest) = line_end(outcome(alloc, rest))?;
     let event = Event {
         stamp,
         did,
@@ -49,11 +91,16 @@ fn event(alloc: Global, bytes: &[u8]) -> Result<(Event, &[u8]), ReadTerm>
 fn left(alloc: Global, bytes: &[u8]) -> Result<(Left, &[u8]), ReadTerm>
     ensures { Gives (λ x. (x.0, x.1.now)) result (left_front bytes.now) }
 {
-    let rest = after(b"left ", bytes).ok_or(ReadTerm::BadTerm)?;
-    let (arrival, rest) = wide(rest).ok_or(ReadTerm::BadTerm)?;
-    let rest = after(b" ", rest).ok_or(ReadTerm::BadTerm)?;
-    let (message, rest) = term(alloc, rest)?;
-    let rest = after(b"\n", rest).ok_or(ReadTerm::BadTerm)?;
+    let Some(rest) = after(b"left ", bytes) else {
+        return Err(ReadTerm::BadTerm);
+    };
+    let Some((arrival, rest)) = wide(rest) else {
+        return Err(ReadTerm::BadTerm);
+    };
+    let Some(rest) = after(b" ", rest) else {
+        return Err(ReadTerm::BadTerm);
+    };
+    let (message, rest) = line_end(term(alloc, rest))?;
     Ok((Left { arrival, message }, rest))
 }
 
@@ -61,21 +108,32 @@ fn left(alloc: Global, bytes: &[u8]) -> Result<(Left, &[u8]), ReadTerm>
 fn signal_numbers(bytes: &[u8]) -> Option<(((u32, u64), u64), &[u8])>
     ensures { option_map (λ x. (x.0, x.1.now)) result ≡ spaced (spaced narrow wide) wide bytes.now }
 {
-    let (first, rest) = two_numbers(bytes)?;
-    let rest = after(b" ", rest)?;
-    let (stamp, rest) = wide(rest)?;
-    Some(((first, stamp), rest))
+    let Some((from, rest)) = narrow(bytes) else {
+        return None;
+    };
+    let Some((number, rest)) = wide_field(rest) else {
+        return None;
+    };
+    let Some((stamp, rest)) = wide_field(rest) else {
+        return None;
+    };
+    Some((((from, number), stamp), rest))
 }
 
 #[tactic(auto, unfolding(crate::specs::RecordFronts::signal_front))]
 fn signal(alloc: Global, to: Pid, bytes: &[u8]) -> Result<(Signal, &[u8]), ReadTerm>
     ensures { Gives (λ x. (x.0, x.1.now)) result (signal_front to.0 bytes.now) }
 {
-    let rest = after(b"queued ", bytes).ok_or(ReadTerm::BadTerm)?;
-    let (((from, number), stamp), rest) = signal_numbers(rest).ok_or(ReadTerm::BadTerm)?;
-    let rest = after(b" ", rest).ok_or(ReadTerm::BadTerm)?;
-    let (kind, rest) = kind(alloc, rest)?;
-    let rest = after(b"\n", rest).ok_or(ReadTerm::BadTerm)?;
+    let Some(rest) = after(b"queued ", bytes) else {
+        return Err(ReadTerm::BadTerm);
+    };
+    let Some((((from, number), stamp), rest)) = signal_numbers(rest) else {
+        return Err(ReadTerm::BadTerm);
+    };
+    let Some(rest) = after(b" ", rest) else {
+        return Err(ReadTerm::BadTerm);
+    };
+    let (kind, rest) = line_end(kind(alloc, rest))?;
     let from = Pid(from);
     let signal = Signal {
         from,
@@ -112,12 +170,9 @@ fn queued<'a>(
 ) -> Result<(Signal, &'a [u8]), ReadTerm>
     ensures { Gives (λ x. (x.0, x.1.now)) result (queued_front to.0 before.now bytes.now) }
 {
-    let (signal, rest) = signal(alloc, to, bytes)?;
-    if may_follow(before, &signal) {
-        Ok((signal, rest))
-    } else {
-        Err(ReadTerm::BadTerm)
-    }
+    let read = signal(alloc, to, bytes)?;
+    let follows = may_follow(before, &read.0);
+    passing(follows, read)
 }
 
 fn ended(alloc: Global, bytes: &[u8]) -> Result<(State, &[u8]), ReadTerm>
@@ -143,65 +198,106 @@ fn standing(alloc: Global, bytes: &[u8]) -> Result<(State, &[u8]), ReadTerm>
     Err(ReadTerm::BadTerm)
 }
 
-fn state(alloc: Global, bytes: &[u8]) -> Result<(State, &[u8]), ReadTerm>
-    ensures { Gives (λ x. (x.0, x.1.now)) result (state_front bytes.now) }
-{
-    let (state, end) = standing(alloc, bytes)?;
-    let rest = after(b"\n", end).ok_or(ReadTerm::BadTerm)?;
-    Ok((state, rest))
-}
-
 #[tactic(auto, unfolding(crate::specs::RecordFronts::head_front))]
 fn head(alloc: Global, pid: u32, bytes: &[u8]) -> Result<((u32, Name), &[u8]), ReadTerm>
     ensures { Gives (λ x. (x.0, x.1.now)) result (head_front pid bytes.now) }
 {
-    let rest = after(b"process ", bytes).ok_or(ReadTerm::BadTerm)?;
-    let (n, rest) = narrow(rest).ok_or(ReadTerm::BadTerm)?;
-    let rest = after(b" ", rest).ok_or(ReadTerm::BadTerm)?;
-    let (name, rest) = name(alloc, rest)?;
-    let rest = after(b"\n", rest).ok_or(ReadTerm::BadTerm)?;
-    if n == pid {
-        Ok(((n, name), rest))
-    } else {
-        Err(ReadTerm::BadTerm)
-    }
+    let Some(rest) = after(b"process ", bytes) else {
+        return Err(ReadTerm::BadTerm);
+    };
+    let Some((n, rest)) = narrow(rest) else {
+        return Err(ReadTerm::BadTerm);
+    };
+    let Some(rest) = after(b" ", rest) else {
+        return Err(ReadTerm::BadTerm);
+    };
+    let (name, rest) = line_end(name(alloc, rest))?;
+    passing(n == pid, ((n, name), rest))
 }
 
-/// The event's line at the front of the bytes.
-pub(crate) fn event_line(alloc: Global, bytes: &[u8]) -> Result<(Event, &[u8]), Refusal>
-    ensures { Yields (λ x. (x.0, x.1.now)) result (event_front bytes.now) }
+/// What a line's reader answered; where it refused the line, with the length of the rest that begins there.
+fn whole_line<'a, T>(
+    read: Result<(T, &'a [u8]), ReadTerm>,
+    left: usize,
+) -> Result<(T, &'a [u8]), Refusal>
+    ensures { (front : Option (T × List ℕ)) → Gives (λ x. (x.0, x.1.now)) read.entry front → Yields (λ x. (x.0, x.1.now)) result front }
 {
-    match event(alloc, bytes) {
-        Ok(read) => Ok(read),
-        Err(ReadTerm::BadTerm) => Err(Refusal::Bad { left: bytes.len() }),
+    match read {
+        Ok(found) => Ok(found),
+        Err(ReadTerm::BadTerm) => Err(Refusal::Bad { left }),
         Err(ReadTerm::Memory) => Err(Refusal::Memory),
     }
 }
 
-/// The line of a message left.
-pub(crate) fn left_line(alloc: Global, bytes: &[u8]) -> Result<(Left, &[u8]), Refusal>
-    ensures { Yields (λ x. (x.0, x.1.now)) result (left_front bytes.now) }
+fn begins_by_digit(bytes: &[u8]) -> bool
+    ensures { result ≡ begins_by_digit bytes.now }
 {
-    match left(alloc, bytes) {
-        Ok(read) => Ok(read),
-        Err(ReadTerm::BadTerm) => Err(Refusal::Bad { left: bytes.len() }),
-        Err(ReadTerm::Memory) => Err(Refusal::Memory),
+    match bytes {
+        [] => false,
+        [first, ..] => is_digit_byte(*first),
     }
 }
 
-/// The line of a queued signal of this process, behind those of these signals.
-pub(crate) fn queued_line<'a>(
-    alloc: Global,
-    to: Pid,
-    before: &[Signal],
-    bytes: &'a [u8],
-) -> Result<(Signal, &'a [u8]), Refusal>
-    ensures { Yields (λ x. (x.0, x.1.now)) result (queued_front to.0 before.now bytes.now) }
+pub(crate) fn begins_by(text: &[u8], bytes: &[u8]) -> bool
+    ensures { result ≡ begins_by text.now bytes.now }
 {
-    match queued(alloc, to, before, bytes) {
-        Ok(read) => Ok(read),
-        Err(ReadTerm::BadTerm) => Err(Refusal::Bad { left: bytes.len() }),
-        Err(ReadTerm::Memory) => Err(Refusal::Memory),
+    after(text, bytes).is_some()
+}
+
+impl Item for Event {
+    ghost begins = { begins_by_digit };
+
+    ghost front = { λ pid before. event_front };
+
+    fn begins(bytes: &[u8]) -> bool {
+        begins_by_digit(bytes)
+    }
+
+    fn read<'a>(
+        alloc: Global,
+        _pid: u32,
+        _before: &[Event],
+        bytes: &'a [u8],
+    ) -> Result<(Event, &'a [u8]), Refusal> {
+        whole_line(event(alloc, bytes), bytes.len())
+    }
+}
+
+impl Item for Left {
+    ghost begins = { begins_by (codes "left ") };
+
+    ghost front = { λ pid before. left_front };
+
+    fn begins(bytes: &[u8]) -> bool {
+        begins_by(b"left ", bytes)
+    }
+
+    fn read<'a>(
+        alloc: Global,
+        _pid: u32,
+        _before: &[Left],
+        bytes: &'a [u8],
+    ) -> Result<(Left, &'a [u8]), Refusal> {
+        whole_line(left(alloc, bytes), bytes.len())
+    }
+}
+
+impl Item for Signal {
+    ghost begins = { begins_by (codes "queued ") };
+
+    ghost front = { queued_front };
+
+    fn begins(bytes: &[u8]) -> bool {
+        begins_by(b"queued ", bytes)
+    }
+
+    fn read<'a>(
+        alloc: Global,
+        pid: u32,
+        before: &[Signal],
+        bytes: &'a [u8],
+    ) -> Result<(Signal, &'a [u8]), Refusal> {
+        whole_line(queued(alloc, Pid(pid), before, bytes), bytes.len())
     }
 }
 
@@ -209,11 +305,7 @@ pub(crate) fn queued_line<'a>(
 pub(crate) fn state_line(alloc: Global, bytes: &[u8]) -> Result<(State, &[u8]), Refusal>
     ensures { Yields (λ x. (x.0, x.1.now)) result (state_front bytes.now) }
 {
-    match state(alloc, bytes) {
-        Ok(read) => Ok(read),
-        Err(ReadTerm::BadTerm) => Err(Refusal::Bad { left: bytes.len() }),
-        Err(ReadTerm::Memory) => Err(Refusal::Memory),
-    }
+    whole_line(line_end(standing(alloc, bytes)), bytes.len())
 }
 
 /// The first line of this process's part: its pid and its name.
@@ -224,9 +316,5 @@ pub(crate) fn head_line(
 ) -> Result<((u32, Name), &[u8]), Refusal>
     ensures { Yields (λ x. (x.0, x.1.now)) result (head_front pid bytes.now) }
 {
-    match head(alloc, pid, bytes) {
-        Ok(read) => Ok(read),
-        Err(ReadTerm::BadTerm) => Err(Refusal::Bad { left: bytes.len() }),
-        Err(ReadTerm::Memory) => Err(Refusal::Memory),
-    }
+    whole_line(head(alloc, pid, bytes), bytes.len())
 }

@@ -28,8 +28,12 @@ fn execution(bytes: &[u8]) -> Option<(Did, &[u8])>
 fn handling(bytes: &[u8]) -> Option<(Did, &[u8])>
     ensures { option_map (λ x. (x.0, x.1.now)) result ≡ row_front rows.from bytes.now }
 {
-    let (from, rest) = narrow_field(bytes)?;
-    let (number, rest) = wide_field(rest)?;
+    let Some((from, rest)) = narrow_field(bytes) else {
+        return None;
+    };
+    let Some((number, rest)) = wide_field(rest) else {
+        return None;
+    };
     let from = Pid(from);
     Some((Did::From { from, number }, rest))
 }
@@ -66,16 +70,24 @@ fn set(alloc: Global, bytes: &[u8]) -> Result<(Outcome, &[u8]), ReadTerm>
 fn answered(bytes: &[u8]) -> Result<(Outcome, &[u8]), ReadTerm>
     ensures { Gives (λ x. (x.0, x.1.now)) result (row_front rows.answered bytes.now) }
 {
-    let rest = after(b" ", bytes).ok_or(ReadTerm::BadTerm)?;
-    let (value, rest) = choice(b"true", b"false", rest).ok_or(ReadTerm::BadTerm)?;
+    let Some(rest) = after(b" ", bytes) else {
+        return Err(ReadTerm::BadTerm);
+    };
+    let Some((value, rest)) = choice(b"true", b"false", rest) else {
+        return Err(ReadTerm::BadTerm);
+    };
     Ok((Outcome::Answered { value }, rest))
 }
 
 fn took(alloc: Global, bytes: &[u8]) -> Result<(Outcome, &[u8]), ReadTerm>
     ensures { Gives (λ x. (x.0, x.1.now)) result (row_front rows.took bytes.now) }
 {
-    let (clause, rest) = narrow_field(bytes).ok_or(ReadTerm::BadTerm)?;
-    let (looked, rest) = wide_field(rest).ok_or(ReadTerm::BadTerm)?;
+    let Some((clause, rest)) = narrow_field(bytes) else {
+        return Err(ReadTerm::BadTerm);
+    };
+    let Some((looked, rest)) = wide_field(rest) else {
+        return Err(ReadTerm::BadTerm);
+    };
     let (message, rest) = term_field(alloc, rest)?;
     let outcome = Outcome::Took {
         clause,
@@ -88,8 +100,10 @@ fn took(alloc: Global, bytes: &[u8]) -> Result<(Outcome, &[u8]), ReadTerm>
 fn passed(bytes: &[u8]) -> Result<(Outcome, &[u8]), ReadTerm>
     ensures { Gives (λ x. (x.0, x.1.now)) result (row_front rows.after bytes.now) }
 {
-    let (looked, rest) = wide_field(bytes).ok_or(ReadTerm::BadTerm)?;
-    Ok((Outcome::After { looked }, rest))
+    match wide_field(bytes) {
+        Some((looked, rest)) => Ok((Outcome::After { looked }, rest)),
+        None => Err(ReadTerm::BadTerm),
+    }
 }
 
 fn ended(alloc: Global, bytes: &[u8]) -> Result<(Outcome, &[u8]), ReadTerm>
@@ -174,7 +188,9 @@ fn message(alloc: Global, bytes: &[u8]) -> Result<(Kind, &[u8]), ReadTerm>
 fn alias_message(alloc: Global, bytes: &[u8]) -> Result<(Kind, &[u8]), ReadTerm>
     ensures { Gives (λ x. (x.0, x.1.now)) result (row_front kinds.alias_message bytes.now) }
 {
-    let (reference, rest) = reference_field(bytes).ok_or(ReadTerm::BadTerm)?;
+    let Some((reference, rest)) = reference_field(bytes) else {
+        return Err(ReadTerm::BadTerm);
+    };
     let (term, rest) = term_field(alloc, rest)?;
     Ok((Kind::AliasMessage { reference, term }, rest))
 }
@@ -182,36 +198,48 @@ fn alias_message(alloc: Global, bytes: &[u8]) -> Result<(Kind, &[u8]), ReadTerm>
 fn unlink(bytes: &[u8]) -> Result<(Kind, &[u8]), ReadTerm>
     ensures { Gives (λ x. (x.0, x.1.now)) result (row_front kinds.unlink bytes.now) }
 {
-    let (id, rest) = wide_field(bytes).ok_or(ReadTerm::BadTerm)?;
-    Ok((Kind::Unlink { id }, rest))
+    match wide_field(bytes) {
+        Some((id, rest)) => Ok((Kind::Unlink { id }, rest)),
+        None => Err(ReadTerm::BadTerm),
+    }
 }
 
 fn unlink_ack(bytes: &[u8]) -> Result<(Kind, &[u8]), ReadTerm>
     ensures { Gives (λ x. (x.0, x.1.now)) result (row_front kinds.unlink_ack bytes.now) }
 {
-    let (id, rest) = wide_field(bytes).ok_or(ReadTerm::BadTerm)?;
-    Ok((Kind::UnlinkAck { id }, rest))
+    match wide_field(bytes) {
+        Some((id, rest)) => Ok((Kind::UnlinkAck { id }, rest)),
+        None => Err(ReadTerm::BadTerm),
+    }
 }
 
 fn monitor(bytes: &[u8]) -> Result<(Kind, &[u8]), ReadTerm>
     ensures { Gives (λ x. (x.0, x.1.now)) result (row_front kinds.monitor bytes.now) }
 {
-    let (reference, rest) = reference_field(bytes).ok_or(ReadTerm::BadTerm)?;
-    Ok((Kind::Monitor { reference }, rest))
+    match reference_field(bytes) {
+        Some((reference, rest)) => Ok((Kind::Monitor { reference }, rest)),
+        None => Err(ReadTerm::BadTerm),
+    }
 }
 
 fn demonitor(bytes: &[u8]) -> Result<(Kind, &[u8]), ReadTerm>
     ensures { Gives (λ x. (x.0, x.1.now)) result (row_front kinds.demonitor bytes.now) }
 {
-    let (reference, rest) = reference_field(bytes).ok_or(ReadTerm::BadTerm)?;
-    Ok((Kind::Demonitor { reference }, rest))
+    match reference_field(bytes) {
+        Some((reference, rest)) => Ok((Kind::Demonitor { reference }, rest)),
+        None => Err(ReadTerm::BadTerm),
+    }
 }
 
 fn exit(alloc: Global, bytes: &[u8]) -> Result<(Kind, &[u8]), ReadTerm>
     ensures { Gives (λ x. (x.0, x.1.now)) result (row_front kinds.exit bytes.now) }
 {
-    let rest = after(b" ", bytes).ok_or(ReadTerm::BadTerm)?;
-    let (linked, rest) = choice(b"linked", b"plain", rest).ok_or(ReadTerm::BadTerm)?;
+    let Some(rest) = after(b" ", bytes) else {
+        return Err(ReadTerm::BadTerm);
+    };
+    let Some((linked, rest)) = choice(b"linked", b"plain", rest) else {
+        return Err(ReadTerm::BadTerm);
+    };
     let (reason, rest) = term_field(alloc, rest)?;
     Ok((Kind::Exit { reason, linked }, rest))
 }
@@ -219,7 +247,9 @@ fn exit(alloc: Global, bytes: &[u8]) -> Result<(Kind, &[u8]), ReadTerm>
 fn down(alloc: Global, bytes: &[u8]) -> Result<(Kind, &[u8]), ReadTerm>
     ensures { Gives (λ x. (x.0, x.1.now)) result (row_front kinds.down bytes.now) }
 {
-    let (reference, rest) = reference_field(bytes).ok_or(ReadTerm::BadTerm)?;
+    let Some((reference, rest)) = reference_field(bytes) else {
+        return Err(ReadTerm::BadTerm);
+    };
     let (reason, rest) = term_field(alloc, rest)?;
     Ok((Kind::Down { reference, reason }, rest))
 }

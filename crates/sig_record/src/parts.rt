@@ -1,103 +1,37 @@
-//! Readers of the lines of one kind, and of a process's part of a record.
+//! Readers of a process's part of a record.
 
-ghost use Rattle.std.specs.Prelude.{◌≡◌, codes};
+ghost use Rattle.std.specs.Prelude.{◌≡◌, ℕ, List, [], codes, length};
+ghost use Rattle.sig_record.specs.Phrases.{alone};
 ghost use Rattle.sig_record.specs.Refusing.{Yields};
-ghost use Rattle.sig_record.specs.RecordFronts.{
-  begins_by_digit,
-  begins_by,
-  events_front,
-  lefts_front,
-  all_queued_front,
-  report_front,
-  reports_front,
-};
+ghost use Rattle.sig_record.specs.RecordFronts.{begins_by, parts_front, report_front};
 
-use crate::lines::{event_line, head_line, left_line, queued_line, state_line};
-use crate::pieces::after;
+use crate::items::{Item, read_all};
+use crate::lines::{begins_by, head_line, state_line};
 use crate::refusal::Refusal;
 use crate::report::{Lefts, Queued, Report};
 use sig_lists::Sequence;
-use sig_model::Events;
+use sig_model::{Events, State};
 use sig_terms::Pid;
-use sig_terms::bytes::is_digit_byte;
 use std::alloc::Global;
 
-fn begins_by_digit(bytes: &[u8]) -> bool
-    ensures { result ≡ begins_by_digit bytes.now }
+/// Reads what stands behind the first line of a process's part into the empty lists.
+fn read_lists<'a>(
+    alloc: Global,
+    pid: u32,
+    events: &mut Events,
+    left: &mut Lefts,
+    queued: &mut Queued,
+    bytes: &'a [u8],
+) -> Result<(State, &'a [u8]), Refusal>
+    requires events { events.old ≡ [] }
+    requires left { left.old ≡ [] }
+    requires queued { queued.old ≡ [] }
+    ensures { (head : ℕ × List ℕ) → Yields (λ x. (((((head, events.new), left.new), queued.new), x.0), x.1.now)) result (parts_front pid (alone head) bytes.now) }
 {
-    match bytes {
-        [] => false,
-        [first, ..] => is_digit_byte(*first),
-    }
-}
-
-fn begins_by(text: &[u8], bytes: &[u8]) -> bool
-    ensures { result ≡ begins_by text.now bytes.now }
-{
-    after(text, bytes).is_some()
-}
-
-#[tactic(auto, using(crate::proofs::ItemSteps::goes_on, crate::proofs::ItemSteps::fails_here, crate::proofs::ItemSteps::stops_here, crate::proofs::ItemSteps::ran_out))]
-fn events(alloc: Global, bytes: &[u8]) -> Result<(Events, &[u8]), Refusal>
-    ensures { Yields (λ x. (x.0, x.1.now)) result (events_front bytes.now) }
-{
-    let mut items = Sequence::new(alloc);
-    let mut rest = bytes;
-    for _ in 0..bytes.len() {
-        if !begins_by_digit(rest) {
-            return Ok((items, rest));
-        }
-        let (item, behind) = event_line(alloc, rest)?;
-        items.add(item)?;
-        rest = behind;
-    }
-    if begins_by_digit(rest) {
-        Err(Refusal::Bad { left: rest.len() })
-    } else {
-        Ok((items, rest))
-    }
-}
-
-#[tactic(auto, using(crate::proofs::ItemSteps::goes_on, crate::proofs::ItemSteps::fails_here, crate::proofs::ItemSteps::stops_here, crate::proofs::ItemSteps::ran_out))]
-fn lefts(alloc: Global, bytes: &[u8]) -> Result<(Lefts, &[u8]), Refusal>
-    ensures { Yields (λ x. (x.0, x.1.now)) result (lefts_front bytes.now) }
-{
-    let mut items = Sequence::new(alloc);
-    let mut rest = bytes;
-    for _ in 0..bytes.len() {
-        if !begins_by(b"left ", rest) {
-            return Ok((items, rest));
-        }
-        let (item, behind) = left_line(alloc, rest)?;
-        items.add(item)?;
-        rest = behind;
-    }
-    if begins_by(b"left ", rest) {
-        Err(Refusal::Bad { left: rest.len() })
-    } else {
-        Ok((items, rest))
-    }
-}
-
-#[tactic(auto, using(crate::proofs::ItemSteps::goes_on, crate::proofs::ItemSteps::fails_here, crate::proofs::ItemSteps::stops_here, crate::proofs::ItemSteps::ran_out))]
-fn all_queued(alloc: Global, pid: u32, bytes: &[u8]) -> Result<(Queued, &[u8]), Refusal>
-    ensures { Yields (λ x. (x.0, x.1.now)) result (all_queued_front pid bytes.now) }
-{
-    let mut items = Sequence::new(alloc);
-    let mut rest = bytes;
-    for _ in 0..bytes.len() {
-        if !begins_by(b"queued ", rest) {
-            return Ok((items, rest));
-        }
-        let (item, behind) = queued_line(alloc, Pid(pid), items.as_slice(), rest)?;
-        items.add(item)?;
-        rest = behind;
-    }
-    if begins_by(b"queued ", rest) {
-        Err(Refusal::Bad { left: rest.len() })
-    } else {
-        Ok((items, rest))
-    }
+    let rest = read_all(alloc, pid, events, bytes)?;
+    let rest = read_all(alloc, pid, left, rest)?;
+    let rest = read_all(alloc, pid, queued, rest)?;
+    state_line(alloc, rest)
 }
 
 /// The part of this process.
@@ -106,10 +40,10 @@ fn report(alloc: Global, pid: u32, bytes: &[u8]) -> Result<(Report, &[u8]), Refu
     ensures { Yields (λ x. (x.0, x.1.now)) result (report_front pid bytes.now) }
 {
     let ((n, name), rest) = head_line(alloc, pid, bytes)?;
-    let (events, rest) = events(alloc, rest)?;
-    let (left, rest) = lefts(alloc, rest)?;
-    let (queued, rest) = all_queued(alloc, pid, rest)?;
-    let (state, rest) = state_line(alloc, rest)?;
+    let mut events = Sequence::new(alloc);
+    let mut left = Sequence::new(alloc);
+    let mut queued = Sequence::new(alloc);
+    let (state, rest) = read_lists(alloc, pid, &mut events, &mut left, &mut queued, rest)?;
     let report = Report {
         pid: Pid(n),
         name,
@@ -133,24 +67,22 @@ fn report_at(alloc: Global, place: usize, bytes: &[u8]) -> Result<(Report, &[u8]
     }
 }
 
-/// The parts of the processes.
-#[tactic(auto, using(crate::proofs::ItemSteps::goes_on, crate::proofs::ItemSteps::fails_here, crate::proofs::ItemSteps::stops_here, crate::proofs::ItemSteps::ran_out))]
-pub(crate) fn reports(alloc: Global, bytes: &[u8]) -> Result<(Sequence<Report>, &[u8]), Refusal>
-    ensures { Yields (λ x. (x.0, x.1.now)) result (reports_front bytes.now) }
-{
-    let mut items = Sequence::new(alloc);
-    let mut rest = bytes;
-    for _ in 0..bytes.len() {
-        if !begins_by(b"process ", rest) {
-            return Ok((items, rest));
-        }
-        let (item, behind) = report_at(alloc, items.len(), rest)?;
-        items.add(item)?;
-        rest = behind;
+/// The parts of the processes, each of the process whose number is that of the parts before it.
+impl Item for Report {
+    ghost begins = { begins_by (codes "process ") };
+
+    ghost front = { λ pid before. report_front (length before) };
+
+    fn begins(bytes: &[u8]) -> bool {
+        begins_by(b"process ", bytes)
     }
-    if begins_by(b"process ", rest) {
-        Err(Refusal::Bad { left: rest.len() })
-    } else {
-        Ok((items, rest))
+
+    fn read<'a>(
+        alloc: Global,
+        _pid: u32,
+        before: &[Report],
+        bytes: &'a [u8],
+    ) -> Result<(Report, &'a [u8]), Refusal> {
+        report_at(alloc, before.len(), bytes)
     }
 }

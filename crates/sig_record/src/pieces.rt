@@ -6,7 +6,6 @@ ghost use Rattle.std.specs.List.{prefix_len};
 ghost use Rattle.sig_terms.specs.Words.{is_name_byte};
 ghost use Rattle.sig_terms.specs.Tokens.{digits_on, number_at, after_text, reference_at};
 ghost use Rattle.sig_terms.specs.Fronts.{Gives};
-ghost use Rattle.sig_record.specs.Readers.{spaced};
 ghost use Rattle.sig_record.specs.Phrases.{a_narrow, a_wide, a_reference, a_term, narrow, wide, term_front, ref_front, choice_front, field_front};
 ghost use Rattle.sig_record.specs.RecordFronts.{name_front};
 
@@ -57,8 +56,10 @@ fn number(most: u64, bytes: &[u8]) -> Option<(u64, &[u8])>
 pub(crate) fn narrow(bytes: &[u8]) -> Option<(u32, &[u8])>
     ensures { option_map (λ x. (x.0, x.1.now)) result ≡ narrow bytes.now }
 {
-    let (n, rest) = number((1 << 32) - 1, bytes)?;
-    Some((n as u32, rest))
+    match number((1 << 32) - 1, bytes) {
+        Some((n, rest)) => Some((n as u32, rest)),
+        None => None,
+    }
 }
 
 /// The number of 64 bits at the front of the bytes.
@@ -89,12 +90,24 @@ pub(crate) fn term(alloc: Global, bytes: &[u8]) -> Result<(Term, &[u8]), ReadTer
 pub(crate) fn reference(bytes: &[u8]) -> Option<(Ref, &[u8])>
     ensures { option_map (λ x. (x.0, x.1.now)) result ≡ ref_front bytes.now }
 {
-    let inside = after(b"#", bytes)?;
-    let digits = after(b"Ref<", inside)?;
-    let (owner, more) = narrow(digits)?;
-    let more = after(b".", more)?;
-    let (serial, rest) = wide(more)?;
-    let rest = after(b">", rest)?;
+    let Some(inside) = after(b"#", bytes) else {
+        return None;
+    };
+    let Some(digits) = after(b"Ref<", inside) else {
+        return None;
+    };
+    let Some((owner, more)) = narrow(digits) else {
+        return None;
+    };
+    let Some(more) = after(b".", more) else {
+        return None;
+    };
+    let Some((serial, rest)) = wide(more) else {
+        return None;
+    };
+    let Some(rest) = after(b">", rest) else {
+        return None;
+    };
     let owner = Pid(owner);
     Some((Ref { owner, serial }, rest))
 }
@@ -119,16 +132,6 @@ pub(crate) fn name(alloc: Global, bytes: &[u8]) -> Result<(Name, &[u8]), ReadTer
         Some(name) => Ok((name, rest)),
         None => Err(ReadTerm::BadTerm),
     }
-}
-
-/// Two numbers with a space between, the first of 32 bits.
-pub(crate) fn two_numbers(bytes: &[u8]) -> Option<((u32, u64), &[u8])>
-    ensures { option_map (λ x. (x.0, x.1.now)) result ≡ spaced narrow wide bytes.now }
-{
-    let (first, rest) = narrow(bytes)?;
-    let rest = after(b" ", rest)?;
-    let (second, rest) = wide(rest)?;
-    Some(((first, second), rest))
 }
 
 /// The first of the two words, or the second.

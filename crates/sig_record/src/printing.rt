@@ -1,4 +1,4 @@
-ghost use Rattle.std.specs.Prelude.{◌≡◌, ◌++◌, ◌∷◌, [], OnOk, OnErr, All, true, codes, decimal};
+ghost use Rattle.std.specs.Prelude.{◌≡◌, ◌++◌, ◌∷◌, ℕ, List, [], OnOk, OnErr, All, true, codes, decimal};
 ghost use Rattle.std.specs.List.{flat_map};
 ghost use Rattle.sig_terms.specs.TermText.{term_text, reference_text};
 ghost use Rattle.sig_terms.specs.Readable.{IsTerm};
@@ -125,6 +125,24 @@ fn answered_words(truth: bool) -> &'static [u8]
     }
 }
 
+/// A space, and what a receive took.
+fn put_spaced_took(
+    into: &mut Vec<u8>,
+    clause: u32,
+    looked: u64,
+    message: &Term,
+) -> Result<(), AllocError>
+    ensures text { IsPut into.old.items into.new.items
+        (codes " took " ++ decimal clause ++ codes " " ++ decimal looked ++ codes " " ++ term_text message.now) result }
+    ensures clause { IsNarrow clause }
+    ensures looked { IsWide looked }
+    ensures message { OnOk result (IsTerm message.now) }
+{
+    put_numbered(into, b" took ", u64::from(clause))?;
+    put_spaced_number(into, looked)?;
+    put_spaced_term(into, message)
+}
+
 /// A space, and how it went.
 fn put_spaced_outcome(into: &mut Vec<u8>, outcome: &Outcome) -> Result<(), AllocError>
     ensures text { IsPut into.old.items into.new.items (codes " " ++ outcome_text outcome.now) result }
@@ -142,11 +160,7 @@ fn put_spaced_outcome(into: &mut Vec<u8>, outcome: &Outcome) -> Result<(), Alloc
             clause,
             looked,
             message,
-        } => {
-            put_numbered(into, b" took ", u64::from(*clause))?;
-            put_spaced_number(into, *looked)?;
-            put_spaced_term(into, message)
-        }
+        } => put_spaced_took(into, *clause, *looked, message),
         Outcome::After { looked } => put_numbered(into, b" after ", *looked),
         Outcome::Ended { reason } => put_term(into, b" ended ", reason),
         Outcome::Kept { message } => put_term(into, b" kept ", message),
@@ -169,48 +183,60 @@ fn put_act(into: &mut Vec<u8>, event: &Event) -> Result<(), AllocError>
     put_spaced_did(into, &event.did)
 }
 
-#[tactic(auto, unfolding(crate::specs::RecordText::event_text))]
-fn put_event(into: &mut Vec<u8>, event: &Event) -> Result<(), AllocError>
-    ensures text { IsPut into.old.items into.new.items (event_text event.now) result }
-    ensures stored { OnOk result (IsStoredEvent event.now) }
-{
-    put_act(into, event)?;
-    put_spaced_outcome(into, &event.outcome)?;
-    put_byte(into, b'\n')
+/// What a record has several of: events, messages, signals, reports.
+trait Part {
+    ghost text: { Self → List ℕ };
+
+    ghost IsStored: { Self → Type 0 };
+
+    fn put(&self, into: &mut Vec<u8>) -> Result<(), AllocError>
+        ensures text { IsPut into.old.items into.new.items (text self.now) result }
+        ensures stored { OnOk result (IsStored self.now) };
 }
 
 #[tactic(auto, using(crate::proofs::Fronts::kept_front))]
+fn put_each<P: Part>(into: &mut Vec<u8>, parts: &[P]) -> Result<(), AllocError>
+    ensures text { IsPut into.old.items into.new.items (flat_map P.text parts.now) result }
+    ensures stored { OnOk result (All P.IsStored parts.now) }
+{
+    for part in parts {
+        part.put(into)?;
+    }
+    Ok(())
+}
+
+impl Part for Event {
+    ghost text = { event_text };
+
+    ghost IsStored = { IsStoredEvent };
+
+    #[tactic(auto, unfolding(crate::specs::RecordText::event_text))]
+    fn put(&self, into: &mut Vec<u8>) -> Result<(), AllocError> {
+        put_act(into, self)?;
+        put_spaced_outcome(into, &self.outcome)?;
+        put_byte(into, b'\n')
+    }
+}
+
 fn put_events(into: &mut Vec<u8>, events: &[Event]) -> Result<(), AllocError>
     ensures text { IsPut into.old.items into.new.items (flat_map event_text events.now) result }
     ensures stored { OnOk result (All IsStoredEvent events.now) }
 {
     into.reserve(events.len().saturating_mul(EVENT_LINE))?;
-    for event in events {
-        put_event(into, event)?;
-    }
-    Ok(())
+    put_each(into, events)
 }
 
-#[tactic(auto, unfolding(crate::specs::RecordText::left_text), using(crate::proofs::Fronts::kept_front))]
-fn put_left(into: &mut Vec<u8>, left: &Left) -> Result<(), AllocError>
-    ensures text { IsPut into.old.items into.new.items (left_text left.now) result }
-    ensures stored { OnOk result (IsStoredLeft left.now) }
-{
-    put_numbered(into, b"left ", left.arrival)?;
-    put_spaced_term(into, &left.message)?;
-    put_byte(into, b'\n')?;
-    Ok(())
-}
+impl Part for Left {
+    ghost text = { left_text };
 
-#[tactic(auto, using(crate::proofs::Fronts::kept_front))]
-fn put_lefts(into: &mut Vec<u8>, lefts: &[Left]) -> Result<(), AllocError>
-    ensures text { IsPut into.old.items into.new.items (flat_map left_text lefts.now) result }
-    ensures stored { OnOk result (All IsStoredLeft lefts.now) }
-{
-    for left in lefts {
-        put_left(into, left)?;
+    ghost IsStored = { IsStoredLeft };
+
+    #[tactic(auto, unfolding(crate::specs::RecordText::left_text))]
+    fn put(&self, into: &mut Vec<u8>) -> Result<(), AllocError> {
+        put_numbered(into, b"left ", self.arrival)?;
+        put_spaced_term(into, &self.message)?;
+        put_byte(into, b'\n')
     }
-    Ok(())
 }
 
 fn exit_words(linked: bool) -> &'static [u8]
@@ -231,6 +257,20 @@ fn put_reference(into: &mut Vec<u8>, word: &[u8], reference: Ref) -> Result<(), 
     reference.print(into)
 }
 
+fn put_referring(
+    into: &mut Vec<u8>,
+    word: &[u8],
+    reference: Ref,
+    term: &Term,
+) -> Result<(), AllocError>
+    ensures text { IsPut into.old.items into.new.items (word.now ++ reference_text reference ++ codes " " ++ term_text term.now) result }
+    ensures reference { OnOk result (IsStoredRef reference) }
+    ensures term { OnOk result (IsTerm term.now) }
+{
+    put_reference(into, word, reference)?;
+    put_spaced_term(into, term)
+}
+
 /// A space, and the kind.
 fn put_spaced_kind(into: &mut Vec<u8>, kind: &Kind) -> Result<(), AllocError>
     ensures text { IsPut into.old.items into.new.items (codes " " ++ kind_text kind.now) result }
@@ -238,58 +278,56 @@ fn put_spaced_kind(into: &mut Vec<u8>, kind: &Kind) -> Result<(), AllocError>
 {
     match kind {
         Kind::Message { term } => put_term(into, b" message ", term),
-        Kind::AliasMessage { reference, term } => {
-            put_reference(into, b" alias ", *reference)?;
-            put_spaced_term(into, term)
-        }
+        Kind::AliasMessage { reference, term } => put_referring(into, b" alias ", *reference, term),
         Kind::Link => put(into, b" link"),
         Kind::Unlink { id } => put_numbered(into, b" unlink ", *id),
         Kind::UnlinkAck { id } => put_numbered(into, b" unlink_ack ", *id),
         Kind::Monitor { reference } => put_reference(into, b" monitor ", *reference),
         Kind::Demonitor { reference } => put_reference(into, b" demonitor ", *reference),
         Kind::Exit { reason, linked } => put_term(into, exit_words(*linked), reason),
-        Kind::Down { reference, reason } => {
-            put_reference(into, b" down ", *reference)?;
-            put_spaced_term(into, reason)
-        }
+        Kind::Down { reference, reason } => put_referring(into, b" down ", *reference, reason),
     }
 }
 
-#[tactic(auto, unfolding(crate::specs::RecordText::queued_text), using(crate::proofs::Fronts::kept_front))]
-fn put_queued(into: &mut Vec<u8>, signal: &Signal) -> Result<(), AllocError>
-    ensures text { IsPut into.old.items into.new.items (queued_text signal.now) result }
-    ensures stored { OnOk result (IsStoredSignal signal.now) }
+fn put_signal_numbers(into: &mut Vec<u8>, signal: &Signal) -> Result<(), AllocError>
+    ensures text { IsPut into.old.items into.new.items
+        (codes "queued " ++ decimal signal.now.from.0 ++ codes " " ++ decimal signal.now.number ++ codes " " ++ decimal signal.now.stamp) result }
+    ensures from { IsNarrow signal.now.from.0 }
+    ensures number { OnOk result (IsWide signal.now.number) }
+    ensures stamp { OnOk result (IsWide signal.now.stamp) }
 {
     put_pid(into, b"queued ", signal.from)?;
     put_spaced_number(into, signal.number)?;
-    put_spaced_number(into, signal.stamp)?;
-    put_spaced_kind(into, &signal.kind)?;
+    put_spaced_number(into, signal.stamp)
+}
+
+impl Part for Signal {
+    ghost text = { queued_text };
+
+    ghost IsStored = { IsStoredSignal };
+
+    #[tactic(auto, unfolding(crate::specs::RecordText::queued_text))]
+    fn put(&self, into: &mut Vec<u8>) -> Result<(), AllocError> {
+        put_signal_numbers(into, self)?;
+        put_spaced_kind(into, &self.kind)?;
+        put_byte(into, b'\n')
+    }
+}
+
+fn put_ended(into: &mut Vec<u8>, reason: &Term) -> Result<(), AllocError>
+    ensures text { IsPut into.old.items into.new.items (codes "state ended " ++ term_text reason.now ++ codes "\n") result }
+    ensures stored { OnOk result (IsTerm reason.now) }
+{
+    put_term(into, b"state ended ", reason)?;
     put_byte(into, b'\n')
 }
 
-#[tactic(auto, using(crate::proofs::Fronts::kept_front))]
-fn put_all_queued(into: &mut Vec<u8>, signals: &[Signal]) -> Result<(), AllocError>
-    ensures text { IsPut into.old.items into.new.items (flat_map queued_text signals.now) result }
-    ensures stored { OnOk result (All IsStoredSignal signals.now) }
-{
-    for signal in signals {
-        put_queued(into, signal)?;
-    }
-    Ok(())
-}
-
-#[tactic(auto, using(crate::proofs::Fronts::kept_front))]
 fn put_state(into: &mut Vec<u8>, state: &State) -> Result<(), AllocError>
     ensures text { IsPut into.old.items into.new.items (state_text state.now) result }
     ensures stored { OnOk result (IsStoredState state.now) }
 {
     match state {
-        State::Ended { reason } => {
-            put(into, b"state ended ")?;
-            reason.print(into)?;
-            put_byte(into, b'\n')?;
-            Ok(())
-        }
+        State::Ended { reason } => put_ended(into, reason),
         State::Waiting => put(into, b"state waiting\n"),
         State::Cut => put(into, b"state cut\n"),
     }
@@ -305,27 +343,42 @@ fn put_head(into: &mut Vec<u8>, pid: Pid, name: &Name) -> Result<(), AllocError>
     put_byte(into, b'\n')
 }
 
-#[tactic(auto, unfolding(crate::specs::RecordText::report_text))]
-fn put_report(into: &mut Vec<u8>, report: &Report) -> Result<(), AllocError>
-    ensures text { IsPut into.old.items into.new.items (report_text report.now) result }
-    ensures stored { OnOk result (IsStoredReport report.now) }
+/// What the process did.
+fn put_past(into: &mut Vec<u8>, report: &Report) -> Result<(), AllocError>
+    ensures text { IsPut into.old.items into.new.items (head_text report.now.pid.0 report.now.name ++ flat_map event_text report.now.events) result }
+    ensures pid { OnOk result (IsNarrow report.now.pid.0) }
+    ensures name { OnOk result (is_token report.now.name ≡ true) }
+    ensures events { OnOk result (All IsStoredEvent report.now.events) }
 {
     put_head(into, report.pid, &report.name)?;
-    put_events(into, report.events.as_slice())?;
-    put_lefts(into, report.left.as_slice())?;
-    put_all_queued(into, report.queued.as_slice())?;
-    put_state(into, &report.state)
+    put_events(into, report.events.as_slice())
 }
 
-#[tactic(auto, using(crate::proofs::Fronts::kept_front))]
-fn put_reports(into: &mut Vec<u8>, reports: &[Report]) -> Result<(), AllocError>
-    ensures text { IsPut into.old.items into.new.items (flat_map report_text reports.now) result }
-    ensures stored { OnOk result (IsStoredRecord reports.now) }
+/// What it did, and what waits for it.
+fn put_lists(into: &mut Vec<u8>, report: &Report) -> Result<(), AllocError>
+    ensures text { IsPut into.old.items into.new.items
+        (head_text report.now.pid.0 report.now.name ++ flat_map event_text report.now.events ++ flat_map left_text report.now.left ++ flat_map queued_text report.now.queued) result }
+    ensures pid { OnOk result (IsNarrow report.now.pid.0) }
+    ensures name { OnOk result (is_token report.now.name ≡ true) }
+    ensures events { OnOk result (All IsStoredEvent report.now.events) }
+    ensures left { OnOk result (All IsStoredLeft report.now.left) }
+    ensures queued { OnOk result (All IsStoredSignal report.now.queued) }
 {
-    for report in reports {
-        put_report(into, report)?;
+    put_past(into, report)?;
+    put_each(into, report.left.as_slice())?;
+    put_each(into, report.queued.as_slice())
+}
+
+impl Part for Report {
+    ghost text = { report_text };
+
+    ghost IsStored = { IsStoredReport };
+
+    #[tactic(auto, unfolding(crate::specs::RecordText::report_text))]
+    fn put(&self, into: &mut Vec<u8>) -> Result<(), AllocError> {
+        put_lists(into, self)?;
+        put_state(into, &self.state)
     }
-    Ok(())
 }
 
 #[tactic(auto, using(crate::proofs::Fronts::kept_front))]
@@ -334,7 +387,7 @@ fn put_record(into: &mut Vec<u8>, reports: &[Report]) -> Result<(), AllocError>
     ensures stored { OnOk result (IsStoredRecord reports.now) }
 {
     put(into, b"sigrecord 1\n")?;
-    put_reports(into, reports)?;
+    put_each(into, reports)?;
     Ok(())
 }
 

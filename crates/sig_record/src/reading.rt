@@ -1,35 +1,46 @@
 //! Records from their texts.
 
-ghost use Rattle.std.specs.Prelude.{◌≡◌, ◌≢◌, ◌≤◌, ℕ, List, IfOk, IsErrOf};
+ghost use Rattle.std.specs.Prelude.{◌≡◌, ◌≢◌, ◌≤◌, ℕ, List, [], IfOk, IsErrOf};
 ghost use Rattle.sig_record.specs.declared.report.Report.{Report};
 ghost use Rattle.sig_record.specs.RecordText.{record_text};
 ghost use Rattle.sig_record.specs.ReadableRecord.{IsReadableRecord};
 ghost use Rattle.sig_record.specs.Refusing.{Yields, GivesBack};
 ghost use Rattle.sig_record.specs.RecordFronts.{record_in};
 
-use crate::parts::reports;
+use crate::items::read_all;
 use crate::pieces::after;
 use crate::record::Record;
 use crate::refusal::{RecordError, Refusal};
 use crate::report::Report;
+use sig_lists::Sequence;
 use std::alloc::Global;
 
-/// The reports of the record of which the bytes are the text.
+/// Reads the reports of the record of which the bytes are the text into the empty list.
 #[tactic(auto, unfolding(crate::specs::RecordFronts::record_in))]
-fn whole(alloc: Global, bytes: &[u8]) -> Result<Vec<Report>, Refusal>
-    ensures { Yields (λ v. v.items) result (record_in bytes.now) }
+fn read_whole(alloc: Global, reports: &mut Sequence<Report>, bytes: &[u8]) -> Result<(), Refusal>
+    requires { reports.old ≡ [] }
+    ensures { Yields (λ _. reports.new) result (record_in bytes.now) }
 {
     match after(b"sigrecord 1\n", bytes) {
         None => Err(Refusal::Bad { left: bytes.len() }),
         Some(rest) => {
-            let (reports, rest) = reports(alloc, rest)?;
+            let rest = read_all(alloc, 0, reports, rest)?;
             if rest.len() == 0 {
-                Ok(reports.into_vec())
+                Ok(())
             } else {
                 Err(Refusal::Bad { left: rest.len() })
             }
         }
     }
+}
+
+/// The reports of the record of which the bytes are the text.
+fn whole(alloc: Global, bytes: &[u8]) -> Result<Vec<Report>, Refusal>
+    ensures { Yields (λ v. v.items) result (record_in bytes.now) }
+{
+    let mut reports = Sequence::new(alloc);
+    read_whole(alloc, &mut reports, bytes)?;
+    Ok(reports.into_vec())
 }
 
 /// The number of the line, from 1, with which the last `left` bytes begin.

@@ -19,6 +19,7 @@ pub mod RowLemmas
 pub mod RoundLaw
 pub mod EndLemmas
 pub mod RoundLemmas
+pub mod Begins
 pub mod RoundsLemmas
 pub mod CloseLemmas
 pub mod Sends

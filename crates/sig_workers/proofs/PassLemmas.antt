@@ -2,6 +2,7 @@
 use Rattle.std.proofs.Common.{◌≡◌, ◌≢◌, ℕ, ◌+◌, ◌<◌, ◌≤◌, List, length, Bool, true, false, ◌||◌, Some, sym, ap, ◌∙◌, subst, inl, inr, arith, length-set, get_or}
 use Rattle.std.specs.Prelude.{slice_get}
 use Rattle.std.specs.Bool.{MatchBool}
+use Rattle.std.proofs.lemmas.Bool.{true≢false}
 use Rattle.std.proofs.lemmas.Bool.Decides.{eqb_tells}
 use Rattle.std.proofs.lemmas.Option.{same_Some, slice_get_within, slice_get-get_or}
 use Rattle.sig_runs.proofs.Lists.{slice_get-set_same, slice_get-set_other}
@@ -92,13 +93,13 @@ all_passed false n start later le h = λ i t lt is. h i t (omega (arith, lt, le)
 
 pub pass_true : (b : Bool) (xs ys : List Running) → b ≡ true → HavePassed xs ys b → AnyMore xs ys
 pass_true true xs ys e h = h
-pass_true false xs ys e h = cc
+pass_true false xs ys e h = absurd (true≢false (sym e))
 
 pub pass_false : (b : Bool) (xs ys : List Running) → b ≡ false → HavePassed xs ys b → StillBelow (length ys) xs ys
-pass_false true xs ys e h = cc
+pass_false true xs ys e h = absurd (true≢false e)
 pass_false false xs ys e h = h
 
 -- after all turns
 pub turns_passed : (a : Bool) (start end : Part) → a ≡ true → MatchBool a (AnyMore (procs_of start) (procs_of end)) (end ≡ start) → HavePassed (procs_of start) (procs_of end) a
 turns_passed true start end e h = h
-turns_passed false start end e h = cc
+turns_passed false start end e h = absurd (true≢false (sym e))

@@ -41,6 +41,11 @@ module _ (queues : List Queue) (crew : List Running) (end : ℕ) where
       IsPart queues w.part × (w.part.first ≡ first) × ((base_of w.part) ≡ crew) × HasGrownBy crew first (procs_of w.part) w.moved × DoneRow queues crew (first + length (procs_of w.part)) end rest
   row_first w o done rest e is first h = subst (λ z. DoneRow queues crew first end (z ∷ rest)) is (subst (DoneRow queues crew first end) e h)
 
+  -- where no part is left
+  pub row_ended : (first : ℕ) (done : List (Result Worked AllocError)) → length done ≡ 0 → DoneRow queues crew first end done → first ≡ end
+  row_ended first [] none row = row
+  row_ended first (o ∷ done) none row = absurd (let f : ⊥ = omega (arith, none) in f)
+
   pub first_whole : (w : Worked) (rest : List (Result Worked AllocError)) →
       IsPart queues w.part × (w.part.first ≡ 0) × ((base_of w.part) ≡ crew) × HasGrownBy crew 0 (procs_of w.part) w.moved × DoneRow queues crew (0 + length (procs_of w.part)) end rest → IsWhole queues crew (length (procs_of w.part)) w
   first_whole w rest h = record { is_part = h.0; first = h.1; base = h.2; count_is = refl; grown = h.3 }

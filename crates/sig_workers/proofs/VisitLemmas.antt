@@ -1,9 +1,10 @@
 -- The steps of a visit.
-use Rattle.std.proofs.Common.{◌≡◌, ℕ, ◌+◌, ◌<◌, List, [], ◌∷◌, length, Bool, true, false, Some, None, ap, ◌∙◌, arith, length-append}
+use Rattle.std.proofs.Common.{◌≡◌, ℕ, ◌+◌, ◌<◌, ◌≤◌, List, [], ◌∷◌, length, Bool, true, false, ◌||◌, Some, None, sym, ap, ◌∙◌, subst, arith, length-append}
 use Rattle.std.specs.Bool.{MatchBool}
 use Rattle.std.specs.Option.{option_map}
 use Rattle.sig_model.specs.declared.event.Event.{Event}
-use Rattle.sig_model.specs.Running.{Running, can_exec, exec_next, advanced}
+use Rattle.sig_model.specs.Running.{Running, can_handle, can_exec, exec_next, advanced}
+use Rattle.sig_model.specs.Still.{IsStill}
 use Rattle.sig_model.specs.Finishing.{finished_exec}
 use Rattle.sig_model.proofs.Guards.{exec_due}
 use Rattle.sig_model.proofs.Waiting.{waiting_iff}
@@ -13,6 +14,7 @@ use Rattle.sig_process.specs.Standing.{Standing}
 use Rattle.sig_process.specs.Steps.{IsExec}
 use Rattle.sig_queue.specs.Seats.{Queue, Seated}
 use Rattle.sig_workers.specs.Gone.{IsReady, Goes}
+use Rattle.sig_workers.specs.Visits.{HasMoved}
 use Rattle.sig_workers.proofs.OneEvent.{IsOneEvent}
 use Rattle.sig_workers.proofs.Going.{goes_event, goes_trans}
 
@@ -48,3 +50,13 @@ module _ (queues : List Queue) (pid : ℕ) (r t u : Running) (seats later : List
 pub handled_more : (a : Bool) (start r t : Running) → MatchBool a (length start.events < length r.events) (r ≡ start) → length r.events < length t.events → length start.events < length t.events
 handled_more true start r t h lt = omega (arith, h, lt)
 handled_more false start r t h lt = let e : length r.events ≡ length start.events = ap (λ (z : Running). length z.events) h in omega (arith, e, lt)
+
+-- what the handlings and the execution of a visit come to
+pub visit_moved : (r a b t : Running) (h e : Bool) → a.events ≡ r.events → MatchBool h (length a.events < length b.events) (b ≡ a) → can_handle b ≡ false
+    → MatchBool e (length b.events < length t.events) ((t ≡ b) × (exec_next b ≡ None)) → length b.events ≤ length t.events → HasMoved r t (h || e)
+visit_moved r a b t true e same more none later le = let s : length a.events ≡ length r.events = ap (λ (es : List Event). length es) same in omega (arith, s, more, le)
+visit_moved r a b t false true same is none more le =
+    let s : length b.events ≡ length r.events = ap (λ (z : Running). length z.events) is ∙ ap (λ (es : List Event). length es) same in omega (arith, s, more)
+visit_moved r a b t false false same is none later le =
+    let s : length b.events ≡ length r.events = ap (λ (z : Running). length z.events) is ∙ ap (λ (es : List Event). length es) same in
+    (ap (λ (z : Running). length z.events) later.0 ∙ s, subst IsStill (sym later.0) (record { handle = none; exec = later.1 }))

@@ -1,16 +1,26 @@
 //! The queues of a round are closed, and what they have left is handed over.
-ghost use Rattle.std.specs.Prelude.{◌≡◌, ◌<◌, ℕ, length, vec_len, slice_get, Some, IfOk, OnOk};
+ghost use Rattle.std.specs.Prelude.{◌≡◌, ◌<◌, ◌++◌, ◌∷◌, [], ℕ, length, vec_len, slice_get, Some, IfOk, OnOk};
 ghost use Rattle.sig_model.specs.Running.{Running};
 ghost use Rattle.sig_process.specs.Standing.{runnings_of};
 ghost use Rattle.sig_queue.specs.Seats.{Queue, Seated};
 ghost use Rattle.sig_queue.specs.declared.account.Account.{Account};
 ghost use Rattle.sig_workers.specs.Closing.{CanClose, HasClosed, IsClosedAt};
 
-use sig_kinds::{Push, Signals};
+use sig_kinds::{Push, Signal, Signals};
 use sig_lists::Pushed;
 use sig_process::Process;
 use sig_queue::{Closed, QSeat, Receipt, Receipts, Rest, SigQueue};
 use std::alloc::{AllocError, Global};
+
+/// Adds a signal at the end. The error is want of memory.
+fn add_signal(signals: &mut Signals, signal: Signal) -> Result<(), AllocError>
+    ensures { OnOk result (signals.new.items ≡ signals.old.items ++ signal ∷ []) }
+{
+    match signals.push(signal) {
+        Push::Added => Ok(()),
+        Push::Memory { signal: _ } => Err(AllocError),
+    }
+}
 
 /// The signals that are left, as a list. The error is want of memory.
 fn list_rest(alloc: Global, mut rest: Rest) -> Result<Signals, AllocError>
@@ -18,9 +28,7 @@ fn list_rest(alloc: Global, mut rest: Rest) -> Result<Signals, AllocError>
 {
     let mut signals = Signals::new(alloc);
     while let Some(signal) = rest.next() {
-        if let Push::Memory { signal: _ } = signals.push(signal) {
-            return Err(AllocError);
-        }
+        add_signal(&mut signals, signal)?;
     }
     Ok(signals)
 }
@@ -40,6 +48,16 @@ fn close_one(
     let mut signals = list_rest(alloc, rest)?;
     process.take_in(&mut signals)?;
     Ok(receipt)
+}
+
+/// Adds a receipt at the end. The error is want of memory.
+fn add_receipt(receipts: &mut Receipts, receipt: Receipt) -> Result<(), AllocError>
+    ensures { OnOk result (receipts.new ≡ receipts.old ++ receipt ∷ []) }
+{
+    match receipts.push(receipt) {
+        Pushed::Added => Ok(()),
+        Pushed::Memory { item: _ } => Err(AllocError),
+    }
 }
 
 /// Closes all queues, and hands what each has left to its receiver. The receipts stand by pid. The
@@ -63,9 +81,7 @@ pub(crate) fn close_all(
         let queue = queues.remove(0);
         let seat = seats.remove(0);
         let receipt = close_one(alloc, queue, seat, &mut procs[at])?;
-        if let Pushed::Memory { item: _ } = receipts.push(receipt) {
-            return Err(AllocError);
-        }
+        add_receipt(&mut receipts, receipt)?;
     }
     Ok(receipts)
 }

@@ -62,10 +62,7 @@ fn bases(alloc: Global, procs: &Vec<Process>, count: u32) -> Result<Vec<Base>, A
 {
     let mut all = Vec::new(alloc);
     for _at in 0..count {
-        all.push(Base {
-            size: 0,
-            crew: Snapshot::of(procs),
-        })?;
+        all.push(keep_base(procs))?;
     }
     Ok(all)
 }

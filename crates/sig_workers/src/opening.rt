@@ -8,7 +8,6 @@ ghost use Rattle.sig_workers.specs.Parts.{is_in};
 ghost use Rattle.sig_workers.specs.Opening.{numbers_to, AreNumbered, first_seated, IsQueueOf, AreOpened};
 
 use sig_layout::{Numbers, Opening, Policy, Senders};
-use sig_lists::Pushed;
 use sig_process::Process;
 use sig_queue::{QSeat, SigQueue};
 use sig_terms::Pid;
@@ -35,9 +34,7 @@ fn first_numbers(alloc: Global, procs: &[Process], to: Pid) -> Result<Numbers, A
 {
     let mut numbers = Numbers::new(alloc);
     for process in procs {
-        if let Pushed::Memory { item: _ } = numbers.push(process.next_number(to)) {
-            return Err(AllocError);
-        }
+        numbers.add(process.next_number(to))?;
     }
     Ok(numbers)
 }

@@ -30,12 +30,12 @@ loop-at-preserved c =
     let lt : n < length c.loop-at.procs.items = omega (arith, end, inv.procs) in
     let there = running_at c.loop-at.procs.items n c.index_mut.result.now lt c.index_mut.ensures.value in
     let procs = c.loop-at.procs.items in
-    let pushed : c.push.new.self ≡ c.loop-at.receipts ++ c.in_ok-receipt.receipt ∷ [] = c.in_default.ensures in
+    let pushed : c.add_receipt.new.receipts ≡ c.loop-at.receipts ++ c.in_ok-receipt.receipt ∷ [] = c.in_ok-add_receipt.ensures in
     record {
       queues = queue.1;
       seats = seat.1;
       count = ap (λ (z : List Account). length z) pushed ∙ length-append c.loop-at.receipts (c.in_ok-receipt.receipt ∷ []) ∙ ap (λ z. z + 1) inv.count;
       procs = length-set procs n c.close_one.new.process ∙ inv.procs;
-      rest = closed_rest c.args.queues.items c.args.seats.items c.args.procs.now.items procs n c.remove-queue.result c.remove-seat.result c.index_mut.result.now c.close_one.new.process c.in_ok-receipt.receipt c.loop-at.receipts c.push.new.self queue.0 seat.0 there inv.count inv.rest c.in_ok-receipt.ensures pushed;
-      closed = closed_more c.args.queues.items c.args.seats.items c.args.procs.now.items procs n c.remove-queue.result c.remove-seat.result c.index_mut.result.now c.close_one.new.process c.in_ok-receipt.receipt c.loop-at.receipts c.push.new.self queue.0 seat.0 there inv.count inv.rest c.in_ok-receipt.ensures pushed inv.closed;
+      rest = closed_rest c.args.queues.items c.args.seats.items c.args.procs.now.items procs n c.remove-queue.result c.remove-seat.result c.index_mut.result.now c.close_one.new.process c.in_ok-receipt.receipt c.loop-at.receipts c.add_receipt.new.receipts queue.0 seat.0 there inv.count inv.rest c.in_ok-receipt.ensures pushed;
+      closed = closed_more c.args.queues.items c.args.seats.items c.args.procs.now.items procs n c.remove-queue.result c.remove-seat.result c.index_mut.result.now c.close_one.new.process c.in_ok-receipt.receipt c.loop-at.receipts c.add_receipt.new.receipts queue.0 seat.0 there inv.count inv.rest c.in_ok-receipt.ensures pushed inv.closed;
     }

@@ -1,4 +1,7 @@
-use Rattle.std.proofs.Common.{refl, sym, ◌∙◌}
+use Rattle.std.proofs.Common.{refl, sym, ap, subst, ◌∙◌}
+use Rattle.sig_model.specs.Running.{Running}
+use Rattle.sig_workers.specs.Gone.{Goes}
+use Rattle.sig_workers.proofs.Going.{goes_refl}
 use Rattle.sig_workers.proofs.OneEvent.{executed_one}
 use Rattle.sig_workers.proofs.VisitLemmas.{stepped, waited, event_ready, event_goes, event_more}
 use Rattle.sig_model.proofs.Guards.{exec_refused}
@@ -27,3 +30,20 @@ returns-in_ok-put_all-in-Stepped-clause-moved g c =
 pub returns-in-Waiting-clause-moved : goal.returns-in-Waiting-clause-moved
 returns-in-Waiting-clause-moved g c =
     waited c.args.process.now c.exec.new.self c.in_ok-exec.field-0 c.in-Waiting.is (sym c.can_exec.ensures ∙ c.if-not-can_exec.false) c.in_ok-exec.ensures.exec
+
+pub returns-then-not-can_exec-clause-goes : goal.returns-then-not-can_exec-clause-goes
+returns-then-not-can_exec-clause-goes g c = goes_refl c.args.queues.now c.args.me.pid c.args.process.now.running c.args.seats.now.items c.requires.ready
+
+pub returns-in-Waiting-clause-goes : goal.returns-in-Waiting-clause-goes
+returns-in-Waiting-clause-goes g c =
+    let queues = c.args.queues.now in
+    let pid = c.args.me.pid in
+    let r : Running = c.args.process.now.running in
+    let seats = c.args.seats.now.items in
+    let same = waited c.args.process.now c.exec.new.self c.in_ok-exec.field-0 c.in-Waiting.is (sym c.can_exec.ensures ∙ c.if-not-can_exec.false) c.in_ok-exec.ensures.exec in
+    subst (λ (t : Running). Goes queues pid r seats t seats) (sym same.0) (goes_refl queues pid r seats c.requires.ready)
+
+pub returns-in-Waiting-clause-empty : goal.returns-in-Waiting-clause-empty
+returns-in-Waiting-clause-empty g c =
+    let same = waited c.args.process.now c.exec.new.self c.in_ok-exec.field-0 c.in-Waiting.is (sym c.can_exec.ensures ∙ c.if-not-can_exec.false) c.in_ok-exec.ensures.exec in
+    ap (λ (t : Running). t.outbox) same.0 ∙ c.requires.clear

@@ -1,11 +1,12 @@
 use Rattle.sig_workers.specs.Parts.{procs_of}
-use Rattle.std.proofs.Common.{◌≤◌, length, refl, arith}
-use Rattle.std.proofs.lemmas.Grind.{common_steps}
+use Rattle.std.proofs.Common.{◌≤◌, ◌∙◌, length, refl, sym, arith}
+use Rattle.sig_workers.proofs.PartLemmas.{many_running}
 use Rattle.sig_workers.proofs.PassLemmas.{same_part, grow_refl, grow_trans, visit_grow, visit_rest, visit_passed, all_passed}
 use Rattle.sig_workers.proofs.working.pass.Goals as goal
 
 pub loop-at-init : goal.loop-at-init
 loop-at-init g c = record {
+  many = refl;
   part = c.requires;
   same = record { first = refl; count = refl; base = refl };
   grow = grow_refl (procs_of c.args.part.now);
@@ -21,6 +22,7 @@ loop-at-preserved g c =
     let inv = c.loop-at.invariant in
     let v = c.in_ok-here.ensures.visited in
     record {
+      many = sym (many_running c.visit_at.new.part.procs.items) ∙ c.in_ok-here.ensures.same.count ∙ many_running c.loop-at.part.procs.items ∙ inv.many;
       part = c.in_ok-here.ensures.part;
       same = same_part c.args.part.now c.loop-at.part c.visit_at.new.part inv.same c.in_ok-here.ensures.same;
       grow = grow_trans start procs later inv.grow (visit_grow start procs later c.loop-at.at c.in_ok-here.here v);
@@ -30,5 +32,5 @@ loop-at-preserved g c =
 
 pub returns-clause-passed : goal.returns-clause-passed
 returns-clause-passed g c =
-    let le : length (procs_of c.loop-at.part) ≤ c.loop-at.at = grind (arith, common_steps, c.loop-at.invariant.same.count) in
+    let le : length (procs_of c.loop-at.part) ≤ c.loop-at.at = omega (arith, many_running c.loop-at.part.procs.items, c.loop-at.invariant.many, c.loop-at-test.false) in
     all_passed c.loop-at.moved c.loop-at.at (procs_of c.args.part.now) (procs_of c.loop-at.part) le c.loop-at.invariant.passed

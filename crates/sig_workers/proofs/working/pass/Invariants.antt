@@ -1,10 +1,11 @@
-use Rattle.std.proofs.Common.{◌≡◌, ℕ, ◌≤◌, slice_get}
+use Rattle.std.proofs.Common.{◌≡◌, ℕ, ◌≤◌, length, slice_get}
 use Rattle.std.specs.Bool.{MatchBool}
 use Rattle.sig_workers.specs.Parts.{procs_of, IsPart, IsSamePart, Grow, AnyMore, StillBelow}
 use Rattle.sig_workers.proofs.working.pass.Given as goal
 
 abbrev pub invariant-loop-at : goal.invariant-loop-at
 invariant-loop-at g l = record {
+  many : length l.part.procs.items ≡ length l.fn.part.procs.items;
   part : IsPart l.queues l.part;
   same : IsSamePart l.fn.part l.part;
   grow : Grow (procs_of l.fn.part) (procs_of l.part);

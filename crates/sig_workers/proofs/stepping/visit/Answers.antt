@@ -1,0 +1,21 @@
+use Rattle.sig_workers.proofs.Going.{goes_trans}
+use Rattle.sig_workers.proofs.VisitLemmas.{visit_moved}
+use Rattle.sig_workers.proofs.stepping.visit.Goals as goal
+
+pub returns-clause-goes : goal.returns-clause-goes
+returns-clause-goes g c =
+    let queues = c.args.queues.now in
+    let pid = c.args.me.pid in
+    let fetched = c.fetch.new.process.running in
+    let handled = c.handle_all.new.process.running in
+    let executed = c.exec_one.new.process.running in
+    let first = c.fetch.new.seats.items in
+    let later = c.handle_all.new.seats.items in
+    let last = c.exec_one.new.seats.items in
+    goes_trans queues pid c.args.process.now.running fetched executed c.args.seats.now.items first last c.in_ok-fetch.ensures.goes
+    (goes_trans queues pid fetched handled executed first later last c.in_ok-handled.ensures.goes c.in_ok-executed.ensures.goes)
+
+pub returns-clause-moved : goal.returns-clause-moved
+returns-clause-moved g c =
+    visit_moved c.args.process.now.running c.fetch.new.process.running c.handle_all.new.process.running c.exec_one.new.process.running c.in_ok-handled.handled c.in_ok-executed.executed
+    c.in_ok-fetch.ensures.events c.in_ok-handled.ensures.moved c.in_ok-handled.ensures.all c.in_ok-executed.ensures.moved c.in_ok-executed.ensures.goes.events
