@@ -7,7 +7,7 @@ use Rattle.sig_terms.specs.TermText.{term_text, after_comma, joined}
 use Rattle.sig_terms.specs.Readable.{is_term, IsTerm}
 
 -- what is left, by its first term
-next_of : (ts : List Term) (k : ℕ) (t : Term) → k < length ts → t ≡ get_or ts k t → drop k ts ≡ t ∷ drop (k + 1) ts
+pub next_of : (ts : List Term) (k : ℕ) (t : Term) → k < length ts → t ≡ get_or ts k t → drop k ts ≡ t ∷ drop (k + 1) ts
 next_of ts k t lt is = rw add-one (drop-cons ts k t lt ∙ ap (λ (u : Term). u ∷ drop (suc k) ts) (sym is))
 
 pub text_goes_on : (a b total : List ℕ) (ts : List Term) (k : ℕ) (t : Term) → k < length ts → t ≡ get_or ts k t → b ≡ a ++ after_comma (term_text t)
