@@ -17,7 +17,7 @@ use Rattle.sig_layout.specs.Views.{number, filled_at, with_bit, flag, tail, hold
 use Rattle.sig_layout.specs.Outers.{added, behind}
 use Rattle.sig_layout.specs.Core.{Cell, QState, put, opened_with, Idle, CanTakeOuter, take_outer, refuse_outer, refused, CanPut, leave_put, CanLeave, leave_same, CanTakeBits, take_bits, CanFetch, leave_fetch, makes_due, CanSwitchOn, mode_on, CanSwitchOff, mode_off, CanRemove, leave_remove, load_mode, load_filled, CanTakeBuffer, take_buffer, refuse_buffer, CanSetBack, set_back, load_under, set_bit, buffer_put, buffer_same, CanTakePart, buffer_fetched, CanPass, buffer_passed, CanSplit, split, note, CanJoin, join, Reached, opened, by_take_outer, by_refuse_outer, by_put, by_leave, by_take_bits, by_fetch, by_mode_on, by_mode_off, by_remove, by_load_mode, by_load_filled, by_take_buffer, by_refuse_buffer, by_set_back, by_load_under, by_set_bit, by_put_aside, by_leave_buffer, by_take_part, by_pass, by_split, by_note, by_join}
 use Rattle.sig_layout.specs.Agree.{Apart, Among, HeldBy, HoldsAll, Doing, Nothing, SeatAgrees, Turn, HasOuter, HasBuffer, Agrees}
-use Rattle.sig_layout.proofs.Sending.{not_both}
+use Rattle.sig_layout.proofs.Sending.{not_both, none_some, some_none, some_same}
 use Rattle.sig_layout.proofs.Putting.{put_here, put_else, at_each, get_table}
 
 -- what a cell says to its holder stays the same
@@ -82,7 +82,7 @@ pub same_view : (vs : List Knows) (i j : ℕ) (v w : Knows) → j ≡ i → get_
 same_view vs i j v w e a b = some-injective w v (sym b ∙ (ap (λ (z : ℕ). get_elem? vs z) e ∙ a))
 
 pub other_seat : {A : Type 0} (i j : ℕ) (t : Option ℕ) → t ≡ Some i → j ≢ i → t ≡ Some j → A
-other_seat i j t a n b = let e : Some i ≡ Some j = sym a ∙ b in let same : i ≡ j = cc in absurd (n (sym same))
+other_seat i j t a n b = absurd (n (sym (some_same i j (sym a ∙ b))))
 
 -- the views after one changes
 pub seat_set : (P : ℕ → Knows → Type 0) (vs : List Knows) (i : ℕ) (w : Knows) → P i w
@@ -227,11 +227,11 @@ module _ (m : QState) (ok : Agrees m) (i : ℕ) (v : Knows) (at : get_elem? m.se
       let rest = own.rest can.idle in let w : Knows = holding v m.outer in
       let same : SameSeat v w = record { senders = refl; role = refl } in
       agrees_step (take_outer m i v) w (λ j n. refl)
-      (solo (take_outer m i v) w (λ j n e. let z : None ≡ Some j = sym none ∙ e in absurd cc) (λ j n. refl) (λ j d n h. h))
+      (solo (take_outer m i v) w (λ j n e. none_some j (sym none ∙ e)) (λ j n. refl) (λ j d n h. h))
       (record {
         outer = λ o e. record {
           mine = refl;
-          value = (let k : Some m.outer ≡ Some o = e in cc);
+          value = some_same m.outer o e;
           fetch = still.0 ∙ sym rest.0;
           masks = λ f. not_both m.fetching f still.0;
           given = λ f. not_both m.fetching f still.0;
@@ -239,7 +239,7 @@ module _ (m : QState) (ok : Agrees m) (i : ℕ) (v : Knows) (at : get_elem? m.se
           passed = λ r. not_both m.removing r still.1;
           switch = still.2 ∙ sym rest.2;
         };
-        rest = λ e. absurd cc;
+        rest = λ e. some_none m.outer e;
         saw = own.saw;
         parts = own.parts;
       })
@@ -299,38 +299,38 @@ module _ (m : QState) (ok : Agrees m) (i : ℕ) (v : Knows) (at : get_elem? m.se
   agrees_put o x can = let out = own.outer o can.held in let w : Knows = after_put v (added o x (refused m i v) v.switched) in
       outer_changes (leave_put m i v o x) w o can.held untouched (λ j n. put_else m.saw_off i j false n) (put_here m.saw_off i false)
       (record { senders = refl; role = refl }) refl
-      (λ o' e. let z : None ≡ Some o' = e in absurd cc) (λ _. (can.fetching, can.removing, refl)) (open_turn (With w) HasOuter)
+      (λ o' e. none_some o' e) (λ _. (can.fetching, can.removing, refl)) (open_turn (With w) HasOuter)
       (λ _. (out.fetch ∙ can.fetching, out.remove ∙ can.removing, refl))
 
   pub agrees_leave : (o : Outer) → CanLeave m i v o → Agrees (leave_same m i v)
   agrees_leave o can = let out = own.outer o can.held in let w : Knows = after_same v in
       outer_changes (leave_same m i v) w o can.held untouched (λ j n. put_else m.saw_off i j false n) (put_here m.saw_off i false)
       (record { senders = refl; role = refl }) refl
-      (λ o' e. let z : None ≡ Some o' = e in absurd cc) (λ _. (refl, can.removing, can.switched)) (open_turn (With w) HasOuter)
+      (λ o' e. none_some o' e) (λ _. (refl, can.removing, can.switched)) (open_turn (With w) HasOuter)
       (λ _. (refl, out.remove ∙ can.removing, out.switch ∙ can.switched))
 
   pub agrees_fetch : (o : Outer) → CanFetch m i v o → Agrees (leave_fetch m i v o)
   agrees_fetch o can = let out = own.outer o can.held in let w : Knows = after_fetch v (makes_due m i v o) in
       outer_changes (leave_fetch m i v o) w o can.held untouched (λ j n. refl) own.saw (record { senders = refl; role = refl }) refl
-      (λ o' e. let z : None ≡ Some o' = e in absurd cc) (λ _. (refl, can.removing, can.switched)) (open_turn (With w) HasOuter)
+      (λ o' e. none_some o' e) (λ _. (refl, can.removing, can.switched)) (open_turn (With w) HasOuter)
       (λ _. (refl, out.remove ∙ can.removing, out.switch ∙ can.switched))
 
   pub agrees_remove : (o : Outer) → CanRemove m i v o → Agrees (leave_remove m i v o)
   agrees_remove o can = let out = own.outer o can.held in let w : Knows = after_remove v in
       outer_changes (leave_remove m i v o) w o can.held untouched (λ j n. refl) own.saw (record { senders = refl; role = refl }) refl
-      (λ o' e. let z : None ≡ Some o' = e in absurd cc) (λ _. (can.fetching, refl, can.switched)) (open_turn (With w) HasOuter)
+      (λ o' e. none_some o' e) (λ _. (can.fetching, refl, can.switched)) (open_turn (With w) HasOuter)
       (λ _. (out.fetch ∙ can.fetching, refl, out.switch ∙ can.switched))
 
   -- the outer value that the seat holds is the machine's
   held_is : (o o' : Outer) → v.held ≡ Some o → v.held ≡ Some o' → o ≡ o'
-  held_is o o' a b = let e : Some o ≡ Some o' = sym a ∙ b in cc
+  held_is o o' a b = some_same o o' (sym a ∙ b)
 
   busy : {A : Type 0} (o : Outer) → v.held ≡ Some o → v.held ≡ None → A
-  busy o a b = let e : Some o ≡ None = sym a ∙ b in absurd cc
+  busy o a b = some_none o (sym a ∙ b)
 
   -- where the seat has the outer turn, it isn't free
   not_idle : {A : Type 0} (o : Outer) → v.held ≡ Some o → m.holder ≡ None → A
-  not_idle o held e = let z : Some i ≡ None = sym (own.outer o held).mine ∙ e in absurd cc
+  not_idle o held e = some_none i (sym (own.outer o held).mine ∙ e)
 
   -- a fetch takes the bits: the mask that it then knows is the bits as they were
   pub agrees_take_bits : (o : Outer) → CanTakeBits m i v o → Agrees (take_bits m i v)
@@ -473,7 +473,7 @@ module _ (m : QState) (ok : Agrees m) (i : ℕ) (v : Knows) (at : get_elem? m.se
     sure = false;
   } in let p : Part = part c (m.cells c).list in let w : Knows = gains v c (m.cells c).list in
       let none = free_of m.seats (m.cells c).word (m.cells c).holder (HasBuffer c) (ok.cells c) can.free in
-      let no_one : (j : ℕ) → (m.cells c).holder ≡ Some j → ⊥ = (λ j e. let z : None ≡ Some j = sym none ∙ e in absurd cc) in
+      let no_one : (j : ℕ) → (m.cells c).holder ≡ Some j → ⊥ = (λ j e. none_some j (sym none ∙ e)) in
       let apart : Apart c v.parts = apart_of m.cells i c v.parts (no_one i) own.parts in
       buffer_changes m.log m.saw_off m.filled c x v.saw_off (v.parts ++ p ∷ []) v.put v.loads refl (λ j n. refl) own.saw
       (λ j _. no_one j)
@@ -564,7 +564,7 @@ module _ (m : QState) (ok : Agrees m) (i : ℕ) (v : Knows) (at : get_elem? m.se
         left_first (buffer_fetched m i v p ps o) w x o can.held refl (λ j. refl) refl refl same refl refl
         (λ o' e. record {
           mine = out.mine;
-          value = (let k : Some (behind o p.list) ≡ Some o' = e in cc);
+          value = some_same (behind o p.list) o' e;
           fetch = out.fetch;
           masks = λ f d low. mask_dropped c x refl (λ k. out.masks f k) d low;
           given = out.given;
@@ -572,7 +572,7 @@ module _ (m : QState) (ok : Agrees m) (i : ℕ) (v : Knows) (at : get_elem? m.se
           passed = out.passed;
           switch = out.switch;
         })
-        (λ e. let z : Some (behind o p.list) ≡ None = e in absurd cc)
+        (λ e. some_none (behind o p.list) e)
         (turn_kept m.seats i v w at m.turn m.holder HasOuter (λ _. (same, (behind o p.list, refl))) ok.turn)
         (λ e. not_idle o can.held e)
 
@@ -584,7 +584,7 @@ module _ (m : QState) (ok : Agrees m) (i : ℕ) (v : Knows) (at : get_elem? m.se
         left_first (buffer_passed m i v p ps o) w x o can.held refl (λ j. refl) refl refl same refl refl
         (λ o' e. record {
           mine = out.mine;
-          value = (let k : Some (behind o p.list) ≡ Some o' = e in cc);
+          value = some_same (behind o p.list) o' e;
           fetch = out.fetch;
           masks = λ f. not_both m.fetching f (out.fetch ∙ can.fetching);
           given = λ f. not_both m.fetching f (out.fetch ∙ can.fetching);
@@ -592,7 +592,7 @@ module _ (m : QState) (ok : Agrees m) (i : ℕ) (v : Knows) (at : get_elem? m.se
           passed = λ r. ap suc (out.passed r);
           switch = out.switch;
         })
-        (λ e. let z : Some (behind o p.list) ≡ None = e in absurd cc)
+        (λ e. some_none (behind o p.list) e)
         (turn_kept m.seats i v w at m.turn m.holder HasOuter (λ _. (same, (behind o p.list, refl))) ok.turn)
         (λ e. not_idle o can.held e)
 
@@ -644,12 +644,12 @@ module _ (m : QState) (ok : Agrees m) (i : ℕ) (v : Knows) (at : get_elem? m.se
       agrees_step m' w (λ j n. refl)
       (λ j d n at' its. record { outer = its.outer; rest = its.rest; saw = its.saw; parts = its.parts })
       (record {
-        outer = λ o e. (let z : None ≡ Some o = sym held ∙ e in absurd cc);
+        outer = λ o e. none_some o (sym held ∙ e);
         rest = λ _. rest;
         saw = own.saw ∙ (idle.saw ∙ sym sees);
         parts = subst (HoldsAll m.cells i) (sym parts) tt;
       })
-      (kept m.turn m.holder HasOuter (λ h. let z : None ≡ Some h.0 = sym idle.held ∙ h.1 in absurd cc) ok.turn)
+      (kept m.turn m.holder HasOuter (λ h. none_some h.0 (sym idle.held ∙ h.1)) ok.turn)
       (λ c. kept (m.cells c).word (m.cells c).holder (HasBuffer c) (λ h. subst (Among c) idle.parts h) (ok.cells c))
       ok.idle
 
@@ -658,7 +658,7 @@ module _ (m : QState) (ok : Agrees m) (i : ℕ) (v : Knows) (at : get_elem? m.se
   agrees_more x held rest parts sees = let m' : QState = record m { seats = m.seats ++ x ∷ [] } in record {
     each = seat_more (SeatAgrees m') m.seats x
         (record {
-          outer = λ o e. (let z : None ≡ Some o = sym held ∙ e in absurd cc);
+          outer = λ o e. none_some o (sym held ∙ e);
           rest = λ _. rest;
           saw = ok.unseen (length m.seats) (omega arith) ∙ sym sees;
           parts = subst (HoldsAll m.cells (length m.seats)) (sym parts) tt;
@@ -691,7 +691,7 @@ agrees_join m ok i v j w can = let b : Knows = joined v w in let q : QState = jo
 agrees_opened : (z : Setup) → Agrees (opened_with z)
 agrees_opened z = record {
   each = one_seat (SeatAgrees (opened_with z)) (first_seat z.senders)
-      (record { outer = λ o e. (let k : None ≡ Some o = e in absurd cc); rest = λ _. (refl, refl, refl); saw = refl; parts = tt });
+      (record { outer = λ o e. none_some o e; rest = λ _. (refl, refl, refl); saw = refl; parts = tt });
   turn = inl record { none = refl; zero = refl };
   cells = λ c. inl record { none = refl; zero = refl };
   idle = λ _. (refl, refl, refl);

@@ -52,7 +52,7 @@ module _ (p : Policy) (w : IsPolicy p) (j : List Entry) (mode removing switched 
       let k = put_counted j r switched in record {
         allowed = put_allowed p w j law.allowed r switched is;
         moded = λ _ _. put_installed j r switched mode law.on (λ s. law.moded s no_removal);
-        on = λ h. absurd cc;
+        on = λ h. not_both false h refl;
         owes = seat_set (SeatOwes p (j ++ put_entries r switched)) seats i x
             (subst (λ (z : Bool × Bool × ℕ). Owes p (j ++ put_entries r switched) z.0 z.1 z.2)
             (λ i. (sym role i, sym dues i, sym counts i)) (moved (j ++ put_entries r switched) e k v (law.owes i v at)))
@@ -77,20 +77,20 @@ or_none false b h = h
 
 split_left : (p : Policy) (j : List Entry) (r d role : Bool) (n : ℕ) → Owes p j r d n
     → Owes p j (r && not role) (if role then false else d) (if role then 0 else n)
-split_left p j true d true n o = record { reader = λ h. absurd cc; others = λ _. refl; made = λ h. absurd cc; unmade = λ _. refl }
-split_left p j true d false n o = record { reader = o.reader; others = λ h. absurd cc; made = o.made; unmade = λ h. absurd cc }
-split_left p j false d true n o = record { reader = λ h. absurd cc; others = λ _. refl; made = λ h. absurd cc; unmade = λ _. refl }
-split_left p j false d false n o = record { reader = λ h. absurd cc; others = o.others; made = λ h. absurd cc; unmade = o.unmade }
+split_left p j true d true n o = record { reader = λ h. not_both false h refl; others = λ _. refl; made = λ h. not_both false h refl; unmade = λ _. refl }
+split_left p j true d false n o = record { reader = o.reader; others = λ h. not_both true refl h; made = o.made; unmade = λ h. not_both true refl h }
+split_left p j false d true n o = record { reader = λ h. not_both false h refl; others = λ _. refl; made = λ h. not_both false h refl; unmade = λ _. refl }
+split_left p j false d false n o = record { reader = λ h. not_both false h refl; others = o.others; made = λ h. not_both false h refl; unmade = o.unmade }
 
 split_right : (p : Policy) (j : List Entry) (r d role : Bool) (n : ℕ) → (role ≡ true → r ≡ true) → Owes p j r d n
     → Owes p j role (if role then d else false) (if role then n else 0)
 split_right p j r d true n h o = record {
   reader = λ _. o.reader (h refl);
-  others = λ k. absurd cc;
+  others = λ k. not_both true refl k;
   made = λ _. o.made (h refl);
-  unmade = λ k. absurd cc;
+  unmade = λ k. not_both true refl k;
 }
-split_right p j r d false n h o = record { reader = λ k. absurd cc; others = λ _. refl; made = λ k. absurd cc; unmade = λ _. refl }
+split_right p j r d false n h o = record { reader = λ k. not_both false k refl; others = λ _. refl; made = λ k. not_both false k refl; unmade = λ _. refl }
 
 join_owes : (p : Policy) (j : List Entry) (r s d e : Bool) (m n : ℕ) → (r ≡ true → s ≡ true → ⊥) → Owes p j r d m → Owes p j s e n
     → Owes p j (if r then true else s) (d || e) (m + n)
@@ -98,9 +98,9 @@ join_owes p j true true d e m n one o k = absurd (one refl refl)
 join_owes p j true false d e m n one o k = let zero_n : n ≡ 0 = k.unmade refl in let made_m = o.made refl in
     record {
       reader = λ _. or_none d e (k.others refl) ∙ o.reader refl;
-      others = λ h. absurd cc;
+      others = λ h. not_both true refl h;
       made = λ _. omega arith;
-      unmade = λ h. absurd cc;
+      unmade = λ h. not_both true refl h;
     }
 join_owes p j false s d e m n one o k = let no : d ≡ false = o.others refl in let zero_m : m ≡ 0 = o.unmade refl in record {
   reader = λ h. ap (λ (z : Bool). z || e) no ∙ k.reader h;
@@ -145,7 +145,7 @@ module _ (z : Setup) (proper : IsPolicy z.policy) where
   first = record {
     allowed = first_allowed z.policy proper;
     moded = λ _ _. first_installed z.policy;
-    on = λ h. absurd cc;
+    on = λ h. not_both false h refl;
     owes = one_seat (SeatOwes z.policy (opened_with z).outer.journal) (first_seat z.senders)
         (record {
           reader = λ _. sym (first_due z.policy);
@@ -203,12 +203,12 @@ module _ (z : Setup) (proper : IsPolicy z.policy) where
       }
   journals _ (by_mode_on q i v o can r) = let l = journals q r in
       let s = set_with q l i v (switched_on v) can.at (l.owes i v can.at) in
-      record { allowed = s.allowed; moded = λ h. absurd cc; on = λ _. refl; owes = s.owes }
+      record { allowed = s.allowed; moded = λ h. not_both true refl h; on = λ _. refl; owes = s.owes }
   journals _ (by_mode_off q i v o can r) = let l = journals q r in let out = outer_of q r i v o can.at can.begins.held in
       let s = set_with q l i v (switched_off v) can.at (l.owes i v can.at) in
       record {
         allowed = s.allowed;
-        moded = λ _ h. absurd cc;
+        moded = λ _ h. not_both true refl h;
         on = λ h. not_both q.switched h (out.switch ∙ can.begins.switched);
         owes = s.owes;
       }
@@ -261,9 +261,9 @@ module _ (z : Setup) (proper : IsPolicy z.policy) where
         moded = l.moded;
         on = l.on;
         owes = seat_more (SeatOwes q.setup.policy q.outer.journal) q.seats (note_of v) (record {
-          reader = λ h. absurd cc;
+          reader = λ h. not_both false h refl;
           others = λ _. refl;
-          made = λ h. absurd cc;
+          made = λ h. not_both false h refl;
           unmade = λ _. refl;
         }) l.owes;
       }
@@ -278,9 +278,9 @@ module _ (z : Setup) (proper : IsPolicy z.policy) where
         moded = s.moded;
         on = s.on;
         owes = seat_set (SeatOwes p jo) (set q.seats i (joined v w)) j spent (record {
-          reader = λ h. absurd cc;
+          reader = λ h. not_both false h refl;
           others = λ _. refl;
-          made = λ h. absurd cc;
+          made = λ h. not_both false h refl;
           unmade = λ _. refl;
         }) (λ k d _ at'. s.owes k d at');
       }

@@ -13,7 +13,7 @@ use Rattle.sig_layout.specs.declared.item.Item.{Item}
 use Rattle.sig_layout.specs.declared.outer.Outer.{Outer}
 use Rattle.sig_layout.specs.Sets.{has}
 use Rattle.sig_layout.specs.Sent.{sender, of, signals, Prefix}
-use Rattle.sig_layout.proofs.Sending.{not_both, of-append, of_other, prefix_longer, prefix_of_same, bool_cases, signals-append}
+use Rattle.sig_layout.proofs.Sending.{not_both, none_some, some_same, of-append, of_other, prefix_longer, prefix_of_same, bool_cases, signals-append}
 use Rattle.sig_layout.specs.declared.part.Part.{Part}
 use Rattle.sig_layout.specs.declared.knows.Knows.{Knows}
 use Rattle.sig_layout.specs.Views.{filled_at, with_bit}
@@ -153,8 +153,8 @@ module _ (small : (s : ℕ) → buffer_of s < 64) (q : QState) (law : Law q) whe
     off = law.off;
     one = λ _. refl;
     quiet = λ j r _. not_both q.removing r no_removal;
-    fresh = λ f. absurd cc;
-    grown = λ f. absurd cc;
+    fresh = λ f. not_both false f refl;
+    grown = λ f. not_both false f refl;
   }
 
   pub keeps_fetch : (i : ℕ) (v : Knows) → q.removing ≡ false → ((d : ℕ) → d < 64 → (q.cells d).mask ≡ false)
@@ -167,8 +167,8 @@ module _ (small : (s : ℕ) → buffer_of s < 64) (q : QState) (law : Law q) whe
     off = law.off;
     one = λ _. refl;
     quiet = λ j r _. not_both q.removing r no_removal;
-    fresh = λ h. absurd cc;
-    grown = λ h. absurd cc;
+    fresh = λ h. not_both false h refl;
+    grown = λ h. not_both false h refl;
   }
 
   -- where a fetch leaves, all that a sender had put when it took the bits is taken, but where it set the bit of its buffer again
@@ -215,7 +215,7 @@ module _ (small : (s : ℕ) → buffer_of s < 64) (q : QState) (law : Law q) whe
     each = λ c. let ok = law.each c in record {
       far = ok.far;
       near = ok.near;
-      shut = λ m. absurd cc;
+      shut = λ m. not_both true refl m;
       knows_on = λ _. inl refl;
       marked = ok.marked;
     };
@@ -241,7 +241,7 @@ module _ (small : (s : ℕ) → buffer_of s < 64) (q : QState) (law : Law q) whe
     knows_off = λ s _. inr (refl, omega arith);
     off = λ _. refl;
     one = λ _. no_fetch;
-    quiet = λ j _ t. let e : Some j ≡ Some i = sym t ∙ mine in let same : j ≡ i = cc in ap q.saw_off same ∙ blind;
+    quiet = λ j _ t. ap q.saw_off (some_same j i (sym t ∙ mine)) ∙ blind;
     fresh = λ f. not_both q.fetching f no_fetch;
     grown = λ f. not_both q.fetching f no_fetch;
   }
@@ -264,9 +264,9 @@ module _ (small : (s : ℕ) → buffer_of s < 64) (q : QState) (law : Law q) whe
     flows = law.flows;
     knows_off = λ s h. ⊎_elim (λ (n : of sender s (q.cells (buffer_of s)).list ≡ []). inl n)
         (λ (a : Far (buffer_of s)). let k = a.1 in let t = small s in absurd (omega arith)) (law.knows_off s h);
-    off = λ h. absurd cc;
-    one = λ h. absurd cc;
-    quiet = λ j h _. absurd cc;
+    off = λ h. not_both false h refl;
+    one = λ h. not_both false h refl;
+    quiet = λ j h _. not_both false h refl;
     fresh = law.fresh;
     grown = law.grown;
   }
@@ -326,7 +326,7 @@ module _ (small : (s : ℕ) → buffer_of s < 64) (q : QState) (law : Law q) whe
         far = λ h. ((ok.far h).0, refl, refl);
         near = ok.near;
         shut = ok.shut;
-        knows_on = λ h. absurd cc;
+        knows_on = λ h. not_both false h refl;
         marked = ⊎_elim (λ (n : (x.list ≡ []) × (x.set ≡ false)). inl (n.0, refl))
             (λ (m : (filled_at q.filled c ≡ true) ⊎ (Caught x ⊎ Far c)). inr m) ok.marked;
       } (λ d n. refl)
@@ -401,7 +401,7 @@ module _ (small : (s : ℕ) → buffer_of s < 64) (q : QState) (law : Law q) whe
           near = λ s n. of-append sender s y.list (x ∷ [])
               ∙ (ap (λ (l : List Signal). l ++ of sender s (x ∷ [])) (ok.near s n) ∙ stranger s n);
           shut = λ m. ⊎_elim (λ (on : q.mode ≡ true). not_both q.mode on m) (λ (a : Far c). inr a) (ok.knows_on sure);
-          knows_on = λ h. absurd cc;
+          knows_on = λ h. not_both false h refl;
           marked = ⊎_elim (λ (n : (y.list ≡ []) × (y.set ≡ false)). not_both y.set is_set n.1)
               (λ (m : (filled_at q.filled c ≡ true) ⊎ (Caught y ⊎ Far c)). inr m) ok.marked;
         }) (λ d _. law.each d);
@@ -461,7 +461,7 @@ module _ (small : (s : ℕ) → buffer_of s < 64) (q : QState) (law : Law q) whe
           far = λ _. (refl, refl, refl);
           near = λ s _. refl;
           shut = λ _. inl refl;
-          knows_on = λ h. absurd cc;
+          knows_on = λ h. not_both false h refl;
           marked = inl (refl, refl);
         }) (λ d _. law.each d);
         flows = moved c z refl;
@@ -504,7 +504,7 @@ module _ (small : (s : ℕ) → buffer_of s < 64) (q : QState) (law : Law q) whe
               far = λ _. (refl, refl, refl);
               near = λ s _. refl;
               shut = λ _. inl refl;
-              knows_on = λ h. absurd cc;
+              knows_on = λ h. not_both false h refl;
               marked = inl (refl, refl);
             })
             (λ d n. let its = law.each d in let w : Cell = q.cells d in record {
@@ -552,10 +552,10 @@ mod_small s = omega arith
 -- a seat that doesn't hold the outer turn is not the remover
 pub no_remover : (q : QState) → Agrees q → (i : ℕ) (v : Knows) → get_elem? q.seats i ≡ some v → v.held ≡ None → q.removing ≡ true
     → q.holder ≡ Some i → ⊥
-no_remover q ok i v at idle r h = ⊎_elim (λ f. let z : None ≡ Some i = sym f.none ∙ h in absurd cc)
-    (λ t. let e : Some t.by ≡ Some i = sym t.is ∙ h in let by : t.by ≡ i = cc in
+no_remover q ok i v at idle r h = ⊎_elim (λ f. none_some i (sym f.none ∙ h))
+    (λ t. let by : t.by ≡ i = some_same t.by i (sym t.is ∙ h) in
     let is : t.view ≡ v = same_view q.seats i t.by v t.view by at t.here in
-    let k : None ≡ Some t.has.0 = sym idle ∙ (ap (λ (z : Knows). z.held) (sym is) ∙ t.has.1) in absurd cc) ok.turn
+    none_some t.has.0 (sym idle ∙ (ap (λ (z : Knows). z.held) (sym is) ∙ t.has.1))) ok.turn
 
 module _ (z : Setup) where
   law_opened : Law (opened_with z)
@@ -564,16 +564,16 @@ module _ (z : Setup) where
       far = λ _. (refl, refl, refl);
       near = λ s _. refl;
       shut = λ _. inl refl;
-      knows_on = λ h. absurd cc;
+      knows_on = λ h. not_both false h refl;
       marked = inl (refl, refl);
     };
     flows = λ s. refl;
     knows_off = λ s _. inl refl;
-    off = λ h. absurd cc;
+    off = λ h. not_both false h refl;
     one = λ _. refl;
-    quiet = λ i h _. absurd cc;
-    fresh = λ h. absurd cc;
-    grown = λ h. absurd cc;
+    quiet = λ i h _. not_both false h refl;
+    fresh = λ h. not_both false h refl;
+    grown = λ h. not_both false h refl;
   }
 
   part_of : (q : QState) (r : Reached z q) (i : ℕ) (v : Knows) (p : Part) (ps : List Part) → get_elem? q.seats i ≡ some v

@@ -70,7 +70,7 @@ module _ (q : QState) (law : Lists q) where
       told = ok.told;
       took = ok.took;
       took_none = ok.took_none;
-      based = λ h. absurd cc;
+      based = λ h. not_both false h refl;
     }
 
     -- one more signal of a sender of the seat, which fetches nothing
@@ -89,8 +89,7 @@ module _ (q : QState) (law : Lists q) where
                 ∙ (ap (λ (l : List Item). l ++ of putter s (x ∷ [])) (ok.own s h) ∙ sym (of-append putter s q.log (x ∷ []))));
             only = λ s h. ap (of putter s) put ∙ (of-append putter s v.put (x ∷ [])
                 ∙ (ap (λ (l : List Item). l ++ of putter s (x ∷ [])) (ok.only s h)
-                ∙ of_other putter s x [] (λ e. let k : true ≡ false = sym from ∙ (ap (λ (z : ℕ). has v.senders z) e ∙ h) in
-                absurd cc)));
+                ∙ of_other putter s x [] (λ e. not_both true refl (sym from ∙ (ap (λ (z : ℕ). has v.senders z) e ∙ h)))));
             told = all_longer v.told q.log (x ∷ []) ok.told;
             took = ok.took;
             took_none = ok.took_none;
@@ -112,8 +111,7 @@ module _ (q : QState) (law : Lists q) where
           });
       strange = λ s h. of-append putter s q.log (x ∷ [])
           ∙ (ap (λ (l : List Item). l ++ of putter s (x ∷ [])) (law.strange s h)
-          ∙ of_other putter s x [] (λ e. let k : true ≡ false = sym (ok.known (putter x) from) ∙ (ap (has q.setup.senders) e ∙ h) in
-          absurd cc));
+          ∙ of_other putter s x [] (λ e. not_both true refl (sym (ok.known (putter x) from) ∙ (ap (has q.setup.senders) e ∙ h))));
     }
 
     lists_fetch : (o : Outer) → CanFetch q i v o → Lists (leave_fetch q i v o)
@@ -128,8 +126,8 @@ module _ (q : QState) (law : Lists q) where
                 only = ok.only;
                 told = ok.told;
                 took = λ r. ap (λ (l : List Signal). l ++ signals_of v.held) (ok.took r) ∙ ap (λ (l : List Signal). q.taken ++ l) found;
-                took_none = λ r. let k : true ≡ false = sym can.role ∙ r in absurd cc;
-                based = λ h. absurd cc;
+                took_none = λ r. not_both v.role can.role r;
+                based = λ h. not_both false h refl;
               })
               (λ j d n at'. let other = law.each j d at' in record {
                 known = other.known;
@@ -179,13 +177,13 @@ module _ (q : QState) (law : Lists q) where
     lists_note = lists_more (note_of v) record {
       known = λ s h. absurd (not_none s h);
       owns = λ s h. absurd (not_none s h);
-      reads = λ h. absurd cc;
+      reads = λ h. not_both false h refl;
       own = λ s h. absurd (not_none s h);
       only = λ s h. refl;
       told = (within_log i v at, ok.told);
-      took = λ h. absurd cc;
+      took = λ h. not_both false h refl;
       took_none = λ h. refl;
-      based = λ h. absurd cc;
+      based = λ h. not_both false h refl;
     }
 
   lists_split : (i : ℕ) (v : Knows) (given : List ℕ) (role : Bool) → CanSplit q i v given role → v.fetching ≡ false
@@ -217,7 +215,7 @@ module _ (q : QState) (law : Lists q) where
               told = ok.told;
               took = λ h. ap (λ (b : Bool). if b then v.taken else []) h ∙ ok.took (can.role_of h);
               took_none = λ h. ap (λ (b : Bool). if b then v.taken else []) h;
-              based = λ h. absurd cc;
+              based = λ h. not_both false h refl;
             })
             (seat_set (SeatLists q') q.seats i l
             (record {
@@ -229,16 +227,16 @@ module _ (q : QState) (law : Lists q) where
                   keep_all putter (λ z. not (has given z)) s v.put (ap not both.1) ∙ ok.own s both.0;
               only = λ s h. ⊎_elim (λ (g : has given s ≡ true). keep_none putter (λ z. not (has given z)) s v.put (ap not g))
                   (λ (g : has given s ≡ false). keep_all putter (λ z. not (has given z)) s v.put (ap not g) ∙ ⊎_elim
-                  (λ (k : has v.senders s ≡ true). let x : (true && not false) ≡ false = ap (λ (b : Bool). true && not b) (sym g)
-                  ∙ (ap (λ (b : Bool). b && not (has given s)) (sym k) ∙ (sym (has_minus v.senders given s) ∙ h)) in absurd cc)
+                  (λ (k : has v.senders s ≡ true). not_both true refl (ap (λ (b : Bool). true && not b) (sym g)
+                  ∙ (ap (λ (b : Bool). b && not (has given s)) (sym k) ∙ (sym (has_minus v.senders given s) ∙ h))))
                   (λ (k : has v.senders s ≡ false). ok.only s k) (bool_cases (has v.senders s))) (bool_cases (has given s));
               told = ok.told;
               took = λ h. let both = and_left v.role (not role) h in let no = not_true role (and_right v.role (not role) h) in
                   ap (λ (b : Bool). if b then [] else v.taken) no ∙ ok.took both;
               took_none = λ h. ⊎_elim (λ (g : role ≡ true). ap (λ (b : Bool). if b then [] else v.taken) g)
                   (λ (g : role ≡ false). ap (λ (b : Bool). if b then [] else v.taken) g ∙ ⊎_elim
-                  (λ (k : v.role ≡ true). let x : (true && not false) ≡ false = ap (λ (b : Bool). true && not b) (sym g)
-                  ∙ (ap (λ (b : Bool). b && not role) (sym k) ∙ h) in absurd cc)
+                  (λ (k : v.role ≡ true). not_both true refl (ap (λ (b : Bool). true && not b) (sym g)
+                  ∙ (ap (λ (b : Bool). b && not role) (sym k) ∙ h)))
                   (λ (k : v.role ≡ false). ok.took_none k) (bool_cases v.role)) (bool_cases role);
               based = λ f. not_both v.fetching f no_fetch;
             })
@@ -284,13 +282,13 @@ module _ (q : QState) (law : Lists q) where
             (record {
               known = λ s h. absurd (not_none s h);
               owns = λ s h. absurd (not_none s h);
-              reads = λ h. absurd cc;
+              reads = λ h. not_both false h refl;
               own = λ s h. absurd (not_none s h);
               only = λ s h. refl;
               told = tt;
-              took = λ h. absurd cc;
+              took = λ h. not_both false h refl;
               took_none = λ h. refl;
-              based = λ h. absurd cc;
+              based = λ h. not_both false h refl;
             })
             (λ k d not_j at'. seat_set (λ k d. k ≢ j → SeatLists q' k d) q.seats i b
             (λ _. record {
@@ -345,7 +343,7 @@ module _ (z : Setup) where
       told = tt;
       took = λ h. refl;
       took_none = λ h. refl;
-      based = λ h. absurd cc;
+      based = λ h. not_both false h refl;
     }) i v at;
     strange = λ s h. refl;
   }

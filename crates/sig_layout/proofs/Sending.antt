@@ -1,6 +1,6 @@
 -- Lists of signals and of items, seen sender by sender.
 use Rattle.std.proofs.lemmas.Bool.{ltb-true, ltb-false, lt-ltb, le-ltb}
-use Rattle.std.proofs.Common.{ltb, ◌≡◌, ◌≢◌, ℕ, ◌==◌, ◌&&◌, ◌||◌, Bool, true, false, not, if◌then◌else◌, List, [], ◌∷◌, ◌++◌, length, drop, sym, refl, ap, ◌∙◌, arith, eq-eqb, ne_eqb, append_assoc, append-nil, inl, inr, ◌⊎◌}
+use Rattle.std.proofs.Common.{ltb, ◌≡◌, ◌≢◌, ℕ, ◌==◌, ◌&&◌, ◌||◌, Bool, true, false, not, if◌then◌else◌, List, [], ◌∷◌, ◌++◌, length, drop, sym, refl, ap, ◌∙◌, arith, eq-eqb, ne_eqb, append_assoc, append-nil, inl, inr, ◌⊎◌, Some, None}
 use mathlib.Core.Logic.{dite}
 use native.Mathlib.Decide.{ℕ_discrete}
 use Rattle.sig_kinds.specs.declared.signal.Signal.{Signal}
@@ -13,6 +13,15 @@ bool_cases false = inr refl
 
 pub not_both : {A : Type 0} (x : Bool) → x ≡ true → x ≡ false → A
 not_both x h k = let e : true ≡ false = sym h ∙ k in absurd cc
+
+pub none_some : {A X : Type 0} (x : X) → None ≡ Some x → A
+none_some x e = absurd cc
+
+pub some_none : {A X : Type 0} (x : X) → Some x ≡ None → A
+some_none x e = absurd cc
+
+pub some_same : {X : Type 0} (x y : X) → Some x ≡ Some y → x ≡ y
+some_same x y e = cc
 
 pub and_left : (a b : Bool) → (a && b) ≡ true → a ≡ true
 and_left true b h = refl

@@ -540,3 +540,8 @@ module _ (z : Setup) where
 -- where the word of a buffer stands
 pub word_is : {a : ℕ} (b : ℕ) → a ≡ b → (b + 3) * 8 ≡ 8 * (a + 3)
 word_is b e = omega (arith, e)
+
+-- the word of the mode is 1 exactly where the mode is on
+pub word_on : (on : Bool) (n : ℕ) → n ≡ mode_word on → on ≡ (n == 1)
+word_on true n e = ap (λ (k : ℕ). k == 1) (sym e)
+word_on false n e = ap (λ (k : ℕ). k == 1) (sym e)
