@@ -191,8 +191,10 @@ fn variable_and_expr(
     ensures { Gives (λ x. (x.0.0, (x.1, tt))) result (all_said known.now 0 line.now (Operand.a_variable ∷ Operand.an_expr ∷ []) tokens.now) }
 {
     let (var, rest) = take_variable(alloc, line, tokens)?;
-    let value = one_expr(alloc, known, line, rest)?;
-    Ok((var, value))
+    match one_expr(alloc, known, line, rest) {
+        Ok(value) => Ok((var, value)),
+        Err(stop) => Err(stop),
+    }
 }
 
 /// Whether the word is `on`. A word that isn't `off` either is refused.
@@ -345,8 +347,10 @@ fn read_alias(alloc: Global, line: &[u8], tokens: &[Token]) -> Result<Instr, Sto
     ensures { Gives (λ i. i) result (instr_of Known.Any 0 Verb.Alias line.now tokens.now) }
 {
     let (var, rest) = take_variable(alloc, line, tokens)?;
-    let reply = one_flag(b"reply", line, rest)?;
-    Ok(Instr::Alias { var, reply })
+    match one_flag(b"reply", line, rest) {
+        Ok(reply) => Ok(Instr::Alias { var, reply }),
+        Err(stop) => Err(stop),
+    }
 }
 
 fn read_name(alloc: Global, line: &[u8], tokens: &[Token]) -> Result<Name, Stop>
@@ -578,8 +582,10 @@ fn read_said(
         [] => Ok(None),
         [token, rest @ ..] => {
             let word = read_keyword(text_of(line, *token));
-            let form = read_behind(alloc, known, draft, word, line, rest)?;
-            Ok(Some(form))
+            match read_behind(alloc, known, draft, word, line, rest) {
+                Ok(form) => Ok(Some(form)),
+                Err(stop) => Err(stop),
+            }
         }
     }
 }
