@@ -1,6 +1,5 @@
-use Rattle.std.proofs.Common.{rules, arith, List, Ok, take, drop, ◌-◌, ◌∙◌, ap, refl, ◌≡◌, ◌++◌, ◌∷◌, [], length, sym}
+use Rattle.std.proofs.Common.{rules, arith, ◌∙◌, ap, refl, ◌≡◌, ◌++◌, ◌∷◌, [], length, sym}
 use Rattle.sig_script.specs.Signs.{closes}
-use Rattle.sig_script.specs.declared.token.Token.{Token}
 use Rattle.sig_script.specs.Phrases.{elements, ending, phrase_at}
 use Rattle.sig_script.proofs.PhraseLemmas.{bracketed_none, bracketed_closed, bracketed_some, closed_here, closed_not, closed_none, ending_tail, ending_plain, ending_none, one_more, goes_on, phrase_step, well_spelled_rest, no_token}
 use Rattle.sig_script.proofs.phrases.+front.Goals.{end-in_default-behind-via-then-behind-lt1, end-in_default-behind-via-in-len1-up-behind+else-closes, end-in_default-via-then-tokens-lt1, end-in_default-via-in-len1-up-2+else-closes-2}
@@ -74,15 +73,15 @@ pub end-returns-in_default-behind-clause-value : goal.end-returns-in_default-beh
 end-returns-in_default-behind-clause-value g t c =
     rw (ending_tail g.T.Phrase.spelling c.args.close (phrase_at g.T.Phrase.spelling c.args.known.now c.args.line.now c.args.depth) c.args.items c.args.nodes c.args.tokens.now no_token c.in-len1-up.len_at_least (sym c.if-is_before_tail.ensures), c.in_ok-tail-in-len1-up.ensures.value)
     (elim c.in_default-behind.branch [
-      end-in_default-behind-via-then-behind-lt1 w ↦ closed_none (closes c.args.close) _ c.in_ok-tail-in-len1-up.left c.in_ok-tail-in-len1-up.behind.now (grind arith)
-    | end-in_default-behind-via-in-len1-up-behind+else-closes w ↦ closed_not (closes c.args.close) _ c.in_ok-tail-in-len1-up.left c.in_ok-tail-in-len1-up.behind.now no_token w.in-len1-up-behind.len_at_least (sym w.if-closes.ensures)
+      | end-in_default-behind-via-then-behind-lt1 w ↦ closed_none (closes c.args.close) _ c.in_ok-tail-in-len1-up.left c.in_ok-tail-in-len1-up.behind.now (grind arith)
+      | end-in_default-behind-via-in-len1-up-behind+else-closes w ↦ closed_not (closes c.args.close) _ c.in_ok-tail-in-len1-up.left c.in_ok-tail-in-len1-up.behind.now no_token w.in-len1-up-behind.len_at_least (sym w.if-closes.ensures)
     ])
 
 pub end-returns-in_default-clause-value : goal.end-returns-in_default-clause-value
 end-returns-in_default-clause-value g t c =
     elim c.in_default.branch [
-      end-in_default-via-then-tokens-lt1 w ↦ ending_none g.T.Phrase.spelling c.args.close (phrase_at g.T.Phrase.spelling c.args.known.now c.args.line.now c.args.depth) c.args.items c.args.nodes c.args.tokens.now (grind arith)
-    | end-in_default-via-in-len1-up-2+else-closes-2 w ↦
-      rw (ending_plain g.T.Phrase.spelling c.args.close (phrase_at g.T.Phrase.spelling c.args.known.now c.args.line.now c.args.depth) c.args.items c.args.nodes c.args.tokens.now no_token w.in-len1-up.len_at_least (sym w.if-is_before_tail.ensures))
-      (closed_not (closes c.args.close) _ c.args.nodes c.args.tokens.now no_token w.in-len1-up.len_at_least (sym w.if-closes-2.ensures))
+      | end-in_default-via-then-tokens-lt1 w ↦ ending_none g.T.Phrase.spelling c.args.close (phrase_at g.T.Phrase.spelling c.args.known.now c.args.line.now c.args.depth) c.args.items c.args.nodes c.args.tokens.now (grind arith)
+      | end-in_default-via-in-len1-up-2+else-closes-2 w ↦
+          rw (ending_plain g.T.Phrase.spelling c.args.close (phrase_at g.T.Phrase.spelling c.args.known.now c.args.line.now c.args.depth) c.args.items c.args.nodes c.args.tokens.now no_token w.in-len1-up.len_at_least (sym w.if-is_before_tail.ensures))
+          (closed_not (closes c.args.close) _ c.args.nodes c.args.tokens.now no_token w.in-len1-up.len_at_least (sym w.if-closes-2.ensures))
     ]
