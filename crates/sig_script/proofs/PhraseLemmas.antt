@@ -1,6 +1,7 @@
 -- Elements, one after another.
-use Rattle.std.proofs.Common.{◌≡◌, ℕ, zero, suc, ◌+◌, ◌-◌, ◌<◌, ◌≤◌, List, [], ◌∷◌, ◌++◌, length, get_or, take, drop, Ok, Err, true, false, refl, sym, ap, subst, ◌∙◌, arith}
+use Rattle.std.proofs.Common.{◌≡◌, ℕ, zero, suc, ◌+◌, ◌-◌, ◌<◌, ◌≤◌, List, [], ◌∷◌, ◌++◌, length, get_or, take, drop, Bool, Ok, Err, true, false, refl, sym, ap, subst, ◌∙◌, arith}
 use Rattle.std.proofs.lemmas.List.{take_all}
+use Rattle.sig_script.specs.declared.token.TokenKind.{TokenKind}
 use Rattle.sig_script.specs.declared.token.TokenKind.TheVariants.{Name}
 use Rattle.sig_script.specs.declared.token.Sign as signs
 use Rattle.sig_script.specs.declared.token.Token.{Token}
@@ -9,7 +10,7 @@ use Rattle.sig_script.specs.declared.known.Known.{Known}
 use Rattle.sig_script.specs.Faults.{◌>>=◌}
 use Rattle.sig_script.specs.Tokens.{text, AreWellSpelled}
 use Rattle.sig_script.specs.Signs.{is_comma, closes}
-use Rattle.sig_script.specs.Phrases.{Read, Spelling, behind, elements, ending, bracketed, phrase_by, phrase_front, phrase_at}
+use Rattle.sig_script.specs.Phrases.{Read, Spelling, behind, elements, closed, is_before_tail, ending, bracketed, phrase_by, phrase_front, phrase_at}
 
 -- tokens, by the first and the rest
 head_and_rest : (ts : List Token) (d : Token) → 1 ≤ length ts → ts ≡ get_or ts 0 d ∷ take (length ts - 1) (drop 1 ts)
@@ -22,17 +23,48 @@ unfolding bracketed
 bracketed_none s close read nodes [] h = refl
 bracketed_none s close read nodes (t ∷ ts) h = absurd (omega arith)
 
-pub bracketed_closed : {A : Type 0} (s : Spelling A) (close : signs.Sign) (read : ℕ → List Token → Read A) (nodes : ℕ) (ts : List Token) (d : Token) → 1 ≤ length ts → closes close (get_or ts 0 d).kind ≡ true →
-    bracketed s close read nodes ts ≡ Ok (s.enclosing close [], nodes, take (length ts - 1) (drop 1 ts))
+pub bracketed_closed : {A : Type 0} (s : Spelling A) (close : signs.Sign) (read : ℕ → List Token → Read A) (nodes : ℕ) (ts : List Token) (d : Token) (x : A) → 1 ≤ length ts → closes close (get_or ts 0 d).kind ≡ true →
+    x ≡ s.enclosing close [] → bracketed s close read nodes ts ≡ Ok (x, nodes, take (length ts - 1) (drop 1 ts))
 unfolding bracketed
-bracketed_closed s close read nodes [] d long h = absurd (omega arith)
-bracketed_closed s close read nodes (t ∷ ts) d long h = rw h (ap (λ (us : List Token). Ok (s.enclosing close [], nodes, us)) (sym (take_all (suc (length ts) - 1) ts (omega arith))))
+bracketed_closed s close read nodes [] d x long h e = absurd (omega arith)
+bracketed_closed {A} s close read nodes (t ∷ ts) d x long h e =
+    rw h (ap (λ (z : A). Ok (z, nodes, ts)) (sym e) ∙ ap (λ (us : List Token). Ok (x, nodes, us)) (sym (take_all (suc (length ts) - 1) ts (omega arith))))
 
 pub bracketed_some : {A : Type 0} (s : Spelling A) (close : signs.Sign) (read : ℕ → List Token → Read A) (nodes : ℕ) (ts : List Token) (d : Token) → 1 ≤ length ts → closes close (get_or ts 0 d).kind ≡ false →
     bracketed s close read nodes ts ≡ elements read (ending s close read) (length ts) nodes [] ts
 unfolding bracketed
 bracketed_some s close read nodes [] d long h = absurd (omega arith)
 bracketed_some s close read nodes (t ∷ ts) d long h = rw h refl
+
+-- what is read ends with the first token, or it doesn't
+pub closed_here : {A : Type 0} (test : TokenKind → Bool) (x y : A) (nodes : ℕ) (ts : List Token) (d : Token) → 1 ≤ length ts → test (get_or ts 0 d).kind ≡ true → y ≡ x → closed test x nodes ts ≡ Ok (y, nodes, take (length ts - 1) (drop 1 ts))
+closed_here test x y nodes [] d long h e = absurd (omega arith)
+closed_here {A} test x y nodes (t ∷ ts) d long h e =
+    rw h (ap (λ (z : A). Ok (z, nodes, ts)) (sym e) ∙ ap (λ (us : List Token). Ok (y, nodes, us)) (sym (take_all (suc (length ts) - 1) ts (omega arith))))
+
+pub closed_not : {A : Type 0} (test : TokenKind → Bool) (x : A) (nodes : ℕ) (ts : List Token) (d : Token) → 1 ≤ length ts → test (get_or ts 0 d).kind ≡ false → closed test x nodes ts ≡ Err Syntax
+closed_not test x nodes [] d long h = refl
+closed_not test x nodes (t ∷ ts) d long h = rw h refl
+
+pub closed_none : {A : Type 0} (test : TokenKind → Bool) (x : A) (nodes : ℕ) (ts : List Token) → length ts < 1 → closed test x nodes ts ≡ Err Syntax
+closed_none test x nodes [] h = refl
+closed_none test x nodes (t ∷ ts) h = absurd (omega arith)
+
+-- behind elements: a tail, or none
+pub ending_tail : {A : Type 0} (s : Spelling A) (close : signs.Sign) (read : ℕ → List Token → Read A) (items : List A) (nodes : ℕ) (ts : List Token) (d : Token) → 1 ≤ length ts → is_before_tail s close (get_or ts 0 d).kind ≡ true →
+    ending s close read items nodes ts ≡ (read nodes (take (length ts - 1) (drop 1 ts)) >>= λ x. closed (closes close) (s.nested items x.0) x.1 x.2)
+ending_tail s close read items nodes [] d long h = absurd (omega arith)
+ending_tail s close read items nodes (t ∷ ts) d long h =
+    rw h (ap (λ (us : List Token). read nodes us >>= λ x. closed (closes close) (s.nested items x.0) x.1 x.2) (sym (take_all (suc (length ts) - 1) ts (omega arith))))
+
+pub ending_plain : {A : Type 0} (s : Spelling A) (close : signs.Sign) (read : ℕ → List Token → Read A) (items : List A) (nodes : ℕ) (ts : List Token) (d : Token) → 1 ≤ length ts → is_before_tail s close (get_or ts 0 d).kind ≡ false →
+    ending s close read items nodes ts ≡ closed (closes close) (s.enclosing close items) nodes ts
+ending_plain s close read items nodes [] d long h = absurd (omega arith)
+ending_plain s close read items nodes (t ∷ ts) d long h = rw h refl
+
+pub ending_none : {A : Type 0} (s : Spelling A) (close : signs.Sign) (read : ℕ → List Token → Read A) (items : List A) (nodes : ℕ) (ts : List Token) → length ts < 1 → ending s close read items nodes ts ≡ Err Syntax
+ending_none s close read items nodes [] h = refl
+ending_none s close read items nodes (t ∷ ts) h = absurd (omega arith)
 
 -- one element, and what is behind it
 pub one_more : {A B : Type 0} (read : ℕ → List Token → Read A) (finish : List A → ℕ → List Token → Read B) (n i left : ℕ) (items : List A) (ts : List Token) (total : Read B) →

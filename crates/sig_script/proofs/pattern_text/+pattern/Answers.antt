@@ -96,7 +96,7 @@ put_pattern-returns-in-Tuple-clause-text t c =
     let names : List (List ℕ) = names_of c.args.procs.now in
     three_pieces c.put_between.result c.args.into.now.items c.put_between.new.into.items _ (codes "{") _ (codes "}")
     (ap (λ p. (pattern_written names p).whole) c.in-Tuple.is ∙ ap (λ w. w.whole) (pattern-Tuple names c.in-Tuple.items)
-      ∙ ap (λ ps. codes "{" ++ joined (map (λ w. w.whole) (map (pattern_written names) ps)) ++ codes "}") (sym c.as_slice.ensures))
+    ∙ ap (λ ps. codes "{" ++ joined (map (λ w. w.whole) (map (pattern_written names) ps)) ++ codes "}") (sym c.as_slice.ensures))
     c.put_between.ensures.text
 
 pub put_pattern-returns-in-List-clause-text : goal.put_pattern-returns-in-List-clause-text
@@ -104,7 +104,7 @@ put_pattern-returns-in-List-clause-text t c =
     let names : List (List ℕ) = names_of c.args.procs.now in
     three_pieces c.put_between-in-List.result c.args.into.now.items c.put_between-in-List.new.into.items _ (codes "[") _ (codes "]")
     (ap (λ p. (pattern_written names p).whole) c.in-List.is ∙ ap (λ w. w.whole) (pattern-List names c.in-List.items)
-      ∙ ap (λ ps. codes "[" ++ joined (map (λ w. w.whole) (map (pattern_written names) ps)) ++ codes "]") (sym c.as_slice-in-List.ensures))
+    ∙ ap (λ ps. codes "[" ++ joined (map (λ w. w.whole) (map (pattern_written names) ps)) ++ codes "]") (sym c.as_slice-in-List.ensures))
     c.put_between-in-List.ensures.text
 
 pub put_pattern-returns-in_ok-put_head-in-Cons-clause-text : goal.put_pattern-returns-in_ok-put_head-in-Cons-clause-text
@@ -112,8 +112,8 @@ put_pattern-returns-in_ok-put_head-in-Cons-clause-text t c =
     let names : List (List ℕ) = names_of c.args.procs.now in
     last_piece c.put_tail.result c.args.into.now.items c.put_head.new.into.items c.put_tail.new.into.items _ (codes "[") (pattern_written names c.get.result.now).whole (pattern_written names c.get-in-Cons.result.now).tail
     (ap (λ p. (pattern_written names p).whole) c.in-Cons.is ∙ ap (λ w. w.whole) (pattern-Cons names c.in-Cons.head c.in-Cons.tail)
-      ∙ ap (λ p. codes "[" ++ (pattern_written names p).whole ++ (pattern_written names c.in-Cons.tail).tail) (sym c.get.ensures)
-      ∙ ap (λ p. codes "[" ++ (pattern_written names c.get.result.now).whole ++ (pattern_written names p).tail) (sym c.get-in-Cons.ensures))
+    ∙ ap (λ p. codes "[" ++ (pattern_written names p).whole ++ (pattern_written names c.in-Cons.tail).tail) (sym c.get.ensures)
+    ∙ ap (λ p. codes "[" ++ (pattern_written names c.get.result.now).whole ++ (pattern_written names p).tail) (sym c.get-in-Cons.ensures))
     c.in_ok-put_head-in-Cons.ensures.text c.put_tail.ensures.text
 
 pub put_pattern-returns-in_ok-put_head-in-Cons-clause-front : goal.put_pattern-returns-in_ok-put_head-in-Cons-clause-front
@@ -126,8 +126,8 @@ put_tail-returns-in_ok-put_head-in-Cons-clause-text t c =
     let names : List (List ℕ) = names_of c.args.procs.now in
     last_piece c.put_tail.result c.args.into.now.items c.put_head.new.into.items c.put_tail.new.into.items _ (codes ",") (pattern_written names c.get.result.now).whole (pattern_written names c.get-in-Cons.result.now).tail
     (ap (λ p. (pattern_written names p).tail) c.in-Cons.is ∙ ap (λ w. w.tail) (pattern-Cons names c.in-Cons.head c.in-Cons.tail)
-      ∙ ap (λ p. codes "," ++ (pattern_written names p).whole ++ (pattern_written names c.in-Cons.tail).tail) (sym c.get.ensures)
-      ∙ ap (λ p. codes "," ++ (pattern_written names c.get.result.now).whole ++ (pattern_written names p).tail) (sym c.get-in-Cons.ensures))
+    ∙ ap (λ p. codes "," ++ (pattern_written names p).whole ++ (pattern_written names c.in-Cons.tail).tail) (sym c.get.ensures)
+    ∙ ap (λ p. codes "," ++ (pattern_written names c.get.result.now).whole ++ (pattern_written names p).tail) (sym c.get-in-Cons.ensures))
     c.in_ok-put_head-in-Cons.ensures.text c.put_tail.ensures.text
 
 pub put_tail-returns-in_ok-put_head-in-Cons-clause-front : goal.put_tail-returns-in_ok-put_head-in-Cons-clause-front

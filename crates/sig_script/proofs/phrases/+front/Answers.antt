@@ -1,6 +1,8 @@
-use Rattle.std.proofs.Common.{rules, Ok, take, drop, ◌-◌, ◌∙◌, ap, refl, ◌≡◌, ◌++◌, ◌∷◌, [], length, sym}
+use Rattle.std.proofs.Common.{rules, arith, ◌∙◌, ap, refl, ◌≡◌, ◌++◌, ◌∷◌, [], length, sym}
+use Rattle.sig_script.specs.Signs.{closes}
 use Rattle.sig_script.specs.Phrases.{elements, ending, phrase_at}
-use Rattle.sig_script.proofs.PhraseLemmas.{bracketed_none, bracketed_closed, bracketed_some, one_more, goes_on, phrase_step, well_spelled_rest, no_token}
+use Rattle.sig_script.proofs.PhraseLemmas.{bracketed_none, bracketed_closed, bracketed_some, closed_here, closed_not, closed_none, ending_tail, ending_plain, ending_none, one_more, goes_on, phrase_step, well_spelled_rest, no_token}
+use Rattle.sig_script.proofs.phrases.+front.Goals.{end-in_default-behind-via-then-behind-lt1, end-in_default-behind-via-in-len1-up-behind+else-closes, end-in_default-via-then-tokens-lt1, end-in_default-via-in-len1-up-2+else-closes-2}
 use Rattle.sig_script.proofs.phrases.+front.Goals as goal
 
 pub front-returns-in-len1-up-clause-value : goal.front-returns-in-len1-up-clause-value
@@ -38,8 +40,8 @@ behind_bracket-returns-in-empty-clause-value g t c = bracketed_none g.T.Phrase.s
 
 pub behind_bracket-returns-in-len1-up-clause-value : goal.behind_bracket-returns-in-len1-up-clause-value
 behind_bracket-returns-in-len1-up-clause-value g t c =
-    bracketed_closed g.T.Phrase.spelling c.args.close _ c.args.nodes c.args.tokens.now no_token c.in-len1-up.len_at_least (sym c.if-closes.ensures)
-    ∙ ap (λ list. Ok (list, c.args.nodes, take (length c.args.tokens.now - 1) (drop 1 c.args.tokens.now))) (sym (c.enclosing.ensures ∙ ap (g.T.Phrase.spelling.enclosing c.args.close) c.new.ensures))
+    bracketed_closed g.T.Phrase.spelling c.args.close _ c.args.nodes c.args.tokens.now no_token c.enclosing.result c.in-len1-up.len_at_least (sym c.if-closes.ensures)
+    (c.enclosing.ensures ∙ ap (g.T.Phrase.spelling.enclosing c.args.close) c.new.ensures)
 
 pub behind_bracket-returns-in_default-clause-value : goal.behind_bracket-returns-in_default-clause-value
 behind_bracket-returns-in_default-clause-value g t c =
@@ -56,3 +58,30 @@ behind_token-returns-then-is_open_bracket-clause-value g t c =
 pub behind_token-returns-in_ok-phrase-clause-value : goal.behind_token-returns-in_ok-phrase-clause-value
 behind_token-returns-in_ok-phrase-clause-value g t c =
     rw (sym c.if-is_open_brace.ensures, sym c.if-is_open_bracket.ensures, c.in_ok-phrase.ensures.value) refl
+
+pub end-returns-in_ok-list-in-len1-up-behind-clause-value : goal.end-returns-in_ok-list-in-len1-up-behind-clause-value
+end-returns-in_ok-list-in-len1-up-behind-clause-value g t c =
+    rw (ending_tail g.T.Phrase.spelling c.args.close (phrase_at g.T.Phrase.spelling c.args.known.now c.args.line.now c.args.depth) c.args.items c.args.nodes c.args.tokens.now no_token c.in-len1-up.len_at_least (sym c.if-is_before_tail.ensures), c.in_ok-tail-in-len1-up.ensures.value)
+    (closed_here (closes c.args.close) _ _ c.in_ok-tail-in-len1-up.left c.in_ok-tail-in-len1-up.behind.now no_token c.in-len1-up-behind.len_at_least (sym c.if-closes.ensures) c.in_ok-list-in-len1-up-behind.ensures)
+
+pub end-returns-in-len1-up-2-clause-value : goal.end-returns-in-len1-up-2-clause-value
+end-returns-in-len1-up-2-clause-value g t c =
+    rw (ending_plain g.T.Phrase.spelling c.args.close (phrase_at g.T.Phrase.spelling c.args.known.now c.args.line.now c.args.depth) c.args.items c.args.nodes c.args.tokens.now no_token c.in-len1-up.len_at_least (sym c.if-is_before_tail.ensures))
+    (closed_here (closes c.args.close) _ _ c.args.nodes c.args.tokens.now no_token c.in-len1-up.len_at_least (sym c.if-closes-2.ensures) c.enclosing.ensures)
+
+pub end-returns-in_default-behind-clause-value : goal.end-returns-in_default-behind-clause-value
+end-returns-in_default-behind-clause-value g t c =
+    rw (ending_tail g.T.Phrase.spelling c.args.close (phrase_at g.T.Phrase.spelling c.args.known.now c.args.line.now c.args.depth) c.args.items c.args.nodes c.args.tokens.now no_token c.in-len1-up.len_at_least (sym c.if-is_before_tail.ensures), c.in_ok-tail-in-len1-up.ensures.value)
+    (elim c.in_default-behind.branch [
+      | end-in_default-behind-via-then-behind-lt1 w ↦ closed_none (closes c.args.close) _ c.in_ok-tail-in-len1-up.left c.in_ok-tail-in-len1-up.behind.now (grind arith)
+      | end-in_default-behind-via-in-len1-up-behind+else-closes w ↦ closed_not (closes c.args.close) _ c.in_ok-tail-in-len1-up.left c.in_ok-tail-in-len1-up.behind.now no_token w.in-len1-up-behind.len_at_least (sym w.if-closes.ensures)
+    ])
+
+pub end-returns-in_default-clause-value : goal.end-returns-in_default-clause-value
+end-returns-in_default-clause-value g t c =
+    elim c.in_default.branch [
+      | end-in_default-via-then-tokens-lt1 w ↦ ending_none g.T.Phrase.spelling c.args.close (phrase_at g.T.Phrase.spelling c.args.known.now c.args.line.now c.args.depth) c.args.items c.args.nodes c.args.tokens.now (grind arith)
+      | end-in_default-via-in-len1-up-2+else-closes-2 w ↦
+          rw (ending_plain g.T.Phrase.spelling c.args.close (phrase_at g.T.Phrase.spelling c.args.known.now c.args.line.now c.args.depth) c.args.items c.args.nodes c.args.tokens.now no_token w.in-len1-up.len_at_least (sym w.if-is_before_tail.ensures))
+          (closed_not (closes c.args.close) _ c.args.nodes c.args.tokens.now no_token w.in-len1-up.len_at_least (sym w.if-closes-2.ensures))
+    ]
