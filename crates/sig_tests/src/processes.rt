@@ -351,7 +351,9 @@ fn waiting_in(alloc: Global, script: &Script) -> Result<usize, AllocError> {
         return Ok(0);
     }
     let mut process = Process::open(alloc, script, Pid(1))?;
-    waiting_after_one(alloc, &mut process, script)
+    let waiting = waiting_after_one(alloc, &mut process, script);
+    drop(process);
+    waiting
 }
 
 /// The same of a script of two processes.
