@@ -17,32 +17,3 @@ pub use host::run;
 pub use settings::{MOST_CHURN, MOST_QUOTA, MOST_WORKERS, Settings};
 pub use status::Status;
 pub use words_error::WordsError;
-
-#[cfg(test)]
-mod argument_tests;
-#[cfg(test)]
-mod document_tests;
-#[cfg(test)]
-mod exit_tests;
-#[cfg(test)]
-mod large_tests;
-#[cfg(test)]
-mod link_tests;
-#[cfg(test)]
-mod marker_tests;
-#[cfg(test)]
-mod match_tests;
-#[cfg(test)]
-mod record_tests;
-#[cfg(test)]
-mod refusal_tests;
-#[cfg(test)]
-mod script_tests;
-#[cfg(test)]
-mod tests;
-#[cfg(test)]
-mod text_tests;
-#[cfg(test)]
-mod watch_tests;
-#[cfg(test)]
-mod worker_tests;

@@ -38,10 +38,8 @@ impl Progress {
     fn begin(&mut self, event: Event, posts: usize, grows: Growing) -> Result<(), AllocError>
         ensures { MatchResult result (λ _. HasBegun posts grows self.old self.new event) (λ _. IsSame self.old self.new) }
     {
-        match self.make_room(posts, grows) {
-            Ok(()) => self.events.add(event),
-            Err(fault) => Err(fault),
-        }
+        self.make_room(posts, grows)?;
+        self.events.add(event)
     }
 
     /// Changes what is left, with this stamp, and sends. There is room for it.
@@ -125,10 +123,8 @@ impl Progress {
             },
             outcome,
         };
-        match self.begin(event, posts, grows) {
-            Ok(()) => self.bind_noted(binding),
-            Err(fault) => Err(fault),
-        }
+        self.begin(event, posts, grows)?;
+        self.bind_noted(binding)
     }
 
     /// Makes the last change of an execution, which goes on at this place. Nothing is left of a scan.
@@ -229,14 +225,10 @@ impl Progress {
     {
         let event = self.handling_event(plan.outcome);
         let stamp = event.stamp;
-        match self.begin(event, plan.posts.len(), plan.change.growing()) {
-            Ok(()) => {
-                self.move_next();
-                self.go_on(pid, stamp, plan.obeyed, plan.change, plan.posts);
-                Ok(())
-            }
-            Err(fault) => Err(fault),
-        }
+        self.begin(event, plan.posts.len(), plan.change.growing())?;
+        self.move_next();
+        self.go_on(pid, stamp, plan.obeyed, plan.change, plan.posts);
+        Ok(())
     }
 
     /// The message of the last scan is taken and told with the number of its clause, the variables of

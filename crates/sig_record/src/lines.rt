@@ -56,15 +56,9 @@ fn passing<'a, T: Drop>(passes: bool, read: (T, &'a [u8])) -> Result<(T, &'a [u8
 fn act(bytes: &[u8]) -> Option<((u64, Did), &[u8])>
     ensures { option_map (λ x. (x.0, x.1.now)) result ≡ spaced wide did_front bytes.now }
 {
-    let Some((stamp, rest)) = wide(bytes) else {
-        return None;
-    };
-    let Some(rest) = after(b" ", rest) else {
-        return None;
-    };
-    let Some((did, rest)) = did(rest) else {
-        return None;
-    };
+    let (stamp, rest) = wide(bytes)?;
+    let rest = after(b" ", rest)?;
+    let (did, rest) = did(rest)?;
     Some(((stamp, did), rest))
 }
 
@@ -72,12 +66,8 @@ fn act(bytes: &[u8]) -> Option<((u64, Did), &[u8])>
 fn event(alloc: Global, bytes: &[u8]) -> Result<(Event, &[u8]), ReadTerm>
     ensures { Gives (λ x. (x.0, x.1.now)) result (event_front bytes.now) }
 {
-    let Some(((stamp, did), rest)) = act(bytes) else {
-        return Err(ReadTerm::BadTerm);
-    };
-    let Some(rest) = after(b" ", rest) else {
-        return Err(ReadTerm::BadTerm);
-    };
+    let ((stamp, did), rest) = act(bytes).ok_or(ReadTerm::BadTerm)?;
+    let rest = after(b" ", rest).ok_or(ReadTerm::BadTerm)?;
     let (outcome, rest) = line_end(outcome(alloc, rest))?;
     let event = Event {
         stamp,
@@ -91,15 +81,9 @@ fn event(alloc: Global, bytes: &[u8]) -> Result<(Event, &[u8]), ReadTerm>
 fn left(alloc: Global, bytes: &[u8]) -> Result<(Left, &[u8]), ReadTerm>
     ensures { Gives (λ x. (x.0, x.1.now)) result (left_front bytes.now) }
 {
-    let Some(rest) = after(b"left ", bytes) else {
-        return Err(ReadTerm::BadTerm);
-    };
-    let Some((arrival, rest)) = wide(rest) else {
-        return Err(ReadTerm::BadTerm);
-    };
-    let Some(rest) = after(b" ", rest) else {
-        return Err(ReadTerm::BadTerm);
-    };
+    let rest = after(b"left ", bytes).ok_or(ReadTerm::BadTerm)?;
+    let (arrival, rest) = wide(rest).ok_or(ReadTerm::BadTerm)?;
+    let rest = after(b" ", rest).ok_or(ReadTerm::BadTerm)?;
     let (message, rest) = line_end(term(alloc, rest))?;
     Ok((Left { arrival, message }, rest))
 }
@@ -108,15 +92,9 @@ fn left(alloc: Global, bytes: &[u8]) -> Result<(Left, &[u8]), ReadTerm>
 fn signal_numbers(bytes: &[u8]) -> Option<(((u32, u64), u64), &[u8])>
     ensures { option_map (λ x. (x.0, x.1.now)) result ≡ spaced (spaced narrow wide) wide bytes.now }
 {
-    let Some((from, rest)) = narrow(bytes) else {
-        return None;
-    };
-    let Some((number, rest)) = wide_field(rest) else {
-        return None;
-    };
-    let Some((stamp, rest)) = wide_field(rest) else {
-        return None;
-    };
+    let (from, rest) = narrow(bytes)?;
+    let (number, rest) = wide_field(rest)?;
+    let (stamp, rest) = wide_field(rest)?;
     Some((((from, number), stamp), rest))
 }
 
@@ -124,15 +102,9 @@ fn signal_numbers(bytes: &[u8]) -> Option<(((u32, u64), u64), &[u8])>
 fn signal(alloc: Global, to: Pid, bytes: &[u8]) -> Result<(Signal, &[u8]), ReadTerm>
     ensures { Gives (λ x. (x.0, x.1.now)) result (signal_front to.0 bytes.now) }
 {
-    let Some(rest) = after(b"queued ", bytes) else {
-        return Err(ReadTerm::BadTerm);
-    };
-    let Some((((from, number), stamp), rest)) = signal_numbers(rest) else {
-        return Err(ReadTerm::BadTerm);
-    };
-    let Some(rest) = after(b" ", rest) else {
-        return Err(ReadTerm::BadTerm);
-    };
+    let rest = after(b"queued ", bytes).ok_or(ReadTerm::BadTerm)?;
+    let (((from, number), stamp), rest) = signal_numbers(rest).ok_or(ReadTerm::BadTerm)?;
+    let rest = after(b" ", rest).ok_or(ReadTerm::BadTerm)?;
     let (kind, rest) = line_end(kind(alloc, rest))?;
     let from = Pid(from);
     let signal = Signal {
@@ -202,15 +174,9 @@ fn standing(alloc: Global, bytes: &[u8]) -> Result<(State, &[u8]), ReadTerm>
 fn head(alloc: Global, pid: u32, bytes: &[u8]) -> Result<((u32, Name), &[u8]), ReadTerm>
     ensures { Gives (λ x. (x.0, x.1.now)) result (head_front pid bytes.now) }
 {
-    let Some(rest) = after(b"process ", bytes) else {
-        return Err(ReadTerm::BadTerm);
-    };
-    let Some((n, rest)) = narrow(rest) else {
-        return Err(ReadTerm::BadTerm);
-    };
-    let Some(rest) = after(b" ", rest) else {
-        return Err(ReadTerm::BadTerm);
-    };
+    let rest = after(b"process ", bytes).ok_or(ReadTerm::BadTerm)?;
+    let (n, rest) = narrow(rest).ok_or(ReadTerm::BadTerm)?;
+    let rest = after(b" ", rest).ok_or(ReadTerm::BadTerm)?;
     let (name, rest) = line_end(name(alloc, rest))?;
     passing(n == pid, ((n, name), rest))
 }

@@ -28,12 +28,8 @@ fn execution(bytes: &[u8]) -> Option<(Did, &[u8])>
 fn handling(bytes: &[u8]) -> Option<(Did, &[u8])>
     ensures { option_map (λ x. (x.0, x.1.now)) result ≡ row_front rows.from bytes.now }
 {
-    let Some((from, rest)) = narrow_field(bytes) else {
-        return None;
-    };
-    let Some((number, rest)) = wide_field(rest) else {
-        return None;
-    };
+    let (from, rest) = narrow_field(bytes)?;
+    let (number, rest) = wide_field(rest)?;
     let from = Pid(from);
     Some((Did::From { from, number }, rest))
 }
@@ -70,24 +66,16 @@ fn set(alloc: Global, bytes: &[u8]) -> Result<(Outcome, &[u8]), ReadTerm>
 fn answered(bytes: &[u8]) -> Result<(Outcome, &[u8]), ReadTerm>
     ensures { Gives (λ x. (x.0, x.1.now)) result (row_front rows.answered bytes.now) }
 {
-    let Some(rest) = after(b" ", bytes) else {
-        return Err(ReadTerm::BadTerm);
-    };
-    let Some((value, rest)) = choice(b"true", b"false", rest) else {
-        return Err(ReadTerm::BadTerm);
-    };
+    let rest = after(b" ", bytes).ok_or(ReadTerm::BadTerm)?;
+    let (value, rest) = choice(b"true", b"false", rest).ok_or(ReadTerm::BadTerm)?;
     Ok((Outcome::Answered { value }, rest))
 }
 
 fn took(alloc: Global, bytes: &[u8]) -> Result<(Outcome, &[u8]), ReadTerm>
     ensures { Gives (λ x. (x.0, x.1.now)) result (row_front rows.took bytes.now) }
 {
-    let Some((clause, rest)) = narrow_field(bytes) else {
-        return Err(ReadTerm::BadTerm);
-    };
-    let Some((looked, rest)) = wide_field(rest) else {
-        return Err(ReadTerm::BadTerm);
-    };
+    let (clause, rest) = narrow_field(bytes).ok_or(ReadTerm::BadTerm)?;
+    let (looked, rest) = wide_field(rest).ok_or(ReadTerm::BadTerm)?;
     let (message, rest) = term_field(alloc, rest)?;
     let outcome = Outcome::Took {
         clause,
@@ -188,9 +176,7 @@ fn message(alloc: Global, bytes: &[u8]) -> Result<(Kind, &[u8]), ReadTerm>
 fn alias_message(alloc: Global, bytes: &[u8]) -> Result<(Kind, &[u8]), ReadTerm>
     ensures { Gives (λ x. (x.0, x.1.now)) result (row_front kinds.alias_message bytes.now) }
 {
-    let Some((reference, rest)) = reference_field(bytes) else {
-        return Err(ReadTerm::BadTerm);
-    };
+    let (reference, rest) = reference_field(bytes).ok_or(ReadTerm::BadTerm)?;
     let (term, rest) = term_field(alloc, rest)?;
     Ok((Kind::AliasMessage { reference, term }, rest))
 }
@@ -234,12 +220,8 @@ fn demonitor(bytes: &[u8]) -> Result<(Kind, &[u8]), ReadTerm>
 fn exit(alloc: Global, bytes: &[u8]) -> Result<(Kind, &[u8]), ReadTerm>
     ensures { Gives (λ x. (x.0, x.1.now)) result (row_front kinds.exit bytes.now) }
 {
-    let Some(rest) = after(b" ", bytes) else {
-        return Err(ReadTerm::BadTerm);
-    };
-    let Some((linked, rest)) = choice(b"linked", b"plain", rest) else {
-        return Err(ReadTerm::BadTerm);
-    };
+    let rest = after(b" ", bytes).ok_or(ReadTerm::BadTerm)?;
+    let (linked, rest) = choice(b"linked", b"plain", rest).ok_or(ReadTerm::BadTerm)?;
     let (reason, rest) = term_field(alloc, rest)?;
     Ok((Kind::Exit { reason, linked }, rest))
 }
@@ -247,9 +229,7 @@ fn exit(alloc: Global, bytes: &[u8]) -> Result<(Kind, &[u8]), ReadTerm>
 fn down(alloc: Global, bytes: &[u8]) -> Result<(Kind, &[u8]), ReadTerm>
     ensures { Gives (λ x. (x.0, x.1.now)) result (row_front kinds.down bytes.now) }
 {
-    let Some((reference, rest)) = reference_field(bytes) else {
-        return Err(ReadTerm::BadTerm);
-    };
+    let (reference, rest) = reference_field(bytes).ok_or(ReadTerm::BadTerm)?;
     let (reason, rest) = term_field(alloc, rest)?;
     Ok((Kind::Down { reference, reason }, rest))
 }

@@ -1,65 +1,25 @@
 //! Readers of a line's parts: numbers, terms, references, names, and fields, which stand behind a space.
 
-ghost use Rattle.std.specs.Prelude.{◌≡◌, ◌≤◌, IfSome, length};
+ghost use Rattle.std.specs.Prelude.{◌≡◌, ◌≤◌, length};
 ghost use Rattle.std.specs.Option.{option_map};
 ghost use Rattle.std.specs.List.{prefix_len};
 ghost use Rattle.sig_terms.specs.Words.{is_name_byte};
-ghost use Rattle.sig_terms.specs.Tokens.{digits_on, number_at, after_text, reference_at};
+ghost use Rattle.sig_terms.specs.Tokens.{after_text, reference_at};
 ghost use Rattle.sig_terms.specs.Fronts.{Gives};
 ghost use Rattle.sig_record.specs.Phrases.{a_narrow, a_wide, a_reference, a_term, narrow, wide, term_front, ref_front, choice_front, field_front};
 ghost use Rattle.sig_record.specs.RecordFronts.{name_front};
 
-use sig_terms::bytes::{follows_in_name, is_digit_byte, spells_name};
+use sig_terms::bytes::{follows_in_name, spells_name};
+use sig_terms::numbers::number;
 use sig_terms::{Name, Pid, ReadTerm, Ref, Term, read_front};
 use std::alloc::Global;
-
-/// The number whose digits are those of `first` and those at the front of the bytes, as many as
-/// leave it at most `most`.
-fn digits(most: u64, first: u64, bytes: &[u8]) -> (u64, &[u8])
-    requires { first ≤ most }
-    ensures number { (result.0, result.1.now) ≡ digits_on most first bytes.now }
-    ensures most { result.0 ≤ most }
-{
-    let mut number = first;
-    for (i, b) in bytes.iter().enumerate() {
-        if !is_digit_byte(*b) {
-            return (number, &bytes[i..]);
-        }
-        let next = 10 * u128::from(number) + u128::from(*b - b'0');
-        if next > u128::from(most) {
-            return (number, &bytes[i..]);
-        }
-        number = next as u64;
-    }
-    (number, &[])
-}
-
-/// The number at the front of the bytes, at most `most` and without leading zeros.
-fn number(most: u64, bytes: &[u8]) -> Option<(u64, &[u8])>
-    requires { 9 ≤ most }
-    ensures number { option_map (λ x. (x.0, x.1.now)) result ≡ number_at most bytes.now }
-    ensures most { IfSome result (λ x. x.0 ≤ most) }
-{
-    match bytes {
-        [first, rest @ ..] if is_digit_byte(*first) => {
-            if *first == b'0' {
-                Some((0, rest))
-            } else {
-                Some(digits(most, u64::from(*first - b'0'), rest))
-            }
-        }
-        _ => None,
-    }
-}
 
 /// The number of 32 bits at the front of the bytes.
 pub(crate) fn narrow(bytes: &[u8]) -> Option<(u32, &[u8])>
     ensures { option_map (λ x. (x.0, x.1.now)) result ≡ narrow bytes.now }
 {
-    match number((1 << 32) - 1, bytes) {
-        Some((n, rest)) => Some((n as u32, rest)),
-        None => None,
-    }
+    let (n, rest) = number((1 << 32) - 1, bytes)?;
+    Some((n as u32, rest))
 }
 
 /// The number of 64 bits at the front of the bytes.
@@ -90,24 +50,12 @@ pub(crate) fn term(alloc: Global, bytes: &[u8]) -> Result<(Term, &[u8]), ReadTer
 pub(crate) fn reference(bytes: &[u8]) -> Option<(Ref, &[u8])>
     ensures { option_map (λ x. (x.0, x.1.now)) result ≡ ref_front bytes.now }
 {
-    let Some(inside) = after(b"#", bytes) else {
-        return None;
-    };
-    let Some(digits) = after(b"Ref<", inside) else {
-        return None;
-    };
-    let Some((owner, more)) = narrow(digits) else {
-        return None;
-    };
-    let Some(more) = after(b".", more) else {
-        return None;
-    };
-    let Some((serial, rest)) = wide(more) else {
-        return None;
-    };
-    let Some(rest) = after(b">", rest) else {
-        return None;
-    };
+    let inside = after(b"#", bytes)?;
+    let digits = after(b"Ref<", inside)?;
+    let (owner, more) = narrow(digits)?;
+    let more = after(b".", more)?;
+    let (serial, rest) = wide(more)?;
+    let rest = after(b">", rest)?;
     let owner = Pid(owner);
     Some((Ref { owner, serial }, rest))
 }

@@ -191,10 +191,8 @@ fn variable_and_expr(
     ensures { Gives (λ x. (x.0.0, (x.1, tt))) result (all_said known.now 0 line.now (Operand.a_variable ∷ Operand.an_expr ∷ []) tokens.now) }
 {
     let (var, rest) = take_variable(alloc, line, tokens)?;
-    match one_expr(alloc, known, line, rest) {
-        Ok(value) => Ok((var, value)),
-        Err(stop) => Err(stop),
-    }
+    let value = one_expr(alloc, known, line, rest)?;
+    Ok((var, value))
 }
 
 /// Whether the word is `on`. A word that isn't `off` either is refused.
@@ -347,10 +345,8 @@ fn read_alias(alloc: Global, line: &[u8], tokens: &[Token]) -> Result<Instr, Sto
     ensures { Gives (λ i. i) result (instr_of Known.Any 0 Verb.Alias line.now tokens.now) }
 {
     let (var, rest) = take_variable(alloc, line, tokens)?;
-    match one_flag(b"reply", line, rest) {
-        Ok(reply) => Ok(Instr::Alias { var, reply }),
-        Err(stop) => Err(stop),
-    }
+    let reply = one_flag(b"reply", line, rest)?;
+    Ok(Instr::Alias { var, reply })
 }
 
 fn read_name(alloc: Global, line: &[u8], tokens: &[Token]) -> Result<Name, Stop>
@@ -429,65 +425,65 @@ fn read_instr(
     ensures { Gives (λ i. i) result (instr_of known.now here verb line.now tokens.now) }
 {
     match verb {
-        Verb::Send => match two_exprs(alloc, known, line, tokens) {
-            Ok((to, message)) => Ok(Instr::Send { to, message }),
-            Err(stop) => Err(stop),
-        },
-        Verb::Set => match variable_and_expr(alloc, known, line, tokens) {
-            Ok((var, value)) => Ok(Instr::Set { var, value }),
-            Err(stop) => Err(stop),
-        },
-        Verb::MakeRef => match one_variable(alloc, line, tokens) {
-            Ok(var) => Ok(Instr::MakeRef { var }),
-            Err(stop) => Err(stop),
-        },
-        Verb::Link => match one_expr(alloc, known, line, tokens) {
-            Ok(peer) => Ok(Instr::Link { peer }),
-            Err(stop) => Err(stop),
-        },
-        Verb::Unlink => match one_expr(alloc, known, line, tokens) {
-            Ok(peer) => Ok(Instr::Unlink { peer }),
-            Err(stop) => Err(stop),
-        },
+        Verb::Send => {
+            let (to, message) = two_exprs(alloc, known, line, tokens)?;
+            Ok(Instr::Send { to, message })
+        }
+        Verb::Set => {
+            let (var, value) = variable_and_expr(alloc, known, line, tokens)?;
+            Ok(Instr::Set { var, value })
+        }
+        Verb::MakeRef => {
+            let var = one_variable(alloc, line, tokens)?;
+            Ok(Instr::MakeRef { var })
+        }
+        Verb::Link => {
+            let peer = one_expr(alloc, known, line, tokens)?;
+            Ok(Instr::Link { peer })
+        }
+        Verb::Unlink => {
+            let peer = one_expr(alloc, known, line, tokens)?;
+            Ok(Instr::Unlink { peer })
+        }
         Verb::Monitor => read_monitor(alloc, known, line, tokens),
         Verb::Demonitor => read_demonitor(alloc, known, line, tokens),
         Verb::Alias => read_alias(alloc, line, tokens),
-        Verb::Unalias => match one_expr(alloc, known, line, tokens) {
-            Ok(reference) => Ok(Instr::Unalias { reference }),
-            Err(stop) => Err(stop),
-        },
-        Verb::Exit => match one_expr(alloc, known, line, tokens) {
-            Ok(reason) => Ok(Instr::Exit { reason }),
-            Err(stop) => Err(stop),
-        },
-        Verb::ExitTo => match two_exprs(alloc, known, line, tokens) {
-            Ok((target, reason)) => Ok(Instr::ExitTo { target, reason }),
-            Err(stop) => Err(stop),
-        },
-        Verb::Trap => match one_switch(line, tokens) {
-            Ok(on) => Ok(Instr::Trap { on }),
-            Err(stop) => Err(stop),
-        },
-        Verb::Reserve => match end(tokens) {
-            Ok(()) => Ok(Instr::Reserve),
-            Err(stop) => Err(stop),
-        },
-        Verb::Bind => match one_variable(alloc, line, tokens) {
-            Ok(var) => Ok(Instr::Bind { var }),
-            Err(stop) => Err(stop),
-        },
-        Verb::Clear => match one_variable(alloc, line, tokens) {
-            Ok(var) => Ok(Instr::Clear { var }),
-            Err(stop) => Err(stop),
-        },
-        Verb::Goto => match one_label(known, here, line, tokens) {
-            Ok(label) => Ok(Instr::Goto { label }),
-            Err(stop) => Err(stop),
-        },
-        Verb::Stop => match end(tokens) {
-            Ok(()) => Ok(Instr::Stop),
-            Err(stop) => Err(stop),
-        },
+        Verb::Unalias => {
+            let reference = one_expr(alloc, known, line, tokens)?;
+            Ok(Instr::Unalias { reference })
+        }
+        Verb::Exit => {
+            let reason = one_expr(alloc, known, line, tokens)?;
+            Ok(Instr::Exit { reason })
+        }
+        Verb::ExitTo => {
+            let (target, reason) = two_exprs(alloc, known, line, tokens)?;
+            Ok(Instr::ExitTo { target, reason })
+        }
+        Verb::Trap => {
+            let on = one_switch(line, tokens)?;
+            Ok(Instr::Trap { on })
+        }
+        Verb::Reserve => {
+            end(tokens)?;
+            Ok(Instr::Reserve)
+        }
+        Verb::Bind => {
+            let var = one_variable(alloc, line, tokens)?;
+            Ok(Instr::Bind { var })
+        }
+        Verb::Clear => {
+            let var = one_variable(alloc, line, tokens)?;
+            Ok(Instr::Clear { var })
+        }
+        Verb::Goto => {
+            let label = one_label(known, here, line, tokens)?;
+            Ok(Instr::Goto { label })
+        }
+        Verb::Stop => {
+            end(tokens)?;
+            Ok(Instr::Stop)
+        }
     }
 }
 
@@ -507,31 +503,31 @@ fn read_form(
 {
     match word {
         Keyword::Turns => read_turns(line, tokens),
-        Keyword::Process => match read_name(alloc, line, tokens) {
-            Ok(name) => Ok(Form::Process(name)),
-            Err(stop) => Err(stop),
-        },
-        Keyword::Label => match read_name(alloc, line, tokens) {
-            Ok(name) => Ok(Form::Label(name)),
-            Err(stop) => Err(stop),
-        },
-        Keyword::Receive => match read_marker(alloc, line, tokens) {
-            Ok(using) => Ok(Form::Receive { using }),
-            Err(stop) => Err(stop),
-        },
+        Keyword::Process => {
+            let name = read_name(alloc, line, tokens)?;
+            Ok(Form::Process(name))
+        }
+        Keyword::Label => {
+            let name = read_name(alloc, line, tokens)?;
+            Ok(Form::Label(name))
+        }
+        Keyword::Receive => {
+            let using = read_marker(alloc, line, tokens)?;
+            Ok(Form::Receive { using })
+        }
         Keyword::On => read_on(alloc, known, here, line, tokens),
-        Keyword::After => match take_arrow(known, here, line, tokens) {
-            Ok(target) => Ok(Form::After(After { target })),
-            Err(stop) => Err(stop),
-        },
-        Keyword::End => match end(tokens) {
-            Ok(()) => Ok(Form::End),
-            Err(stop) => Err(stop),
-        },
-        Keyword::Do(verb) => match read_instr(alloc, known, here, verb, line, tokens) {
-            Ok(instr) => Ok(Form::Do(instr)),
-            Err(stop) => Err(stop),
-        },
+        Keyword::After => {
+            let target = take_arrow(known, here, line, tokens)?;
+            Ok(Form::After(After { target }))
+        }
+        Keyword::End => {
+            end(tokens)?;
+            Ok(Form::End)
+        }
+        Keyword::Do(verb) => {
+            let instr = read_instr(alloc, known, here, verb, line, tokens)?;
+            Ok(Form::Do(instr))
+        }
     }
 }
 
@@ -582,10 +578,8 @@ fn read_said(
         [] => Ok(None),
         [token, rest @ ..] => {
             let word = read_keyword(text_of(line, *token));
-            match read_behind(alloc, known, draft, word, line, rest) {
-                Ok(form) => Ok(Some(form)),
-                Err(stop) => Err(stop),
-            }
+            let form = read_behind(alloc, known, draft, word, line, rest)?;
+            Ok(Some(form))
         }
     }
 }

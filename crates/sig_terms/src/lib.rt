@@ -7,6 +7,7 @@ pub mod bytes;
 mod name;
 mod nested;
 mod nodes;
+pub mod numbers;
 mod pid;
 mod pieces;
 mod reading;

@@ -1,61 +1,23 @@
 //! Readers of what has no elements: integers, atoms, pids and references. Each reads as many
 //! bytes as it can, and answers what is behind them.
 
-ghost use Rattle.std.specs.Prelude.{◌≡◌, ◌≤◌, ◌^◌, ◌-◌, ◌*◌, ◌+◌, ◌<◌, negsuc, IfSome, take, length};
+ghost use Rattle.std.specs.Prelude.{◌≡◌, ◌≤◌, ◌^◌, ◌-◌, ◌*◌, ◌+◌, ◌<◌, negsuc, take, length};
 ghost use Rattle.std.specs.Option.{option_map};
 ghost use Rattle.std.specs.List.{prefix_len};
 ghost use Rattle.sig_terms.specs.Words.{is_name_byte, is_atom_byte};
-ghost use Rattle.sig_terms.specs.Tokens.{digits_on, number_at, negative_at, int_at, after_text, atom_of};
+ghost use Rattle.sig_terms.specs.Tokens.{negative_at, int_at, after_text, atom_of};
 ghost use Rattle.sig_terms.specs.Fronts.{Gives, int_term_at, name_term_at, quoted_term_at, pid_term_at, serial_term_at, reference_term_at, marked_at, leaf_at};
 
 use crate::atom::Atom;
 use crate::bytes::{
     MOST_WORD_BYTES, follows_in_name, is_digit_byte, is_lower_byte, spells_name, stands_in_atom,
 };
+use crate::numbers::number;
 use crate::pid::Pid;
 use crate::reference::Ref;
 use crate::refusal::ReadTerm;
 use crate::term::Term;
 use std::alloc::Global;
-
-/// The number whose digits are those of `first` and those at the front of the bytes, as many as
-/// leave it at most `most`.
-fn digits(most: u64, first: u64, bytes: &[u8]) -> (u64, &[u8])
-    requires { first ≤ most }
-    ensures number { (result.0, result.1.now) ≡ digits_on most first bytes.now }
-    ensures most { result.0 ≤ most }
-{
-    let mut number = first;
-    for (i, b) in bytes.iter().enumerate() {
-        if !is_digit_byte(*b) {
-            return (number, &bytes[i..]);
-        }
-        let next = 10 * u128::from(number) + u128::from(*b - b'0');
-        if next > u128::from(most) {
-            return (number, &bytes[i..]);
-        }
-        number = next as u64;
-    }
-    (number, &[])
-}
-
-/// The number at the front of the bytes, at most `most` and without leading zeros.
-fn number(most: u64, bytes: &[u8]) -> Option<(u64, &[u8])>
-    requires { 9 ≤ most }
-    ensures number { option_map (λ x. (x.0, x.1.now)) result ≡ number_at most bytes.now }
-    ensures most { IfSome result (λ x. x.0 ≤ most) }
-{
-    match bytes {
-        [first, rest @ ..] if is_digit_byte(*first) => {
-            if *first == b'0' {
-                Some((0, rest))
-            } else {
-                Some(digits(most, u64::from(*first - b'0'), rest))
-            }
-        }
-        _ => None,
-    }
-}
 
 /// The integer below zero that is this far from -1.
 fn below_zero(distance: u64) -> i64

@@ -34,7 +34,7 @@ fn are_refused(
         return false;
     };
     let fetch = queue.try_fetch(seat, into);
-    found == turn && is_fetch_busy(&fetch, turn)
+    found == Some(turn) && is_fetch_busy(&fetch, turn)
 }
 
 // Whether an offer and a fetch are refused while the turn is held, and then the offer is put into the

@@ -24,11 +24,11 @@ fn way_of(offer: &Offer) -> Option<Via>
     }
 }
 
-// The number of the seat that held the turn, plus 1, or 0 where none did.
-fn found_by(offer: &Offer) -> u64 {
+// The turn of the seat that held it, where one did.
+fn found_by(offer: &Offer) -> Option<u64> {
     match offer {
-        Offer::Busy { found, .. } => *found,
-        _other => 0,
+        Offer::Busy { found, .. } => Some(*found),
+        _other => None,
     }
 }
 
@@ -39,7 +39,7 @@ pub(crate) fn offered(
     line: Line,
     number: u64,
     serial: u64,
-) -> (Option<Via>, u64)
+) -> (Option<Via>, Option<u64>)
     requires own { seat.old.queue ≡ queue.now.id }
     requires sender { Sender queue.now.setup line }
     requires can { has seat.old.knows.senders line.from.0 ≡ true }
@@ -64,12 +64,12 @@ fn is_aside(way: Option<Via>, from: Pid) -> bool {
 }
 
 // Whether an offer was put, or `None` where no seat held the turn and it wasn't.
-fn was_put(way: Option<Via>, found: u64) -> Option<bool>
+fn was_put(way: Option<Via>, found: Option<u64>) -> Option<bool>
     ensures { IfSome result (λ put. put ≡ is_put way) }
 {
     match way {
         Some(_) => Some(true),
-        None if found > 0 => Some(false),
+        None if found.is_some() => Some(false),
         None => None,
     }
 }

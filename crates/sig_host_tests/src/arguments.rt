@@ -1,8 +1,8 @@
 //! The arguments: their settings, and what is told of them.
 
-use super::*;
-use crate::tests::{ONE_MESSAGE, ROOM};
+use crate::runs::{ONE_MESSAGE, ROOM};
 use sig_base::{MemorySink, MemorySource, OpenGate, read_all};
+use sig_host::{Settings, Status, WordsError, run, words};
 use sig_layout::Policy;
 use std::alloc::{AllocError, Global};
 use std::sync::Wait;

@@ -2,20 +2,20 @@
 
 ghost use Rattle.std.specs.Prelude.{◌<◌};
 
-use super::*;
-use crate::document_tests::{EXAMPLES, REFUSALS};
-use crate::exit_tests::{EXIT_SIGNALS, EXITS};
-use crate::large_tests::{GROWTHS, Growth};
-use crate::link_tests::{LINK_CALLS, LINKED_EXITS, QUEUED, UNLINKS};
-use crate::marker_tests::MARKERS;
-use crate::match_tests::MATCHES;
-use crate::refusal_tests::{
+use crate::documents::{EXAMPLES, REFUSALS};
+use crate::exits::{EXIT_SIGNALS, EXITS};
+use crate::large::{GROWTHS, Growth};
+use crate::links::{LINK_CALLS, LINKED_EXITS, QUEUED, UNLINKS};
+use crate::markers::MARKERS;
+use crate::matches::MATCHES;
+use crate::refusals::{
     HEADS, LONG, MARKER_CLAUSES, OPERANDS, OTHER_FIRST_LINES, OTHERS, RECEIVES, TERMS,
 };
-use crate::text_tests::TEXTS;
-use crate::watch_tests::WATCHES;
+use crate::texts::TEXTS;
+use crate::watches::WATCHES;
 use itoa::Buffer;
 use sig_base::{FailingSink, FailingSource, MemorySink, MemorySource, OpenGate, Sink, Source};
+use sig_host::{Status, run};
 use sig_script::FaultKind;
 use std::alloc::{AllocError, Global};
 use std::sync::Wait;

@@ -1,6 +1,6 @@
 use Rattle.std.proofs.Common.{◌≡◌, ◌≤◌, drop}
 use Rattle.sig_terms.specs.Tokens.{digits_on}
-use Rattle.sig_terms.proofs.tokens.digits.Given as goal
+use Rattle.sig_terms.proofs.numbers.digits.Given as goal
 
 -- what is left goes on from the number so far
 abbrev pub invariant-loop-i : goal.invariant-loop-i

@@ -1,11 +1,11 @@
 //! Runs with several workers, through the top call.
 
-use super::*;
-use crate::argument_tests::strings;
-use crate::marker_tests::SERVER_AND_CLIENTS;
-use crate::tests::{ONE_MESSAGE, PING_PONG, ROOM, text_of};
+use crate::arguments::strings;
+use crate::markers::SERVER_AND_CLIENTS;
+use crate::runs::{ONE_MESSAGE, PING_PONG, ROOM, text_of};
 use itoa::Buffer;
 use sig_base::{Gate, MemorySink, MemorySource, OpenGate, Point};
+use sig_host::{Status, run};
 use sig_record::read_record;
 use std::alloc::{AllocError, Global};
 use std::sync::atomic::{AtomicBool, AtomicU64, Ordering};

@@ -1,7 +1,6 @@
 //! Records: merged, sorted, and read back.
 
-use super::*;
-use crate::tests::{ONE_MESSAGE, ONE_MESSAGE_RECORD};
+use crate::runs::{ONE_MESSAGE, ONE_MESSAGE_RECORD};
 use itoa::Buffer;
 use sig_process::Crew;
 use sig_record::{Record, RecordError, print_record, read_record};
