@@ -1,7 +1,7 @@
 -- What an execution leaves, from what its steps leave.
-use Rattle.std.proofs.Common.{◌≡◌, ℕ, ◌+◌, List, [], ◌∷◌, ◌++◌, map, Bool, true, false, Option, Some, None, refl, sym, ap, ◌∙◌, subst}
+use Rattle.std.proofs.Common.{◌≡◌, ℕ, ◌+◌, List, ◌++◌, map, Bool, true, false, Option, Some, None, refl, sym, ap, ◌∙◌, subst}
 use Rattle.sig_kinds.specs.declared.signal.Signal.{Signal}
-use Rattle.std.specs.Prelude.{MatchResult, OnOk, OnErr, Result, Ok, Err}
+use Rattle.std.specs.Prelude.{MatchResult, Result, Ok, Err}
 use Rattle.std.specs.Option.{option_map_or}
 use Rattle.std.proofs.lemmas.Bool.{cond_both}
 use Rattle.sig_terms.specs.declared.reference.Ref.{Ref}
@@ -14,21 +14,17 @@ use Rattle.sig_inner.specs.InnerQueue.{InnerQueue, marked_by, cleared}
 use Rattle.sig_inner.specs.InnerQueue.{bound as bound_queue}
 use Rattle.sig_model.specs.declared.event.Event.{Event}
 use Rattle.sig_model.specs.declared.event.Did.TheVariants as did
-use Rattle.sig_model.specs.declared.event.Outcome.{Outcome}
 use Rattle.sig_model.specs.ProcessState.{ProcessState, Post}
 use Rattle.sig_model.specs.Finishing.{numbered, finished_exec}
 use Rattle.sig_model.specs.Running.{to_itself, to_others}
 use Rattle.sig_process.specs.declared.changing.Growing.{Growing}
-use Rattle.sig_process.specs.declared.changing.Growing.TheVariants.{Nothing, Messages, Links, Monitors}
 use Rattle.sig_process.specs.declared.plan.Binding.{Binding}
 use Rattle.sig_process.specs.declared.plan.Outgoing.{Outgoing}
 use Rattle.sig_process.specs.declared.plan.Execution.{Execution}
 use Rattle.sig_process.specs.declared.progress.Progress.{Progress}
-use Rattle.sig_process.specs.declared.progress.Tables.{Tables}
-use Rattle.sig_patterns.specs.Environment.{Environment}
-use Rattle.sig_process.specs.Plans.{post_of, bound, bound_by, serial_by, inbox_by, changed, after_obeying, executed_body}
-use Rattle.sig_process.specs.Committing.{HasRoom, HasBegun, HasBound, HasTaken, IsCommittable, gone_on}
-use Rattle.sig_process.specs.Progressing.{state_of, HaveRoom, IsSame, HasAdvanced}
+use Rattle.sig_process.specs.Plans.{post_of, bound, inbox_by, changed, after_obeying, executed_body}
+use Rattle.sig_process.specs.Committing.{HasBound, HasTaken, IsCommittable, gone_on}
+use Rattle.sig_process.specs.Progressing.{state_of, HasAdvanced}
 
 -- the messages and markers after the rules of the inner queue
 marked : (q : InnerQueue) (answer : Bool × Inbox) → (answer.0 ≡ false → answer.1 ≡ q.inbox) → ((marked_by q answer).inbox ≡ answer.1) × ((marked_by q answer).owner ≡ q.owner)
@@ -45,52 +41,6 @@ bound_so q r = marked q (bound_in q.owner q.inbox r) (bound_none q.owner q.inbox
 
 pub cleared_so : (q : InnerQueue) (r : Ref) → ((cleared q r).inbox ≡ (cleared_in q.inbox r).1) × ((cleared q r).owner ≡ q.owner)
 cleared_so q r = marked q (cleared_in q.inbox r) (cleared_none q.inbox r)
-
--- the room for a change stays where a variable is bound
-room_bound : (g : Growing) (t : Tables) (env : Environment) → HaveRoom g t → HaveRoom g (record t { env = env })
-room_bound Nothing t env room = room
-room_bound Messages t env room = room
-room_bound Links t env room = room
-room_bound Monitors t env room = room
-
--- the event is noted, and the variable is bound
-abbrev pub with_binding : Progress → Binding → Progress
-with_binding p b = record p { tables = record p.tables { env = bound_by p.tables.env b }; counts = record p.counts { next_serial = serial_by p.counts.next_serial b } }
-
-room_with : (posts : ℕ) (grows : Growing) (p : Progress) (b : Binding) → HasRoom posts grows p → HasRoom posts grows (with_binding p b)
-room_with posts grows p b room = record { own = room.own; outbox = room.outbox; tables = room_bound grows p.tables (bound_by p.tables.env b) room.tables }
-
-begun_bound : (posts : ℕ) (grows : Growing) (b : Binding) (old begun after : Progress) (how : Outcome) →
-    HasBegun posts grows old begun (record { stamp = old.counts.stamp + 1; did = did.Exec old.counts.place; outcome = how }) → after ≡ with_binding begun b →
-    HasBound posts grows b old after how
-begun_bound posts grows b old begun after how begins is = record {
-  room = subst (HasRoom posts grows) (sym is) (room_with posts grows begun b begins.room);
-  state = ap state_of is ∙ ap (λ (s : ProcessState). bound s b) begins.state;
-  queue = ap (λ (p : Progress). p.tables.inner.queue) is ∙ begins.queue;
-  events = ap (λ (p : Progress). p.events) is ∙ begins.events;
-  handled = ap (λ (p : Progress). p.handled.items) is ∙ begins.handled;
-  own = ap (λ (p : Progress). p.own.items) is ∙ begins.own;
-  taken_in = ap (λ (p : Progress). p.taken_in.items) is ∙ begins.taken_in;
-  outbox = ap (λ (p : Progress). p.outbox.items) is ∙ begins.outbox;
-}
-
--- where no memory is there to bind it, the event is taken back
-pub begun_bound_so : {T E : Type 0} (posts : ℕ) (grows : Growing) (b : Binding) (old begun after : Progress) (how : Outcome) →
-    HasBegun posts grows old begun (record { stamp = old.counts.stamp + 1; did = did.Exec old.counts.place; outcome = how }) →
-    (o : Result T E) → OnOk o (after ≡ with_binding begun b) → OnErr o ((before : List Event) (event : Event) → begun.events ≡ before ++ event ∷ [] → after ≡ record begun { events = before }) →
-    MatchResult o (λ _. HasBound posts grows b old after how) (λ _. IsSame old after)
-begun_bound_so posts grows b old begun after how begins (Ok _) is back = begun_bound posts grows b old begun after how begins is
-begun_bound_so posts grows b old begun after how begins (Err _) is back =
-    let same : after ≡ record begun { events = old.events } = back old.events (record { stamp = old.counts.stamp + 1; did = did.Exec old.counts.place; outcome = how }) begins.events in
-    record {
-      state = ap state_of same ∙ begins.state;
-      queue = ap (λ (p : Progress). p.tables.inner.queue) same ∙ begins.queue;
-      events = ap (λ (p : Progress). p.events) same;
-      handled = ap (λ (p : Progress). p.handled.items) same ∙ begins.handled;
-      own = ap (λ (p : Progress). p.own.items) same ∙ begins.own;
-      taken_in = ap (λ (p : Progress). p.taken_in.items) same ∙ begins.taken_in;
-      outbox = ap (λ (p : Progress). p.outbox.items) same ∙ begins.outbox;
-    }
 
 -- no count is at its end, where a variable is bound
 pub bound_committable : (posts : List Outgoing) (b : Binding) (old bound_one : Progress) → state_of bound_one ≡ bound (state_of old) b → IsCommittable posts old → IsCommittable posts bound_one

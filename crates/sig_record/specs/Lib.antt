@@ -9,7 +9,6 @@ pub mod Phrases
 pub mod EventRows
 pub mod KindRows
 pub mod RecordText
-pub mod Putting
 pub mod Readers
 pub mod RecordFronts
 pub mod ReadableRecord
