@@ -18,7 +18,7 @@ use sig_model::{Did, Event, LAST_STAMP, Outcome};
 use sig_patterns::{Pattern, bind_match};
 use sig_terms::Pid;
 use std::alloc::AllocError;
-use std::mem;
+use std::mem::{self, drop};
 
 impl Progress {
     /// Makes room for all that an event changes, with so many signals to be sent.
@@ -38,7 +38,10 @@ impl Progress {
     fn begin(&mut self, event: Event, posts: usize, grows: Growing) -> Result<(), AllocError>
         ensures { MatchResult result (λ _. HasBegun posts grows self.old self.new event) (λ _. IsSame self.old self.new) }
     {
-        self.make_room(posts, grows)?;
+        if let Err(fault) = self.make_room(posts, grows) {
+            drop(event);
+            return Err(fault);
+        }
         self.events.add(event)
     }
 
@@ -83,7 +86,7 @@ impl Progress {
     fn take_back(&mut self)
         ensures { (before : List Event) (event : Event) → self.old.events ≡ before ++ event ∷ [] → self.new ≡ record self.old { events = before } }
     {
-        let _ = self.events.pop();
+        drop(self.events.pop());
     }
 
     /// Binds the variable of an instruction, or takes back the event that was noted last.
@@ -169,7 +172,11 @@ impl Progress {
                 self.end_exec(inbox, place);
                 Ok(())
             }
-            Err(fault) => Err(fault),
+            Err(fault) => {
+                drop(plan.change);
+                drop(plan.posts);
+                Err(fault)
+            }
         }
     }
 
@@ -207,7 +214,10 @@ impl Progress {
     {
         match pop_next(&mut self.own, &mut self.taken_in) {
             None => {}
-            Some(signal) => self.handled.add(&signal),
+            Some(signal) => {
+                self.handled.add(&signal);
+                drop(signal);
+            }
         }
     }
 
@@ -225,7 +235,11 @@ impl Progress {
     {
         let event = self.handling_event(plan.outcome);
         let stamp = event.stamp;
-        self.begin(event, plan.posts.len(), plan.change.growing())?;
+        if let Err(fault) = self.begin(event, plan.posts.len(), plan.change.growing()) {
+            drop(plan.change);
+            drop(plan.posts);
+            return Err(fault);
+        }
         self.move_next();
         self.go_on(pid, stamp, plan.obeyed, plan.change, plan.posts);
         Ok(())

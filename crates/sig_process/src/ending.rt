@@ -5,6 +5,7 @@ ghost use Rattle.sig_process.specs.Plans.{after_obeying, body_of, executed_body}
 ghost use Rattle.sig_process.specs.Progressing.{state_of};
 
 use crate::changing::Change;
+use crate::copying::with_copy;
 use crate::plan::{Binding, Execution, InboxChange, Plan};
 use crate::progress::Progress;
 use sig_model::Outcome;
@@ -17,7 +18,7 @@ impl Progress {
     pub(crate) fn ending(&self, obeyed: Option<Pid>, reason: Term) -> Result<Plan, AllocError>
         ensures { IfOk result (λ plan. ending (after_obeying (state_of self.now) obeyed) reason ≡ body_of (state_of self.now) plan) }
     {
-        let told = reason.copy(self.alloc)?;
+        let (reason, told) = with_copy(self.alloc, reason)?;
         let posts = self.told_at_end(obeyed, &reason)?;
         Ok(Plan {
             obeyed,

@@ -11,6 +11,7 @@ use sig_kinds::Kind;
 use sig_model::{LAST_STAMP, Outcome};
 use sig_terms::Term;
 use std::alloc::AllocError;
+use std::mem::drop;
 
 /// The message of a signal to a process.
 fn message_in(kind: Kind) -> Option<Term>
@@ -18,7 +19,10 @@ fn message_in(kind: Kind) -> Option<Term>
 {
     match kind {
         Kind::Message { term } => Some(term),
-        _other => None,
+        other => {
+            drop(other);
+            None
+        }
     }
 }
 

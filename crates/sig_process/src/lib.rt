@@ -3,6 +3,7 @@
 
 mod changing;
 mod committing;
+mod copying;
 mod crew;
 mod ending;
 mod executing;

@@ -7,6 +7,7 @@ ghost use Rattle.sig_process.specs.Plans.{changed, post_of, body_of, executed_bo
 ghost use Rattle.sig_process.specs.Progressing.{state_of};
 
 use crate::changing::{Change, LinkChange, WatchChange};
+use crate::copying::with_copy;
 use crate::plan::{Binding, Execution, InboxChange, Outgoing, Plan};
 use crate::progress::Progress;
 use crate::values::ValueFault;
@@ -113,7 +114,7 @@ impl Progress {
         requires { self.now.counts.place ≤ length proc.now.instrs }
         ensures { IfOk result (λ x. sending (state_of self.now) term (Target.Process to) ≡ executed_body (state_of self.now) x) }
     {
-        let message = term.copy(self.alloc)?;
+        let (term, message) = with_copy(self.alloc, term)?;
         let posts = one_post(self.alloc, to, Kind::Message { term })?;
         let to = Term::Pid(to);
         Ok(self.telling(proc, Outcome::Sent { to, message }, posts))
@@ -129,7 +130,7 @@ impl Progress {
         requires { self.now.counts.place ≤ length proc.now.instrs }
         ensures { IfOk result (λ x. sending (state_of self.now) term (Target.Alias reference) ≡ executed_body (state_of self.now) x) }
     {
-        let message = term.copy(self.alloc)?;
+        let (term, message) = with_copy(self.alloc, term)?;
         let kind = Kind::AliasMessage { reference, term };
         let posts = one_post(self.alloc, reference.owner, kind)?;
         let to = Term::Ref(reference);
@@ -166,7 +167,7 @@ impl Progress {
         requires { self.now.counts.place ≤ length proc.now.instrs }
         ensures { IfOk result (λ x. setting (state_of self.now) var.now.0 value ≡ executed_body (state_of self.now) x) }
     {
-        let told = value.copy(self.alloc)?;
+        let (value, told) = with_copy(self.alloc, value)?;
         let var = var.copy(self.alloc)?;
         Ok(self.assigning(proc, var, value, told))
     }

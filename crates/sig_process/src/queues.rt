@@ -9,7 +9,7 @@ use crate::process::Process;
 use sig_kinds::{Push, Signal, Signals};
 use sig_terms::Pid;
 use std::alloc::AllocError;
-use std::mem;
+use std::mem::{self, drop};
 
 /// The next number for this peer.
 fn number_for(numbers: &[u64], peer: Pid) -> u64
@@ -27,7 +27,10 @@ fn push_signal(signals: &mut Signals, signal: Signal) -> Result<(), AllocError>
 {
     match signals.push(signal) {
         Push::Added => Ok(()),
-        Push::Memory { signal: _ } => Err(AllocError),
+        Push::Memory { signal } => {
+            drop(signal);
+            Err(AllocError)
+        }
     }
 }
 

@@ -12,6 +12,7 @@ ghost use Rattle.sig_process.specs.Planning.{noproc_answer};
 ghost use Rattle.sig_process.specs.Progressing.{state_of};
 
 use crate::changing::{Change, LinkChange, WatchChange};
+use crate::copying::with_copy;
 use crate::plan::{Outgoing, Plan};
 use crate::planning::{demonitor_posts, one_post};
 use crate::progress::Progress;
@@ -58,7 +59,7 @@ impl Progress {
     fn appending(&self, obeyed: Option<Pid>, message: Term) -> Result<Plan, AllocError>
         ensures { IfOk result (λ plan. appending (after_obeying (state_of self.now) obeyed) message ≡ body_of (state_of self.now) plan) }
     {
-        let told = message.copy(self.alloc)?;
+        let (message, told) = with_copy(self.alloc, message)?;
         Ok(Plan {
             obeyed,
             change: Change::Append { message },
@@ -239,10 +240,9 @@ impl Progress {
     fn keeping_down(&self, reference: Ref, message: Term) -> Result<Plan, AllocError>
         ensures { IfOk result (λ plan. (s : ProcessState) → body_of s plan ≡ record { state = changed s (Change.ToldDown reference message); outcome = Outcome.Kept message; posts = [] }) }
     {
-        let told = Outcome::Kept {
-            message: message.copy(self.alloc)?,
-        };
-        Ok(self.silent(Change::ToldDown { reference, message }, told))
+        let (message, told) = with_copy(self.alloc, message)?;
+        let outcome = Outcome::Kept { message: told };
+        Ok(self.silent(Change::ToldDown { reference, message }, outcome))
     }
 
     /// A down signal of a monitor that is held: a message.
