@@ -1,5 +1,5 @@
 -- The texts of expressions and patterns, as their parts are put one after another.
-use Rattle.std.proofs.Common.{◌≡◌, ℕ, suc, ◌+◌, ◌-◌, ◌<◌, ◌≤◌, List, [], ◌∷◌, ◌++◌, map, take, drop, length, get_or, append_assoc, append-nil, sym, ap, ◌∙◌, arith, codes}
+use Rattle.std.proofs.Common.{◌≡◌, ℕ, suc, ◌+◌, ◌-◌, ◌<◌, ◌≤◌, List, [], ◌∷◌, ◌++◌, map, take, drop, length, get_or, append_assoc, append-nil, refl, sym, subst, ap, ◌∙◌, arith, codes}
 use Rattle.std.proofs.lemmas.List.{take_all, drop_more, drop_all}
 use Rattle.std.specs.List.{concat}
 use Rattle.std.specs.Prelude.{Result, Ok, Err, OnOk}
@@ -15,7 +15,7 @@ use Rattle.sig_patterns.specs.declared.pattern.Pattern.{Pattern, roll-Pattern, m
 use Rattle.sig_patterns.specs.declared.pattern.Pattern.TheVariants as pat
 use Rattle.sig_patterns.specs.declared.pattern.Pattern.TheOpen.{Pattern-F}
 use Rattle.sig_patterns.specs.declared.pattern.Pattern.TheOpen as pattern
-use Rattle.sig_patterns.specs.declared.pattern.Pattern.TheFolds.{fold-roll-Pattern}
+use Rattle.sig_patterns.specs.declared.pattern.Pattern.TheFolds.{fold-roll-Pattern, ind-Pattern}
 use Rattle.sig_script.specs.ScriptText.{Written, alone, process_text, expr_step, expr_text, pattern_step, pattern_written}
 use Rattle.sig_script.proofs.PrintLemmas.{kept_one, kept_more, last_text}
 
@@ -115,3 +115,24 @@ module _ (names : List (List ℕ)) where
   pub pattern-Cons : (head tail : Pattern) → pattern_written names (pat.Cons head tail)
       ≡ record { whole = codes "[" ++ (pattern_written names head).whole ++ (pattern_written names tail).tail; tail = codes "," ++ (pattern_written names head).whole ++ (pattern_written names tail).tail }
   pattern-Cons head tail = ap (pattern_written names) (sym (pat.rolls-Cons head tail)) ∙ pattern-roll (pattern.Cons head tail)
+
+  -- a pattern that is no list with a tail stands between a bar and a bracket
+  abbrev IsAlone : Written → Type 0
+  IsAlone w = w.tail ≡ codes "|" ++ w.whole ++ codes "]"
+
+  abbrev IsNoCons : Pattern → Type 0
+  IsNoCons p = (head tail : Pattern) → p ≡ pat.Cons head tail → ⊥
+
+  layer_alone : (p : Pattern-F Pattern) → IsNoCons (roll-Pattern p) → IsAlone (pattern_step names (map-Pattern Pattern Written (pattern_written names) p))
+  layer_alone pattern.Any other = refl
+  layer_alone (pattern.Bind x) other = refl
+  layer_alone (pattern.Pin x) other = refl
+  layer_alone (pattern.Int n) other = refl
+  layer_alone (pattern.Atom bytes) other = refl
+  layer_alone (pattern.Pid p) other = refl
+  layer_alone (pattern.Tuple ps) other = refl
+  layer_alone (pattern.List ps) other = refl
+  layer_alone (pattern.Cons head tail) other = absurd (other head tail (pat.rolls-Cons head tail))
+
+  pub tail_alone : (p : Pattern) → IsNoCons p → IsAlone (pattern_written names p)
+  tail_alone = ind-Pattern (λ p. IsNoCons p → IsAlone (pattern_written names p)) (λ x y is other. subst IsAlone (sym (pattern-roll x)) (layer_alone x other))

@@ -23,7 +23,7 @@ ghost use Rattle.sig_script.specs.Grammar.{finished, line_taken};
 ghost use Rattle.sig_script.specs.Reading.{IsReading, MayEnd};
 ghost use Rattle.sig_script.specs.Fitting.{IsFewKnown, IsSmall, IsFit};
 
-use crate::drafted::{DraftProc, DraftProcs, DraftScript};
+use crate::drafted::{DraftProc, DraftProcs, DraftScript, place_of_proc};
 use crate::fault::{FaultKind, Stop};
 use crate::form::{Form, read_line};
 use crate::instruction::{After, Instr};
@@ -36,7 +36,6 @@ use crate::token::Tokens;
 use sig_lists::Sequence;
 use sig_patterns::{Clause, Clauses, Pattern, Var, pins};
 use sig_terms::Name;
-use sig_terms::bytes::equal_bytes;
 use std::alloc::Global;
 use std::mem::{drop, replace};
 
@@ -108,12 +107,11 @@ fn close(procs: &mut DraftProcs, section: Section) -> Result<(), Stop>
 }
 
 /// Whether a process has the name.
+#[tactic(auto, using(crate::proofs::LabelLemmas::any_place))]
 fn is_proc_among(procs: &[DraftProc], name: &[u8]) -> bool
     ensures { result ≡ list_any (λ (p : Declared). bytes_eq p.name name.now) procs.now }
 {
-    procs
-        .iter()
-        .any(|proc| equal_bytes(proc.name.bytes(), name))
+    place_of_proc(procs, name).is_some()
 }
 
 /// Whether there is room behind these processes for one of this name.
@@ -354,7 +352,6 @@ fn place_end(section: &mut Section) -> Result<(), Stop>
 }
 
 /// A form behind what was read so far.
-#[tactic(auto, using(crate::proofs::FitLemmas::open_fits))]
 fn take_form(alloc: Global, draft: &mut Draft, n: u64, form: Form) -> Result<(), Stop>
     requires few { n < 2 ^ 31 }
     requires fit { IsFit n draft.old }

@@ -56,7 +56,8 @@ impl Model for DraftScript {
     ghost view = { λ s. record { turns = s.turns; procs = s.procs } };
 }
 
-fn place_of_proc(procs: &[DraftProc], name: &[u8]) -> Option<usize>
+/// The place of the process of this name. `None` exactly where no process has it.
+pub fn place_of_proc(procs: &[DraftProc], name: &[u8]) -> Option<usize>
     ensures place { result ≡ position (λ (p : Declared). bytes_eq p.name name.now) procs.now }
     ensures within { IfSome result (λ n. n < length procs.now) }
 {

@@ -143,8 +143,8 @@ fn make_answer(alloc: Global) -> Result<Expr, AllocError>
 fn add_hub_answer(alloc: Global, instrs: &mut Instrs) -> Result<(), AllocError>
     ensures { OnOk result (instrs.new ≡ instrs.old ++ hub_answer ∷ []) }
 {
-    let message = make_answer(alloc)?;
     let to = var_of(alloc, b"R")?;
+    let message = make_answer(alloc)?;
     instrs.add(Instr::Send {
         to: Expr::Var(to),
         message,

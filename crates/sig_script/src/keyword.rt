@@ -1,4 +1,5 @@
 ghost use Rattle.std.specs.Prelude.{◌≡◌};
+ghost use Rattle.sig_script.specs.Instructions.{word_of};
 ghost use Rattle.sig_script.specs.Forms.{
   verb_of,
   keyword_of,
@@ -44,47 +45,62 @@ pub enum Keyword {
     End,
 }
 
+/// The verbs, each once.
+const VERBS: [Verb; 17] = [
+    Verb::Send,
+    Verb::Set,
+    Verb::MakeRef,
+    Verb::Link,
+    Verb::Unlink,
+    Verb::Monitor,
+    Verb::Demonitor,
+    Verb::Alias,
+    Verb::Unalias,
+    Verb::Exit,
+    Verb::ExitTo,
+    Verb::Trap,
+    Verb::Reserve,
+    Verb::Bind,
+    Verb::Clear,
+    Verb::Goto,
+    Verb::Stop,
+];
+
+impl Verb {
+    /// The word of the instruction.
+    fn word(self) -> &'static [u8]
+        ensures { result.now ≡ word_of self }
+    {
+        match self {
+            Verb::Send => b"send",
+            Verb::Set => b"set",
+            Verb::MakeRef => b"make_ref",
+            Verb::Link => b"link",
+            Verb::Unlink => b"unlink",
+            Verb::Monitor => b"monitor",
+            Verb::Demonitor => b"demonitor",
+            Verb::Alias => b"alias",
+            Verb::Unalias => b"unalias",
+            Verb::Exit => b"exit",
+            Verb::ExitTo => b"exit_to",
+            Verb::Trap => b"trap",
+            Verb::Reserve => b"reserve",
+            Verb::Bind => b"bind",
+            Verb::Clear => b"clear",
+            Verb::Goto => b"goto",
+            Verb::Stop => b"stop",
+        }
+    }
+}
+
 /// The verb of these bytes.
 fn read_verb(word: &[u8]) -> Option<Verb>
     ensures { result ≡ verb_of word.now }
 {
-    if equal_bytes(word, b"send") {
-        Some(Verb::Send)
-    } else if equal_bytes(word, b"set") {
-        Some(Verb::Set)
-    } else if equal_bytes(word, b"make_ref") {
-        Some(Verb::MakeRef)
-    } else if equal_bytes(word, b"link") {
-        Some(Verb::Link)
-    } else if equal_bytes(word, b"unlink") {
-        Some(Verb::Unlink)
-    } else if equal_bytes(word, b"monitor") {
-        Some(Verb::Monitor)
-    } else if equal_bytes(word, b"demonitor") {
-        Some(Verb::Demonitor)
-    } else if equal_bytes(word, b"alias") {
-        Some(Verb::Alias)
-    } else if equal_bytes(word, b"unalias") {
-        Some(Verb::Unalias)
-    } else if equal_bytes(word, b"exit") {
-        Some(Verb::Exit)
-    } else if equal_bytes(word, b"exit_to") {
-        Some(Verb::ExitTo)
-    } else if equal_bytes(word, b"trap") {
-        Some(Verb::Trap)
-    } else if equal_bytes(word, b"reserve") {
-        Some(Verb::Reserve)
-    } else if equal_bytes(word, b"bind") {
-        Some(Verb::Bind)
-    } else if equal_bytes(word, b"clear") {
-        Some(Verb::Clear)
-    } else if equal_bytes(word, b"goto") {
-        Some(Verb::Goto)
-    } else if equal_bytes(word, b"stop") {
-        Some(Verb::Stop)
-    } else {
-        None
-    }
+    VERBS
+        .iter()
+        .copied()
+        .find(|verb| equal_bytes(word, verb.word()))
 }
 
 /// The keyword of these bytes.

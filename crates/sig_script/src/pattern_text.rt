@@ -55,19 +55,19 @@ fn put_between(
     put(into, closing)
 }
 
-/// Appends the sign and the head of a list.
+/// Appends the sign and the pattern behind it.
 #[cycle(pattern)]
-fn put_head(
+fn put_behind(
     into: &mut Vec<u8>,
     procs: &[Proc],
     sign: &[u8],
-    head: &Pattern,
+    pattern: &Pattern,
 ) -> Result<(), AllocError>
-    ensures text { OnOk result (into.new.items ≡ into.old.items ++ sign.now ++ (pattern_written (names_of procs.now) head.now).whole) }
+    ensures text { OnOk result (into.new.items ≡ into.old.items ++ sign.now ++ (pattern_written (names_of procs.now) pattern.now).whole) }
     ensures front { OnErr result (take (length into.old.items) into.new.items ≡ into.old.items) }
 {
     put(into, sign)?;
-    put_pattern(into, procs, head)
+    put_pattern(into, procs, pattern)
 }
 
 /// Appends what stands behind the patterns of a list with this tail, up to the bracket that closes
@@ -79,12 +79,11 @@ fn put_tail(into: &mut Vec<u8>, procs: &[Proc], tail: &Pattern) -> Result<(), Al
 {
     match tail {
         Pattern::Cons { head, tail } => {
-            put_head(into, procs, b",", head.get())?;
+            put_behind(into, procs, b",", head.get())?;
             put_tail(into, procs, tail.get())
         }
         alone => {
-            put(into, b"|")?;
-            put_pattern(into, procs, alone)?;
+            put_behind(into, procs, b"|", alone)?;
             put(into, b"]")
         }
     }
@@ -106,7 +105,7 @@ pub fn put_pattern(into: &mut Vec<u8>, procs: &[Proc], pattern: &Pattern) -> Res
         Pattern::Tuple(items) => put_between(into, procs, b"{", items.as_slice(), b"}"),
         Pattern::List(items) => put_between(into, procs, b"[", items.as_slice(), b"]"),
         Pattern::Cons { head, tail } => {
-            put_head(into, procs, b"[", head.get())?;
+            put_behind(into, procs, b"[", head.get())?;
             put_tail(into, procs, tail.get())
         }
     }

@@ -182,7 +182,6 @@ fn end<'t, T: Phrase>(
 
 /// Elements at the front of the tokens, at least one, and what ends them.
 #[cycle(front)]
-#[tactic(auto, unfolding(crate::specs::Phrases::elements))]
 fn some_elements<'t, T: Phrase>(
     alloc: Global,
     known: &Known,
@@ -214,7 +213,6 @@ fn some_elements<'t, T: Phrase>(
 
 /// What stands behind an opening bracket.
 #[cycle(front)]
-#[tactic(auto, unfolding(crate::specs::Phrases::bracketed))]
 fn behind_bracket<'t, T: Phrase>(
     alloc: Global,
     known: &Known,
@@ -269,7 +267,6 @@ fn behind_token<'t, T: Phrase>(
 /// The phrase at the front of the tokens, of at most `nodes` nodes and of this depth; then the nodes
 /// that are left, and the tokens behind.
 #[cycle(front)]
-#[tactic(auto, unfolding(crate::specs::Phrases::phrase_at, crate::specs::Phrases::phrase_front))]
 fn front<'t, T: Phrase>(
     alloc: Global,
     known: &Known,

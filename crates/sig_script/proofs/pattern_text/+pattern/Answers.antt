@@ -4,7 +4,7 @@ use Rattle.sig_terms.specs.TermText.{joined}
 use Rattle.sig_patterns.specs.declared.pattern.Pattern.{Pattern}
 use Rattle.sig_script.specs.ScriptText.{names_of, pattern_written}
 use Rattle.sig_script.proofs.PrintLemmas.{on_error, front_on, front_behind, kept_front, kept_one, kept_two, last_text, last_front}
-use Rattle.sig_script.proofs.JoinedLemmas.{first_put, next_put, none_left, text_put, three_pieces, last_piece, pattern-Any, pattern-Bind, pattern-Pin, pattern-Atom, pattern-Pid, pattern-Tuple, pattern-List, pattern-Cons}
+use Rattle.sig_script.proofs.JoinedLemmas.{first_put, next_put, none_left, text_put, three_pieces, last_piece, pattern-Any, pattern-Bind, pattern-Pin, pattern-Atom, pattern-Pid, pattern-Tuple, pattern-List, pattern-Cons, tail_alone}
 use Rattle.sig_script.proofs.pattern_text.+pattern.Goals as goal
 
 pub put_between-returns-in_err-put_elements-clause-front : goal.put_between-returns-in_err-put_elements-clause-front
@@ -54,12 +54,12 @@ put_elements-returns-after-loop-item-clause-text t c =
     let texts : List Pattern → List (List ℕ) = λ ps. map (λ w. w.whole) (map (pattern_written (names_of c.args.procs.now)) ps) in
     none_left text texts _ c.loop-item.item-index c.loop-item.into.items _ refl (grind (arith, nat_tests, c.loop-item-test.false)) c.loop-item.invariant.0
 
-pub put_head-returns-clause-text : goal.put_head-returns-clause-text
-put_head-returns-clause-text t c =
-    last_text c.put_pattern.result c.put.new.into.items c.put_pattern.new.into.items (c.args.into.now.items ++ c.args.sign.now) (pattern_written (names_of c.args.procs.now) c.args.head.now).whole c.put_pattern.ensures.text c.in_ok-put.ensures.0
+pub put_behind-returns-clause-text : goal.put_behind-returns-clause-text
+put_behind-returns-clause-text t c =
+    last_text c.put_pattern.result c.put.new.into.items c.put_pattern.new.into.items (c.args.into.now.items ++ c.args.sign.now) (pattern_written (names_of c.args.procs.now) c.args.pattern.now).whole c.put_pattern.ensures.text c.in_ok-put.ensures.0
 
-pub put_head-returns-clause-front : goal.put_head-returns-clause-front
-put_head-returns-clause-front t c =
+pub put_behind-returns-clause-front : goal.put_behind-returns-clause-front
+put_behind-returns-clause-front t c =
     last_front c.put_pattern.result c.args.into.now.items c.put.new.into.items c.put_pattern.new.into.items c.put_pattern.ensures.front (kept_one c.args.into.now.items c.put.new.into.items c.args.sign.now c.in_ok-put.ensures.0)
 
 pub put_pattern-returns-in-Any-clause-text : goal.put_pattern-returns-in-Any-clause-text
@@ -107,30 +107,42 @@ put_pattern-returns-in-List-clause-text t c =
     ∙ ap (λ ps. codes "[" ++ joined (map (λ w. w.whole) (map (pattern_written names) ps)) ++ codes "]") (sym c.as_slice-in-List.ensures))
     c.put_between-in-List.ensures.text
 
-pub put_pattern-returns-in_ok-put_head-in-Cons-clause-text : goal.put_pattern-returns-in_ok-put_head-in-Cons-clause-text
-put_pattern-returns-in_ok-put_head-in-Cons-clause-text t c =
+pub put_pattern-returns-in_ok-put_behind-in-Cons-clause-text : goal.put_pattern-returns-in_ok-put_behind-in-Cons-clause-text
+put_pattern-returns-in_ok-put_behind-in-Cons-clause-text t c =
     let names : List (List ℕ) = names_of c.args.procs.now in
-    last_piece c.put_tail.result c.args.into.now.items c.put_head.new.into.items c.put_tail.new.into.items _ (codes "[") (pattern_written names c.get.result.now).whole (pattern_written names c.get-in-Cons.result.now).tail
+    last_piece c.put_tail.result c.args.into.now.items c.put_behind.new.into.items c.put_tail.new.into.items _ (codes "[") (pattern_written names c.get.result.now).whole (pattern_written names c.get-in-Cons.result.now).tail
     (ap (λ p. (pattern_written names p).whole) c.in-Cons.is ∙ ap (λ w. w.whole) (pattern-Cons names c.in-Cons.head c.in-Cons.tail)
     ∙ ap (λ p. codes "[" ++ (pattern_written names p).whole ++ (pattern_written names c.in-Cons.tail).tail) (sym c.get.ensures)
     ∙ ap (λ p. codes "[" ++ (pattern_written names c.get.result.now).whole ++ (pattern_written names p).tail) (sym c.get-in-Cons.ensures))
-    c.in_ok-put_head-in-Cons.ensures.text c.put_tail.ensures.text
+    c.in_ok-put_behind-in-Cons.ensures.text c.put_tail.ensures.text
 
-pub put_pattern-returns-in_ok-put_head-in-Cons-clause-front : goal.put_pattern-returns-in_ok-put_head-in-Cons-clause-front
-put_pattern-returns-in_ok-put_head-in-Cons-clause-front t c =
-    last_front c.put_tail.result c.args.into.now.items c.put_head.new.into.items c.put_tail.new.into.items c.put_tail.ensures.front
-    (kept_two c.args.into.now.items (c.args.into.now.items ++ codes "[") c.put_head.new.into.items (codes "[") (pattern_written (names_of c.args.procs.now) c.get.result.now).whole refl c.in_ok-put_head-in-Cons.ensures.text)
+pub put_pattern-returns-in_ok-put_behind-in-Cons-clause-front : goal.put_pattern-returns-in_ok-put_behind-in-Cons-clause-front
+put_pattern-returns-in_ok-put_behind-in-Cons-clause-front t c =
+    last_front c.put_tail.result c.args.into.now.items c.put_behind.new.into.items c.put_tail.new.into.items c.put_tail.ensures.front
+    (kept_two c.args.into.now.items (c.args.into.now.items ++ codes "[") c.put_behind.new.into.items (codes "[") (pattern_written (names_of c.args.procs.now) c.get.result.now).whole refl c.in_ok-put_behind-in-Cons.ensures.text)
 
-pub put_tail-returns-in_ok-put_head-in-Cons-clause-text : goal.put_tail-returns-in_ok-put_head-in-Cons-clause-text
-put_tail-returns-in_ok-put_head-in-Cons-clause-text t c =
+pub put_tail-returns-in_ok-put_behind-in-Cons-clause-text : goal.put_tail-returns-in_ok-put_behind-in-Cons-clause-text
+put_tail-returns-in_ok-put_behind-in-Cons-clause-text t c =
     let names : List (List ℕ) = names_of c.args.procs.now in
-    last_piece c.put_tail.result c.args.into.now.items c.put_head.new.into.items c.put_tail.new.into.items _ (codes ",") (pattern_written names c.get.result.now).whole (pattern_written names c.get-in-Cons.result.now).tail
+    last_piece c.put_tail.result c.args.into.now.items c.put_behind.new.into.items c.put_tail.new.into.items _ (codes ",") (pattern_written names c.get.result.now).whole (pattern_written names c.get-in-Cons.result.now).tail
     (ap (λ p. (pattern_written names p).tail) c.in-Cons.is ∙ ap (λ w. w.tail) (pattern-Cons names c.in-Cons.head c.in-Cons.tail)
     ∙ ap (λ p. codes "," ++ (pattern_written names p).whole ++ (pattern_written names c.in-Cons.tail).tail) (sym c.get.ensures)
     ∙ ap (λ p. codes "," ++ (pattern_written names c.get.result.now).whole ++ (pattern_written names p).tail) (sym c.get-in-Cons.ensures))
-    c.in_ok-put_head-in-Cons.ensures.text c.put_tail.ensures.text
+    c.in_ok-put_behind-in-Cons.ensures.text c.put_tail.ensures.text
 
-pub put_tail-returns-in_ok-put_head-in-Cons-clause-front : goal.put_tail-returns-in_ok-put_head-in-Cons-clause-front
-put_tail-returns-in_ok-put_head-in-Cons-clause-front t c =
-    last_front c.put_tail.result c.args.into.now.items c.put_head.new.into.items c.put_tail.new.into.items c.put_tail.ensures.front
-    (kept_two c.args.into.now.items (c.args.into.now.items ++ codes ",") c.put_head.new.into.items (codes ",") (pattern_written (names_of c.args.procs.now) c.get.result.now).whole refl c.in_ok-put_head-in-Cons.ensures.text)
+pub put_tail-returns-in_ok-put_behind-in-Cons-clause-front : goal.put_tail-returns-in_ok-put_behind-in-Cons-clause-front
+put_tail-returns-in_ok-put_behind-in-Cons-clause-front t c =
+    last_front c.put_tail.result c.args.into.now.items c.put_behind.new.into.items c.put_tail.new.into.items c.put_tail.ensures.front
+    (kept_two c.args.into.now.items (c.args.into.now.items ++ codes ",") c.put_behind.new.into.items (codes ",") (pattern_written (names_of c.args.procs.now) c.get.result.now).whole refl c.in_ok-put_behind-in-Cons.ensures.text)
+
+pub put_tail-returns-in_ok-put_behind-in_default-clause-text : goal.put_tail-returns-in_ok-put_behind-in_default-clause-text
+put_tail-returns-in_ok-put_behind-in_default-clause-text t c =
+    let names : List (List ℕ) = names_of c.args.procs.now in
+    last_piece c.put.result c.args.into.now.items c.put_behind-in_default.new.into.items c.put.new.into.items _ (codes "|") (pattern_written names c.args.tail.now).whole (codes "]")
+    (tail_alone names c.args.tail.now c.in_default.not-Cons)
+    c.in_ok-put_behind-in_default.ensures.text c.put.ensures.0
+
+pub put_tail-returns-in_ok-put_behind-in_default-clause-front : goal.put_tail-returns-in_ok-put_behind-in_default-clause-front
+put_tail-returns-in_ok-put_behind-in_default-clause-front t c =
+    last_front c.put.result c.args.into.now.items c.put_behind-in_default.new.into.items c.put.new.into.items c.put.ensures.1
+    (kept_two c.args.into.now.items (c.args.into.now.items ++ codes "|") c.put_behind-in_default.new.into.items (codes "|") (pattern_written (names_of c.args.procs.now) c.args.tail.now).whole refl c.in_ok-put_behind-in_default.ensures.text)
