@@ -1,5 +1,8 @@
 -- The nodes and the depth of the value of an expression, by its cases.
-use Rattle.std.proofs.Common.{◌≡◌, ℕ, ℤ, ◌+◌, ◌-◌, ◌^◌, min, List, map, sum, arith, sym, ap, ◌∙◌}
+use Rattle.std.proofs.Common.{◌≡◌, ℕ, ℤ, ◌+◌, ◌-◌, ◌^◌, ◌<◌, min, max, List, map, sum, length, get_or, drop, arith, sym, ap, ◌∙◌}
+use Rattle.std.proofs.lemmas.List.Sums.{sum_by-cons}
+use Rattle.sig_terms.proofs.Totals.{sum_kept, max_kept}
+use Rattle.sig_patterns.proofs.NextPlace.{at_place}
 use Rattle.sig_terms.specs.Nodes.{node_count, depth_of, greatest, count_step, depth_step}
 use Rattle.sig_terms.specs.declared.pid.Pid.{Pid}
 use Rattle.sig_terms.specs.declared.term.Term.{Term}
@@ -85,3 +88,17 @@ one_kept whole is = omega arith
 
 pub one_more_kept : (n m k whole : ℕ) → n ≡ min (1 + m) (2 ^ 64 - 1) → m ≡ min k (2 ^ 64 - 1) → whole ≡ 1 + k → n ≡ min whole (2 ^ 64 - 1)
 one_more_kept n m k whole a b c = omega arith
+
+-- one expression further in a list
+pub nodes_next : (env : Environment) (es : List Expr) (i : ℕ) (e : Expr) (so_far one now whole : ℕ) → i < length es → e ≡ get_or es i e → one ≡ min (node_count (value_of env e)) (2 ^ 64 - 1) → now ≡ min (so_far + one) (2 ^ 64 - 1)
+    → min (so_far + sum (map node_count (map (value_of env) (drop i es)))) (2 ^ 64 - 1) ≡ whole → min (now + sum (map node_count (map (value_of env) (drop (i + 1) es)))) (2 ^ 64 - 1) ≡ whole
+nodes_next env es i e so_far one now whole within is a b c =
+    let rest : List ℕ = map node_count (map (value_of env) (drop (i + 1) es)) in
+    let left : sum (map node_count (map (value_of env) (drop i es))) ≡ node_count (value_of env e) + sum rest =
+    ap (λ (left : List Expr). sum (map node_count (map (value_of env) left))) (at_place es i e within is) ∙ sum_by-cons (λ (n : ℕ). n) (node_count (value_of env e)) rest in
+    sum_kept so_far now one (node_count (value_of env e)) (sum rest) whole a b (ap (λ n. min (so_far + n) (2 ^ 64 - 1)) (sym left) ∙ c)
+
+pub depth_next : (env : Environment) (es : List Expr) (i : ℕ) (e : Expr) (so_far one now whole : ℕ) → i < length es → e ≡ get_or es i e → one ≡ min (depth_of (value_of env e)) (2 ^ 64 - 1) → now ≡ max so_far one
+    → min (max so_far (greatest (map depth_of (map (value_of env) (drop i es))))) (2 ^ 64 - 1) ≡ whole → min (max now (greatest (map depth_of (map (value_of env) (drop (i + 1) es))))) (2 ^ 64 - 1) ≡ whole
+depth_next env es i e so_far one now whole within is a b c =
+    max_kept so_far now one (depth_of (value_of env e)) _ whole a b (ap (λ (rest : List Expr). min (max so_far (greatest (map depth_of (map (value_of env) rest)))) (2 ^ 64 - 1)) (sym (at_place es i e within is)) ∙ c)

@@ -8,7 +8,7 @@ use Rattle.sig_patterns.specs.Matching.{Bindings}
 use Rattle.sig_patterns.specs.Fitting.{first_each, first_in, fits_each, placed_each, placed}
 
 -- the element at the place, and those behind it
-at_place : {X : Type 0} (xs : List X) (i : ℕ) (x : X) → i < length xs → x ≡ get_or xs i x → drop i xs ≡ x ∷ drop (i + 1) xs
+pub at_place : {X : Type 0} (xs : List X) (i : ℕ) (x : X) → i < length xs → x ≡ get_or xs i x → drop i xs ≡ x ∷ drop (i + 1) xs
 at_place xs i x within is = drop_more xs i x within ∙ ap (λ y. y ∷ drop (i + 1) xs) (sym is)
 
 pub first_each_next : (ps : List Pattern) (ts : List Term) (i : ℕ) (p : Pattern) (t : Term) (var : List ℕ) → i < length ps → i < length ts → p ≡ get_or ps i p → t ≡ get_or ts i t → first_in p t var ≡ None

@@ -16,6 +16,9 @@ use Rattle.sig_patterns.specs.Fitting.{Places, first_each, first_step, first_in,
 fits_at : (env : Environment) (first : Places) (x : Pattern-F Pattern) (t : Term) → fits_step env first (map-Pattern Pattern (Term → Bool) (fits env first) x) t ≡ fits env first (roll-Pattern x) t
 fits_at env first x t = sym (ap (λ (f : Term → Bool). f t) (fold-roll-Pattern (Term → Bool) (fits_step env first) x))
 
+pub fits_case : (env : Environment) (first : Places) (x : Pattern-F Pattern) (p : Pattern) (t : Term) → p ≡ roll-Pattern x → fits_step env first (map-Pattern Pattern (Term → Bool) (fits env first) x) t ≡ fits env first p t
+fits_case env first x p t is = fits_at env first x t ∙ ap (λ (q : Pattern). fits env first q t) (sym is)
+
 pub fits_tuple : (env : Environment) (first : Places) (p : Pattern) (ps : List Pattern) (t : Term) (items : Option (List Term)) → p ≡ pattern.Tuple ps → items ≡ tuple_items t
     → option_map_or (fits_all (map (fits env first) ps)) items false ≡ fits env first p t
 fits_tuple env first p ps t items is met =

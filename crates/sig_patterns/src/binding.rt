@@ -91,7 +91,10 @@ fn put_in(bindings: &mut Vec<Binding<'_>>, env: &mut Env) -> Result<(), AllocErr
     };
     let before = env.replace(var, value)?;
     match put_in(bindings, env) {
-        Ok(()) => Ok(()),
+        Ok(()) => {
+            drop(before);
+            Ok(())
+        }
         Err(refused) => {
             env.restore(var, before);
             Err(refused)

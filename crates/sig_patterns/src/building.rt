@@ -7,7 +7,7 @@ use crate::expression::Expr;
 use crate::measure::{Extent, measure};
 use crate::var::Var;
 use sig_lists::Sequence;
-use sig_terms::{Atom, Term, Terms};
+use sig_terms::{Term, Terms};
 use std::alloc::{AllocError, Global};
 
 /// The most nodes that a built term has.
@@ -35,10 +35,7 @@ pub enum BuildFault {
 fn undefined(alloc: Global) -> Result<Term, AllocError>
     ensures { IfOk result (λ t. t ≡ undefined) }
 {
-    match Atom::new(alloc, b"undefined")? {
-        Some(atom) => Ok(Term::Atom(atom)),
-        None => Err(AllocError),
-    }
+    Term::plain_atom(alloc, b"undefined")
 }
 
 /// A copy of the variable's value.

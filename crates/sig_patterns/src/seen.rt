@@ -1,13 +1,12 @@
-ghost use Rattle.std.specs.Prelude.{◌≡◌, IfOk, map, option_and_then};
+ghost use Rattle.std.specs.Prelude.{◌≡◌, IfOk, option_and_then};
 ghost use Rattle.std.specs.Option.{option_map};
-ghost use Rattle.sig_terms.specs.TermTest.{same_term, same_list};
+ghost use Rattle.sig_terms.specs.TermTest.{same_term};
 ghost use Rattle.sig_terms.specs.declared.term.Term.TheVariants as term;
 ghost use Rattle.sig_patterns.specs.Matching.{tuple_items, list_items};
 ghost use Rattle.sig_patterns.specs.Fitting.{term_seen, split};
 
-use sig_lists::Sequence;
 use sig_terms::bytes::equal_bytes;
-use sig_terms::{Pid, Term};
+use sig_terms::{Pid, Term, copy_terms, same_terms};
 use std::alloc::{AllocError, Global};
 
 /// What a part of a pattern meets: a term, or the rest of a list as a list, which is no term of its
@@ -16,35 +15,6 @@ use std::alloc::{AllocError, Global};
 pub(crate) enum Seen<'a> {
     Whole(&'a Term),
     Rest(&'a [Term]),
-}
-
-/// Whether the two have equal terms in the same order.
-fn same_slices(a: &[Term], b: &[Term]) -> bool
-    ensures { result ≡ same_list (map same_term a.now) b.now }
-{
-    if a.len() != b.len() {
-        return false;
-    }
-    let mut i = 0;
-    while i < a.len() {
-        if !a[i].same(&b[i]) {
-            return false;
-        }
-        i += 1;
-    }
-    true
-}
-
-/// Copies of the terms, as a list.
-fn copy_slice(alloc: Global, items: &[Term]) -> Result<Term, AllocError>
-    ensures { IfOk result (λ t. t ≡ term.List items.now) }
-{
-    let mut copies = Sequence::new(alloc);
-    for item in items {
-        let copy = item.copy(alloc)?;
-        copies.add(copy)?;
-    }
-    Ok(Term::List(copies))
 }
 
 impl<'a> Seen<'a> {
@@ -82,9 +52,9 @@ impl<'a> Seen<'a> {
     {
         match (self, other) {
             (Seen::Whole(a), Seen::Whole(b)) => a.same(b),
-            (Seen::Whole(Term::List(a)), Seen::Rest(b)) => same_slices(a.as_slice(), b),
-            (Seen::Rest(a), Seen::Whole(Term::List(b))) => same_slices(a, b.as_slice()),
-            (Seen::Rest(a), Seen::Rest(b)) => same_slices(a, b),
+            (Seen::Whole(Term::List(a)), Seen::Rest(b)) => same_terms(a.as_slice(), b),
+            (Seen::Rest(a), Seen::Whole(Term::List(b))) => same_terms(a, b.as_slice()),
+            (Seen::Rest(a), Seen::Rest(b)) => same_terms(a, b),
             _ => false,
         }
     }
@@ -125,7 +95,7 @@ impl<'a> Seen<'a> {
     {
         match self {
             Seen::Whole(term) => term.copy(alloc),
-            Seen::Rest(items) => copy_slice(alloc, items),
+            Seen::Rest(items) => copy_terms(alloc, items).map(Term::List),
         }
     }
 }

@@ -1,6 +1,6 @@
 -- What holds of a choice by a test, and of a step that may fail.
 use Rattle.std.proofs.Common.{◌≡◌, Bool, true, false, cond, ◌&&◌, Option, Some, None, refl}
-use Rattle.std.specs.Prelude.{IfSome}
+use Rattle.std.specs.Prelude.{IfSome, MatchOption}
 use Rattle.sig_terms.specs.Tokens.{◌>>=◌}
 
 -- by cases on the test
@@ -21,3 +21,7 @@ pub second_of : {X : Type 0} (p q : Bool) (x y z : X) → p ≡ false → q ≡ 
 second_of true q x y z f t = absurd cc
 second_of false true x y z f t = refl
 second_of false false x y z f t = absurd cc
+
+pub at_none : {X : Type 0} (o : Option X) (P : Type 0) (Q : X → Type 0) → o ≡ None → MatchOption o P Q → P
+at_none None P Q is h = h
+at_none (Some x) P Q is h = absurd cc

@@ -4,6 +4,7 @@ pub mod Steps
 pub mod KeptFronts
 pub mod Adding
 pub mod JoinedTexts
+pub mod Totals
 pub mod SameLists
 pub mod TokenTexts
 pub mod FrontTexts

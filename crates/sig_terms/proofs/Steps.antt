@@ -1,65 +1,71 @@
 -- The loop over the elements of a list, step by step.
-use Rattle.std.proofs.Common.{◌≡◌, ℕ, suc, ◌+◌, ◌-◌, ◌<◌, ◌≤◌, List, [], ◌∷◌, ◌++◌, Bool, true, false, cond, Option, Some, None, refl, sym, ap, ◌∙◌, arith}
+use Rattle.std.proofs.Common.{◌≡◌, ℕ, suc, ◌+◌, ◌-◌, ◌<◌, ◌≤◌, List, [], ◌∷◌, ◌++◌, length, false, Option, Some, None, refl, sym, ap, ◌∙◌, arith}
 use Rattle.std.specs.Prelude.{◌==◌}
 use Rattle.sig_terms.specs.declared.term.Term.{Term}
 use Rattle.sig_terms.specs.declared.refusal.ReadTerm.{ReadTerm}
 use Rattle.sig_terms.specs.declared.refusal.ReadTerm.TheVariants as refusal
 use Rattle.sig_terms.specs.Tokens.{◌>>=◌}
-use Rattle.sig_terms.specs.Fronts.{Fails, next_at, more_at, element_at, elements_at}
+use Rattle.sig_terms.specs.Fronts.{Fails, next_at, elements_at}
+use Rattle.std.proofs.lemmas.Bool.Decides.{nat_tests}
+use Rattle.sig_terms.proofs.Choices.{second_of}
 
 -- the elements, and what is behind them
 abbrev pub Elements : Type 0
 Elements = Option (List Term × ℕ × List ℕ)
 
--- behind an element the loop goes on, or it ends
-abbrev pub after : (ℕ → List Term → List ℕ → Elements) → List Term × Bool × ℕ × List ℕ → Elements
-after more (items, true, nodes, bytes) = more nodes items bytes
-after more (items, false, nodes, bytes) = Some (items, nodes, bytes)
-
-abbrev tested : Bool → Bool → List ℕ → Option (Bool × List ℕ)
-tested comma last bs = cond comma (Some (true, bs)) (cond last (Some (false, bs)) None)
-
-by_tests : (more : ℕ → List Term → List ℕ → Elements) (nodes : ℕ) (items : List Term) (bs : List ℕ) (comma last : Bool)
-    → cond comma (more nodes items bs) (cond last (Some (items, nodes, bs)) None) ≡ ((tested comma last bs >>= (λ m. Some (items, m.0, nodes, m.1))) >>= after more)
-by_tests more nodes items bs true last = refl
-by_tests more nodes items bs false true = refl
-by_tests more nodes items bs false false = refl
-
-next_step : (close : ℕ) (more : ℕ → List Term → List ℕ → Elements) (nodes : ℕ) (items : List Term) (bytes : List ℕ)
-    → next_at close more nodes items bytes ≡ ((more_at close bytes >>= (λ m. Some (items, m.0, nodes, m.1))) >>= after more)
-next_step close more nodes items [] = refl
-next_step close more nodes items (b ∷ bs) = by_tests more nodes items bs (b == 44) (b == close)
-
-behind_item : (close : ℕ) (more : ℕ → List Term → List ℕ → Elements) (items : List Term) (found : Option (Term × ℕ × List ℕ))
-    → (found >>= (λ x. next_at close more x.1 (items ++ x.0 ∷ []) x.2)) ≡ ((found >>= (λ x. more_at close x.2 >>= (λ m. Some (items ++ x.0 ∷ [], m.0, x.1, m.1)))) >>= after more)
-behind_item close more items None = refl
-behind_item close more items (Some x) = next_step close more x.1 (items ++ x.0 ∷ []) x.2
+abbrev pub Reader : Type 0
+Reader = ℕ → List ℕ → Option (Term × ℕ × List ℕ)
 
 -- the loop at an element
-element_step : (read : ℕ → List ℕ → Option (Term × ℕ × List ℕ)) (close n i left : ℕ) (items : List Term) (bytes : List ℕ) → i < n
-    → elements_at read close (n - i) left items bytes ≡ (element_at read close left items bytes >>= after (elements_at read close (n - (i + 1))))
+at_item : (read : Reader) (close n i left : ℕ) (items : List Term) (bytes : List ℕ) → i < n
+    → elements_at read close (n - i) left items bytes ≡ (read left bytes >>= λ x. next_at close (elements_at read close (n - (i + 1))) x.1 (items ++ x.0 ∷ []) x.2)
 unfolding elements_at
-element_step read close n i left items bytes lt =
+at_item read close n i left items bytes lt =
     let k : n - i ≡ suc (n - (i + 1)) = omega arith in
-    rw k (behind_item close (elements_at read close (n - (i + 1))) items (read left bytes))
+    rw k refl
 
-pub goes_on : (read : ℕ → List ℕ → Option (Term × ℕ × List ℕ)) (close n i left : ℕ) (items : List Term) (bytes : List ℕ) (more : List Term) (fewer : ℕ) (behind : List ℕ) (total : Elements) → i < n
-    → element_at read close left items bytes ≡ Some (more, true, fewer, behind) → elements_at read close (n - i) left items bytes ≡ total → elements_at read close (n - (i + 1)) fewer more behind ≡ total
-goes_on read close n i left items bytes more fewer behind total lt here so_far =
-    sym (element_step read close n i left items bytes lt ∙ ap (λ o. o >>= after (elements_at read close (n - (i + 1)))) here) ∙ so_far
+-- behind an element that is read
+pub behind_item : (read : Reader) (close n i left : ℕ) (items : List Term) (bytes : List ℕ) (item : Term) (fewer : ℕ) (behind : List ℕ) (all : List Term) (total : Elements) → i < n
+    → read left bytes ≡ Some (item, fewer, behind) → all ≡ items ++ item ∷ [] → elements_at read close (n - i) left items bytes ≡ total
+    → next_at close (elements_at read close (n - (i + 1))) fewer all behind ≡ total
+behind_item read close n i left items bytes item fewer behind all total lt is added so_far =
+    let more : ℕ → List Term → List ℕ → Elements = elements_at read close (n - (i + 1)) in
+    ap (λ (ts : List Term). next_at close more fewer ts behind) added
+    ∙ sym (at_item read close n i left items bytes lt ∙ ap (λ (o : Option (Term × ℕ × List ℕ)). o >>= λ x. next_at close more x.1 (items ++ x.0 ∷ []) x.2) is)
+    ∙ so_far
 
-pub ends : (read : ℕ → List ℕ → Option (Term × ℕ × List ℕ)) (close n i left : ℕ) (items : List Term) (bytes : List ℕ) (all : List Term) (fewer : ℕ) (behind : List ℕ) (total : Elements) → i < n
-    → element_at read close left items bytes ≡ Some (all, false, fewer, behind) → elements_at read close (n - i) left items bytes ≡ total → total ≡ Some (all, fewer, behind)
-ends read close n i left items bytes all fewer behind total lt here so_far =
-    sym so_far ∙ element_step read close n i left items bytes lt ∙ ap (λ o. o >>= after (elements_at read close (n - (i + 1)))) here
+-- behind a comma it goes on
+pub goes_on : (close : ℕ) (more : ℕ → List Term → List ℕ → Elements) (nodes : ℕ) (items : List Term) (bytes : List ℕ) (b : ℕ) (bs : List ℕ) (total : Elements) → bytes ≡ b ∷ bs → b ≡ 44
+    → next_at close more nodes items bytes ≡ total → more nodes items bs ≡ total
+goes_on close more nodes items bytes b bs total is comma so_far = sym (ap (next_at close more nodes items) (is ∙ ap (λ (k : ℕ). k ∷ bs) comma)) ∙ so_far
 
-pub fails : (e : ReadTerm) (read : ℕ → List ℕ → Option (Term × ℕ × List ℕ)) (close n i left : ℕ) (items : List Term) (bytes : List ℕ) (total : Elements) → i < n
-    → Fails e (element_at read close left items bytes) → elements_at read close (n - i) left items bytes ≡ total → Fails e total
+-- at the byte that ends the list it ends
+pub ends : (close : ℕ) (more : ℕ → List Term → List ℕ → Elements) (nodes : ℕ) (items : List Term) (bytes : List ℕ) (b : ℕ) (bs : List ℕ) (total : Elements) → bytes ≡ b ∷ bs → (b ≡ 44 → ⊥) → b ≡ close
+    → next_at close more nodes items bytes ≡ total → total ≡ Some (items, nodes, bs)
+ends close more nodes items bytes b bs total is other same so_far =
+    sym so_far ∙ ap (next_at close more nodes items) is ∙ second_of (b == 44) (b == close) _ _ _ (grind (arith, nat_tests, other)) (grind (arith, nat_tests, same))
+
+-- at any other byte there is no list
+pub breaks : (close : ℕ) (more : ℕ → List Term → List ℕ → Elements) (nodes : ℕ) (items : List Term) (bytes : List ℕ) (b : ℕ) (bs : List ℕ) (total : Elements) → bytes ≡ b ∷ bs → (b ≡ 44 → ⊥) → (b ≡ close → ⊥)
+    → next_at close more nodes items bytes ≡ total → total ≡ None
+breaks close more nodes items bytes b bs total is other inner so_far =
+    let no_comma : (b == 44) ≡ false = grind (arith, nat_tests, other) in
+    let no_end : (b == close) ≡ false = grind (arith, nat_tests, inner) in
+    sym so_far ∙ ap (next_at close more nodes items) is ∙ rw (no_comma, no_end) refl
+
+-- nor at the end of the bytes
+pub runs_out : (close : ℕ) (more : ℕ → List Term → List ℕ → Elements) (nodes : ℕ) (items : List Term) (bytes : List ℕ) (total : Elements) → length bytes ≡ 0
+    → next_at close more nodes items bytes ≡ total → total ≡ None
+runs_out close more nodes items [] total is so_far = sym so_far
+runs_out close more nodes items (b ∷ bs) total is so_far = absurd (omega arith)
+
+pub fails : (e : ReadTerm) (read : Reader) (close n i left : ℕ) (items : List Term) (bytes : List ℕ) (total : Elements) → i < n
+    → Fails e (read left bytes) → elements_at read close (n - i) left items bytes ≡ total → Fails e total
 fails refusal.BadTerm read close n i left items bytes total lt here so_far =
-    sym so_far ∙ element_step read close n i left items bytes lt ∙ ap (λ o. o >>= after (elements_at read close (n - (i + 1)))) here
+    sym so_far ∙ at_item read close n i left items bytes lt ∙ ap (λ (o : Option (Term × ℕ × List ℕ)). o >>= λ x. next_at close (elements_at read close (n - (i + 1))) x.1 (items ++ x.0 ∷ []) x.2) here
 fails refusal.Memory read close n i left items bytes total lt here so_far = tt
 
-pub no_room : (read : ℕ → List ℕ → Option (Term × ℕ × List ℕ)) (close n i left : ℕ) (items : List Term) (bytes : List ℕ) (total : Elements) → n ≤ i → elements_at read close (n - i) left items bytes ≡ total → total ≡ None
+pub no_room : (read : Reader) (close n i left : ℕ) (items : List Term) (bytes : List ℕ) (total : Elements) → n ≤ i → elements_at read close (n - i) left items bytes ≡ total → total ≡ None
 unfolding elements_at
 no_room read close n i left items bytes total le so_far =
     let k : n - i ≡ 0 = omega arith in

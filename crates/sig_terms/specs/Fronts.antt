@@ -1,6 +1,6 @@
 -- The term at the front of bytes, within a depth and a number of nodes; with it the nodes that are left, and the bytes
 -- behind it.
-use Rattle.std.specs.Prelude.{◌≡◌, ℕ, zero, suc, List, [], ◌∷◌, ◌++◌, Bool, true, false, ◌||◌, ◌==◌, if◌then◌else◌, Option, Some, None, Result, Ok, Err}
+use Rattle.std.specs.Prelude.{◌≡◌, ℕ, zero, suc, List, [], ◌∷◌, ◌++◌, ◌||◌, ◌==◌, if◌then◌else◌, Option, Some, None, Result, Ok, Err}
 use Rattle.sig_terms.specs.Words.{is_lower, is_digit}
 use Rattle.sig_terms.specs.Tokens.{◌>>=◌, int_at, name_at, quoted_at, pid_at, serial_at, reference_at}
 use Rattle.sig_terms.specs.declared.pid.Pid.{Pid}
@@ -57,18 +57,6 @@ leaf_at (b ∷ bs) =
 abbrev pub next_at : ℕ → (ℕ → List Term → List ℕ → Option (List Term × ℕ × List ℕ)) → ℕ → List Term → List ℕ → Option (List Term × ℕ × List ℕ)
 next_at close more nodes items [] = None
 next_at close more nodes items (b ∷ bs) = if b == 44 then more nodes items bs else if b == close then Some (items, nodes, bs) else None
-
--- behind an element: whether there are more, and the bytes behind the comma or the end
-abbrev pub more_at : ℕ → List ℕ → Option (Bool × List ℕ)
-more_at close [] = None
-more_at close (b ∷ bs) = if b == 44 then Some (true, bs) else if b == close then Some (false, bs) else None
-
--- one element behind items, and what is behind it
-abbrev pub element_at : (ℕ → List ℕ → Option (Term × ℕ × List ℕ)) → ℕ → ℕ → List Term → List ℕ → Option (List Term × Bool × ℕ × List ℕ)
-element_at read close nodes items bytes = do
-  x ← read nodes bytes
-  m ← more_at close x.2
-  Some (items ++ x.0 ∷ [], m.0, x.1, m.1)
 
 -- at most room elements behind items, each by read, up to the end
 unfoldable pub elements_at : (ℕ → List ℕ → Option (Term × ℕ × List ℕ)) → ℕ → ℕ → ℕ → List Term → List ℕ → Option (List Term × ℕ × List ℕ)

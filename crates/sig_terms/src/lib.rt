@@ -22,4 +22,4 @@ pub use pid::Pid;
 pub use reading::{Front, READ_DEPTH, READ_NODES, read, read_front, texts_tell_terms_apart};
 pub use reference::Ref;
 pub use refusal::ReadTerm;
-pub use term::{Term, Terms, same_is_equality};
+pub use term::{Term, Terms, copy_terms, same_is_equality, same_terms};

@@ -1,7 +1,7 @@
 //! Readers of terms with their elements, within a depth and a number of nodes.
 
 ghost use Rattle.std.specs.Prelude.{◌≡◌, []};
-ghost use Rattle.sig_terms.specs.Fronts.{Gives, more_at, element_at, elements_at, items_at, enclosed, compound_at, lone_at, node_at, term_at};
+ghost use Rattle.sig_terms.specs.Fronts.{Gives, elements_at, items_at, enclosed, compound_at, lone_at, node_at, term_at};
 
 use crate::refusal::ReadTerm;
 use crate::term::{Term, Terms};
@@ -9,40 +9,10 @@ use crate::tokens::leaf;
 use sig_lists::Sequence;
 use std::alloc::Global;
 
-/// Whether there are more elements behind this one, and the bytes behind the comma or the end.
-fn more(close: u8, bytes: &[u8]) -> Result<(bool, &[u8]), ReadTerm>
-    ensures { Gives (λ x. (x.0, x.1.now)) result (more_at close bytes.now) }
-{
-    match bytes.split_first() {
-        Some((b',', rest)) => Ok((true, rest)),
-        Some((last, rest)) if *last == close => Ok((false, rest)),
-        _ => Err(ReadTerm::BadTerm),
-    }
-}
-
-/// Adds the element at the front of the bytes; whether there are more, the nodes that are left,
-/// and the bytes behind.
-#[cycle(front)]
-fn element<'a>(
-    alloc: Global,
-    close: u8,
-    depth: u64,
-    nodes: u64,
-    bytes: &'a [u8],
-    items: &mut Terms,
-) -> Result<(bool, u64, &'a [u8]), ReadTerm>
-    ensures { Gives (λ x. (items.new, x.0, x.1, x.2.now)) result (element_at (term_at depth) close nodes items.old bytes.now) }
-{
-    let (item, left, behind) = front(alloc, depth, nodes, bytes)?;
-    items.add(item)?;
-    let (goes_on, rest) = more(close, behind)?;
-    Ok((goes_on, left, rest))
-}
-
 /// Adds the elements at the front of the bytes, at least one, up to the byte `close`; the nodes
 /// that are left, and the bytes behind.
 #[cycle(front)]
-#[tactic(auto, using(crate::proofs::Steps::goes_on, crate::proofs::Steps::ends, crate::proofs::Steps::fails, crate::proofs::Steps::no_room))]
+#[tactic(auto, using(crate::proofs::Steps::fails, crate::proofs::Steps::no_room))]
 fn elements<'a>(
     alloc: Global,
     close: u8,
@@ -56,12 +26,14 @@ fn elements<'a>(
     let mut left = nodes;
     let mut rest = bytes;
     for _ in 0..nodes {
-        let (goes_on, fewer, behind) = element(alloc, close, depth, left, rest, items)?;
-        if !goes_on {
-            return Ok((fewer, behind));
+        let (item, fewer, behind) = front(alloc, depth, left, rest)?;
+        items.add(item)?;
+        match behind.split_first() {
+            Some((b',', more)) => rest = more,
+            Some((last, end)) if *last == close => return Ok((fewer, end)),
+            _ => return Err(ReadTerm::BadTerm),
         }
         left = fewer;
-        rest = behind;
     }
     Err(ReadTerm::BadTerm)
 }

@@ -24,12 +24,9 @@ fn size_all(items: &[Term]) -> u64
 fn greatest_depth(items: &[Term]) -> u64
     ensures { result ≡ min (greatest (map depth_of items.now)) (2 ^ 64 - 1) }
 {
-    let mut deepest = 0;
+    let mut deepest = 0u64;
     for item in items {
-        let depth = item.depth();
-        if deepest < depth {
-            deepest = depth;
-        }
+        deepest = deepest.max(item.depth());
     }
     deepest
 }

@@ -57,6 +57,7 @@ pub fn read(alloc: Global, bytes: &[u8]) -> Result<Term, ReadTerm>
     if front.used == bytes.len() {
         Ok(front.term)
     } else {
+        drop(front);
         Err(ReadTerm::BadTerm)
     }
 }

@@ -34,40 +34,23 @@ pub enum Term {
     List(Terms),
 }
 
-/// Adds copies of the terms, in their order.
-#[cycle(copy)]
-fn add_copies(alloc: Global, items: &[Term], copies: &mut Terms) -> Result<(), AllocError>
-    ensures { OnOk result (copies.new ≡ copies.old ++ items.now) }
-{
-    for item in items {
-        let copy = item.copy(alloc)?;
-        copies.add(copy)?;
-    }
-    Ok(())
-}
-
 /// Copies of the terms, in their order.
 #[cycle(copy)]
-fn copy_all(alloc: Global, items: &[Term]) -> Result<Terms, AllocError>
+pub fn copy_terms(alloc: Global, items: &[Term]) -> Result<Terms, AllocError>
     ensures { IfOk result (λ ts. ts ≡ items.now) }
 {
     let room = Vec::with_capacity(alloc, items.len())?;
     let mut copies = Sequence::from_vec(room);
-    add_copies(alloc, items, &mut copies)?;
+    for item in items {
+        let copy = item.copy(alloc)?;
+        copies.add(copy)?;
+    }
     Ok(copies)
-}
-
-/// A copy of the atom, as a term.
-fn copy_atom(alloc: Global, atom: &Atom) -> Result<Term, AllocError>
-    ensures { IfOk result (λ t. t ≡ Term.Atom atom.now) }
-{
-    let atom = atom.copy(alloc)?;
-    Ok(Term::Atom(atom))
 }
 
 /// Whether the two have equal terms in the same order.
 #[cycle(same)]
-fn same_all(a: &[Term], b: &[Term]) -> bool
+pub fn same_terms(a: &[Term], b: &[Term]) -> bool
     ensures { result ≡ same_list (map same_term a.now) b.now }
 {
     if a.len() != b.len() {
@@ -149,17 +132,11 @@ impl Term {
     {
         match self {
             Term::Int(n) => Ok(Term::Int(*n)),
-            Term::Atom(atom) => copy_atom(alloc, atom),
+            Term::Atom(atom) => atom.copy(alloc).map(Term::Atom),
             Term::Pid(pid) => Ok(Term::Pid(*pid)),
             Term::Ref(reference) => Ok(Term::Ref(*reference)),
-            Term::Tuple(items) => {
-                let copies = copy_all(alloc, items.as_slice())?;
-                Ok(Term::Tuple(copies))
-            }
-            Term::List(items) => {
-                let copies = copy_all(alloc, items.as_slice())?;
-                Ok(Term::List(copies))
-            }
+            Term::Tuple(items) => copy_terms(alloc, items.as_slice()).map(Term::Tuple),
+            Term::List(items) => copy_terms(alloc, items.as_slice()).map(Term::List),
         }
     }
 
@@ -182,8 +159,8 @@ impl Term {
             (Term::Atom(a), Term::Atom(b)) => a.bytes() == b.bytes(),
             (Term::Pid(a), Term::Pid(b)) => a == b,
             (Term::Ref(a), Term::Ref(b)) => a == b,
-            (Term::Tuple(a), Term::Tuple(b)) => same_all(a.as_slice(), b.as_slice()),
-            (Term::List(a), Term::List(b)) => same_all(a.as_slice(), b.as_slice()),
+            (Term::Tuple(a), Term::Tuple(b)) => same_terms(a.as_slice(), b.as_slice()),
+            (Term::List(a), Term::List(b)) => same_terms(a.as_slice(), b.as_slice()),
             _ => false,
         }
     }
