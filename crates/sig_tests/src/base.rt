@@ -2,6 +2,7 @@
 
 ghost use Rattle.std.specs.Prelude.{◌≡◌, ◌<◌};
 
+use crate::shared::{each_row_goes, passes};
 use sig_base::*;
 use std::alloc::{AllocError, Global};
 use std::io;
@@ -39,17 +40,24 @@ const READS: [(usize, u8, ReadAll, &[u8]); 6] = [
     (10, 0, ReadAll::TooLong, b"a"),
 ];
 
-/// The text, so many bytes of which come at a call, at least one.
-fn text_in_pieces(alloc: Global, piece: usize) -> Result<MemorySource, AllocError> {
-    let bytes = TEXT.to_vec(alloc)?;
-    Ok(MemorySource::new(bytes, piece.max(1)))
+/// Whether the text, so many bytes of which come at a call, is read so up to the limit.
+fn reads(
+    alloc: Global,
+    piece: usize,
+    limit: u8,
+    into: &mut Vec<u8>,
+    answer: ReadAll,
+    bytes: &[u8],
+) -> Result<bool, AllocError> {
+    let text = TEXT.to_vec(alloc)?;
+    let mut source = MemorySource::new(text, piece.max(1));
+    Ok(gives(&mut source, limit, into, answer, bytes))
 }
 
 /// The place of the first of these reads that goes another way.
 fn first_other_read(alloc: Global, into: &mut Vec<u8>) -> Result<Option<usize>, AllocError> {
     for (place, (piece, limit, answer, bytes)) in READS.iter().enumerate() {
-        let mut source = text_in_pieces(alloc, *piece)?;
-        if !gives(&mut source, *limit, into, *answer, bytes) {
+        if !reads(alloc, *piece, *limit, into, *answer, bytes)? {
             return Ok(Some(place));
         }
     }
@@ -59,7 +67,7 @@ fn first_other_read(alloc: Global, into: &mut Vec<u8>) -> Result<Option<usize>, 
 #[test]
 fn reads_up_to_the_limit(rt: HostRuntime) {
     let mut into = Vec::new(rt.alloc());
-    assert_eq!(rt; first_other_read(rt.alloc(), &mut into), Ok(None));
+    each_row_goes(&rt, first_other_read(rt.alloc(), &mut into));
 }
 
 /// For how many bytes there is room, what writing the text answers, and what is held then.
@@ -74,11 +82,17 @@ const WRITES: [(usize, Written, &[u8]); 4] = [
     (0, Written::WriteFault { written: 0 }, b""),
 ];
 
+/// Whether writing the text to a sink with so much room answers so, and it holds these bytes then.
+fn writes(alloc: Global, room: usize, answer: Written, held: &[u8]) -> Result<bool, AllocError> {
+    let mut sink = MemorySink::with_room(alloc, room)?;
+    let written = write_whole(&mut sink, TEXT);
+    Ok(written == answer && sink.held() == held)
+}
+
 /// The place of the first of these writes that goes another way.
 fn first_other_write(alloc: Global) -> Result<Option<usize>, AllocError> {
     for (place, (room, answer, held)) in WRITES.iter().enumerate() {
-        let mut sink = MemorySink::with_room(alloc, *room)?;
-        if write_whole(&mut sink, TEXT) != *answer || sink.held() != *held {
+        if !writes(alloc, *room, *answer, held)? {
             return Ok(Some(place));
         }
     }
@@ -87,7 +101,7 @@ fn first_other_write(alloc: Global) -> Result<Option<usize>, AllocError> {
 
 #[test]
 fn writes_until_full(rt: HostRuntime) {
-    assert_eq!(rt; first_other_write(rt.alloc()), Ok(None));
+    each_row_goes(&rt, first_other_write(rt.alloc()));
 }
 
 // Gives and takes at most 10 bytes a call. Its second call fails.
@@ -136,19 +150,25 @@ fn gives_the_rest<S: Source>(source: &mut S, into: &mut Vec<u8>) -> bool {
         && gives(source, 100, into, ReadAll::Whole, REST)
 }
 
-/// Whether a source in memory that fails, and a device under std's, give the rest after a fault.
-fn sources_give_the_rest(alloc: Global) -> Result<bool, AllocError> {
-    let mut into = Vec::new(alloc);
-    let mut source = FailingSource::new(TEXT.to_vec(alloc)?, 10, [2].to_vec(alloc)?);
-    let first = gives_the_rest(&mut source, &mut into);
+/// Whether a source in memory that fails at its second call gives the rest after the fault.
+fn source_gives_the_rest(alloc: Global, into: &mut Vec<u8>) -> Result<bool, AllocError> {
+    let faults = [2].to_vec(alloc)?;
+    let mut source = FailingSource::new(TEXT.to_vec(alloc)?, 10, faults);
+    Ok(gives_the_rest(&mut source, into))
+}
+
+/// The same of a device under std's.
+fn device_gives_the_rest(alloc: Global, into: &mut Vec<u8>) -> Result<bool, AllocError> {
     let bytes = TEXT.to_vec(alloc)?;
     let mut device = StdSource::new(Device { bytes, calls: 0 });
-    Ok(first && gives_the_rest(&mut device, &mut into))
+    Ok(gives_the_rest(&mut device, into))
 }
 
 #[test]
 fn reads_on_after_a_fault(rt: HostRuntime) {
-    assert_eq!(rt; sources_give_the_rest(rt.alloc()), Ok(true));
+    let mut into = Vec::new(rt.alloc());
+    passes(&rt, source_gives_the_rest(rt.alloc(), &mut into));
+    passes(&rt, device_gives_the_rest(rt.alloc(), &mut into));
 }
 
 #[test]
@@ -190,22 +210,32 @@ fn goes_on<O: Sink>(sink: &mut O) -> bool {
     faults_after(sink, 10) && write_whole(sink, REST) == Written::Whole
 }
 
+/// Whether a device under std's takes the rest after a fault, and has the text then.
+fn device_takes_the_rest(device: &mut Device) -> bool {
+    let goes = goes_on(&mut StdSink::new(&mut *device));
+    goes && device.bytes.as_slice() == TEXT
+}
+
 #[test]
 fn writes_on_after_a_fault(rt: HostRuntime) {
-    assert_eq!(rt; sink_takes_the_rest(rt.alloc()), Ok(true));
     let bytes = Vec::new(rt.alloc());
     let mut device = Device { bytes, calls: 0 };
-    assert!(rt; goes_on(&mut StdSink::new(&mut device)));
-    assert!(rt; device.bytes.as_slice() == TEXT);
+    passes(&rt, sink_takes_the_rest(rt.alloc()));
+    assert!(rt; device_takes_the_rest(&mut device));
+}
+
+/// Whether a list under std's takes the text.
+fn takes_the_text(out: &mut Vec<u8>) -> bool {
+    let written = write_whole(&mut StdSink::new(&mut *out), TEXT);
+    written == Written::Whole && out.as_slice() == TEXT
 }
 
 #[test]
 fn writes_to_std(rt: HostRuntime) {
     let mut out = Vec::new(rt.alloc());
-    assert!(rt; write_whole(&mut StdSink::new(&mut out), TEXT) == Written::Whole);
-    assert!(rt; out.as_slice() == TEXT);
     let mut room = [0; 4];
-    assert!(rt; faults_after(&mut StdSink::new(room.as_mut_slice()), 4));
+    let is_full = faults_after(&mut StdSink::new(room.as_mut_slice()), 4);
+    assert!(rt; is_full && takes_the_text(&mut out));
 }
 
 // The bytes that a counter of its own takes after two steps, with an open gate between them.

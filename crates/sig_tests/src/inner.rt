@@ -1,22 +1,37 @@
 //! The calls of an inner queue that no script makes so, and its marks. What receives find is tested by scripts.
 
+use crate::shared::{each_row_goes, int, passes};
 use sig_inner::{Append, Inner};
 use sig_terms::{Pid, Ref, Term};
 use std::alloc::{AllocError, Global};
 
 /// Whether there was room for the integer, as the last of fewer than a thousand messages.
 fn appends(queue: &mut Inner, number: i64) -> bool {
-    queue.next_arrival() < 1000
-        && queue.room().is_ok()
-        && matches!(queue.append(Term::Int(number)), Append::Added)
+    if queue.next_arrival() >= 1000 || queue.room().is_err() {
+        return false;
+    }
+    let appended = queue.append(Term::Int(number));
+    let is_added = matches!(appended, Append::Added);
+    drop(appended);
+    is_added
 }
 
 /// Whether the first message, which is taken out, came as the one of this number and is this integer.
 fn takes(queue: &mut Inner, arrival: u64, number: i64) -> bool {
-    match queue.pop_front() {
-        Some((arrived, message)) => arrived == arrival && message.same(&Term::Int(number)),
-        None => false,
-    }
+    let Some((arrived, message)) = queue.pop_front() else {
+        return false;
+    };
+    let is_so = arrived == arrival && int(&message) == Some(number);
+    drop(message);
+    is_so
+}
+
+/// Whether no message is left.
+fn is_over(queue: &mut Inner) -> bool {
+    let first = queue.pop_front();
+    let is_none = first.is_none();
+    drop(first);
+    is_none && queue.is_empty()
 }
 
 /// Whether the numbers go on after the queue was emptied.
@@ -24,7 +39,7 @@ fn go_on(queue: &mut Inner) -> bool {
     let two = appends(queue, 10) && appends(queue, 11) && queue.len() == 2;
     let first = takes(queue, 1, 10);
     queue.empty();
-    let none = queue.is_empty() && queue.pop_front().is_none();
+    let none = is_over(queue);
     two && first && none && appends(queue, 12) && takes(queue, 3, 12)
 }
 
@@ -36,7 +51,7 @@ fn go_on_anew(alloc: Global) -> Result<bool, AllocError> {
 
 #[test]
 fn numbers_go_on(rt: HostRuntime) {
-    assert_eq!(rt; go_on_anew(rt.alloc()), Ok(true));
+    passes(&rt, go_on_anew(rt.alloc()));
 }
 
 fn made(owner: u32, serial: u64) -> Ref {
@@ -56,22 +71,33 @@ const BINDS: [(Option<u64>, u32, u64, bool); 5] = [
     (Some(5), 0, 6, true),
 ];
 
-/// Whether the first bind and the first clear answer so, and the second ones that there is none.
-fn answers(queue: &mut Inner, reference: Ref, answer: bool) -> bool {
+/// Whether the first bind and the first clear after the reserve answer so, and the second ones that
+/// there is none.
+fn answers(queue: &mut Inner, reserve: Option<u64>, reference: Ref, answer: bool) -> bool {
+    if let Some(reserved) = reserve {
+        queue.reserve(reserved);
+    }
     queue.bind(reference) == answer
         && !queue.bind(reference)
         && queue.clear(reference) == answer
         && !queue.clear(reference)
 }
 
+/// The same of a new queue.
+fn answers_anew(
+    alloc: Global,
+    reserve: Option<u64>,
+    reference: Ref,
+    answer: bool,
+) -> Result<bool, AllocError> {
+    let mut queue = Inner::open(alloc, Pid(0))?;
+    Ok(answers(&mut queue, reserve, reference, answer))
+}
+
 /// The place of the first of the rows that answers otherwise.
 fn first_other_bind(alloc: Global) -> Result<Option<usize>, AllocError> {
     for (place, (reserve, owner, serial, answer)) in BINDS.iter().enumerate() {
-        let mut queue = Inner::open(alloc, Pid(0))?;
-        if let Some(reserved) = reserve {
-            queue.reserve(*reserved);
-        }
-        if !answers(&mut queue, made(*owner, *serial), *answer) {
+        if !answers_anew(alloc, *reserve, made(*owner, *serial), *answer)? {
             return Ok(Some(place));
         }
     }
@@ -80,7 +106,7 @@ fn first_other_bind(alloc: Global) -> Result<Option<usize>, AllocError> {
 
 #[test]
 fn binds_answer(rt: HostRuntime) {
-    assert_eq!(rt; first_other_bind(rt.alloc()), Ok(None));
+    each_row_goes(&rt, first_other_bind(rt.alloc()));
 }
 
 /// Reserves and binds the serials 1 to 9. It tells the first that isn't bound.
@@ -113,5 +139,5 @@ fn first_of_nine(alloc: Global) -> Result<(Option<u64>, Option<u64>), AllocError
 /// Of nine marks the oldest is gone.
 #[test]
 fn eight_marks_are_kept(rt: HostRuntime) {
-    assert_eq!(rt; first_of_nine(rt.alloc()), Ok((None, None)));
+    assert!(rt; first_of_nine(rt.alloc()) == Ok((None, None)));
 }

@@ -27,6 +27,8 @@ mod putting;
 #[cfg(test)]
 mod relay;
 #[cfg(test)]
+mod shared;
+#[cfg(test)]
 mod switching;
 #[cfg(test)]
 mod terms;

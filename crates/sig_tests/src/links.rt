@@ -3,16 +3,14 @@
 //! A call is written as a sign and a peer: `+1` is `link` to 1, `-1` is `unlink` of 1, `l1`, `u1`
 //! and `e1` are a link signal, an unlink signal and an exit signal of 1, and `31` is the
 //! acknowledgement of 1 with the id 3. An answer is `y`, `n` or the digit of an id. The owner is 0.
+//! Ids that are awaited are written by the places of their peers, from 0 on, with `.` for none.
 
 ghost use Rattle.std.specs.Prelude.{◌≡◌, ◌+◌, ◌<◌, ◌≤◌, ◌^◌};
 
+use crate::shared::{digit, each_row_goes, passes};
 use sig_links::*;
 use sig_terms::Pid;
 use std::alloc::{AllocError, Global};
-
-fn digit(number: u64) -> u8 {
-    b'0' + (number % 10) as u8
-}
 
 /// `link` after `room`, which can't be refused memory.
 fn linked_in_room(links: &mut Links, peer: Pid) -> Result<bool, AllocError> {
@@ -38,102 +36,96 @@ fn called(links: &mut Links, sign: u8, peer: Pid) -> Result<u8, AllocError>
     Ok(if yes { b'y' } else { b'n' })
 }
 
-/// The answers to these calls.
-fn answers(alloc: Global, links: &mut Links, calls: &[&[u8; 2]]) -> Result<Vec<u8>, AllocError>
+fn pid(digit: u8) -> Pid {
+    Pid(digit.wrapping_sub(b'0') as u32)
+}
+
+/// Whether these calls are answered so.
+fn are_answered(links: &mut Links, calls: &[&[u8; 2]], answers: &[u8]) -> Result<bool, AllocError>
     requires { links.old.links.next_id < 2 ^ 62 }
     ensures { links.new.links.next_id ≤ links.old.links.next_id + 1000 }
 {
-    let mut answers = Vec::new(alloc);
     for index in 0..1000 {
-        let Some(call) = calls.get(index) else {
+        let (Some(call), Some(answer)) = (calls.get(index), answers.get(index)) else {
             break;
         };
-        let peer = Pid(call[1].wrapping_sub(b'0') as u32);
-        answers.push(called(links, call[0], peer)?)?;
-    }
-    Ok(answers)
-}
-
-/// The active peers, one after another.
-fn active_peers(alloc: Global, links: &Links) -> Result<Vec<u8>, AllocError> {
-    let mut peers = Vec::new(alloc);
-    let mut after = None;
-    for _ in 0..10 {
-        let Some(peer) = links.next_active(after) else {
-            break;
-        };
-        peers.push(digit(peer.0 as u64))?;
-        after = Some(peer);
-    }
-    Ok(peers)
-}
-
-/// Each peer from which an id is awaited, with the id.
-fn awaited_ids(alloc: Global, links: &Links) -> Result<Vec<u8>, AllocError> {
-    let mut ids = Vec::new(alloc);
-    for peer in 0u32..10 {
-        if let Some(id) = links.awaited(Pid(peer)) {
-            ids.push(digit(peer as u64))?;
-            ids.push(digit(id))?;
+        if called(links, call[0], pid(call[1]))? != *answer {
+            return Ok(false);
         }
     }
-    Ok(ids)
+    Ok(calls.len() == answers.len())
 }
 
-/// Calls, what they answer, the active peers after them, and the peers and ids that are awaited.
-const RULES: [(&[&[u8; 2]], &[u8], &[u8], &[u8]); 18] = [
+/// Whether these are the active peers after one, or from the first on, one after another.
+fn are_active(links: &Links, after: Option<Pid>, peers: &[u8]) -> bool {
+    let mut last = after;
+    for peer in peers {
+        let next = links.next_active(last);
+        if next != Some(pid(*peer)) {
+            return false;
+        }
+        last = next;
+    }
+    links.next_active(last).is_none()
+}
+
+/// Whether these are the active peers, and the ids that are awaited.
+fn leave(links: &Links, active: &[u8], awaited: &[u8]) -> bool {
+    for peer in 0u32..10 {
+        let id = links.awaited(Pid(peer)).map_or(b'.', digit);
+        if id != awaited.get(peer as usize).copied().unwrap_or(b'.') {
+            return false;
+        }
+    }
+    are_active(links, None, active)
+}
+
+/// Calls, what they answer, the active peers after them, and the ids that are awaited.
+type Rule = (
+    &'static [&'static [u8; 2]],
+    &'static [u8],
+    &'static [u8],
+    &'static [u8],
+);
+
+/// Whether the rule holds from no link on.
+fn holds(alloc: Global, rule: &Rule) -> Result<bool, AllocError> {
+    let (calls, answers, active, awaited) = rule;
+    let mut links = Links::open(alloc, Pid(0));
+    Ok(are_answered(&mut links, calls, answers)? && leave(&links, active, awaited))
+}
+
+const RULES: [Rule; 18] = [
     // `link`: once, again, to the owner, and while an id is awaited
     (&[b"+1"], b"y", b"1", b""),
     (&[b"+1", b"+1"], b"yn", b"1", b""),
     (&[b"+0"], b"n", b"", b""),
-    (&[b"+1", b"-1", b"+1"], b"y1y", b"1", b"11"),
+    (&[b"+1", b"-1", b"+1"], b"y1y", b"1", b".1"),
     // `unlink`: of an inactive link, of active ones, and with an older id awaited
     (&[b"-1", b"-0"], b"nn", b"", b""),
-    (&[b"+1", b"+2", b"-2", b"-1"], b"yy12", b"", b"1221"),
-    (&[b"+1", b"-1", b"+1", b"-1"], b"y1y2", b"", b"12"),
+    (&[b"+1", b"+2", b"-2", b"-1"], b"yy12", b"", b".21"),
+    (&[b"+1", b"-1", b"+1", b"-1"], b"y1y2", b"", b".2"),
     // a link signal: once, again, while an id is awaited, and after the acknowledgement
     (&[b"l1", b"l1"], b"yn", b"1", b""),
-    (&[b"+1", b"-1", b"l1"], b"y1n", b"", b"11"),
+    (&[b"+1", b"-1", b"l1"], b"y1n", b"", b".1"),
     (&[b"+1", b"-1", b"11", b"l1"], b"y1yy", b"1", b""),
     // an unlink signal: of an active and of an inactive link
     (&[b"l1", b"u1", b"u1"], b"yyn", b"", b""),
-    (&[b"+1", b"-1", b"u1"], b"y1n", b"", b"11"),
+    (&[b"+1", b"-1", b"u1"], b"y1n", b"", b".1"),
     // an acknowledgement: of another id, of another peer, of no unlink, and of the awaited one
-    (&[b"+1", b"-1", b"+1", b"-1", b"11"], b"y1y2n", b"", b"12"),
-    (&[b"+1", b"-1", b"12"], b"y1n", b"", b"11"),
+    (&[b"+1", b"-1", b"+1", b"-1", b"11"], b"y1y2n", b"", b".2"),
+    (&[b"+1", b"-1", b"12"], b"y1n", b"", b".1"),
     (&[b"+1", b"11"], b"yn", b"1", b""),
     (&[b"+1", b"-1", b"+1", b"11"], b"y1yy", b"1", b""),
     // an exit signal: of an active and of an inactive link
     (&[b"+1", b"e1", b"e1"], b"yyn", b"", b""),
-    (&[b"+1", b"-1", b"e1"], b"y1n", b"", b"11"),
+    (&[b"+1", b"-1", b"e1"], b"y1n", b"", b".1"),
 ];
-
-/// Whether the calls are answered so.
-fn are_answered(
-    alloc: Global,
-    links: &mut Links,
-    calls: &[&[u8; 2]],
-    answered: &[u8],
-) -> Result<bool, AllocError>
-    requires { links.old.links.next_id < 2 ^ 62 }
-    ensures { links.new.links.next_id ≤ links.old.links.next_id + 1000 }
-{
-    Ok(answers(alloc, links, calls)?.as_slice() == answered)
-}
-
-/// Whether these are the active peers, and the peers and ids that are awaited.
-fn leave(alloc: Global, links: &Links, active: &[u8], awaited: &[u8]) -> Result<bool, AllocError> {
-    let peers = active_peers(alloc, links)?.as_slice() == active;
-    let ids = awaited_ids(alloc, links)?.as_slice() == awaited;
-    Ok(peers && ids)
-}
 
 /// The place of the first of the rules that doesn't hold.
 fn first_broken(alloc: Global) -> Result<Option<usize>, AllocError> {
-    for (place, (calls, answered, active, awaited)) in RULES.iter().enumerate() {
-        let mut links = Links::open(alloc, Pid(0));
-        let told = are_answered(alloc, &mut links, calls, answered)?;
-        if !told || !leave(alloc, &links, active, awaited)? {
+    for (place, rule) in RULES.iter().enumerate() {
+        if !holds(alloc, rule)? {
             return Ok(Some(place));
         }
     }
@@ -142,7 +134,12 @@ fn first_broken(alloc: Global) -> Result<Option<usize>, AllocError> {
 
 #[test]
 fn rules_hold_line_by_line(rt: HostRuntime) {
-    assert_eq!(rt; first_broken(rt.alloc()), Ok(None));
+    each_row_goes(&rt, first_broken(rt.alloc()));
+}
+
+/// Whether the peer's link is inactive, and no id of it is awaited.
+fn is_apart(links: &Links, peer: Pid) -> bool {
+    !links.active(peer) && links.awaited(peer).is_none()
 }
 
 /// Whether a process that links again sees the other's unlink as one of the older link.
@@ -150,53 +147,62 @@ fn cross(a: &mut Links, b: &mut Links) -> Result<bool, AllocError>
     requires a { a.old.links.next_id < 2 ^ 62 }
     requires b { b.old.links.next_id < 2 ^ 62 }
 {
-    let linked = a.link(Pid(1))? && b.on_link(Pid(0))?;
-    let ids = a.unlink(Pid(1))? == Some(1) && b.unlink(Pid(0))? == Some(1);
-    let again = a.link(Pid(1))? && !b.on_unlink(Pid(0)) && !b.on_link(Pid(0))?;
-    let ended = a.on_unlink(Pid(1)) && a.on_ack(Pid(1), 1) && b.on_ack(Pid(0), 1);
-    Ok(linked && ids && again && ended)
+    let one = are_answered(a, &[b"+1", b"-1", b"+1", b"u1", b"11"], b"y1yyy")?;
+    let two = are_answered(b, &[b"l0", b"-0", b"u0", b"l0", b"10"], b"y1nny")?;
+    Ok(one & two & is_apart(a, Pid(1)) & is_apart(b, Pid(0)))
 }
 
 #[test]
 fn both_unlink_at_once_and_one_links_again(rt: HostRuntime) {
     let mut a = Links::open(rt.alloc(), Pid(0));
     let mut b = Links::open(rt.alloc(), Pid(1));
-    assert!(rt; cross(&mut a, &mut b) == Ok(true));
-    assert!(rt; !a.active(Pid(1)) && a.awaited(Pid(1)).is_none());
-    assert!(rt; !b.active(Pid(0)) && b.awaited(Pid(0)).is_none());
+    passes(&rt, cross(&mut a, &mut b));
+}
+
+/// Whether there is no active peer at first, and then each comes after those below it.
+fn ascend(links: &mut Links) -> Result<bool, AllocError>
+    requires { links.old.links.next_id < 2 ^ 62 }
+{
+    let none = leave(links, b"", b"");
+    let linked = are_answered(links, &[b"+9", b"+2", b"l5", b"+2"], b"yyyn")?;
+    let all = leave(links, b"259", b"") & are_active(links, Some(Pid(3)), b"59");
+    let last = are_active(links, Some(Pid(9)), b"");
+    Ok(none & linked & all & last & are_active(links, Some(Pid(u32::MAX)), b""))
 }
 
 #[test]
 fn active_peers_ascend(rt: HostRuntime) {
-    let alloc = rt.alloc();
-    let mut links = Links::open(alloc, Pid(0));
-    assert!(rt; links.next_active(None).is_none());
-    let calls: [&[u8; 2]; 4] = [b"+9", b"+2", b"l5", b"+2"];
-    assert!(rt; are_answered(alloc, &mut links, &calls, b"yyyn") == Ok(true));
-    assert!(rt; leave(alloc, &links, b"259", b"") == Ok(true));
-    assert!(rt; links.next_active(Some(Pid(3))) == Some(Pid(5)));
-    assert!(rt; links.next_active(Some(Pid(9))).is_none());
-    assert!(rt; links.next_active(Some(Pid(u32::MAX))).is_none());
+    let mut links = Links::open(rt.alloc(), Pid(0));
+    passes(&rt, ascend(&mut links));
+}
+
+/// Whether links are made in room that is made ahead, one of them twice.
+fn are_linked_in_room(links: &mut Links) -> Result<bool, AllocError> {
+    let one = linked_in_room(links, Pid(2))?;
+    let two = linked_in_room(links, Pid(1))?;
+    let again = linked_in_room(links, Pid(2))?;
+    Ok(one & two & !again & leave(links, b"12", b""))
 }
 
 #[test]
 fn room_is_made_ahead(rt: HostRuntime) {
-    let alloc = rt.alloc();
-    let mut links = Links::open(alloc, Pid(0));
-    assert!(rt; linked_in_room(&mut links, Pid(2)) == Ok(true));
-    assert!(rt; linked_in_room(&mut links, Pid(1)) == Ok(true));
-    assert!(rt; linked_in_room(&mut links, Pid(2)) == Ok(false));
-    assert!(rt; leave(alloc, &links, b"12", b"") == Ok(true));
+    let mut links = Links::open(rt.alloc(), Pid(0));
+    passes(&rt, are_linked_in_room(&mut links));
+}
+
+/// Whether the next id is 2 after an unlink, though all links were taken out.
+fn goes_on_from_one(links: &mut Links) -> Result<bool, AllocError>
+    requires { links.old.links.next_id < 2 ^ 61 }
+{
+    let before = are_answered(links, &[b"+1", b"-1", b"+2"], b"y1y")?;
+    links.empty();
+    let none = leave(links, b"", b"");
+    let after = are_answered(links, &[b"l1", b"+2", b"-2"], b"yy2")?;
+    Ok(before & none & after)
 }
 
 #[test]
 fn the_next_id_outlives_the_links(rt: HostRuntime) {
-    let alloc = rt.alloc();
-    let mut links = Links::open(alloc, Pid(0));
-    let before: [&[u8; 2]; 3] = [b"+1", b"-1", b"+2"];
-    assert!(rt; are_answered(alloc, &mut links, &before, b"y1y") == Ok(true));
-    links.empty();
-    assert!(rt; leave(alloc, &links, b"", b"") == Ok(true));
-    let after: [&[u8; 2]; 3] = [b"l1", b"+2", b"-2"];
-    assert!(rt; are_answered(alloc, &mut links, &after, b"yy2") == Ok(true));
+    let mut links = Links::open(rt.alloc(), Pid(0));
+    passes(&rt, goes_on_from_one(&mut links));
 }

@@ -1,25 +1,28 @@
 //! One call of each growing call with memory to spare.
 
+use crate::shared::passes;
 use sig_lists::*;
 use std::alloc::AllocError;
 
-/// Pushes 7, 8 and 9, and adds 10. It tells whether all were pushed.
-fn grow(numbers: &mut Sequence<u64>) -> Result<bool, AllocError> {
-    let mut added = true;
-    for number in [7u64, 8, 9] {
-        added = added && matches!(numbers.push(number), Pushed::Added);
+/// Whether the empty sequence grows by 7, 8, 9 and 10.
+fn grows(numbers: &mut Sequence<u64>) -> Result<bool, AllocError> {
+    let mut is_so = numbers.is_empty();
+    for number in &[7u64, 8, 9] {
+        is_so &= matches!(numbers.push(*number), Pushed::Added);
     }
     numbers.add(10)?;
-    Ok(added)
+    Ok(is_so && numbers.as_slice() == [7u64, 8, 9, 10].as_slice())
+}
+
+/// Whether 10 leaves, and 9 is the last then, at the place 2.
+fn shrinks(numbers: &mut Sequence<u64>) -> bool {
+    let last = numbers.pop() == Some(10);
+    last && numbers.get(2).copied() == Some(9) && numbers.get(3).is_none()
 }
 
 #[test]
 fn a_sequence_grows_and_shrinks_at_its_end(rt: HostRuntime) {
     let mut numbers = Sequence::new(rt.alloc());
-    assert!(rt; numbers.is_empty());
-    assert!(rt; grow(&mut numbers) == Ok(true));
-    assert!(rt; numbers.as_slice() == [7u64, 8, 9, 10].as_slice());
-    assert!(rt; numbers.pop() == Some(10));
-    assert!(rt; numbers.get(2).copied() == Some(9));
-    assert!(rt; numbers.get(3).is_none());
+    passes(&rt, grows(&mut numbers));
+    assert!(rt; shrinks(&mut numbers));
 }

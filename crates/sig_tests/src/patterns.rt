@@ -2,6 +2,7 @@
 
 ghost use Rattle.std.specs.Prelude.{◌≡◌, ◌<◌};
 
+use crate::shared::{each_row_goes, int};
 use sig_base::Steps;
 use sig_lists::Sequence;
 use sig_patterns::{BuildFault, Env, Expr, Pattern, Var, bind_match, build, matches, pins};
@@ -26,9 +27,9 @@ fn row(alloc: Global, count: u16) -> Result<Expr, AllocError> {
     Ok(Expr::List(items))
 }
 
-/// The expression in so many tuples.
-fn nest(alloc: Global, depth: u8, bottom: Expr) -> Result<Expr, AllocError> {
-    let mut nested = bottom;
+/// An integer in so many tuples.
+fn nest(alloc: Global, depth: u8) -> Result<Expr, AllocError> {
+    let mut nested = Expr::Int(0);
     for _ in 0..depth {
         let mut items = Sequence::new(alloc);
         items.add(nested)?;
@@ -37,45 +38,67 @@ fn nest(alloc: Global, depth: u8, bottom: Expr) -> Result<Expr, AllocError> {
     Ok(nested)
 }
 
-/// What the copy of the expression builds: its nodes and its depth, where it is built.
-fn size_of(alloc: Global, expression: &Expr, env: &Env) -> Result<(u64, u64), AllocError> {
-    let copy = expression.copy(alloc)?;
-    match build(alloc, &copy, env) {
-        Ok(term) => Ok((term.size(), term.depth())),
-        Err(BuildFault::TooLarge { nodes, depth }) => Ok((nodes, depth)),
-        Err(BuildFault::Memory) => Err(AllocError),
+/// The nodes and the depth of what was built, or is too large to be.
+fn extent(built: &Result<Term, BuildFault>) -> Option<(u64, u64)> {
+    match built {
+        Ok(term) => Some((term.size(), term.depth())),
+        Err(BuildFault::TooLarge { nodes, depth }) => Some((*nodes, *depth)),
+        Err(BuildFault::Memory) => None,
     }
 }
 
-/// The size of a list of so many integers.
-fn row_size(alloc: Global, count: u16) -> Result<(u64, u64), AllocError> {
-    let items = row(alloc, count)?;
-    size_of(alloc, &items, &Env::new(alloc))
+/// The extent of what a copy of the expression builds.
+fn size_of(alloc: Global, expression: Expr, env: &Env) -> Result<Option<(u64, u64)>, AllocError> {
+    let copied = expression.copy(alloc);
+    drop(expression);
+    let copy = copied?;
+    let built = build(alloc, &copy, env);
+    drop(copy);
+    let extent = extent(&built);
+    drop(built);
+    Ok(extent)
 }
 
-/// The size of an integer in so many tuples.
-fn nest_size(alloc: Global, depth: u8) -> Result<(u64, u64), AllocError> {
-    let nested = nest(alloc, depth, Expr::Int(0))?;
-    size_of(alloc, &nested, &Env::new(alloc))
+/// How many integers a list has, or none for an integer in tuples; how many tuples; the nodes and the
+/// depth of its value.
+const SIZES: [(Option<u16>, u8, u64, u64); 4] = [
+    (Some(1023), 0, 1024, 2),
+    (Some(1024), 0, 1025, 2),
+    (None, 63, 64, 64),
+    (None, 64, 65, 65),
+];
+
+/// The list of so many integers, or an integer in so many tuples.
+fn nested(alloc: Global, count: Option<u16>, depth: u8) -> Result<Expr, AllocError> {
+    match count {
+        Some(count) => row(alloc, count),
+        None => nest(alloc, depth),
+    }
+}
+
+/// The place of the first of the sizes that is measured otherwise.
+fn first_other_size(alloc: Global, env: &Env) -> Result<Option<usize>, AllocError> {
+    for (place, (count, tuples, nodes, depth)) in SIZES.iter().enumerate() {
+        let expression = nested(alloc, *count, *tuples)?;
+        if size_of(alloc, expression, env)? != Some((*nodes, *depth)) {
+            return Ok(Some(place));
+        }
+    }
+    Ok(None)
 }
 
 #[test]
 fn sizes_are_measured(rt: HostRuntime) {
-    let alloc = rt.alloc();
-    assert!(rt; row_size(alloc, 1023) == Ok((1024, 2)));
-    assert!(rt; row_size(alloc, 1024) == Ok((1025, 2)));
-    assert!(rt; nest_size(alloc, 63) == Ok((64, 64)));
-    assert!(rt; nest_size(alloc, 64) == Ok((65, 65)));
+    let env = Env::new(rt.alloc());
+    each_row_goes(&rt, first_other_size(rt.alloc(), &env));
 }
 
-fn int(term: Option<&Term>) -> Option<i64> {
-    match term {
-        Some(Term::Int(value)) => Some(*value),
-        _ => None,
-    }
+/// The integer that is the variable's value.
+fn value(env: &Env, x: &Var) -> Option<i64> {
+    int(env.get(x)?)
 }
 
-/// The integer that is the variable's value after a match with the term, where they match.
+/// The integer that is the variable's value after a match with the term, where they match. It was 1.
 fn matched<L: Ledger>(
     alloc: Global,
     steps: &mut Steps<L>,
@@ -84,40 +107,47 @@ fn matched<L: Ledger>(
     x: &Var,
     term: &Term,
 ) -> Result<Option<Option<i64>>, AllocError> {
+    env.set(x, Term::Int(1))?;
     if !matches(pattern, env, term, steps) {
         return Ok(None);
     }
     bind_match(alloc, pattern, env, term)?;
-    Ok(Some(int(env.get(x))))
+    Ok(Some(value(env, x)))
 }
 
-/// The value of X after a match of the pattern with the integer, where X was 1.
+/// The same of a new environment and the integer.
 fn bound<L: Ledger>(
     alloc: Global,
     steps: &mut Steps<L>,
     pattern: &Pattern,
+    x: &Var,
     number: i64,
-) -> Result<Option<Option<i64>>, ReadTerm> {
-    let x = var(alloc, b'X')?;
+) -> Result<Option<Option<i64>>, AllocError> {
     let mut env = Env::new(alloc);
-    env.set(&x, Term::Int(1))?;
     let term = Term::Int(number);
-    Ok(matched(alloc, steps, pattern, &mut env, &x, &term)?)
+    let value = matched(alloc, steps, pattern, &mut env, x, &term);
+    drop(term);
+    drop(env);
+    value
 }
 
+/// The same of a copy of the pattern.
 fn bound_by<L: Ledger>(
     alloc: Global,
     blank: Blank,
     pattern: &Pattern,
+    x: &Var,
     number: i64,
-) -> Result<Option<Option<i64>>, ReadTerm>
+) -> Result<Option<Option<i64>>, AllocError>
     requires name { blank.name ≡ L.name }
     requires parts { blank.parts ≡ L.parts }
     requires some { 0 < blank.parts }
 {
     let copy = pattern.copy(alloc)?;
     let mut steps: Steps<L> = Steps::open(blank);
-    bound(alloc, &mut steps, &copy, number)
+    let value = bound(alloc, &mut steps, &copy, x, number);
+    drop(copy);
+    value
 }
 
 /// The variable, pinned or bound.
@@ -132,19 +162,29 @@ fn pattern_of(alloc: Global, pin: bool, letter: u8) -> Result<Pattern, ReadTerm>
 
 /// Whether a variable is pinned and which one, the integer that it is matched with, the value of X
 /// after a match, and whether the pattern pins X.
-const MATCHES: [(bool, u8, i64, Option<Option<i64>>, bool); 4] = [
+type Match = (bool, u8, i64, Option<Option<i64>>, bool);
+
+const MATCHES: [Match; 4] = [
     (false, b'X', 2, Some(Some(2)), false),
     (true, b'X', 2, None, true),
     (true, b'X', 1, Some(Some(1)), true),
     (true, b'Y', 1, None, false),
 ];
 
+/// Whether the match goes so.
+fn goes(alloc: Global, x: &Var, row: &Match) -> Result<bool, ReadTerm> {
+    let (pin, letter, number, value, pinned) = row;
+    let pattern = pattern_of(alloc, *pin, *letter)?;
+    let answer = bound_by::<Brand>(alloc, Blank::new(1), &pattern, x, *number);
+    let is_pinned = pins(&pattern, x);
+    drop(pattern);
+    Ok(answer? == *value && is_pinned == *pinned)
+}
+
 /// The place of the first of the matches that goes another way.
 fn first_other_match(alloc: Global, x: &Var) -> Result<Option<usize>, ReadTerm> {
-    for (place, (pin, letter, number, value, pinned)) in MATCHES.iter().enumerate() {
-        let pattern = pattern_of(alloc, *pin, *letter)?;
-        let answer = bound_by::<Brand>(alloc, Blank::new(1), &pattern, *number)?;
-        if answer != *value || pins(&pattern, x) != *pinned {
+    for (place, row) in MATCHES.iter().enumerate() {
+        if !goes(alloc, x, row)? {
             return Ok(Some(place));
         }
     }

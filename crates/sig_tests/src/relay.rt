@@ -8,6 +8,7 @@ use crate::held::hold_and_offer;
 use crate::orders::{are_three, has_switched, is_hundred, is_one, is_put_after_refusal, is_sixty};
 use crate::pids::{only, pair, trio};
 use crate::putting::{put_and_receive, put_three};
+use crate::shared::passes;
 use crate::switching::switch;
 use sig_kinds::Signals;
 use sig_layout::{Numbers, Opening, Policy, Senders};
@@ -122,7 +123,7 @@ fn two_threads<R: Threads + Wait + Sync>(rt: &R, alloc: Global) -> Result<bool, 
 
 #[test]
 fn two_threads_under_each_policy(rt: HostRuntime) {
-    assert!(rt; two_threads(&rt, rt.alloc()) == Ok(true));
+    passes(&rt, two_threads(&rt, rt.alloc()));
 }
 
 // A seat holds the outer turn while another offers and fetches: both are refused with its number.
@@ -149,7 +150,7 @@ fn a_held_turn(alloc: Global) -> Result<bool, AllocError> {
 
 #[test]
 fn another_seat_holds_the_outer_turn(rt: HostRuntime) {
-    assert!(rt; a_held_turn(rt.alloc()) == Ok(true));
+    passes(&rt, a_held_turn(rt.alloc()));
 }
 
 // Buffers are installed by a put, emptied by a fetch, the outer list before them, and removed.
@@ -181,7 +182,7 @@ fn a_switch<R: Wait>(rt: &R, alloc: Global) -> Result<bool, AllocError> {
 
 #[test]
 fn one_seat_installs_and_removes(rt: HostRuntime) {
-    assert!(rt; a_switch(&rt, rt.alloc()) == Ok(true));
+    passes(&rt, a_switch(&rt, rt.alloc()));
 }
 
 // Fetches until a fetch passes no buffer by. It tells whether one came so far.
@@ -244,7 +245,7 @@ fn a_note<R: Threads + Wait + Sync>(rt: &R, alloc: Global) -> Result<bool, Alloc
 
 #[test]
 fn a_learned_note_is_taken(rt: HostRuntime) {
-    assert!(rt; a_note(&rt, rt.alloc()) == Ok(true));
+    passes(&rt, a_note(&rt, rt.alloc()));
 }
 
 // Three threads put twenty messages each, and a fourth fetches forty of them.
@@ -321,5 +322,5 @@ fn four_under_each_policy<R: Threads + Wait + Sync>(
 
 #[test]
 fn four_threads_under_each_policy(rt: HostRuntime) {
-    assert!(rt; four_under_each_policy(&rt, rt.alloc()) == Ok(true));
+    passes(&rt, four_under_each_policy(&rt, rt.alloc()));
 }

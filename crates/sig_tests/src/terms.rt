@@ -1,5 +1,6 @@
 //! Texts of terms both ways, and what is an atom or a name.
 
+use crate::shared::{each_row_goes, passes};
 use sig_lists::Sequence;
 use sig_terms::*;
 use std::alloc::{AllocError, Global};
@@ -123,12 +124,26 @@ const HOLDING: [(&[u8], bool); 6] = [
     (b"[]", false),
 ];
 
+/// Whether the bytes make an atom.
+fn makes_atom(alloc: Global, bytes: &[u8]) -> Result<bool, AllocError> {
+    let atom = Atom::new(alloc, bytes)?;
+    let is_made = atom.is_some();
+    drop(atom);
+    Ok(is_made)
+}
+
+/// Whether the bytes make a name.
+fn makes_name(alloc: Global, bytes: &[u8]) -> Result<bool, AllocError> {
+    let name = Name::new(alloc, bytes)?;
+    let is_made = name.is_some();
+    drop(name);
+    Ok(is_made)
+}
+
 /// The place of the first of the words that makes an atom or a name where it shouldn't, or none.
 fn first_other_word(alloc: Global) -> Result<Option<usize>, AllocError> {
-    for (place, (bytes, is_atom, is_name)) in WORDS.iter().enumerate() {
-        let atom = Atom::new(alloc, bytes)?.is_some();
-        let name = Name::new(alloc, bytes)?.is_some();
-        if atom != *is_atom || name != *is_name {
+    for (place, (bytes, atom, name)) in WORDS.iter().enumerate() {
+        if makes_atom(alloc, bytes)? != *atom || makes_name(alloc, bytes)? != *name {
             return Ok(Some(place));
         }
     }
@@ -137,7 +152,7 @@ fn first_other_word(alloc: Global) -> Result<Option<usize>, AllocError> {
 
 #[test]
 fn bytes_make_atoms_and_names(rt: HostRuntime) {
-    assert_eq!(rt; first_other_word(rt.alloc()), Ok(None));
+    each_row_goes(&rt, first_other_word(rt.alloc()));
 }
 
 /// Adds atoms, and a term of each other kind but a tuple.
@@ -160,11 +175,20 @@ fn prints(alloc: Global, term: &Term, text: &[u8]) -> Result<bool, AllocError> {
     Ok(printed.as_slice() == text)
 }
 
+/// Whether the term is the integer 0.
+fn is_zero(term: &Term) -> bool {
+    let zero = Term::Int(0);
+    let same = term.same(&zero);
+    drop(zero);
+    same
+}
+
 /// Whether a copy of the term is the same, isn't the integer 0, and prints this text.
 fn copy_prints(alloc: Global, term: &Term, text: &[u8]) -> Result<bool, AllocError> {
     let copy = term.copy(alloc)?;
-    let same = copy.same(term) && !copy.same(&Term::Int(0));
+    let same = copy.same(term) && !is_zero(&copy);
     let printed = prints(alloc, &copy, text);
+    drop(copy);
     Ok(printed? && same)
 }
 
@@ -178,7 +202,7 @@ fn kinds_print(alloc: Global) -> Result<bool, AllocError> {
 
 #[test]
 fn terms_print_their_texts(rt: HostRuntime) {
-    assert_eq!(rt; kinds_print(rt.alloc()), Ok(true));
+    passes(&rt, kinds_print(rt.alloc()));
 }
 
 /// Whether the term has so many nodes and this depth, and prints this text.
@@ -192,52 +216,91 @@ fn is_so(
     Ok(prints(alloc, term, text)? && term.size() == nodes && term.depth() == depth)
 }
 
+/// Whether the text is read as a term with so many nodes and this depth, which prints it.
+fn is_read(alloc: Global, text: &[u8], nodes: u64, depth: u64) -> Result<bool, ReadTerm> {
+    let term = read(alloc, text)?;
+    let answer = is_so(alloc, &term, nodes, depth, text);
+    drop(term);
+    Ok(answer?)
+}
+
 /// The place of the first of the texts that is read as another term.
-fn first_other_text(alloc: Global) -> Result<Option<usize>, ReadTerm> {
-    for (place, (bytes, nodes, depth)) in TEXTS.iter().enumerate() {
-        let term = read(alloc, bytes)?;
-        if !is_so(alloc, &term, *nodes, *depth, bytes)? {
-            return Ok(Some(place));
+fn first_other_text(alloc: Global) -> Option<usize> {
+    for (place, (text, nodes, depth)) in TEXTS.iter().enumerate() {
+        if !matches!(is_read(alloc, text, *nodes, *depth), Ok(true)) {
+            return Some(place);
         }
     }
-    Ok(None)
+    None
 }
 
 #[test]
 fn texts_are_read_and_printed_again(rt: HostRuntime) {
-    assert_eq!(rt; first_other_text(rt.alloc()), Ok(None));
+    each_row_goes(&rt, Ok(first_other_text(rt.alloc())));
 }
 
 /// Whether the bytes are read as this term.
 fn reads_as(alloc: Global, bytes: &[u8], term: &Term) -> bool {
-    match read(alloc, bytes) {
-        Ok(found) => found.same(term),
-        Err(_) => false,
+    let Ok(found) = read(alloc, bytes) else {
+        return false;
+    };
+    let same = found.same(term);
+    drop(found);
+    same
+}
+
+/// Texts of the terms of `term_at`, by their places.
+const READ: [&[u8]; 6] = [
+    b"-9223372036854775808",
+    b"9223372036854775807",
+    b"<12>",
+    b"#Ref<12.34>",
+    b"[]",
+    b"{}",
+];
+
+/// The term of the text at this place.
+fn term_at(alloc: Global, place: usize) -> Term {
+    let owner = Pid(12);
+    match place {
+        0 => Term::Int(i64::MIN),
+        1 => Term::Int(i64::MAX),
+        2 => Term::Pid(owner),
+        3 => Term::Ref(Ref { owner, serial: 34 }),
+        4 => Term::List(Sequence::new(alloc)),
+        _ => Term::Tuple(Sequence::new(alloc)),
     }
+}
+
+/// The place of the first of the texts that isn't read as its term.
+fn first_other_term(alloc: Global) -> Option<usize> {
+    for (place, bytes) in READ.iter().enumerate() {
+        let term = term_at(alloc, place);
+        let is_read = reads_as(alloc, bytes, &term);
+        drop(term);
+        if !is_read {
+            return Some(place);
+        }
+    }
+    None
 }
 
 #[test]
 fn read_gives_the_term(rt: HostRuntime) {
-    let alloc = rt.alloc();
-    let owner = Pid(12);
-    let reference = Ref { owner, serial: 34 };
-    assert!(rt; reads_as(alloc, b"-9223372036854775808", &Term::Int(i64::MIN)));
-    assert!(rt; reads_as(alloc, b"9223372036854775807", &Term::Int(i64::MAX)));
-    assert!(rt; reads_as(alloc, b"<12>", &Term::Pid(owner)));
-    assert!(rt; reads_as(alloc, b"#Ref<12.34>", &Term::Ref(reference)));
-    assert!(rt; reads_as(alloc, b"[]", &Term::List(Sequence::new(alloc))));
-    assert!(rt; reads_as(alloc, b"{}", &Term::Tuple(Sequence::new(alloc))));
+    each_row_goes(&rt, Ok(first_other_term(rt.alloc())));
 }
 
 /// Whether the atom is known by its bytes, and read from its text.
 fn two_words_are_known(alloc: Global) -> Result<bool, AllocError> {
     let atom = Term::plain_atom(alloc, b"Two words")?;
-    Ok(atom.is_atom(b"Two words") && reads_as(alloc, b"'Two words'", &atom))
+    let are_known = atom.is_atom(b"Two words") && reads_as(alloc, b"'Two words'", &atom);
+    drop(atom);
+    Ok(are_known)
 }
 
 #[test]
 fn an_atom_is_known_by_its_bytes(rt: HostRuntime) {
-    assert_eq!(rt; two_words_are_known(rt.alloc()), Ok(true));
+    passes(&rt, two_words_are_known(rt.alloc()));
 }
 
 /// Whether the bytes are refused.
@@ -270,11 +333,16 @@ fn text_of(alloc: Global, pieces: &[(&[u8], usize)]) -> Result<Vec<u8>, AllocErr
     Ok(text)
 }
 
+/// Whether the text of these pieces is read where it fits, and refused where it doesn't.
+fn is_limited(alloc: Global, pieces: &[(&[u8], usize)], fits: bool) -> Result<bool, AllocError> {
+    let text = text_of(alloc, pieces)?;
+    Ok(is_bad(alloc, text.as_slice()) != fits)
+}
+
 /// The place of the first of the long texts that is read where it shouldn't be, or isn't.
 fn first_other_long(alloc: Global) -> Result<Option<usize>, AllocError> {
     for (place, (pieces, fits)) in LONG.iter().enumerate() {
-        let text = text_of(alloc, pieces)?;
-        if is_bad(alloc, text.as_slice()) == *fits {
+        if !is_limited(alloc, pieces, *fits)? {
             return Ok(Some(place));
         }
     }
@@ -297,8 +365,8 @@ fn front_of_letters(alloc: Global) -> Result<Option<usize>, AllocError> {
 
 #[test]
 fn read_stops_at_its_limits(rt: HostRuntime) {
-    assert_eq!(rt; first_other_long(rt.alloc()), Ok(None));
-    assert_eq!(rt; front_of_letters(rt.alloc()), Ok(Some(255)));
+    each_row_goes(&rt, first_other_long(rt.alloc()));
+    assert!(rt; front_of_letters(rt.alloc()) == Ok(Some(255)));
 }
 
 #[test]
@@ -309,19 +377,29 @@ fn read_front_takes_the_longest(rt: HostRuntime) {
     }
 }
 
+/// Whether a node of the term of this text is the reference, where it is read.
+fn holds(alloc: Global, bytes: &[u8], reference: Ref) -> Option<bool> {
+    let Ok(term) = read(alloc, bytes) else {
+        return None;
+    };
+    let holds = term.holds_ref(reference);
+    drop(term);
+    Some(holds)
+}
+
 /// The place of the first of the texts that holds the reference where it shouldn't, or doesn't.
-fn first_other_holding(alloc: Global, held: Ref) -> Result<Option<usize>, ReadTerm> {
-    for (place, (bytes, holds)) in HOLDING.iter().enumerate() {
-        if read(alloc, bytes)?.holds_ref(held) != *holds {
-            return Ok(Some(place));
+fn first_other_holding(alloc: Global, reference: Ref) -> Option<usize> {
+    for (place, (bytes, expected)) in HOLDING.iter().enumerate() {
+        if holds(alloc, bytes, reference) != Some(*expected) {
+            return Some(place);
         }
     }
-    Ok(None)
+    None
 }
 
 #[test]
 fn references_are_found_inside(rt: HostRuntime) {
     let owner = Pid(1);
-    let held = Ref { owner, serial: 2 };
-    assert_eq!(rt; first_other_holding(rt.alloc(), held), Ok(None));
+    let reference = Ref { owner, serial: 2 };
+    each_row_goes(&rt, Ok(first_other_holding(rt.alloc(), reference)));
 }

@@ -9,14 +9,11 @@
 
 ghost use Rattle.std.specs.Prelude.{◌≡◌};
 
+use crate::shared::{digit, each_row_goes, passes};
 use sig_kinds::AliasMode;
 use sig_terms::{Pid, Ref};
 use sig_watch::*;
 use std::alloc::{AllocError, Global};
-
-fn digit(number: u64) -> u8 {
-    b'0' + (number % 10) as u8
-}
 
 fn reference(serial: u64) -> Ref {
     Ref {
@@ -62,128 +59,175 @@ fn called(watch: &mut Watch, sign: u8, reference: Ref) -> Result<u8, AllocError>
     Ok(yes(sends))
 }
 
-/// What a signal answers. `None` where the sign is that of a call.
-fn handled(watch: &mut Watch, sign: u8, reference: Ref) -> Result<Option<u8>, AllocError> {
-    let answer = match sign {
-        b'>' => match watch.on_alias_message(reference) {
-            AliasAnswer::Dropped => b'n',
-            AliasAnswer::Kept { tell } => told(tell, b'k'),
-        },
-        b'x' => yes(watch.on_demonitor(reference)),
-        b'!' => yes(watch.on_down(reference)),
+/// What a message through an alias answers.
+fn passed(answer: AliasAnswer) -> u8 {
+    match answer {
+        AliasAnswer::Dropped => b'n',
+        AliasAnswer::Kept { tell } => told(tell, b'k'),
+    }
+}
+
+/// What a signal or a call answers.
+fn answered(watch: &mut Watch, sign: u8, reference: Ref) -> Result<u8, AllocError> {
+    match sign {
+        b'>' => Ok(passed(watch.on_alias_message(reference))),
+        b'x' => Ok(yes(watch.on_demonitor(reference))),
+        b'!' => Ok(yes(watch.on_down(reference))),
         b'+' => {
             watch.on_monitor(reference, Pid(2))?;
-            b'.'
+            Ok(b'.')
         }
-        _ => return Ok(None),
-    };
-    Ok(Some(answer))
+        _ => called(watch, sign, reference),
+    }
 }
 
-/// Appends the answers to these calls and signals.
-fn append_answers(
-    watch: &mut Watch,
-    calls: &[&[u8; 2]],
-    into: &mut Vec<u8>,
-) -> Result<(), AllocError> {
-    for call in calls {
+/// Whether these calls and signals are answered so.
+fn are_answered(watch: &mut Watch, calls: &[&[u8; 2]], answers: &[u8]) -> Result<bool, AllocError> {
+    for (call, answer) in calls.iter().zip(answers.iter()) {
         let reference = reference(call[1].wrapping_sub(b'0') as u64);
-        let answer = match handled(watch, call[0], reference)? {
-            Some(answer) => answer,
-            None => called(watch, call[0], reference)?,
-        };
-        into.push(answer)?;
+        if answered(watch, call[0], reference)? != *answer {
+            return Ok(false);
+        }
     }
-    Ok(())
+    Ok(calls.len() == answers.len())
 }
 
-/// Appends the serials of the monitors that are borne, in their order.
-fn append_borne(alloc: Global, watch: &Watch, into: &mut Vec<u8>) -> Result<(), AllocError> {
+/// Whether the monitors that are held, and the active aliases, are those of these serials.
+fn has(watch: &Watch, held: &[u8], aliases: &[u8]) -> bool {
+    for serial in 0u64..10 {
+        let reference = reference(serial);
+        let is_held = watch.target(reference).is_some();
+        let is_alias = watch.alias_mode(reference).is_some();
+        if is_held != held.contains(&digit(serial))
+            || is_alias != aliases.contains(&digit(serial))
+        {
+            return false;
+        }
+    }
+    true
+}
+
+/// Whether the monitors have these serials, in their order.
+fn are_of(monitors: &[(Ref, Pid)], serials: &[u8]) -> bool {
+    for (monitor, serial) in monitors.iter().zip(serials.iter()) {
+        if digit(monitor.0.serial) != *serial {
+            return false;
+        }
+    }
+    monitors.len() == serials.len()
+}
+
+/// Whether the monitors that are borne have these serials, in their order.
+fn bears(alloc: Global, watch: &Watch, serials: &[u8]) -> Result<bool, AllocError> {
     let borne = watch.all_borne(alloc)?;
-    for (reference, _) in &borne {
-        into.push(digit(reference.serial))?;
-    }
-    Ok(())
+    Ok(are_of(borne.as_slice(), serials))
 }
 
-/// Appends the serials of the monitors that are held, of those that are borne, and of the active
-/// aliases, with `|` between.
-fn append_left(alloc: Global, watch: &Watch, into: &mut Vec<u8>) -> Result<(), AllocError> {
-    for serial in 0u64..10 {
-        if watch.target(reference(serial)).is_some() {
-            into.push(digit(serial))?;
-        }
-    }
-    into.push(b'|')?;
-    append_borne(alloc, watch, into)?;
-    into.push(b'|')?;
-    for serial in 0u64..10 {
-        if watch.alias_mode(reference(serial)).is_some() {
-            into.push(digit(serial))?;
-        }
-    }
-    Ok(())
+/// Calls and signals, their answers, and the serials of the monitors held, of those borne, and of
+/// the active aliases after them.
+type Rule = (
+    &'static [&'static [u8; 2]],
+    &'static [u8],
+    &'static [u8],
+    &'static [u8],
+    &'static [u8],
+);
+
+/// Whether the calls and signals are answered so, and these monitors and aliases are left.
+fn holds(alloc: Global, watch: &mut Watch, rule: &Rule) -> Result<bool, AllocError> {
+    let (calls, answers, held, borne, aliases) = rule;
+    let are_so = are_answered(watch, calls, answers)?;
+    let are_left = bears(alloc, watch, borne)?;
+    Ok(are_so & are_left & has(watch, held, aliases))
 }
 
-/// The answers, and what is left behind a blank.
-fn told_by(alloc: Global, watch: &mut Watch, calls: &[&[u8; 2]]) -> Result<Vec<u8>, AllocError> {
-    let mut into = Vec::new(alloc);
-    append_answers(watch, calls, &mut into)?;
-    into.push(b' ')?;
-    append_left(alloc, watch, &mut into)?;
-    Ok(into)
-}
-
-/// What these calls answer and leave, from no monitor and no alias on.
-fn from_none(alloc: Global, calls: &[&[u8; 2]]) -> Result<Vec<u8>, AllocError> {
+/// Whether the rule holds from no monitor and no alias on.
+fn holds_from_none(alloc: Global, rule: &Rule) -> Result<bool, AllocError> {
     let mut watch = Watch::open(alloc, Pid(0));
-    told_by(alloc, &mut watch, calls)
+    let answer = holds(alloc, &mut watch, rule);
+    drop(watch);
+    answer
 }
 
-/// Calls; and what they answer, then the monitors held, those borne, and the aliases after them.
-const RULES: [(&[&[u8; 2]], &[u8]); 24] = [
+const RULES: [Rule; 24] = [
     // `monitor` of another process, of oneself, and with the modes
-    (&[b"m1", b"m2"], b"yy 12||"),
-    (&[b"o1", b"-1"], b"nn ||"),
-    (&[b"e1", b"d2", b"r3"], b"yyy 123||123"),
+    (&[b"m1", b"m2"], b"yy", b"12", b"", b""),
+    (&[b"o1", b"-1"], b"nn", b"", b"", b""),
+    (&[b"e1", b"d2", b"r3"], b"yyy", b"123", b"", b"123"),
     // `demonitor`: of a monitor that is held, of the same again, of none, and by the modes
-    (&[b"m1", b"-1", b"-1", b"-2"], b"y1nn ||"),
-    (&[b"e1", b"d2", b"r3", b"-1", b"-2", b"-3"], b"yyy111 ||1"),
-    (&[b"a1", b"A2", b"-1", b"-2"], b"..nn ||12"),
+    (&[b"m1", b"-1", b"-1", b"-2"], b"y1nn", b"", b"", b""),
+    (
+        &[b"e1", b"d2", b"r3", b"-1", b"-2", b"-3"],
+        b"yyy111",
+        b"",
+        b"",
+        b"1",
+    ),
+    (&[b"a1", b"A2", b"-1", b"-2"], b"..nn", b"", b"", b"12"),
     // `unalias`: of each mode, and again; monitors stay
-    (&[b"e1", b"d2", b"r3", b"u1", b"u2", b"u3"], b"yyyyyy 123||"),
-    (&[b"a1", b"A2", b"u1", b"u2", b"u1", b"u3"], b"..yynn ||"),
+    (
+        &[b"e1", b"d2", b"r3", b"u1", b"u2", b"u3"],
+        b"yyyyyy",
+        b"123",
+        b"",
+        b"",
+    ),
+    (
+        &[b"a1", b"A2", b"u1", b"u2", b"u1", b"u3"],
+        b"..yynn",
+        b"",
+        b"",
+        b"",
+    ),
     // a message through an alias: twice for each mode, and after `unalias`
-    (&[b"a1", b">1", b">1"], b".kk ||1"),
-    (&[b"A1", b">1", b">1"], b".kn ||"),
-    (&[b"e1", b">1", b">1"], b"ykk 1||1"),
-    (&[b"d1", b">1", b">1"], b"ykk 1||1"),
-    (&[b"r1", b">1", b">1"], b"y1n ||"),
-    (&[b"a1", b"u1", b">1"], b".yn ||"),
+    (&[b"a1", b">1", b">1"], b".kk", b"", b"", b"1"),
+    (&[b"A1", b">1", b">1"], b".kn", b"", b"", b""),
+    (&[b"e1", b">1", b">1"], b"ykk", b"1", b"", b"1"),
+    (&[b"d1", b">1", b">1"], b"ykk", b"1", b"", b"1"),
+    (&[b"r1", b">1", b">1"], b"y1n", b"", b"", b""),
+    (&[b"a1", b"u1", b">1"], b".yn", b"", b"", b""),
     // a down: of a monitor that is held, again, after `demonitor`, after the reply, by the modes
-    (&[b"m1", b"!1", b"!1"], b"yyn ||"),
-    (&[b"m1", b"-1", b"!1"], b"y1n ||"),
-    (&[b"r1", b">1", b"!1"], b"y1n ||"),
-    (&[b"e1", b"d2", b"r3", b"!1", b"!2", b"!3"], b"yyyyyy ||1"),
-    (&[b"r1", b"!1", b">1", b"-1"], b"yynn ||"),
+    (&[b"m1", b"!1", b"!1"], b"yyn", b"", b"", b""),
+    (&[b"m1", b"-1", b"!1"], b"y1n", b"", b"", b""),
+    (&[b"r1", b">1", b"!1"], b"y1n", b"", b"", b""),
+    (
+        &[b"e1", b"d2", b"r3", b"!1", b"!2", b"!3"],
+        b"yyyyyy",
+        b"",
+        b"",
+        b"1",
+    ),
+    (&[b"r1", b"!1", b">1", b"-1"], b"yynn", b"", b"", b""),
     // monitors that are borne: in their order, one that came twice, and after removals
-    (&[b"+3", b"+1", b"+2"], b"... |312|"),
-    (&[b"+1", b"+2", b"+1", b"x1", b"x1"], b"...yn |2|"),
+    (&[b"+3", b"+1", b"+2"], b"...", b"", b"312", b""),
+    (
+        &[b"+1", b"+2", b"+1", b"x1", b"x1"],
+        b"...yn",
+        b"",
+        b"2",
+        b"",
+    ),
     (
         &[b"+4", b"+3", b"+2", b"+1", b"x3", b"+5"],
-        b"....y. |4215|",
+        b"....y.",
+        b"",
+        b"4215",
+        b"",
     ),
     (
         &[b"+1", b"+2", b"+3", b"x1", b"+1", b"x2", b"x3"],
-        b"...y.yy |1|",
+        b"...y.yy",
+        b"",
+        b"1",
+        b"",
     ),
-    (&[b"m1", b"+1", b"x1", b"-1"], b"y.y1 ||"),
+    (&[b"m1", b"+1", b"x1", b"-1"], b"y.y1", b"", b"", b""),
 ];
 
 /// The place of the first of the rules that doesn't hold.
 fn first_broken(alloc: Global) -> Result<Option<usize>, AllocError> {
-    for (place, (calls, expected)) in RULES.iter().enumerate() {
-        if from_none(alloc, calls)?.as_slice() != *expected {
+    for (place, rule) in RULES.iter().enumerate() {
+        if !holds_from_none(alloc, rule)? {
             return Ok(Some(place));
         }
     }
@@ -192,7 +236,7 @@ fn first_broken(alloc: Global) -> Result<Option<usize>, AllocError> {
 
 #[test]
 fn rules_hold_line_by_line(rt: HostRuntime) {
-    assert_eq!(rt; first_broken(rt.alloc()), Ok(None));
+    each_row_goes(&rt, first_broken(rt.alloc()));
 }
 
 /// Five monitors of process 7, with the serials 1 to 5.
@@ -204,19 +248,30 @@ fn bear_five(watch: &mut Watch) -> Result<(), AllocError> {
     Ok(())
 }
 
-/// The serial at a place among the monitors that are borne, and 0 where there is none.
-fn serial_at(watch: &Watch, place: usize) -> u64 {
-    watch.borne(place).map_or(0, |monitor| monitor.0.serial)
+/// Whether the monitors that are borne have these serials, by their places.
+fn are_borne(watch: &Watch, serials: &[u64]) -> bool {
+    for (place, serial) in serials.iter().enumerate() {
+        match watch.borne(place) {
+            Some((reference, _)) if reference.serial == *serial => {}
+            _ => return false,
+        }
+    }
+    watch.borne(serials.len()).is_none()
+}
+
+/// Whether five monitors are told by their places, four after a demonitor, and then none.
+fn are_told(watch: &mut Watch) -> Result<bool, AllocError> {
+    bear_five(watch)?;
+    let five = are_borne(watch, &[1, 2, 3, 4, 5]);
+    let four = watch.on_demonitor(reference(2)) & are_borne(watch, &[1, 3, 4, 5]);
+    watch.empty();
+    Ok(five & four & are_borne(watch, &[]))
 }
 
 #[test]
 fn borne_monitors_are_told_by_their_places(rt: HostRuntime) {
     let mut watch = Watch::open(rt.alloc(), Pid(0));
-    assert!(rt; bear_five(&mut watch).is_ok());
-    assert!(rt; serial_at(&watch, 4) == 5 && serial_at(&watch, 5) == 0);
-    assert!(rt; watch.on_demonitor(reference(2)));
-    assert!(rt; serial_at(&watch, 0) == 1 && serial_at(&watch, 1) == 3);
-    assert!(rt; serial_at(&watch, 3) == 5 && serial_at(&watch, 4) == 0);
-    watch.empty();
-    assert!(rt; serial_at(&watch, 0) == 0);
+    let answer = are_told(&mut watch);
+    drop(watch);
+    passes(&rt, answer);
 }

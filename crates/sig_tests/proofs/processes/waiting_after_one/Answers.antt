@@ -46,7 +46,7 @@ pub take_in-requires-clause-arriving : goal.take_in-requires-clause-arriving
 take_in-requires-clause-arriving c =
     let procs = c.args.script.now.procs in
     let at = opening procs c.args.script.now.turns c.args.process.now.running c.requires.many c.requires.opened in
-    let items : c.add.new.self.items ≡ first ∷ [] = c.add.ensures.items ∙ ap (λ (xs : List Signal). xs ++ first ∷ []) (c.in_ok-room.ensures.items ∙ c.new-signals.ensures) in
+    let items : c.add.new.self.items ≡ first ∷ [] = c.add.ensures.items ∙ ap (λ (xs : List Signal). xs ++ first ∷ []) (c.in_ok-room.ensures.items ∙ c.requires.empty) in
     let one : All (IsArriving 1 (length procs)) (first ∷ []) = All-cons (IsArriving 1 (length procs)) first [] (arrives (length procs) c.requires.many) (All-nil (IsArriving 1 (length procs))) in
     subst (λ (r : Running). All (IsArriving r.pid r.count) c.add.new.self.items) (sym at.1) (subst (All (IsArriving 1 (length procs))) (sym items) one)
 
@@ -54,5 +54,5 @@ pub take_in-requires-clause-continues : goal.take_in-requires-clause-continues
 take_in-requires-clause-continues c =
     let procs = c.args.script.now.procs in
     let at = opening procs c.args.script.now.turns c.args.process.now.running c.requires.many c.requires.opened in
-    let items : c.add.new.self.items ≡ first ∷ [] = c.add.ensures.items ∙ ap (λ (xs : List Signal). xs ++ first ∷ []) (c.in_ok-room.ensures.items ∙ c.new-signals.ensures) in
+    let items : c.add.new.self.items ≡ first ∷ [] = c.add.ensures.items ∙ ap (λ (xs : List Signal). xs ++ first ∷ []) (c.in_ok-room.ensures.items ∙ c.requires.empty) in
     subst (λ (r : Running). Continues r c.add.new.self.items) (sym at.1) (subst (Continues (fresh (length procs) c.args.script.now.turns at.0)) (sym items) (continues (length procs) c.args.script.now.turns at.0))

@@ -1,4 +1,4 @@
-use Rattle.sig_tests.proofs.patterns.first_other_match.Given as goal
+use Rattle.sig_tests.proofs.patterns.goes.Given as goal
 
 abbrev pub ghosts-bound_by : goal.ghosts-bound_by
 ghosts-bound_by a = record { name = a.blank.name; parts = a.blank.parts }
