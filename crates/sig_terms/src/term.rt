@@ -34,7 +34,7 @@ pub enum Term {
     List(Terms),
 }
 
-/// Copies of the terms, in their order.
+/// Copies of the terms, in their order. The error is want of memory.
 #[cycle(copy)]
 pub fn copy_terms(alloc: Global, items: &[Term]) -> Result<Terms, AllocError>
     ensures { IfOk result (λ ts. ts ≡ items.now) }
