@@ -92,9 +92,9 @@ pub(crate) fn gather_all(alloc: Global, procs: Vec<Process>) -> Result<Vec<Repor
     ensures reports { IfOk result (λ reports. reports.items ≡ sorted_record (runnings_of procs.items)) }
     ensures keeping { OnOk result (All IsKeeping (runnings_of procs.items)) }
 {
-    let mut reports = Vec::with_capacity(alloc, procs.len())?;
+    let mut reports = Sequence::new(alloc);
     for process in procs {
-        reports.push(report(alloc, process)?)?;
+        reports.add(report(alloc, process)?)?;
     }
-    Ok(reports)
+    Ok(reports.into_vec())
 }

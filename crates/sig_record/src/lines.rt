@@ -22,7 +22,7 @@ ghost use Rattle.sig_record.specs.RecordFronts.{
 
 use crate::items::Item;
 use crate::outcomes::{did, kind, outcome};
-use crate::pieces::{after, name, narrow, term, term_field, wide, wide_field};
+use crate::pieces::{after, name, narrow, past, term, term_field, wide, wide_field};
 use crate::refusal::Refusal;
 use crate::report::Left;
 use sig_kinds::Signal;
@@ -37,7 +37,7 @@ fn line_end<'a, T: Drop>(read: Result<(T, &'a [u8]), ReadTerm>) -> Result<(T, &'
         Gives (λ x. (x.0, x.1.now)) result (closed (codes "\n") front) }
 {
     let (item, end) = read?;
-    let rest = after(b"\n", end).ok_or(ReadTerm::BadTerm)?;
+    let rest = past(b"\n", end)?;
     Ok((item, rest))
 }
 
@@ -67,7 +67,7 @@ fn event(alloc: Global, bytes: &[u8]) -> Result<(Event, &[u8]), ReadTerm>
     ensures { Gives (λ x. (x.0, x.1.now)) result (event_front bytes.now) }
 {
     let ((stamp, did), rest) = act(bytes).ok_or(ReadTerm::BadTerm)?;
-    let rest = after(b" ", rest).ok_or(ReadTerm::BadTerm)?;
+    let rest = past(b" ", rest)?;
     let (outcome, rest) = line_end(outcome(alloc, rest))?;
     let event = Event {
         stamp,
@@ -81,9 +81,9 @@ fn event(alloc: Global, bytes: &[u8]) -> Result<(Event, &[u8]), ReadTerm>
 fn left(alloc: Global, bytes: &[u8]) -> Result<(Left, &[u8]), ReadTerm>
     ensures { Gives (λ x. (x.0, x.1.now)) result (left_front bytes.now) }
 {
-    let rest = after(b"left ", bytes).ok_or(ReadTerm::BadTerm)?;
+    let rest = past(b"left ", bytes)?;
     let (arrival, rest) = wide(rest).ok_or(ReadTerm::BadTerm)?;
-    let rest = after(b" ", rest).ok_or(ReadTerm::BadTerm)?;
+    let rest = past(b" ", rest)?;
     let (message, rest) = line_end(term(alloc, rest))?;
     Ok((Left { arrival, message }, rest))
 }
@@ -102,9 +102,9 @@ fn signal_numbers(bytes: &[u8]) -> Option<(((u32, u64), u64), &[u8])>
 fn signal(alloc: Global, to: Pid, bytes: &[u8]) -> Result<(Signal, &[u8]), ReadTerm>
     ensures { Gives (λ x. (x.0, x.1.now)) result (signal_front to.0 bytes.now) }
 {
-    let rest = after(b"queued ", bytes).ok_or(ReadTerm::BadTerm)?;
+    let rest = past(b"queued ", bytes)?;
     let (((from, number), stamp), rest) = signal_numbers(rest).ok_or(ReadTerm::BadTerm)?;
-    let rest = after(b" ", rest).ok_or(ReadTerm::BadTerm)?;
+    let rest = past(b" ", rest)?;
     let (kind, rest) = line_end(kind(alloc, rest))?;
     let from = Pid(from);
     let signal = Signal {
@@ -174,9 +174,9 @@ fn standing(alloc: Global, bytes: &[u8]) -> Result<(State, &[u8]), ReadTerm>
 fn head(alloc: Global, pid: u32, bytes: &[u8]) -> Result<((u32, Name), &[u8]), ReadTerm>
     ensures { Gives (λ x. (x.0, x.1.now)) result (head_front pid bytes.now) }
 {
-    let rest = after(b"process ", bytes).ok_or(ReadTerm::BadTerm)?;
+    let rest = past(b"process ", bytes)?;
     let (n, rest) = narrow(rest).ok_or(ReadTerm::BadTerm)?;
-    let rest = after(b" ", rest).ok_or(ReadTerm::BadTerm)?;
+    let rest = past(b" ", rest)?;
     let (name, rest) = line_end(name(alloc, rest))?;
     passing(n == pid, ((n, name), rest))
 }

@@ -10,7 +10,7 @@ ghost use Rattle.sig_record.specs.EventRows.{did_front, word_rows, outcome_front
 ghost use Rattle.sig_record.specs.KindRows as kinds;
 ghost use Rattle.sig_record.specs.KindRows.{kind_front};
 
-use crate::pieces::{after, choice, narrow_field, reference_field, term_field, wide_field};
+use crate::pieces::{after, choice_field, narrow_field, reference_field, term_field, wide_field};
 use sig_kinds::Kind;
 use sig_model::{Did, Outcome};
 use sig_terms::{Pid, ReadTerm};
@@ -66,9 +66,10 @@ fn set(alloc: Global, bytes: &[u8]) -> Result<(Outcome, &[u8]), ReadTerm>
 fn answered(bytes: &[u8]) -> Result<(Outcome, &[u8]), ReadTerm>
     ensures { Gives (λ x. (x.0, x.1.now)) result (row_front rows.answered bytes.now) }
 {
-    let rest = after(b" ", bytes).ok_or(ReadTerm::BadTerm)?;
-    let (value, rest) = choice(b"true", b"false", rest).ok_or(ReadTerm::BadTerm)?;
-    Ok((Outcome::Answered { value }, rest))
+    match choice_field(b"true", b"false", bytes) {
+        Some((value, rest)) => Ok((Outcome::Answered { value }, rest)),
+        None => Err(ReadTerm::BadTerm),
+    }
 }
 
 fn took(alloc: Global, bytes: &[u8]) -> Result<(Outcome, &[u8]), ReadTerm>
@@ -220,8 +221,7 @@ fn demonitor(bytes: &[u8]) -> Result<(Kind, &[u8]), ReadTerm>
 fn exit(alloc: Global, bytes: &[u8]) -> Result<(Kind, &[u8]), ReadTerm>
     ensures { Gives (λ x. (x.0, x.1.now)) result (row_front kinds.exit bytes.now) }
 {
-    let rest = after(b" ", bytes).ok_or(ReadTerm::BadTerm)?;
-    let (linked, rest) = choice(b"linked", b"plain", rest).ok_or(ReadTerm::BadTerm)?;
+    let (linked, rest) = choice_field(b"linked", b"plain", bytes).ok_or(ReadTerm::BadTerm)?;
     let (reason, rest) = term_field(alloc, rest)?;
     Ok((Kind::Exit { reason, linked }, rest))
 }

@@ -1,11 +1,12 @@
 //! Readers of a line's parts: numbers, terms, references, names, and fields, which stand behind a space.
 
-ghost use Rattle.std.specs.Prelude.{◌≡◌, ◌≤◌, length};
+ghost use Rattle.std.specs.Prelude.{◌≡◌, ◌≤◌, length, codes};
 ghost use Rattle.std.specs.Option.{option_map};
 ghost use Rattle.std.specs.List.{prefix_len};
 ghost use Rattle.sig_terms.specs.Words.{is_name_byte};
 ghost use Rattle.sig_terms.specs.Tokens.{after_text, reference_at};
 ghost use Rattle.sig_terms.specs.Fronts.{Gives};
+ghost use Rattle.sig_record.specs.Readers.{behind};
 ghost use Rattle.sig_record.specs.Phrases.{a_narrow, a_wide, a_reference, a_term, narrow, wide, term_front, ref_front, choice_front, field_front};
 ghost use Rattle.sig_record.specs.RecordFronts.{name_front};
 
@@ -34,6 +35,13 @@ pub(crate) fn after<'a>(text: &[u8], bytes: &'a [u8]) -> Option<&'a [u8]>
     ensures { option_map (λ x. x.now) result ≡ after_text text.now bytes.now }
 {
     bytes.strip_prefix(text)
+}
+
+/// What follows the text, for readers that may run out of memory.
+pub(crate) fn past<'a>(text: &[u8], bytes: &'a [u8]) -> Result<&'a [u8], ReadTerm>
+    ensures { Gives (λ x. x.now) result (after_text text.now bytes.now) }
+{
+    after(text, bytes).ok_or(ReadTerm::BadTerm)
 }
 
 /// The term at the front of the bytes.
@@ -83,7 +91,7 @@ pub(crate) fn name(alloc: Global, bytes: &[u8]) -> Result<(Name, &[u8]), ReadTer
 }
 
 /// The first of the two words, or the second.
-pub(crate) fn choice<'a>(one: &[u8], other: &[u8], bytes: &'a [u8]) -> Option<(bool, &'a [u8])>
+fn choice<'a>(one: &[u8], other: &[u8], bytes: &'a [u8]) -> Option<(bool, &'a [u8])>
     ensures { option_map (λ x. (x.0, x.1.now)) result ≡ choice_front one.now other.now bytes.now }
 {
     if let Some(rest) = after(one, bytes) {
@@ -91,6 +99,18 @@ pub(crate) fn choice<'a>(one: &[u8], other: &[u8], bytes: &'a [u8]) -> Option<(b
     }
     let rest = after(other, bytes)?;
     Some((false, rest))
+}
+
+/// One of the two words, as a field.
+pub(crate) fn choice_field<'a>(
+    one: &[u8],
+    other: &[u8],
+    bytes: &'a [u8],
+) -> Option<(bool, &'a [u8])>
+    ensures { option_map (λ x. (x.0, x.1.now)) result ≡ behind (codes " ") (choice_front one.now other.now) bytes.now }
+{
+    let rest = after(b" ", bytes)?;
+    choice(one, other, rest)
 }
 
 /// A number of 32 bits, as a field.
@@ -121,6 +141,6 @@ pub(crate) fn reference_field(bytes: &[u8]) -> Option<(Ref, &[u8])>
 pub(crate) fn term_field(alloc: Global, bytes: &[u8]) -> Result<(Term, &[u8]), ReadTerm>
     ensures { Gives (λ x. (x.0, x.1.now)) result (field_front a_term bytes.now) }
 {
-    let rest = after(b" ", bytes).ok_or(ReadTerm::BadTerm)?;
+    let rest = past(b" ", bytes)?;
     term(alloc, rest)
 }

@@ -28,7 +28,7 @@ impl From<AllocError> for RecordError {
 }
 
 /// Why lines are not read.
-#[derive(Clone, Copy, Debug)]
+#[derive(Clone, Copy)]
 pub(crate) enum Refusal {
     /// A line can't stand there: with it begins a rest of so many bytes.
     Bad { left: usize },

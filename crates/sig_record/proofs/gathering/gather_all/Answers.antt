@@ -13,8 +13,8 @@ use Rattle.sig_record.proofs.gathering.gather_all.Goals as goal
 
 pub loop-process-preserved : goal.loop-process-preserved
 loop-process-preserved c = record {
-  reports = one_more c.loop-process.yielded c.in-Some.process c.loop-process.reports.items c.push.new.self.items c.in_ok-report.field-0 c.loop-process.invariant.reports
-      c.in_ok-report.ensures.report c.in_ok-push.ensures.items;
+  reports = one_more c.loop-process.yielded c.in-Some.process c.loop-process.reports c.add.new.self c.in_ok-report.field-0 c.loop-process.invariant.reports
+      c.in_ok-report.ensures.report c.in_ok-add.ensures;
   keeping = subst (All IsKeeping) (sym (map-append (λ (p : Standing). p.running) c.loop-process.yielded (c.in-Some.process ∷ [])))
       (All-push IsKeeping (runnings_of c.loop-process.yielded) c.in-Some.process.running c.loop-process.invariant.keeping c.in_ok-report.ensures.keeps);
   whole = append_assoc c.loop-process.yielded (c.in-Some.process ∷ []) _ ∙ ap (λ (procs : List Standing). c.loop-process.yielded ++ procs) (sym (c.in-Some.ensures.steps).0)

@@ -9,7 +9,7 @@ use Rattle.sig_record.proofs.gathering.gather_all.Given as goal
 
 abbrev pub invariant-loop-process : goal.invariant-loop-process
 invariant-loop-process l = record {
-  reports : l.reports.items ≡ sorted_record (runnings_of l.yielded);
+  reports : l.reports ≡ sorted_record (runnings_of l.yielded);
   keeping : All IsKeeping (runnings_of l.yielded);
   whole : l.yielded ++ into_iter_items l.process-iterator ≡ l.fn.procs.items;
   clear : IsClear (runnings_of (into_iter_items l.process-iterator));
