@@ -1,20 +1,16 @@
 -- A queue is closed, and what it has left is handed over.
-use Rattle.std.proofs.Common.{◌≡◌, inl, inr, ℕ, zero, suc, ◌+◌, ◌<◌, ◌≤◌, List, [], ◌∷◌, ◌++◌, length, drop, true, Some, sym, ap, ◌∙◌, subst, arith}
-use Rattle.std.specs.Prelude.{All, ◌==◌, slice_get, slice_set, slice_index_or, remove}
-use Rattle.std.proofs.lemmas.List.{map-set}
+use Rattle.std.proofs.Common.{◌≡◌, inl, inr, ℕ, zero, suc, ◌+◌, ◌<◌, ◌≤◌, List, [], ◌∷◌, ◌++◌, length, drop, Some, sym, ap, ◌∙◌, subst, arith}
+use Rattle.std.specs.Prelude.{All, slice_get, slice_set, slice_index_or, remove}
+use Rattle.std.proofs.lemmas.List.{map-set, append_assoc}
 use Rattle.std.proofs.lemmas.Option.{same_Some, slice_get_within}
 use Rattle.sig_runs.proofs.Lists.{slice_get-set_same, slice_get-set_other}
-use Rattle.std.proofs.lemmas.List.Elements.{filter-append}
+use Rattle.std.proofs.lemmas.List.Elements.{All-head, All-tail}
 use Rattle.sig_kinds.specs.declared.signal.Signal.{Signal}
-use Rattle.sig_kinds.specs.Counting.{IsCounting}
 use Rattle.sig_model.specs.Running.{Running}
-use Rattle.sig_model.specs.Keeping.{IsKeeping}
-use Rattle.sig_model.specs.Accounts.{coming_from, Continues}
-use Rattle.sig_model.proofs.OutboxNumbers.{counting-rest}
+use Rattle.sig_model.specs.Keeping.{IsArriving, IsKeeping}
+use Rattle.sig_model.specs.OneWorker.{arrived}
 use Rattle.sig_layout.specs.declared.entry.Entry.{Entry}
-use Rattle.sig_layout.specs.Sets.{has}
 use Rattle.sig_layout.specs.Sent.{signals}
-use Rattle.sig_layout.specs.Openings.{first_of, IsCarried}
 use Rattle.sig_queue.specs.declared.account.Account.{Account}
 use Rattle.sig_queue.specs.Accounts.{account_of}
 use Rattle.sig_queue.specs.Ends.{EndsAs}
@@ -22,33 +18,37 @@ use Rattle.sig_queue.specs.Seats.{Queue, Seated}
 use Rattle.sig_process.specs.Standing.{Standing, runnings_of}
 use Rattle.sig_workers.specs.Closing.{CanClose, HasClosed, IsClosedAt}
 use Rattle.sig_workers.proofs.SeatLists.{of_is}
-use Rattle.sig_workers.proofs.FetchLemmas.{may_arrive, go_on, arrivals_keep}
+use Rattle.sig_workers.proofs.FetchLemmas.{may_arrive, arrivals_keep}
 use Rattle.sig_workers.proofs.CutLemmas.{get_push}
 use Rattle.sig_workers.proofs.RowLemmas.{first_removed}
 
-module _ (q : Queue) (v : Seated) (r : Running) (xs rest : List Signal) (journal : List Entry) (is : xs ≡ rest) (can : CanClose q v r) (ends : EndsAs q.setup v.knows rest journal) where
-  carried_rest : All (IsCarried q.setup) xs
-  carried_rest = subst (All (IsCarried q.setup)) (sym is) ends.left
+-- one signal of what is left was handed over
+pub one_handed : (r t : Running) (x : Signal) (rest left : List Signal) → rest ≡ x ∷ left → t ≡ arrived r x → record t { taken_in = t.taken_in ++ left } ≡ record r { taken_in = r.taken_in ++ rest }
+one_handed r t x rest left is given =
+    ap (λ (z : Running). record z { taken_in = z.taken_in ++ left }) given
+    ∙ ap (λ xs. record r { taken_in = xs }) (append_assoc r.taken_in (x ∷ []) left)
+    ∙ ap (λ xs. record r { taken_in = r.taken_in ++ xs }) (sym is)
 
-  order_rest : (s : ℕ) → coming_from s (signals v.knows.put) ≡ coming_from s (v.knows.taken ++ xs)
-  order_rest s = sym (of_is s (signals v.knows.put)) ∙ ends.order s ∙ of_is s (v.knows.taken ++ rest) ∙ ap (λ z. coming_from s (v.knows.taken ++ z)) (sym is)
+-- what is left may arrive, after the first too
+pub first_arrives : (r : Running) (x : Signal) (rest left : List Signal) → rest ≡ x ∷ left → All (IsArriving r.pid r.count) rest → IsArriving r.pid r.count x
+first_arrives r x rest left is h = All-head (IsArriving r.pid r.count) x left (subst (All (IsArriving r.pid r.count)) is h)
 
-  counted_rest : (s : ℕ) → has q.setup.senders s ≡ true → IsCounting (first_of q.setup s + length (coming_from s v.knows.taken)) (coming_from s xs)
-  counted_rest s asks =
-      counting-rest (first_of q.setup s) (coming_from s v.knows.taken) (coming_from s xs)
-      (subst (IsCounting (first_of q.setup s)) (of_is s (signals v.knows.put) ∙ order_rest s ∙ filter-append (λ (x : Signal). x.from.0 == s) v.knows.taken xs) (ends.counted s asks))
+pub others_arrive : (r t : Running) (x : Signal) (rest left : List Signal) → rest ≡ x ∷ left → t ≡ arrived r x → All (IsArriving r.pid r.count) rest → All (IsArriving t.pid t.count) left
+others_arrive r t x rest left is given h =
+    subst (λ (z : Running). All (IsArriving z.pid z.count) left) (sym given) (All-tail (IsArriving r.pid r.count) x left (subst (All (IsArriving r.pid r.count)) is h))
 
-  pub rest_continues : Continues r xs
-  rest_continues = go_on q v r xs can.continued carried_rest counted_rest
+module _ (q : Queue) (v : Seated) (r : Running) (rest : List Signal) (journal : List Entry) (can : CanClose q v r) (ends : EndsAs q.setup v.knows rest journal) where
+  pub rest_arrives : All (IsArriving r.pid r.count) rest
+  rest_arrives = may_arrive q r rest can.receiver can.count can.strange ends.left
 
-  pub has_closed : (a : Account) (t : Running) → a ≡ account_of q.setup v.knows.put → t ≡ record r { taken_in = r.taken_in ++ xs } → HasClosed q v r a t
+  pub has_closed : (a : Account) (t : Running) → a ≡ account_of q.setup v.knows.put → t ≡ record r { taken_in = r.taken_in ++ rest } → HasClosed q v r a t
   has_closed a t account given = record {
-    left = xs;
+    left = rest;
     given = given;
-    order = order_rest;
+    order = λ s. sym (of_is s (signals v.knows.put)) ∙ ends.order s ∙ of_is s (v.knows.taken ++ rest);
     carried = ends.carried;
     account = account;
-    keeping = λ k. subst IsKeeping (sym given) (arrivals_keep r xs k (may_arrive q r xs can.receiver can.count can.strange carried_rest));
+    keeping = λ k. subst IsKeeping (sym given) (arrivals_keep r rest k rest_arrives);
   }
 
 -- one queue more was closed

@@ -1,18 +1,17 @@
 -- A visit of a process that has nothing to do.
-use Rattle.std.proofs.Common.{◌≡◌, ℕ, List, [], length, Bool, true, false, Some, refl, sym, ap, ◌∙◌}
+use Rattle.std.proofs.Common.{◌≡◌, ℕ, ◌<◌, List, [], length, Bool, true, false, Some, refl, sym, ap, ◌∙◌, get_or}
 use Rattle.std.specs.Prelude.{slice_get, slice_set, unwrap_or, not, ◌==◌}
-use Rattle.std.specs.Borrow.{Bor}
-use Rattle.std.specs.Option.{option_map}
-use Rattle.std.specs.Slice.{IsItemAt}
+use Rattle.std.specs.Option.{option_map_or}
 use Rattle.std.proofs.lemmas.Bool.{eqb-false}
-use Rattle.std.proofs.lemmas.Option.{slice_get-map, slice_get-get_or}
 use Rattle.sig_kinds.specs.declared.signal.Signal.{Signal}
+use Rattle.sig_model.specs.declared.event.Event.{Event}
 use Rattle.sig_model.specs.Running.{Running}
 use Rattle.sig_model.specs.OneWorker.{handle_all, exec_or_stay, visited, deliver_all, settled_visit, visit_at, visit, events_at, has_moved}
 use Rattle.sig_model.proofs.ReachLemmas.{set_here}
 use Rattle.sig_process.specs.Idling.{IsIdle}
 use Rattle.sig_process.specs.Standing.{Standing, runnings_of}
 use Rattle.sig_workers.proofs.RunLemmas.{handle_none}
+use Rattle.sig_workers.proofs.PartLemmas.{running_at}
 
 -- the process stays as it is
 idle_visited : (r : Running) → IsIdle r → visited r ≡ r
@@ -31,19 +30,11 @@ idle_settled crew at r there empty =
     ∙ ap (λ (xs : List Signal). slice_set crew at (record r { outbox = xs })) (sym empty)
     ∙ set_here crew at r there
 
-idle_visit : (crew : List Running) (at : ℕ) (r : Running) → slice_get crew at ≡ Some r → IsIdle r → visit at crew ≡ crew
+-- so the crew stays as it is
+pub idle_visit : (crew : List Running) (at : ℕ) (r : Running) → slice_get crew at ≡ Some r → IsIdle r → visit at crew ≡ crew
 unfolding visit
 idle_visit crew at r there idle =
     ap (λ o. visit_at at o crew) there ∙ ap (λ v. settled_visit at v crew) (idle_visited r idle) ∙ idle_settled crew at r there idle.outbox
-
--- the process that is lent
-pub lent : (procs : List Standing) (at : ℕ) (p : Bor Standing) → IsItemAt procs at (Some p) → slice_get procs at ≡ Some p.now
-lent procs at p e = slice_get-get_or procs at p.now e.3.0 ∙ ap Some (sym e.1)
-
--- so the crew stays as it is
-pub idle_stays : (procs : List Standing) (at : ℕ) (p : Standing) → slice_get procs at ≡ Some p → IsIdle p.running → visit at (runnings_of procs) ≡ runnings_of procs
-idle_stays procs at p there idle =
-    idle_visit (runnings_of procs) at p.running (slice_get-map (λ (q : Standing). q.running) procs at ∙ ap (option_map (λ (q : Standing). q.running)) there) idle
 
 -- that is no event
 pub not_moved : (at : ℕ) (crew : List Running) → has_moved at crew crew ≡ false
@@ -51,3 +42,8 @@ not_moved at crew = by (events_at at crew == events_at at crew) refl where
   by : (b : Bool) → (events_at at crew == events_at at crew) ≡ b → not b ≡ false
   by true e = refl
   by false e = absurd (eqb-false (events_at at crew) (events_at at crew) e refl)
+
+-- how many events the process at a place has
+pub events_here : (procs : List Standing) (at : ℕ) (p : Standing) (events : List Event) (n : ℕ) → at < length procs → p ≡ get_or procs at p → events ≡ p.running.events → n ≡ length events → n ≡ events_at at (runnings_of procs)
+events_here procs at p events n lt is same count =
+    count ∙ ap (λ (xs : List Event). length xs) same ∙ sym (ap (λ o. option_map_or (λ (r : Running). length r.events) o 0) (running_at procs at p lt is))

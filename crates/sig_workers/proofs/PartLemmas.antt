@@ -1,6 +1,6 @@
 -- A visit of one process of a part leaves the others as ready as they were.
 use Rattle.std.proofs.Common.{◌≡◌, ◌≢◌, ℕ, suc, ◌+◌, ◌<◌, ◌≤◌, List, [], ◌∷◌, ◌++◌, length, Bool, true, false, Some, refl, sym, ap, ◌∙◌, subst, inl, inr, arith, length-set, get_or}
-use Rattle.std.specs.Prelude.{slice_get, slice_set, Result, Ok, Err, OnOk, IfOk}
+use Rattle.std.specs.Prelude.{slice_get, slice_set}
 use Rattle.std.proofs.lemmas.Bool.Decides.{eqb_tells, nat_tests}
 use Rattle.std.specs.Option.{option_map}
 use Rattle.std.proofs.lemmas.List.{map-set}
@@ -161,12 +161,3 @@ module _ (queues : List Queue) (part later : Part) (h : IsPart queues part) (at 
 pub has_visited : (procs : List Standing) (at : ℕ) (p q : Standing) → slice_get (runnings_of procs) at ≡ Some p.running → length p.running.events ≤ length q.running.events → (moved : Bool) → HasMoved p.running q.running moved →
     HasVisited at (runnings_of procs) (runnings_of (slice_set procs at q)) moved
 has_visited procs at p q there events moved m = record { old = p.running; there = there; new = q.running; set = map-set (λ (z : Standing). z.running) procs at q; moved_is = m; events = events }
-
--- two facts of a call that succeeded give a third
-pub on_both : {T E : Type 0} {P Q R : Type 0} (o : Result T E) → OnOk o P → OnOk o Q → (P → Q → R) → OnOk o R
-on_both (Ok x) h k f = f h k
-on_both (Err e) h k f = tt
-
-pub if_both : {T E : Type 0} {P : Type 0} {Q R : T → Type 0} (o : Result T E) → OnOk o P → IfOk o Q → (P → (x : T) → Q x → R x) → IfOk o R
-if_both (Ok x) h k f = f h x k
-if_both (Err e) h k f = tt

@@ -1,5 +1,5 @@
 -- Passes over a part.
-use Rattle.std.proofs.Common.{◌≡◌, ◌≢◌, ℕ, ◌+◌, ◌<◌, ◌≤◌, List, length, Bool, true, false, ◌||◌, Some, sym, ap, ◌∙◌, subst, inl, inr, arith, length-set, get_or}
+use Rattle.std.proofs.Common.{◌≡◌, ◌≢◌, ℕ, ◌+◌, ◌<◌, ◌≤◌, List, length, Bool, true, false, ◌||◌, Some, refl, sym, ap, ◌∙◌, subst, inl, inr, arith, length-set, get_or}
 use Rattle.std.specs.Prelude.{slice_get}
 use Rattle.std.specs.Bool.{MatchBool}
 use Rattle.std.proofs.lemmas.Bool.{true≢false}
@@ -79,27 +79,22 @@ module _ (start procs later : List Running) (at : ℕ) (here : Bool) (v : HasVis
   visit_passed a rest h = visit_case a here (sym (rest at (omega arith)) ∙ v.there) h v.moved_is
 
 -- several passes
-pub more_passes : (start mid end : Part) (a : Bool) → IsSamePart mid end → MatchBool a (AnyMore (procs_of start) (procs_of mid)) (mid ≡ start) → Grow (procs_of mid) (procs_of end) → AnyMore (procs_of mid) (procs_of end) → AnyMore (procs_of start) (procs_of end)
-more_passes start mid end true same h g m = any_grows (procs_of start) (procs_of mid) (procs_of end) same.count h g
-more_passes start mid end false same h g m = subst (λ (z : Part). AnyMore (procs_of z) (procs_of end)) h m
+-- one pass more, which had an event or had none
+module _ (start mid end : Part) (same : IsSamePart mid end) (g : Grow (procs_of mid) (procs_of end)) where
+  pub one_pass : (a b : Bool) → MatchBool a (AnyMore (procs_of start) (procs_of mid)) (mid ≡ start) → HavePassed (procs_of mid) (procs_of end) b → HavePassed (procs_of start) (procs_of end) (a || b)
+  one_pass true b h m = any_grows (procs_of start) (procs_of mid) (procs_of end) same.count h g
+  one_pass false true h m = subst (λ (z : Part). AnyMore (procs_of z) (procs_of end)) h m
+  one_pass false false h m = subst (λ (z : Part). StillBelow (length (procs_of end)) (procs_of z) (procs_of end)) h m
 
-pub last_pass : (start mid end : Part) (a : Bool) → IsSamePart mid end → MatchBool a (AnyMore (procs_of start) (procs_of mid)) (mid ≡ start) → Grow (procs_of mid) (procs_of end) → StillBelow (length (procs_of end)) (procs_of mid) (procs_of end) → HavePassed (procs_of start) (procs_of end) a
-last_pass start mid end true same h g m = any_grows (procs_of start) (procs_of mid) (procs_of end) same.count h g
-last_pass start mid end false same h g m = subst (λ (z : Part). StillBelow (length (procs_of end)) (procs_of z) (procs_of end)) h m
+  pub one_turn : (a b : Bool) → b ≡ true → MatchBool a (AnyMore (procs_of start) (procs_of mid)) (mid ≡ start) → HavePassed (procs_of mid) (procs_of end) b → MatchBool (a || b) (AnyMore (procs_of start) (procs_of end)) (end ≡ start)
+  one_turn true b e h m = any_grows (procs_of start) (procs_of mid) (procs_of end) same.count h g
+  one_turn false true e h m = subst (λ (z : Part). AnyMore (procs_of z) (procs_of end)) h m
+  one_turn false false e h m = absurd (true≢false (sym e))
 
 pub all_passed : (a : Bool) (n : ℕ) (start later : List Running) → length later ≤ n → MatchBool a (AnyMore start later) (StillBelow n start later) → HavePassed start later a
 all_passed true n start later le h = h
 all_passed false n start later le h = λ i t lt is. h i t (omega (arith, lt, le)) is
 
-pub pass_true : (b : Bool) (xs ys : List Running) → b ≡ true → HavePassed xs ys b → AnyMore xs ys
-pass_true true xs ys e h = h
-pass_true false xs ys e h = absurd (true≢false (sym e))
-
-pub pass_false : (b : Bool) (xs ys : List Running) → b ≡ false → HavePassed xs ys b → StillBelow (length ys) xs ys
-pass_false true xs ys e h = absurd (true≢false e)
-pass_false false xs ys e h = h
-
--- after all turns
-pub turns_passed : (a : Bool) (start end : Part) → a ≡ true → MatchBool a (AnyMore (procs_of start) (procs_of end)) (end ≡ start) → HavePassed (procs_of start) (procs_of end) a
-turns_passed true start end e h = h
-turns_passed false start end e h = absurd (true≢false (sym e))
+pub or_true : (a b : Bool) → b ≡ true → (a || b) ≡ true
+or_true true b e = refl
+or_true false b e = e

@@ -1,6 +1,6 @@
 -- Signals are delivered to the processes of a crew at their places.
 use Rattle.std.proofs.Common.{◌≡◌, ℕ, ◌<◌, List, [], ◌∷◌, length, Some, refl, sym, ap, ◌∙◌, subst, slice_get, set}
-use Rattle.std.specs.Prelude.{All, IfSome, OnOk, Result, Ok, Err, get_or}
+use Rattle.std.specs.Prelude.{All, IfSome, OnOk, MatchResult, Result, Ok, Err, get_or}
 use Rattle.std.specs.Option.{option_map}
 use Rattle.std.proofs.lemmas.List.{length-map, map-set}
 use Rattle.std.proofs.lemmas.List.Elements.{All-head, All-tail}
@@ -83,3 +83,8 @@ module _ (procs : List Standing) (x : Signal) (p : Standing) (lt : x.to.0 < leng
 
   pub delivered_placed : IsPlaced (runnings_of procs) → IsPlaced (runnings_of (set procs x.to.0 q))
   delivered_placed placed = subst IsPlaced (sym delivered) (deliver_placed x (slice_get (runnings_of procs) x.to.0) (runnings_of procs) refl placed)
+
+-- a fact of a call that succeeded gives another
+pub if_arrived : {T E : Type 0} {P R : Type 0} (Q : Type 0) (o : Result T E) → MatchResult o (λ _. P) (λ _. Q) → (P → R) → OnOk o R
+if_arrived Q (Ok x) h f = f h
+if_arrived Q (Err e) h f = tt

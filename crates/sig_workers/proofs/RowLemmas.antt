@@ -161,16 +161,6 @@ module _ (queues : List Queue) (crew ps : List Running) (left : ps ≡ take (len
         subst (λ z. FreshRow queues crew z end parts) (let e : length ps ≡ f + length (procs_of p) = omega (arith, n, le) in e) row,
       )
 
--- the first part
-last_row : (queues : List Queue) (crew ps : List Running) (end : ℕ) (p : Part) (parts : List Part) → ps ≡ take (length ps) crew → p.first ≡ 0 → (base_of p) ≡ crew → (procs_of p) ≡ ps → AreFresh queues 0 (length ps) p.seats.items → FreshRow queues crew (length ps) end parts → FreshRow queues crew 0 end (p ∷ parts)
-last_row queues crew ps end p parts left first base procs fresh row = (
-  first,
-  base,
-  subst (λ z. AreFresh queues 0 (length z) p.seats.items) (sym procs) fresh,
-  subst (SliceOf crew 0) (sym procs) (λ i r h. subst (λ z. slice_get crew z ≡ Some r) (let e : i ≡ 0 + i = omega arith in e) (get_take (length ps) crew i r (subst (λ z. slice_get z i ≡ Some r) left h))),
-  subst (λ z. FreshRow queues crew z end parts) (ap (λ (z : List Running). length z) (sym procs) ∙ (let e : length (procs_of p) ≡ 0 + length (procs_of p) = omega arith in e)) row,
-)
-
 pub all_left : {X : Type 0} (P : X → Type 0) (xs : List X) (x : X) → All P (xs ++ x ∷ []) → All P xs
 all_left P [] x h = All-nil P
 all_left P (y ∷ ys) x h = All-cons P y ys (All-head P y (ys ++ x ∷ []) h) (all_left P ys x (All-tail P y (ys ++ x ∷ []) h))
@@ -209,9 +199,3 @@ module _ (queues : List Queue) (crew ps : List Standing) (left : ps ≡ take (le
   push_part f end p parts le first base procs fresh row =
       push_row queues (runnings_of crew) (runnings_of ps) left_running f (subst (λ n. f ≤ n) (sym (many_running ps)) le) end p parts first (ap (λ z. runnings_of z) base) (ap (λ z. runnings_of z) procs ∙ drop_running f ps)
       (subst (λ n. AreFresh queues f (n - f) p.seats.items) (sym (many_running ps)) fresh) (subst (λ n. FreshRow queues (runnings_of crew) n end parts) (sym (many_running ps)) row)
-
-  pub last_part : (end : ℕ) (p : Part) (parts : List Part) → p.first ≡ 0 → p.base.crew.value.items ≡ crew → p.procs.items ≡ ps → AreFresh queues 0 (length ps) p.seats.items
-      → FreshRow queues (runnings_of crew) (length ps) end parts → FreshRow queues (runnings_of crew) 0 end (p ∷ parts)
-  last_part end p parts first base procs fresh row =
-      last_row queues (runnings_of crew) (runnings_of ps) end p parts left_running first (ap (λ z. runnings_of z) base) (ap (λ z. runnings_of z) procs)
-      (subst (λ n. AreFresh queues 0 n p.seats.items) (sym (many_running ps)) fresh) (subst (λ n. FreshRow queues (runnings_of crew) n end parts) (sym (many_running ps)) row)

@@ -1,52 +1,35 @@
 //! The queues of a round are closed, and what they have left is handed over.
-ghost use Rattle.std.specs.Prelude.{◌≡◌, ◌<◌, ◌++◌, ◌∷◌, [], ℕ, length, vec_len, slice_get, Some, IfOk, OnOk};
+ghost use Rattle.std.specs.Prelude.{◌≡◌, ◌<◌, ◌++◌, ◌∷◌, [], ℕ, length, vec_len, slice_get, Some, All, IfOk, OnOk};
+ghost use Rattle.sig_model.specs.Keeping.{IsArriving};
 ghost use Rattle.sig_model.specs.Running.{Running};
 ghost use Rattle.sig_process.specs.Standing.{runnings_of};
 ghost use Rattle.sig_queue.specs.Seats.{Queue, Seated};
 ghost use Rattle.sig_queue.specs.declared.account.Account.{Account};
 ghost use Rattle.sig_workers.specs.Closing.{CanClose, HasClosed, IsClosedAt};
 
-use sig_kinds::{Push, Signal, Signals};
 use sig_lists::Pushed;
 use sig_process::Process;
 use sig_queue::{Closed, QSeat, Receipt, Receipts, Rest, SigQueue};
 use std::alloc::{AllocError, Global};
 
-/// Adds a signal at the end. The error is want of memory.
-fn add_signal(signals: &mut Signals, signal: Signal) -> Result<(), AllocError>
-    ensures { OnOk result (signals.new.items ≡ signals.old.items ++ signal ∷ []) }
+/// What is left waits for the process, behind what that has taken in. The error is want of memory.
+fn hand_over(mut rest: Rest, process: &mut Process) -> Result<(), AllocError>
+    requires { All (IsArriving process.old.running.pid process.old.running.count) rest }
+    ensures { OnOk result (process.new.running ≡ record process.old.running { taken_in = process.old.running.taken_in ++ rest }) }
 {
-    match signals.push(signal) {
-        Push::Added => Ok(()),
-        Push::Memory { signal: _ } => Err(AllocError),
-    }
-}
-
-/// The signals that are left, as a list. The error is want of memory.
-fn list_rest(alloc: Global, mut rest: Rest) -> Result<Signals, AllocError>
-    ensures { IfOk result (λ xs. xs.items ≡ rest) }
-{
-    let mut signals = Signals::new(alloc);
     while let Some(signal) = rest.next() {
-        add_signal(&mut signals, signal)?;
+        process.arrive(signal)?;
     }
-    Ok(signals)
+    Ok(())
 }
 
-/// Closes a queue, and hands what it has left to its receiver, behind what that has taken in. The
-/// error is want of memory.
-fn close_one(
-    alloc: Global,
-    queue: SigQueue,
-    seat: QSeat,
-    process: &mut Process,
-) -> Result<Receipt, AllocError>
+/// Closes a queue, and hands what it has left to its receiver. The error is want of memory.
+fn close_one(queue: SigQueue, seat: QSeat, process: &mut Process) -> Result<Receipt, AllocError>
     requires { CanClose queue seat process.old.running }
     ensures { IfOk result (λ a. HasClosed queue seat process.old.running a process.new.running) }
 {
     let Closed { rest, receipt, .. } = queue.close(seat);
-    let mut signals = list_rest(alloc, rest)?;
-    process.take_in(&mut signals)?;
+    hand_over(rest, process)?;
     Ok(receipt)
 }
 
@@ -80,7 +63,7 @@ pub(crate) fn close_all(
     for at in 0..procs.len() {
         let queue = queues.remove(0);
         let seat = seats.remove(0);
-        let receipt = close_one(alloc, queue, seat, &mut procs[at])?;
+        let receipt = close_one(queue, seat, &mut procs[at])?;
         add_receipt(&mut receipts, receipt)?;
     }
     Ok(receipts)

@@ -118,29 +118,12 @@ pub(crate) fn make_parts(
     let count = procs.len() as u32;
     let mut bases = bases(alloc, &procs, workers)?;
     let mut parts = Vec::new(alloc);
-    let mut worker = workers;
-    while worker > 1 {
-        worker -= 1;
-        let Some(base) = bases.pop() else {
-            unreachable!()
-        };
+    while let Some(base) = bases.pop() {
+        let worker = bases.len() as u32;
         let first = (worker * count / workers).min(procs.len() as u32);
         let part = cut_part(alloc, queues, &mut seats, &mut procs, first, worker, base)?;
         parts.insert(0, part)?;
     }
-    let Some(base) = bases.pop() else {
-        unreachable!()
-    };
-    parts.insert(
-        0,
-        Part {
-            worker: 0,
-            first: 0,
-            procs,
-            seats,
-            base,
-        },
-    )?;
     Ok(parts)
 }
 

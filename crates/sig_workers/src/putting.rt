@@ -12,6 +12,7 @@ use sig_layout::Via;
 use sig_process::Process;
 use sig_queue::{QSeat, Sent, SigQueue};
 use std::alloc::{AllocError, Global};
+use std::mem::drop;
 use std::sync::Wait;
 
 /// Who works: the worker's number, and the pid of the process.
@@ -35,7 +36,10 @@ fn put_at<R: Wait>(
 {
     match queue.send(rt, seat, signal) {
         Sent::Put { via } => Ok(via),
-        Sent::Memory { signal: _ } => Err(AllocError),
+        Sent::Memory { signal } => {
+            drop(signal);
+            Err(AllocError)
+        }
     }
 }
 

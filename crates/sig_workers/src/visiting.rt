@@ -53,11 +53,7 @@ fn deliver_one(procs: &mut Vec<Process>, signal: Signal) -> Result<(), AllocErro
     ensures placed { OnOk result (IsPlaced (runnings_of procs.new.items)) }
     ensures len { vec_len procs.new ≡ vec_len procs.old }
 {
-    let to = signal.to.0 as usize;
-    if to < procs.len() {
-        procs[to].arrive(signal)?;
-    }
-    Ok(())
+    procs[signal.to.0 as usize].arrive(signal)
 }
 
 /// Each of the signals joins those that wait for its receiver.
@@ -132,25 +128,6 @@ fn visit_one<L: Ledger>(
     deliver_each(procs, sent)
 }
 
-fn count_events(procs: &[Process], at: usize) -> usize
-    ensures { result ≡ events_at at (runnings_of procs.now) }
-{
-    match procs.get(at) {
-        None => 0,
-        Some(process) => process.events().len(),
-    }
-}
-
-/// Whether the process at this place has nothing to do.
-fn is_idle_at(procs: &[Process], at: usize) -> bool
-    ensures { result ≡ true → visit at (runnings_of procs.now) ≡ runnings_of procs.now }
-{
-    match procs.get(at) {
-        None => false,
-        Some(process) => process.is_idle(),
-    }
-}
-
 /// Visits the process at this place, and tells whether that had an event. One that has nothing to do
 /// is passed over. What it sends lies in the list on its way, which keeps its room for the next visit.
 #[tactic(auto, using(crate::proofs::IdleLemmas::not_moved))]
@@ -169,11 +146,11 @@ pub(crate) fn visit_counted<L: Ledger>(
     ensures moved { IfOk result (λ moved. moved ≡ has_moved at (runnings_of procs.old.items) (runnings_of procs.new.items)) }
     ensures len { vec_len procs.new ≡ vec_len procs.old }
 {
-    if is_idle_at(procs.as_slice(), at) {
+    if procs[at].is_idle() {
         return Ok(false);
     }
-    let before = count_events(procs.as_slice(), at);
+    let before = procs[at].events().len();
     visit_one(procs, at, sent, steps)?;
-    let after = count_events(procs.as_slice(), at);
+    let after = procs[at].events().len();
     Ok(before != after)
 }

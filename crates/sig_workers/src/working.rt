@@ -12,8 +12,8 @@ use std::marker::Brand;
 use std::sync::Wait;
 use std::sync::ledger::{Blank, Ledger};
 
-/// Visits the process at this place of the part. Tells whether it had an event. The error is want of
-/// memory.
+/// Visits the process at this place of the part. Tells whether it had an event, and adds its events
+/// to `made`. The error is want of memory.
 fn visit_at<R: Wait, G: Gate, L: Ledger>(
     rt: &R,
     alloc: Global,
@@ -21,6 +21,7 @@ fn visit_at<R: Wait, G: Gate, L: Ledger>(
     gate: &G,
     part: &mut Part,
     at: usize,
+    made: &mut usize,
     steps: &mut Steps<L>,
 ) -> Result<bool, AllocError>
     requires part { IsPart queues.now part.old }
@@ -33,23 +34,11 @@ fn visit_at<R: Wait, G: Gate, L: Ledger>(
         worker: part.worker,
         pid: part.first + at as u32,
     };
-    visit(
-        rt,
-        alloc,
-        queues,
-        gate,
-        me,
-        &mut part.procs[at],
-        &mut part.seats,
-        steps,
-    )
-}
-
-/// How many events the process at this place has.
-fn count_at(part: &Part, at: usize) -> usize
-    requires { at < vec_len part.now.procs }
-{
-    part.procs[at].events().len()
+    let process = &mut part.procs[at];
+    let before = process.events().len();
+    let moved = visit(rt, alloc, queues, gate, me, process, &mut part.seats, steps)?;
+    *made = made.saturating_add(process.events().len().saturating_sub(before));
+    Ok(moved)
 }
 
 /// One pass over the part's processes, by ascending pid. Tells whether it had an event, and adds the
@@ -71,46 +60,43 @@ fn pass<R: Wait, G: Gate, L: Ledger>(
 {
     let mut moved = false;
     for at in 0..part.procs.len() {
-        let before = count_at(part, at);
-        let here = visit_at(rt, alloc, queues, gate, part, at, steps)?;
-        let after = count_at(part, at);
-        *made = made.saturating_add(after.saturating_sub(before));
+        let here = visit_at(rt, alloc, queues, gate, part, at, made, steps)?;
         moved |= here;
     }
     Ok(moved)
 }
 
-/// Passes until one has no event, or until there are at least as many events as the quota says. The
-/// error is want of memory.
+/// Passes until one has no event, or until there are at least as many events as the quota says. Tells
+/// whether there was one. The error is want of memory.
 fn work_with<R: Wait, G: Gate, L: Ledger>(
     rt: &R,
     alloc: Global,
     queues: &[SigQueue],
     gate: &G,
     quota: u32,
-    mut part: Part,
+    part: &mut Part,
     blank: Blank,
-) -> Result<Worked, AllocError>
+) -> Result<bool, AllocError>
     requires name { blank.name ≡ L.name }
     requires parts { blank.parts ≡ L.parts }
     requires some { 0 < blank.parts }
     requires quota { 1 ≤ quota }
-    requires part { IsPart queues.now part }
-    ensures { IfOk result (HasWorked queues.now part) }
+    requires part { IsPart queues.now part.old }
+    ensures part { OnOk result (IsPart queues.now part.new) }
+    ensures same { OnOk result (IsSamePart part.old part.new) }
+    ensures passed { IfOk result (HavePassed (procs_of part.old) (procs_of part.new)) }
 {
     let mut steps: Steps<L> = Steps::open(blank);
     let mut moved = false;
     let mut made = 0;
     for _turn in 0..quota {
-        if !pass(rt, alloc, queues, gate, &mut part, &mut made, &mut steps)? {
-            return Ok(Worked { part, moved });
-        }
-        moved = true;
-        if made >= quota as usize {
-            return Ok(Worked { part, moved });
+        let here = pass(rt, alloc, queues, gate, part, &mut made, &mut steps)?;
+        moved |= here;
+        if !here || made >= quota as usize {
+            return Ok(moved);
         }
     }
-    Ok(Worked { part, moved })
+    Ok(moved)
 }
 
 /// One worker's work in a round: passes over its processes until one has no event, or until it has
@@ -121,11 +107,13 @@ pub(crate) fn work<R: Wait, G: Gate>(
     queues: &[SigQueue],
     gate: &G,
     quota: u32,
-    part: Part,
+    mut part: Part,
 ) -> Result<Worked, AllocError>
     requires quota { 1 ≤ quota }
     requires part { IsPart queues.now part }
     ensures { IfOk result (HasWorked queues.now part) }
 {
-    work_with::<R, G, Brand>(rt, alloc, queues, gate, quota, part, Blank::new(1))
+    let blank = Blank::new(1);
+    let moved = work_with::<R, G, Brand>(rt, alloc, queues, gate, quota, &mut part, blank)?;
+    Ok(Worked { part, moved })
 }

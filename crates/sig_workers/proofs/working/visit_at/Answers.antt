@@ -1,28 +1,26 @@
 use Rattle.std.proofs.Common.{◌<◌, length, refl, arith}
 use Rattle.std.proofs.lemmas.Grind.{common_steps}
-use Rattle.sig_workers.proofs.PartLemmas.{running_at, visited_part, has_visited, on_both, if_both}
+use Rattle.sig_workers.proofs.PartLemmas.{running_at, visited_part, has_visited}
 use Rattle.sig_workers.proofs.working.visit_at.Goals as goal
 
 pub visit-requires-clause-ready : goal.visit-requires-clause-ready
 visit-requires-clause-ready g c κs within =
     let lt : c.args.at < length c.args.part.now.procs.items = grind (arith, common_steps) in
-    (c.requires.part.procs c.args.at c.index_mut.result.now.running (running_at c.args.part.now.procs.items c.args.at c.index_mut.result.now lt c.index_mut.ensures.value)).ready
+    (c.requires.part.procs c.args.at c.index_mut-process.result.now.running (running_at c.args.part.now.procs.items c.args.at c.index_mut-process.result.now lt c.index_mut-process.ensures.value)).ready
 
 pub visit-requires-clause-clear : goal.visit-requires-clause-clear
 visit-requires-clause-clear g c κs within =
     let lt : c.args.at < length c.args.part.now.procs.items = grind (arith, common_steps) in
-    (c.requires.part.procs c.args.at c.index_mut.result.now.running (running_at c.args.part.now.procs.items c.args.at c.index_mut.result.now lt c.index_mut.ensures.value)).clear
+    (c.requires.part.procs c.args.at c.index_mut-process.result.now.running (running_at c.args.part.now.procs.items c.args.at c.index_mut-process.result.now lt c.index_mut-process.ensures.value)).clear
 
 pub returns-clause-part : goal.returns-clause-part
 returns-clause-part g c =
     let lt : c.args.at < length c.args.part.now.procs.items = grind (arith, common_steps) in
-    let there = running_at c.args.part.now.procs.items c.args.at c.index_mut.result.now lt c.index_mut.ensures.value in
-    on_both c.visit.result c.visit.ensures.goes c.visit.ensures.empty (λ goes clear.
-    visited_part c.args.queues.now c.args.part.now _ c.requires.part c.args.at c.index_mut.result.now c.visit.new.process there refl refl refl goes clear)
+    let there = running_at c.args.part.now.procs.items c.args.at c.index_mut-process.result.now lt c.index_mut-process.ensures.value in
+    visited_part c.args.queues.now c.args.part.now _ c.requires.part c.args.at c.index_mut-process.result.now c.visit.new.process there refl refl refl c.in_ok-moved.ensures.goes c.in_ok-moved.ensures.empty
 
 pub returns-clause-visited : goal.returns-clause-visited
 returns-clause-visited g c =
     let lt : c.args.at < length c.args.part.now.procs.items = grind (arith, common_steps) in
-    let there = running_at c.args.part.now.procs.items c.args.at c.index_mut.result.now lt c.index_mut.ensures.value in
-    if_both c.visit.result c.visit.ensures.goes c.visit.ensures.moved (λ goes moved m.
-    has_visited c.args.part.now.procs.items c.args.at c.index_mut.result.now c.visit.new.process there goes.events moved m)
+    let there = running_at c.args.part.now.procs.items c.args.at c.index_mut-process.result.now lt c.index_mut-process.ensures.value in
+    has_visited c.args.part.now.procs.items c.args.at c.index_mut-process.result.now c.visit.new.process there c.in_ok-moved.ensures.goes.events c.in_ok-moved.moved c.in_ok-moved.ensures.moved
