@@ -1,6 +1,6 @@
 //! The marks of an inner queue, in the order of their binding.
 
-ghost use Rattle.std.specs.Prelude.{◌≡◌, ◌∷◌, [], ◌++◌, ◌<◌, ◌≤◌, AllPairs, length, nat_lt, vec_capacity};
+ghost use Rattle.std.specs.Prelude.{◌≡◌, ◌<◌, ◌≤◌, AllPairs, length, nat_lt, vec_capacity};
 ghost use Rattle.std.specs.List.{count_by};
 ghost use Rattle.sig_patterns.specs.Inbox.{mark_of, without_mark, with_mark};
 

@@ -1,5 +1,5 @@
 -- A message that is moved from its signal is handled as the table of handling says.
-use Rattle.std.proofs.Common.{◌≡◌, ℕ, ◌+◌, max, List, [], ◌∷◌, ◌++◌, Option, Some, None, refl, sym, ap, ◌∙◌, subst}
+use Rattle.std.proofs.Common.{◌≡◌, ℕ, ◌+◌, max, [], ◌∷◌, ◌++◌, Option, Some, None, refl, sym, ap, ◌∙◌, subst}
 use Rattle.std.specs.Prelude.{IsSome, IfSome, MatchResult, Result, Ok, Err, is_some, option_and_then, if◌then◌else◌}
 use Rattle.std.specs.Option.{unwrap_or}
 use Rattle.std.proofs.lemmas.Bool.{true≢false}
@@ -11,7 +11,6 @@ use Rattle.sig_kinds.specs.declared.signal.Signal.{Signal}
 use Rattle.sig_patterns.specs.Inbox.{Inbox}
 use Rattle.sig_inner.specs.InnerQueue.{InnerQueue}
 use Rattle.sig_inner.specs.Receiving.{passed}
-use Rattle.sig_model.specs.declared.event.Event.{Event}
 use Rattle.sig_model.specs.ProcessState.{ProcessState}
 use Rattle.sig_model.specs.Bodies.{Body, appending}
 use Rattle.sig_model.specs.Finishing.{finished_handle}

@@ -1,4 +1,4 @@
-ghost use Rattle.std.specs.Prelude.{◌≡◌, ◌<◌, ◌≤◌, Some, IfOk, IfSome, MatchOption, slice_get, option_copied, length};
+ghost use Rattle.std.specs.Prelude.{◌≡◌, ◌<◌, ◌≤◌, Some, IfOk, MatchOption, slice_get, length};
 ghost use Rattle.std.specs.Borrow.{sem};
 ghost use Rattle.sig_process.specs.Lending.{LendsProcess};
 ghost use Rattle.sig_model.specs.Running.{opened};

@@ -1,11 +1,10 @@
-ghost use Rattle.std.specs.Prelude.{◌≡◌, ◌<◌, ◌≤◌, IfOk, IfSome, IsSomeAnd, MatchResult, None};
+ghost use Rattle.std.specs.Prelude.{◌≡◌, ◌<◌, IfOk, IfSome, IsSomeAnd, MatchResult, None};
 ghost use Rattle.sig_model.specs.Handling.{handling};
 ghost use Rattle.sig_model.specs.Running.{next_of};
 ghost use Rattle.sig_process.specs.Executions.{IsHandleDue, IsPlacedWithin, HasHandledNext};
 ghost use Rattle.sig_process.specs.KeptMessage.{kept_message};
 ghost use Rattle.sig_process.specs.Plans.{body_of};
 ghost use Rattle.sig_process.specs.Progressing.{state_of, IsSame};
-ghost use Rattle.sig_script.specs.Scripts.{Declared};
 
 use crate::plan::Plan;
 use crate::progress::Progress;

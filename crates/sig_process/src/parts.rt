@@ -1,7 +1,7 @@
 ghost use Rattle.std.specs.Prelude.{◌≡◌, ◌+◌, ◌<◌, [], ◌||◌, length, drop};
 ghost use Rattle.std.specs.List.{list_any};
 ghost use Rattle.sig_model.specs.Keeping.{IsKeeping};
-ghost use Rattle.sig_model.specs.PrintedState.{is_late_signal, is_late, state_of, printed_state};
+ghost use Rattle.sig_model.specs.PrintedState.{is_late_signal, is_late, state_of};
 ghost use Rattle.sig_process.specs.PartsOf.{IsPartsOf};
 
 use crate::process::Process;

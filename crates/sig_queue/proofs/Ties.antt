@@ -30,7 +30,7 @@ use Rattle.sig_layout.specs.Openings.{IsNext}
 use Rattle.sig_layout.specs.Views.{number, IsSomebody, table_from, mode_word, flag, filled_at, signals_of, holding, turned_away, after_put, after_same, with_bits, after_fetch, switched_on, switched_off, after_remove, saw, counted, gains, turned_away_at, saw_under, marked, given_back, loses, put_aside, took_part, passed, left_of, right_of, note_of, joined, spent}
 use Rattle.sig_layout.specs.Outers.{added, emptied, removed, behind}
 use Rattle.sig_layout.specs.Core as core
-use Rattle.sig_layout.specs.Core.{Cell, QState, put, buffer_of, opened_with, Idle, Begins, Unmasked, Reached, by_take_outer, by_refuse_outer, by_put, by_leave, by_take_bits, by_fetch, by_mode_on, by_mode_off, by_remove, by_load_mode, by_load_filled, by_take_buffer, by_refuse_buffer, by_set_back, by_load_under, by_set_bit, by_put_aside, by_leave_buffer, by_take_part, by_pass, by_split, by_note, by_join, opened}
+use Rattle.sig_layout.specs.Core.{Cell, QState, put, buffer_of, Idle, Begins, Unmasked, Reached, by_take_outer, by_refuse_outer, by_put, by_leave, by_take_bits, by_fetch, by_mode_on, by_mode_off, by_remove, by_load_mode, by_load_filled, by_take_buffer, by_refuse_buffer, by_set_back, by_load_under, by_set_bit, by_put_aside, by_leave_buffer, by_take_part, by_pass, by_split, by_note, by_join}
 use Rattle.sig_layout.specs.Agree.{Apart, Among, HeldBy, HoldsAll, Turn, HasOuter, HasBuffer, Agrees}
 use Rattle.sig_layout.specs.Lists.{Lists}
 use Rattle.sig_layout.specs.Law.{Law}

@@ -1,5 +1,5 @@
 //! The first half of an offer: to the sender's buffer.
-ghost use Rattle.std.specs.Prelude.{◌≡◌, ◌≢◌, ℕ, ◌+◌, ◌<◌, ◌++◌, [], ◌∷◌, true, false, Some, None};
+ghost use Rattle.std.specs.Prelude.{◌≡◌, ◌+◌, ◌<◌, ◌++◌, [], ◌∷◌, true, false, None};
 ghost use Rattle.atomic_table.specs.Table.{rest};
 ghost use Rattle.sig_kinds.specs.declared.signal.Signal.{Signal};
 ghost use Rattle.sig_layout.specs.Sets.{has};

@@ -1,12 +1,11 @@
 //! A removal: the mode goes off, and all buffers are emptied into the outer list, under one outer turn.
-ghost use Rattle.std.specs.Prelude.{◌≡◌, ◌≢◌, ℕ, ◌+◌, ◌<◌, ◌≤◌, ◌++◌, [], ◌∷◌, List, length, true, false, Some, None, OnOk, OnErr};
+ghost use Rattle.std.specs.Prelude.{◌≡◌, ◌+◌, ◌<◌, ◌≤◌, [], ◌∷◌, List, true, false, Some, None, OnOk, OnErr};
 ghost use Rattle.sig_layout.specs.Outers.{behind, removed};
 ghost use Rattle.sig_kinds.specs.declared.signal.Signal.{Signal};
 ghost use Rattle.sig_layout.specs.declared.outer.Outer.{Outer};
 ghost use Rattle.sig_layout.specs.Core.{Begins, some_refused};
 ghost use Rattle.sig_layout.specs.declared.knows.Knows.{Knows};
 ghost use Rattle.sig_layout.specs.Views.{number, IsSomebody, gains, after_same};
-ghost use Rattle.sig_queue.specs.Parts.{held_or};
 ghost use Rattle.sig_queue.specs.Fetching.{outer_out};
 ghost use Rattle.sig_queue.specs.Removing.{waited, waits, Passing, WithRoom};
 

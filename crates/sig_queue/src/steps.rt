@@ -1,5 +1,5 @@
 //! One function for each kind of step on OUTER, MODE and FILLED. Each is tied to the step of the core that has its name.
-ghost use Rattle.std.specs.Prelude.{◌≡◌, ◌≢◌, ℕ, ◌+◌, ◌<◌, ◌++◌, [], ◌∷◌, List, length, true, false, Some, None};
+ghost use Rattle.std.specs.Prelude.{◌≡◌, ◌≢◌, ◌+◌, ◌<◌, ◌++◌, [], ◌∷◌, true, false, Some, None};
 ghost use Rattle.atomic_table.specs.Table.{rest};
 ghost use Rattle.sig_layout.specs.declared.outer.Outer.{Outer};
 ghost use Rattle.sig_kinds.specs.declared.signal.Signal.{Signal};

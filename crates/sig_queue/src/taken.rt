@@ -1,5 +1,5 @@
 //! The end of a fetch: all that was found is taken, or all is left as it was.
-ghost use Rattle.std.specs.Prelude.{◌≡◌, ℕ, ◌+◌, ◌-◌, ◌<◌, ◌≤◌, ◌++◌, [], ◌∷◌, List, length, true, false, Some, IfSome};
+ghost use Rattle.std.specs.Prelude.{◌≡◌, ℕ, ◌+◌, ◌-◌, ◌<◌, ◌≤◌, ◌++◌, [], length, true, false, Some, IfSome};
 ghost use Rattle.sig_layout.specs.declared.outer.Outer.{Outer};
 ghost use Rattle.sig_layout.specs.declared.knows.Knows.{Knows};
 ghost use Rattle.sig_layout.specs.Views.{filled_at};

@@ -7,7 +7,7 @@ ghost use Rattle.sig_record.specs.Readers.{spaced, closed};
 ghost use Rattle.sig_record.specs.Sorting.{is_lower};
 ghost use Rattle.sig_record.specs.Refusing.{Yields};
 ghost use Rattle.sig_record.specs.Phrases.{narrow, wide, row_front};
-ghost use Rattle.sig_record.specs.EventRows.{has_ended, did_front, outcome_front, standing_front};
+ghost use Rattle.sig_record.specs.EventRows.{has_ended, did_front, standing_front};
 ghost use Rattle.sig_record.specs.RecordFronts.{
   begins_by_digit,
   begins_by,

@@ -4,7 +4,7 @@ ghost use Rattle.std.specs.Prelude.{◌≡◌, ◌≤◌, length, codes};
 ghost use Rattle.std.specs.Option.{option_map};
 ghost use Rattle.std.specs.List.{prefix_len};
 ghost use Rattle.sig_terms.specs.Words.{is_name_byte};
-ghost use Rattle.sig_terms.specs.Tokens.{after_text, reference_at};
+ghost use Rattle.sig_terms.specs.Tokens.{after_text};
 ghost use Rattle.sig_terms.specs.Fronts.{Gives};
 ghost use Rattle.sig_record.specs.Readers.{behind};
 ghost use Rattle.sig_record.specs.Phrases.{a_narrow, a_wide, a_reference, a_term, narrow, wide, term_front, ref_front, choice_front, field_front};

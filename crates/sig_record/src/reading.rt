@@ -1,6 +1,6 @@
 //! Records from their texts.
 
-ghost use Rattle.std.specs.Prelude.{◌≡◌, ◌≢◌, ◌≤◌, ℕ, List, [], IfOk, IsErrOf};
+ghost use Rattle.std.specs.Prelude.{◌≡◌, ◌≢◌, ℕ, List, [], IfOk, IsErrOf};
 ghost use Rattle.sig_record.specs.declared.report.Report.{Report};
 ghost use Rattle.sig_record.specs.RecordText.{record_text};
 ghost use Rattle.sig_record.specs.ReadableRecord.{IsReadableRecord};

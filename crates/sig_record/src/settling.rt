@@ -1,5 +1,5 @@
 ghost use Rattle.std.specs.Prelude.{◌≡◌};
-ghost use Rattle.std.specs.List.{list_all, list_any};
+ghost use Rattle.std.specs.List.{list_any};
 ghost use Rattle.sig_model.specs.PrintedState.{is_late_signal};
 ghost use Rattle.sig_record.specs.SettledRecord.{is_cut, ends_late, has_none_or_late, is_settled_report, is_settled};
 

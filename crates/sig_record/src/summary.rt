@@ -1,6 +1,6 @@
 //! What a record comes to, in numbers.
 
-ghost use Rattle.std.specs.Prelude.{◌≡◌, min, length, map, sum};
+ghost use Rattle.std.specs.Prelude.{◌≡◌, map, sum};
 ghost use Rattle.std.specs.List.{count_by};
 ghost use Rattle.sig_record.specs.SettledRecord.{is_cut};
 ghost use Rattle.sig_record.specs.Summarizing.{is_kept, is_ended, is_waiting, kept_in, events_in, shown, summary_of};

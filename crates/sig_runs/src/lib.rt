@@ -5,7 +5,7 @@
 //! and each function is a theorem: its contract is what was proved, and its body is empty.
 #![tactic(auto)]
 
-ghost use Rattle.std.specs.Prelude.{ℕ, ◌≡◌, ◌≤◌, List, [], ◌∷◌, ◌++◌, length, map, cond, is_some, Option, Some, slice_get};
+ghost use Rattle.std.specs.Prelude.{ℕ, ◌≡◌, List, [], ◌∷◌, ◌++◌, length, map, cond, is_some, Option, Some, slice_get};
 ghost use Rattle.std.specs.List.{All, AllAdjacentBelow, count_by};
 ghost use Rattle.sig_runs.specs.Rules.{Did, Effect, Rules, KeepStamps, addressed, coming_from};
 ghost use Rattle.sig_runs.specs.Machine.{Machine, At, Applied, apply, choice, IsRun};

@@ -1,14 +1,13 @@
-ghost use Rattle.std.specs.Prelude.{◌≡◌, ◌+◌, ◌<◌, ◌≤◌, ◌^◌, ◌++◌, [], ◌∷◌, length, Ok, Err, All};
+ghost use Rattle.std.specs.Prelude.{◌≡◌, ◌+◌, ◌<◌, ◌^◌, ◌++◌, [], ◌∷◌, length, Ok, Err, All};
 ghost use Rattle.std.specs.List.{list_any};
 ghost use Rattle.std.specs.Str.{bytes_eq};
 ghost use Rattle.sig_script.specs.declared.fault.FaultKind.TheVariants.{Syntax};
 ghost use Rattle.sig_script.specs.declared.fault.Stop.TheVariants.{Fault};
 ghost use Rattle.sig_script.specs.Faults.{Gives};
-ghost use Rattle.sig_script.specs.Scripts.{Declared, Program};
+ghost use Rattle.sig_script.specs.Scripts.{Declared};
 ghost use Rattle.sig_script.specs.Drafts.{
   blank,
   open_proc,
-  all_procs,
   begun,
   has_room,
   labelled,

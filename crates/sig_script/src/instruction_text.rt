@@ -1,13 +1,12 @@
 //! The lines of instructions.
 
-ghost use Rattle.std.specs.Prelude.{◌≡◌, ◌++◌, [], ◌∷◌, map, codes};
+ghost use Rattle.std.specs.Prelude.{◌≡◌, [], ◌∷◌, map, codes};
 ghost use Rattle.std.specs.List.{concat, flat_map};
 ghost use Rattle.sig_script.specs.Putting.{IsPut};
 ghost use Rattle.sig_script.specs.ScriptText.{
   name_of_place,
   names_of,
   expr_text,
-  pattern_text,
   after_blank,
   spaced,
   flag_text,

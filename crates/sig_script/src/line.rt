@@ -11,7 +11,7 @@ ghost use Rattle.std.specs.Prelude.{
 };
 ghost use Rattle.std.specs.List.{list_all};
 ghost use Rattle.sig_script.specs.Faults.{Gives};
-ghost use Rattle.sig_script.specs.Tokens.{AreTokens, IsToken, IsWellSpelled, AreWellSpelled, is_token_in_range, cut_of, text};
+ghost use Rattle.sig_script.specs.Tokens.{AreTokens, IsToken, AreWellSpelled, is_token_in_range, cut_of, text};
 ghost use Rattle.sig_script.specs.Forms.{tokens_of};
 
 use crate::fault::{FaultKind, Stop};

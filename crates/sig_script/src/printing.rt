@@ -1,9 +1,9 @@
 //! The canonical text of a script.
 
-ghost use Rattle.std.specs.Prelude.{◌≡◌, ◌++◌, ◌+◌, ◌<◌, ◌≤◌, ◌^◌, [], ◌∷◌, OnOk, OnErr, IfOk, All, length, codes, map};
+ghost use Rattle.std.specs.Prelude.{◌≡◌, ◌++◌, ◌+◌, ◌<◌, ◌≤◌, ◌^◌, [], ◌∷◌, OnOk, OnErr, IfOk, All, length};
 ghost use Rattle.std.specs.List.{flat_map};
 ghost use Rattle.sig_script.specs.declared.label.Label.{Label};
-ghost use Rattle.sig_script.specs.Scripts.{Declared, AreRising};
+ghost use Rattle.sig_script.specs.Scripts.{AreRising};
 ghost use Rattle.sig_script.specs.Putting.{IsPut};
 ghost use Rattle.sig_script.specs.Printing.{labels_from};
 ghost use Rattle.sig_script.specs.ScriptText.{

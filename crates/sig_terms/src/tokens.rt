@@ -1,7 +1,7 @@
 //! Readers of what has no elements: integers, atoms, pids and references. Each reads as many
 //! bytes as it can, and answers what is behind them.
 
-ghost use Rattle.std.specs.Prelude.{◌≡◌, ◌≤◌, ◌^◌, ◌-◌, ◌*◌, ◌+◌, ◌<◌, negsuc, take, length};
+ghost use Rattle.std.specs.Prelude.{◌≡◌, ◌≤◌, ◌^◌, ◌-◌, ◌*◌, ◌<◌, negsuc, take, length};
 ghost use Rattle.std.specs.Option.{option_map};
 ghost use Rattle.std.specs.List.{prefix_len};
 ghost use Rattle.sig_terms.specs.Words.{is_name_byte, is_atom_byte};

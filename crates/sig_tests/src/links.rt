@@ -5,7 +5,7 @@
 //! acknowledgement of 1 with the id 3. An answer is `y`, `n` or the digit of an id. The owner is 0.
 //! Ids that are awaited are written by the places of their peers, from 0 on, with `.` for none.
 
-ghost use Rattle.std.specs.Prelude.{◌≡◌, ◌+◌, ◌<◌, ◌≤◌, ◌^◌};
+ghost use Rattle.std.specs.Prelude.{◌+◌, ◌<◌, ◌≤◌, ◌^◌};
 
 use crate::shared::{digit, each_row_goes, passes};
 use sig_links::*;

@@ -1,5 +1,5 @@
 //! One seat puts, fetches and removes, so that buffers come into use and go out of it.
-ghost use Rattle.std.specs.Prelude.{◌≡◌, [], true, false, length};
+ghost use Rattle.std.specs.Prelude.{◌≡◌, true, false, length};
 ghost use Rattle.sig_layout.specs.Sent.{putter, of};
 ghost use Rattle.sig_tests.specs.Queues.{Puts, Stays};
 

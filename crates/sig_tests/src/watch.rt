@@ -7,8 +7,6 @@
 //! demonitor signal of process 2, `!` is a down signal. An answer is `y`, `n`, the pid of the process
 //! that is told, `k` for a message that is kept while none is told, or `.` where there is none.
 
-ghost use Rattle.std.specs.Prelude.{◌≡◌};
-
 use crate::shared::{digit, each_row_goes, passes};
 use sig_kinds::AliasMode;
 use sig_terms::{Pid, Ref};

@@ -1,7 +1,7 @@
 //! A crew and its seats are cut into the workers' parts.
-ghost use Rattle.std.specs.Prelude.{◌≡◌, ◌≤◌, ◌<◌, ◌+◌, ◌-◌, ℕ, length, take, drop, vec_len, slice_get, Some, All, IfOk, OnOk};
+ghost use Rattle.std.specs.Prelude.{◌≡◌, ◌≤◌, ◌<◌, ◌+◌, ◌-◌, length, take, drop, vec_len, Some, All, IfOk, OnOk};
 ghost use Rattle.sig_process.specs.Standing.{runnings_of};
-ghost use Rattle.sig_workers.specs.Parts.{is_in, procs_of, base_of};
+ghost use Rattle.sig_workers.specs.Parts.{is_in};
 ghost use Rattle.sig_workers.specs.Opening.{IsFreshSeat, AreFresh};
 ghost use Rattle.sig_workers.specs.Rows.{FreshRow};
 

@@ -1,5 +1,5 @@
 //! Workers in threads.
-ghost use Rattle.std.specs.Prelude.{◌≡◌, ◌≤◌, ℕ, All, IfOk, vec_len};
+ghost use Rattle.std.specs.Prelude.{◌≡◌, ◌≤◌, All, IfOk, vec_len};
 ghost use Rattle.sig_workers.specs.Parts.{IsPart, HasWorked, HaveWorked};
 
 use crate::part::{Part, Worked};

@@ -1,6 +1,6 @@
-ghost use Rattle.std.specs.Prelude.{◌≡◌, ◌<◌, [], length, true, All, OnOk, IfOk, IfSome, slice_get, slice_set, Some, vec_len};
+ghost use Rattle.std.specs.Prelude.{◌≡◌, ◌<◌, [], length, All, OnOk, IfOk, IfSome, slice_get, slice_set, Some, vec_len};
 ghost use Rattle.sig_model.specs.Keeping.{IsArriving, IsPlaced};
-ghost use Rattle.sig_model.specs.OneWorker.{handle_all, exec_or_stay, visited, deliver_all, deliver_to, visit, events_at, has_moved};
+ghost use Rattle.sig_model.specs.OneWorker.{handle_all, exec_or_stay, visited, deliver_all, deliver_to, visit, has_moved};
 ghost use Rattle.sig_process.specs.Standing.{runnings_of};
 
 use sig_base::Steps;

@@ -2,7 +2,6 @@ use Rattle.std.proofs.Common.{ℕ, List, ◌++◌, ap, sym, ◌∙◌, subst, fa
 use Rattle.sig_kinds.specs.declared.signal.Signal.{Signal}
 use Rattle.sig_layout.specs.declared.knows.Knows.{Knows}
 use Rattle.sig_queue.specs.Tied.{Held}
-use Rattle.sig_queue.specs.Parts.{first_part, held_or}
 use Rattle.sig_queue.specs.Fetching.{all_of}
 use Rattle.sig_queue.proofs.Fetches.{front_of, standing_next, emptying_next, first_now, out_now, list_found, left_part_one, fits_one, room_one, moved_one}
 use Rattle.sig_queue.proofs.taken.empty_one.Goals as goal

@@ -2,7 +2,6 @@ use Rattle.std.proofs.Common.{◌≡◌, ◌+◌, Bool, Option, sym, subst, leng
 use Rattle.sig_kinds.specs.declared.signal.Signal.{Signal}
 use Rattle.sig_layout.specs.declared.knows.Knows.{Knows}
 use Rattle.sig_layout.specs.Sent.{putter, of}
-use Rattle.sig_queue.specs.declared.offer.Offer.{Offer}
 use Rattle.sig_relay.specs.Relays.{message}
 use Rattle.sig_relay.proofs.Sendings.{offered_senders, offered_count}
 use Rattle.sig_relay.proofs.offering.put_message.Goals as goal
