@@ -1,4 +1,5 @@
 pub mod NumberLemmas
+pub mod FrontTokens
 pub mod SpellingLemmas
 pub mod CutLemmas
 pub mod LineLemmas

@@ -1,17 +1,18 @@
 -- How tokens are spelled.
-use Rattle.std.proofs.Common.{◌≡◌, ℕ, zero, suc, ◌+◌, ◌-◌, ◌≤◌, List, [], ◌∷◌, ◌++◌, length, take, take_while, drop, cond, Bool, true, false, ◌&&◌, ◌||◌, nat_le, ◌==◌, if◌then◌else◌, Option, Some, None, refl, sym, ◌∙◌, ap, subst, arith}
+use Rattle.std.proofs.Common.{◌≡◌, ℕ, zero, suc, ◌+◌, ◌-◌, ◌≤◌, List, [], ◌∷◌, ◌++◌, length, take, take_while, drop, cond, Bool, true, false, ◌&&◌, ◌||◌, nat_le, Some, refl, sym, ◌∙◌, ap, subst, arith}
 use Rattle.std.specs.List.{list_all}
 use Rattle.std.proofs.lemmas.Bool.Decides.{nat_tests}
 use Rattle.std.proofs.lemmas.List.Folds.{length-prefix_len}
 use Rattle.std.proofs.lemmas.List.Sums.{take_while-cons}
-use Rattle.sig_terms.specs.Words.{is_lower, is_upper, is_digit, is_name_byte, is_variable_byte, is_atom_byte, is_name, is_variable, is_token, is_atom}
+use Rattle.sig_terms.specs.Words.{is_lower, is_upper, is_name_byte, is_variable_byte, is_atom_byte, is_name, is_variable, is_token, is_atom}
 use Rattle.sig_script.specs.declared.token.TokenKind.{TokenKind}
-use Rattle.sig_script.specs.declared.token.TokenKind.TheVariants.{Name, Variable, Integer, Quoted, Process, Sign}
+use Rattle.sig_script.specs.declared.token.TokenKind.TheVariants.{Name, Variable, Quoted}
 use Rattle.sig_script.specs.declared.token.Sign as signs
 use Rattle.sig_script.specs.declared.token.Sign.TheVariants as sign
 use Rattle.sig_script.specs.declared.token.Token.{Token}
-use Rattle.sig_script.specs.Tokens.{text, front_run, process_at, minus_at, underscore_at, quote_at, sign_of, sign_at, front_token, is_token_in_range, IsSpelled, IsToken, AreTokens, AreWellSpelled}
+use Rattle.sig_script.specs.Tokens.{text, front_run, front_token, is_token_in_range, IsSpelled, IsToken, AreTokens, AreWellSpelled}
 use Rattle.sig_terms.specs.declared.bytes.TheConstants.{MOST_WORD_BYTES}
+use Rattle.sig_script.proofs.FrontTokens.{AtFront, OfEach, at_front}
 
 -- the bytes at the front that pass a test pass it
 passes-front : (p : ℕ → Bool) (b : ℕ) (bs : List ℕ) (v : Bool) → p b ≡ v → list_all p (take_while p bs) ≡ true → list_all p (cond v (b ∷ take_while p bs) []) ≡ true
@@ -72,37 +73,6 @@ variable-front b bs up short =
     let token : is_token (b ∷ take_while is_variable_byte bs) ≡ true = rw few (ap (λ (v : Bool). is_name (b ∷ take_while is_variable_byte bs) || v) word ∙ or-second (is_name (b ∷ take_while is_variable_byte bs))) in
     subst (IsSpelled Variable) (sym (front-word is_variable_byte b bs)) token
 
-zero-front : (kind : TokenKind) (n : ℕ) (rest : List ℕ) → IsSpelled kind (take n rest) → IsSpelled kind (take (0 + n) rest)
-zero-front kind n rest h = let same : n ≡ 0 + n = omega arith in subst (λ (m : ℕ). IsSpelled kind (take m rest)) same h
-
--- a token at the front is spelled as its kind says
-abbrev pub IsGood : List ℕ → Option (TokenKind × ℕ) → Type 0
-IsGood rest None = Unit {0}
-IsGood rest (Some t) = IsSpelled t.0 (take t.1 rest)
-
--- a test, and what is good in both cases
-either : (rest : List ℕ) (v : Bool) (x y : Option (TokenKind × ℕ)) → (v ≡ true → IsGood rest x) → IsGood rest y → IsGood rest (if v then x else y)
-either rest true x y f g = f refl
-either rest false x y f g = g
-
-process-good : (rest bs : List ℕ) → IsGood rest (process_at bs)
-process-good rest [] = tt
-process-good rest (b ∷ bs) =
-    either rest (is_lower b) _ _ (λ _. either rest (nat_le (1 + front_run is_name_byte bs) MOST_WORD_BYTES) (Some (Process, 1 + (1 + front_run is_name_byte bs))) None (λ _. tt) tt) tt
-
-minus-good : (rest bs : List ℕ) → IsGood rest (minus_at bs)
-minus-good rest [] = tt
-minus-good rest (b ∷ bs) =
-    either rest (is_digit b) (Some (Integer, 2 + front_run is_digit bs)) _ (λ _. tt) (either rest (b == 62) (Some (Sign sign.Arrow, 2)) None (λ _. tt) tt)
-
-underscore-good : (rest bs : List ℕ) → IsGood rest (underscore_at bs)
-underscore-good rest [] = tt
-underscore-good rest (b ∷ bs) = either rest (is_name_byte b) None (Some (Sign sign.Underscore, 1)) (λ _. tt) tt
-
-sign-good : (rest : List ℕ) (s : Option signs.Sign) → IsGood rest (sign_at s)
-sign-good rest None = tt
-sign-good rest (Some s) = tt
-
 -- the bytes between the quotes may stand in an atom
 shorter-front : (p : ℕ → Bool) (b : ℕ) (xs ys : List ℕ) (v : Bool) → length xs ≤ length ys → length (cond v (b ∷ xs) []) ≤ length (cond v (b ∷ ys) [])
 shorter-front p b xs ys true h = omega (arith, h)
@@ -125,24 +95,9 @@ quoted-spelled b bs short =
     let whole : is_atom (take_while is_atom_byte (take (suc n) bs)) ≡ true = rw (le, run-passes is_atom_byte (take (suc n) bs)) refl in
     subst (IsSpelled Quoted) (sym cut) whole
 
-quote-good : (b : ℕ) (bs cs : List ℕ) → IsGood (b ∷ bs) (quote_at (front_run is_atom_byte bs) cs)
-quote-good b bs [] = tt
-quote-good b bs (c ∷ cs) =
-    let n : ℕ = front_run is_atom_byte bs in
-    either (b ∷ bs) (c == 39) _ None (λ _. either (b ∷ bs) (nat_le n MOST_WORD_BYTES) (Some (Quoted, 2 + n)) None (λ short. quoted-spelled b bs short) tt) tt
-
-pub front-good : (rest : List ℕ) → IsGood rest (front_token rest)
-front-good [] = tt
-front-good (b ∷ bs) =
-    let rest : List ℕ = b ∷ bs in
-    either rest (is_lower b) _ _ (λ low. either rest (nat_le (1 + front_run is_name_byte bs) MOST_WORD_BYTES) (Some (Name, 0 + (1 + front_run is_name_byte bs))) None (λ short. zero-front Name (1 + front_run is_name_byte bs) rest (name-front b bs low short)) tt)
-    (either rest (is_upper b) _ _ (λ up. either rest (nat_le (1 + front_run is_variable_byte bs) MOST_WORD_BYTES) (Some (Variable, 0 + (1 + front_run is_variable_byte bs))) None (λ short. zero-front Variable (1 + front_run is_variable_byte bs) rest (variable-front b bs up short)) tt)
-    (either rest (is_digit b) (Some (Integer, 1 + front_run is_digit bs)) _ (λ _. tt)
-    (either rest (b == 64) _ _ (λ _. process-good rest bs)
-    (either rest (b == 45) _ _ (λ _. minus-good rest bs)
-    (either rest (b == 95) _ _ (λ _. underscore-good rest bs)
-    (either rest (b == 39) _ _ (λ _. quote-good b bs (drop (front_run is_atom_byte bs) bs))
-    (sign-good rest (sign_of b))))))))
+-- a token at the front is spelled as its kind says
+each-spelled : OfEach IsSpelled
+each-spelled = record { name = name-front; variable = variable-front; quoted = quoted-spelled; integer = λ _. tt; process = λ _. tt; sign = λ _ _. tt }
 
 -- tokens that aren't refused by themselves
 pub all_whole : (line : List ℕ) (ts : List Token) → AreTokens line ts → list_all (λ t. is_token_in_range (text line t) t.kind) ts ≡ true → AreWellSpelled line ts
@@ -161,7 +116,7 @@ tokens-push line (u ∷ us) t h e = (h.0, tokens-push line us t h.1 e)
 pub token-known : (line : List ℕ) (i : ℕ) (kind : TokenKind) (len : ℕ) (rest : List ℕ) → rest ≡ drop i line → front_token rest ≡ Some (kind, len) → i + len ≤ length line →
     IsToken line (record { kind = kind; start = i; end = i + len })
 token-known line i kind len rest is some within =
-    let good : IsSpelled kind (take len rest) = subst (IsGood rest) some (front-good rest) in
+    let good : IsSpelled kind (take len rest) = subst (AtFront IsSpelled rest) some (at_front IsSpelled each-spelled rest) in
     let same : i + len - i ≡ len = omega arith in
     let above : i ≤ i + len = omega arith in
     (above, within, subst (IsSpelled kind) (ap (take len) is ∙ ap (λ (n : ℕ). take n (drop i line)) (sym same)) good)

@@ -1,22 +1,23 @@
 -- The words of a line: what is known of each token's bytes once the line is cut.
-use Rattle.std.proofs.Common.{◌≡◌, ℕ, zero, suc, ◌+◌, ◌-◌, ◌≤◌, ◌^◌, ℤ, List, [], ◌∷◌, length, take, take_while, drop, Bool, true, false, nat_le, ◌==◌, if◌then◌else◌, Option, Some, None, refl, sym, ◌∙◌, ap, subst, arith, drop-drop}
+use Rattle.std.proofs.Common.{◌≡◌, ℕ, zero, suc, ◌+◌, ◌-◌, ◌≤◌, ◌^◌, ℤ, List, [], ◌∷◌, length, take, take_while, drop, true, false, nat_le, ◌==◌, if◌then◌else◌, Option, Some, None, refl, sym, ◌∙◌, ap, subst, arith, drop-drop}
 use Rattle.std.specs.Prelude.{pos, negsuc, is_some}
 use Rattle.std.specs.List.{list_all}
 use Rattle.std.proofs.lemmas.Bool.Decides.{nat_tests}
 use Rattle.sig_terms.proofs.Choices.{by_test}
-use Rattle.sig_terms.specs.Words.{is_lower, is_upper, is_digit, is_name_byte, is_variable_byte, is_atom_byte, is_name, is_variable, is_atom}
+use Rattle.sig_terms.specs.Words.{is_lower, is_upper, is_name_byte, is_variable_byte, is_name, is_variable, is_atom}
 use Rattle.sig_terms.specs.Readable.{is_wide}
 use Rattle.sig_terms.specs.declared.bytes.TheConstants.{MOST_WORD_BYTES}
 use Rattle.sig_script.specs.declared.token.TokenKind.{TokenKind}
-use Rattle.sig_script.specs.declared.token.TokenKind.TheVariants.{Name, Variable, Integer, Quoted, Process, Sign}
+use Rattle.sig_script.specs.declared.token.TokenKind.TheVariants.{Name, Variable, Integer, Quoted}
 use Rattle.sig_script.specs.declared.token.Sign as signs
 use Rattle.sig_script.specs.declared.token.Sign.TheVariants as sign
 use Rattle.sig_script.specs.declared.token.Token.{Token}
 use Rattle.sig_script.specs.declared.token.Cut.{Cut}
 use Rattle.sig_script.specs.Numbers.{number, is_in_range, negative, int_of}
-use Rattle.sig_script.specs.Tokens.{is_blank, front_run, process_at, minus_at, underscore_at, quote_at, sign_of, sign_at, front_token, with_token, cut_of, text, unquoted, is_token_in_range}
+use Rattle.sig_script.specs.Tokens.{is_blank, front_run, front_token, with_token, cut_of, text, unquoted, is_token_in_range}
 use Rattle.sig_script.specs.Forms.{tokens_of}
 use Rattle.sig_script.specs.ReadableScript.{IsNameToken, IsVariableToken}
+use Rattle.sig_script.proofs.FrontTokens.{AtFront, OfEach, at_front}
 use Rattle.sig_script.proofs.SpellingLemmas.{and-first, and-second, run-passes, lower-in_atom, names-in_atom, front-word, front-length, quoted-spelled}
 use Rattle.sig_script.proofs.BoundTermLemmas.{Holds, holds-if}
 
@@ -47,60 +48,15 @@ variable-shaped b bs up short =
     subst (IsShaped Variable) (sym (front-word is_variable_byte b bs)) (short-word (length (b ∷ take_while is_variable_byte bs)) few, word)
 
 -- a token at the front is of such a shape
-abbrev IsFront : List ℕ → Option (TokenKind × ℕ) → Type 0
-IsFront rest None = Unit {0}
-IsFront rest (Some t) = IsShaped t.0 (take t.1 rest)
-
-either : (rest : List ℕ) (v : Bool) (x y : Option (TokenKind × ℕ)) → (v ≡ true → IsFront rest x) → IsFront rest y → IsFront rest (if v then x else y)
-either rest true x y f g = f refl
-either rest false x y f g = g
-
-zero-front : (kind : TokenKind) (n : ℕ) (rest : List ℕ) → IsShaped kind (take n rest) → IsShaped kind (take (0 + n) rest)
-zero-front kind n rest h = let same : n ≡ 0 + n = omega arith in subst (λ (m : ℕ). IsShaped kind (take m rest)) same h
-
-process-shaped : (rest bs : List ℕ) → IsFront rest (process_at bs)
-process-shaped rest [] = tt
-process-shaped rest (b ∷ bs) =
-    either rest (is_lower b) _ _ (λ _. either rest (nat_le (1 + front_run is_name_byte bs) MOST_WORD_BYTES) (Some (Process, 1 + (1 + front_run is_name_byte bs))) None (λ _. tt) tt) tt
-
-minus-shaped : (rest bs : List ℕ) → IsFront rest (minus_at bs)
-minus-shaped rest [] = tt
-minus-shaped rest (b ∷ bs) =
-    either rest (is_digit b) (Some (Integer, 2 + front_run is_digit bs)) _ (λ _. tt) (either rest (b == 62) (Some (Sign sign.Arrow, 2)) None (λ _. tt) tt)
-
-underscore-shaped : (rest bs : List ℕ) → IsFront rest (underscore_at bs)
-underscore-shaped rest [] = tt
-underscore-shaped rest (b ∷ bs) = either rest (is_name_byte b) None (Some (Sign sign.Underscore, 1)) (λ _. tt) tt
-
-sign-shaped : (rest : List ℕ) (s : Option signs.Sign) → IsFront rest (sign_at s)
-sign-shaped rest None = tt
-sign-shaped rest (Some s) = tt
-
-quote-shaped : (b : ℕ) (bs cs : List ℕ) → IsFront (b ∷ bs) (quote_at (front_run is_atom_byte bs) cs)
-quote-shaped b bs [] = tt
-quote-shaped b bs (c ∷ cs) =
-    let n : ℕ = front_run is_atom_byte bs in
-    either (b ∷ bs) (c == 39) _ None (λ _. either (b ∷ bs) (nat_le n MOST_WORD_BYTES) (Some (Quoted, 2 + n)) None (λ short. quoted-spelled b bs short) tt) tt
-
-front-shaped : (rest : List ℕ) → IsFront rest (front_token rest)
-front-shaped [] = tt
-front-shaped (b ∷ bs) =
-    let rest : List ℕ = b ∷ bs in
-    either rest (is_lower b) _ _ (λ low. either rest (nat_le (1 + front_run is_name_byte bs) MOST_WORD_BYTES) (Some (Name, 0 + (1 + front_run is_name_byte bs))) None (λ short. zero-front Name (1 + front_run is_name_byte bs) rest (name-shaped b bs low short)) tt)
-    (either rest (is_upper b) _ _ (λ up. either rest (nat_le (1 + front_run is_variable_byte bs) MOST_WORD_BYTES) (Some (Variable, 0 + (1 + front_run is_variable_byte bs))) None (λ short. zero-front Variable (1 + front_run is_variable_byte bs) rest (variable-shaped b bs up short)) tt)
-    (either rest (is_digit b) (Some (Integer, 1 + front_run is_digit bs)) _ (λ _. tt)
-    (either rest (b == 64) _ _ (λ _. process-shaped rest bs)
-    (either rest (b == 45) _ _ (λ _. minus-shaped rest bs)
-    (either rest (b == 95) _ _ (λ _. underscore-shaped rest bs)
-    (either rest (b == 39) _ _ (λ _. quote-shaped b bs (drop (front_run is_atom_byte bs) bs))
-    (sign-shaped rest (sign_of b))))))))
+each-shaped : OfEach IsShaped
+each-shaped = record { name = name-shaped; variable = variable-shaped; quoted = quoted-spelled; integer = λ _. tt; process = λ _. tt; sign = λ _ _. tt }
 
 -- each token of a line is of such a shape
 abbrev AreShaped : List ℕ → List Token → Type 0
 AreShaped line [] = Unit {0}
 AreShaped line (t ∷ ts) = IsShaped t.kind (text line t) × AreShaped line ts
 
-with_token-shaped : (line : List ℕ) (o : Option (TokenKind × ℕ)) (at : ℕ) (after : ℕ → Cut) → IsFront (drop at line) o → ((skip : ℕ) → AreShaped line (after skip).tokens) →
+with_token-shaped : (line : List ℕ) (o : Option (TokenKind × ℕ)) (at : ℕ) (after : ℕ → Cut) → AtFront IsShaped (drop at line) o → ((skip : ℕ) → AreShaped line (after skip).tokens) →
     AreShaped line (with_token o at after).tokens
 with_token-shaped line None at after h k = tt
 with_token-shaped line (Some t) at after h k =
@@ -117,7 +73,7 @@ cut-shaped line at zero (b ∷ bs) e =
     by_test Shaped (is_blank b) _ _ (λ _. cut-shaped line (at + 1) 0 bs next)
     (λ _. by_test Shaped (b == 37) _ _ (λ _. tt)
     (λ _. with_token-shaped line (front_token (b ∷ bs)) at (λ skip. cut_of (at + 1) skip bs)
-    (subst (λ (xs : List ℕ). IsFront xs (front_token (b ∷ bs))) e (front-shaped (b ∷ bs))) (λ skip. cut-shaped line (at + 1) skip bs next)))
+    (subst (λ (xs : List ℕ). AtFront IsShaped xs (front_token (b ∷ bs))) e (at_front IsShaped each-shaped (b ∷ bs))) (λ skip. cut-shaped line (at + 1) skip bs next)))
 
 -- an integer that is in range is of 64 bits
 negative-wide : (n : ℕ) → nat_le n (2 ^ 63) ≡ true → is_wide (negative n) ≡ true

@@ -52,25 +52,20 @@ fn cut_line(room: Tokens, line: &[u8]) -> Result<Cut, AllocError>
         }
         if is_blank_byte(b) {
             at += 1;
-        } else {
-            match token_at(&line[at..]) {
-                None => {
-                    return Ok(Cut {
-                        tokens,
-                        stop: Some(at),
-                    });
-                }
-                Some((kind, len)) => {
-                    let token = Token {
-                        kind,
-                        start: at,
-                        end: at + len,
-                    };
-                    tokens.add(token)?;
-                    at += len;
-                }
-            }
+            continue;
         }
+        let Some((kind, len)) = token_at(&line[at..]) else {
+            return Ok(Cut {
+                tokens,
+                stop: Some(at),
+            });
+        };
+        tokens.add(Token {
+            kind,
+            start: at,
+            end: at + len,
+        })?;
+        at += len;
     }
     Ok(Cut { tokens, stop: None })
 }
