@@ -141,85 +141,63 @@ module _ (g : Given) (ps : Pairs) (a : Agrees g ps) (next : Given) (word value :
       → Tells read (Some x) (value_of name (with_pair ps name value))
   added read x name same none h = subst (Tells read (Some x)) (sym (value_added name value ps same none)) h
 
-  next_workers : word ≡ codes "--workers" → (o : Option ℕ) → once workers_of g.workers value ≡ o → option_map (λ n. record g { workers = Some n }) o ≡ Some next → IsNext ps next word value
-  next_workers is None once e = cc
-  next_workers is (Some n) once e =
-      let told = once_is workers_of g.workers value n once in
-      let none = none_told workers_of g.workers _ told.0 a.workers in
-      let same : record g { workers = Some n } ≡ next = cc in
+  -- the option of this name is the next one: its value is read so, and what is given with it agrees
+  next_of : {X : Type 0} (name : Text) → IsOption name → IsNameOf name word → (read : Text → Option X) (o : Option X) (given : X → Given) → Tells read o (value_of name ps)
+      → ((x : X) → read value ≡ Some x → IsPlainWord value) → ((x : X) → value_of name ps ≡ None → read value ≡ Some x → Agrees (given x) (with_pair ps name value))
+      → (found : Option X) → once read o value ≡ found → option_map given found ≡ Some next → IsNext ps next word value
+  next_of name opt is read o given told plain agrees None once e = cc
+  next_of name opt is read o given told plain agrees (Some x) once e =
+      let new = once_is read o value x once in
+      let none = none_told read o _ new.0 told in
+      let same : given x ≡ next = cc in
       record {
-        name = codes "workers";
-        opt = workers_option;
-        is = subst (IsNameOf (codes "workers")) (sym is) (record { long = refl; other = refl });
-        plain = number_word _ _ value n told.1;
+        name = name;
+        opt = opt;
+        is = is;
+        plain = plain x new.1;
         fresh = none;
-        agrees = subst (λ (h : Given). Agrees h (with_pair ps (codes "workers") value)) same (record {
-          workers = added workers_of n (codes "workers") refl none told.1;
-          quota = kept quota_of g.quota (codes "quota") (codes "workers") refl a.quota;
-          policy = kept policy_of g.policy (codes "buffers") (codes "workers") refl a.policy;
-          generate = kept calls_of g.generate (codes "generate") (codes "workers") refl a.generate;
-        });
+        agrees = subst (λ (h : Given). Agrees h (with_pair ps name value)) same (agrees x none new.1);
       }
+
+  next_workers : word ≡ codes "--workers" → (o : Option ℕ) → once workers_of g.workers value ≡ o → option_map (λ n. record g { workers = Some n }) o ≡ Some next → IsNext ps next word value
+  next_workers is =
+      next_of (codes "workers") workers_option (subst (IsNameOf (codes "workers")) (sym is) (record { long = refl; other = refl })) workers_of g.workers (λ n. record g { workers = Some n }) a.workers
+      (λ n told. number_word _ _ value n told) (λ n none told. record {
+        workers = added workers_of n (codes "workers") refl none told;
+        quota = kept quota_of g.quota (codes "quota") (codes "workers") refl a.quota;
+        policy = kept policy_of g.policy (codes "buffers") (codes "workers") refl a.policy;
+        generate = kept calls_of g.generate (codes "generate") (codes "workers") refl a.generate;
+      })
 
   next_quota : word ≡ codes "--quota" → (o : Option ℕ) → once quota_of g.quota value ≡ o → option_map (λ n. record g { quota = Some n }) o ≡ Some next → IsNext ps next word value
-  next_quota is None once e = cc
-  next_quota is (Some n) once e =
-      let told = once_is quota_of g.quota value n once in
-      let none = none_told quota_of g.quota _ told.0 a.quota in
-      let same : record g { quota = Some n } ≡ next = cc in
-      record {
-        name = codes "quota";
-        opt = quota_option;
-        is = subst (IsNameOf (codes "quota")) (sym is) (record { long = refl; other = refl });
-        plain = number_word _ _ value n told.1;
-        fresh = none;
-        agrees = subst (λ (h : Given). Agrees h (with_pair ps (codes "quota") value)) same (record {
-          workers = kept workers_of g.workers (codes "workers") (codes "quota") refl a.workers;
-          quota = added quota_of n (codes "quota") refl none told.1;
-          policy = kept policy_of g.policy (codes "buffers") (codes "quota") refl a.policy;
-          generate = kept calls_of g.generate (codes "generate") (codes "quota") refl a.generate;
-        });
-      }
+  next_quota is =
+      next_of (codes "quota") quota_option (subst (IsNameOf (codes "quota")) (sym is) (record { long = refl; other = refl })) quota_of g.quota (λ n. record g { quota = Some n }) a.quota
+      (λ n told. number_word _ _ value n told) (λ n none told. record {
+        workers = kept workers_of g.workers (codes "workers") (codes "quota") refl a.workers;
+        quota = added quota_of n (codes "quota") refl none told;
+        policy = kept policy_of g.policy (codes "buffers") (codes "quota") refl a.policy;
+        generate = kept calls_of g.generate (codes "generate") (codes "quota") refl a.generate;
+      })
 
   next_buffers : word ≡ codes "--buffers" → (o : Option Policy) → once policy_of g.policy value ≡ o → option_map (λ p. record g { policy = Some p }) o ≡ Some next → IsNext ps next word value
-  next_buffers is None once e = cc
-  next_buffers is (Some p) once e =
-      let told = once_is policy_of g.policy value p once in
-      let none = none_told policy_of g.policy _ told.0 a.policy in
-      let same : record g { policy = Some p } ≡ next = cc in
-      record {
-        name = codes "buffers";
-        opt = buffers_option;
-        is = subst (IsNameOf (codes "buffers")) (sym is) (record { long = refl; other = refl });
-        plain = policy_word value p told.1;
-        fresh = none;
-        agrees = subst (λ (h : Given). Agrees h (with_pair ps (codes "buffers") value)) same (record {
-          workers = kept workers_of g.workers (codes "workers") (codes "buffers") refl a.workers;
-          quota = kept quota_of g.quota (codes "quota") (codes "buffers") refl a.quota;
-          policy = added policy_of p (codes "buffers") refl none told.1;
-          generate = kept calls_of g.generate (codes "generate") (codes "buffers") refl a.generate;
-        });
-      }
+  next_buffers is =
+      next_of (codes "buffers") buffers_option (subst (IsNameOf (codes "buffers")) (sym is) (record { long = refl; other = refl })) policy_of g.policy (λ p. record g { policy = Some p }) a.policy
+      (λ p told. policy_word value p told) (λ p none told. record {
+        workers = kept workers_of g.workers (codes "workers") (codes "buffers") refl a.workers;
+        quota = kept quota_of g.quota (codes "quota") (codes "buffers") refl a.quota;
+        policy = added policy_of p (codes "buffers") refl none told;
+        generate = kept calls_of g.generate (codes "generate") (codes "buffers") refl a.generate;
+      })
 
   next_generate : word ≡ codes "--generate" → (o : Option ℕ) → once calls_of g.generate value ≡ o → option_map (λ n. record g { generate = Some n }) o ≡ Some next → IsNext ps next word value
-  next_generate is None once e = cc
-  next_generate is (Some n) once e =
-      let told = once_is calls_of g.generate value n once in
-      let none = none_told calls_of g.generate _ told.0 a.generate in
-      let same : record g { generate = Some n } ≡ next = cc in
-      record {
-        name = codes "generate";
-        opt = generate_option;
-        is = subst (IsNameOf (codes "generate")) (sym is) (record { long = refl; other = refl });
-        plain = number_word _ _ value n told.1;
-        fresh = none;
-        agrees = subst (λ (h : Given). Agrees h (with_pair ps (codes "generate") value)) same (record {
-          workers = kept workers_of g.workers (codes "workers") (codes "generate") refl a.workers;
-          quota = kept quota_of g.quota (codes "quota") (codes "generate") refl a.quota;
-          policy = kept policy_of g.policy (codes "buffers") (codes "generate") refl a.policy;
-          generate = added calls_of n (codes "generate") refl none told.1;
-        });
-      }
+  next_generate is =
+      next_of (codes "generate") generate_option (subst (IsNameOf (codes "generate")) (sym is) (record { long = refl; other = refl })) calls_of g.generate (λ n. record g { generate = Some n }) a.generate
+      (λ n told. number_word _ _ value n told) (λ n none told. record {
+        workers = kept workers_of g.workers (codes "workers") (codes "generate") refl a.workers;
+        quota = kept quota_of g.quota (codes "quota") (codes "generate") refl a.quota;
+        policy = kept policy_of g.policy (codes "buffers") (codes "generate") refl a.policy;
+        generate = added calls_of n (codes "generate") refl none told;
+      })
 
   pub next_option : with_option g word value ≡ Some next → IsNext ps next word value
   next_option e = first (bytes_eq word (codes "--workers")) refl
