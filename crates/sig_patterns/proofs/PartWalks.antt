@@ -11,7 +11,7 @@ use Rattle.sig_patterns.specs.declared.pattern.Pattern.TheOpen as layer
 use Rattle.sig_patterns.specs.declared.pattern.Pattern.TheFolds.{fold-roll-Pattern}
 use Rattle.sig_patterns.specs.Environment.{Environment}
 use Rattle.sig_patterns.specs.Matching.{Bindings, tuple_items, list_items}
-use Rattle.sig_patterns.specs.Fitting.{Places, first_each, first_step, first_in, fits_all, fits_step, fits, Placer, placed_each, placed_cons, placed_step, placed, split}
+use Rattle.sig_patterns.specs.Fitting.{Places, first_each, first_step, first_in, fits_all, fits_cons, fits_step, fits, Placer, placed_each, placed_cons, placed_step, placed, split}
 
 fits_at : (env : Environment) (first : Places) (x : Pattern-F Pattern) (t : Term) → fits_step env first (map-Pattern Pattern (Term → Bool) (fits env first) x) t ≡ fits env first (roll-Pattern x) t
 fits_at env first x t = sym (ap (λ (f : Term → Bool). f t) (fold-roll-Pattern (Term → Bool) (fits_step env first) x))
@@ -28,6 +28,16 @@ pub fits_list : (env : Environment) (first : Places) (p : Pattern) (ps : List Pa
     → option_map_or (fits_all (map (fits env first) ps)) items false ≡ fits env first p t
 fits_list env first p ps t items is met =
     ap (λ o. option_map_or (fits_all (map (fits env first) ps)) o false) met ∙ fits_at env first (layer.List ps) t ∙ ap (λ (q : Pattern). fits env first q t) (pattern.rolls-List ps ∙ sym is)
+
+-- no list that has a first element
+no_head : (head tail : Term → Bool) (o : Option (List Term)) → ◌≡◌ {A = Option (Term × List Term)} None (option_and_then split o) → false ≡ option_map_or (fits_cons head tail) o false
+no_head head tail None e = refl
+no_head head tail (Some []) e = refl
+no_head head tail (Some (t ∷ ts)) e = absurd cc
+
+pub fits_uncut : (env : Environment) (first : Places) (p head tail : Pattern) (t : Term) → p ≡ pattern.Cons head tail → ◌≡◌ {A = Option (Term × List Term)} None (option_and_then split (list_items t)) → false ≡ fits env first p t
+fits_uncut env first p head tail t is none =
+    no_head (fits env first head) (fits env first tail) (list_items t) none ∙ fits_case env first (layer.Cons head tail) p t (is ∙ sym (pattern.rolls-Cons head tail))
 
 first_at : (x : Pattern-F Pattern) (t : Term) (var : List ℕ) → first_step (map-Pattern Pattern (Term → Places) first_in x) t var ≡ first_in (roll-Pattern x) t var
 first_at x t var = sym (ap (λ (f : Term → Places). f t var) (fold-roll-Pattern (Term → Places) first_step x))

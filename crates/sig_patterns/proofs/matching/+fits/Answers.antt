@@ -1,11 +1,12 @@
 use Rattle.std.proofs.Common.{ℕ, List, sym, ap, ◌∙◌}
+use Rattle.std.specs.Option.{option_map}
 use Rattle.sig_terms.specs.TermTest.{same_term}
 use Rattle.sig_terms.specs.declared.term.Term.TheVariants as term
 use Rattle.sig_patterns.specs.declared.pattern.Pattern.TheVariants as pattern
 use Rattle.sig_patterns.specs.declared.pattern.Pattern.TheOpen as layer
 use Rattle.sig_patterns.specs.Fitting.{term_seen, first_in, fits}
 use Rattle.sig_patterns.proofs.NextPlace.{fits_each_next}
-use Rattle.sig_patterns.proofs.PartWalks.{fits_case, fits_tuple, fits_list}
+use Rattle.sig_patterns.proofs.PartWalks.{fits_case, fits_tuple, fits_list, fits_uncut}
 use Rattle.sig_patterns.proofs.matching.+fits.Goals as goal
 
 pub each_fits-loop-i-preserved : goal.each_fits-loop-i-preserved
@@ -40,3 +41,11 @@ fits-returns-in-Atom t c =
 pub fits-returns-in-Pid : goal.fits-returns-in-Pid
 fits-returns-in-Pid t c =
     c.is_pid.ensures ∙ fits_case c.args.whole.env.now (first_in c.args.whole.pattern.now (term_seen c.args.whole.seen)) (layer.Pid c.in-Pid.pid) c.args.pattern.now (term_seen c.args.seen) (c.in-Pid.is ∙ sym (pattern.rolls-Pid c.in-Pid.pid))
+
+pub fits-returns-in-None : goal.fits-returns-in-None
+fits-returns-in-None t c =
+    fits_uncut c.args.whole.env.now (first_in c.args.whole.pattern.now (term_seen c.args.whole.seen)) c.args.pattern.now _ _ (term_seen c.args.seen) c.in-Cons.is (ap (option_map (λ parts. (parts.0.now, parts.1.now))) (sym c.in-None.is) ∙ c.split_list.ensures)
+
+pub fits-returns-in-Pin : goal.fits-returns-in-Pin
+fits-returns-in-Pin t c =
+    cc (fits_case c.args.whole.env.now (first_in c.args.whole.pattern.now (term_seen c.args.whole.seen)) (layer.Pin c.in-Pin.var) c.args.pattern.now (term_seen c.args.seen) (c.in-Pin.is ∙ sym (pattern.rolls-Pin c.in-Pin.var)))
