@@ -9,7 +9,7 @@ use Rattle.std.proofs.lemmas.List.Sums.{sum_by-cons}
 use Rattle.std.proofs.lemmas.Option.{none-some}
 use Rattle.sig_terms.specs.Words.{is_lower, is_digit, is_name_byte, is_name, is_atom}
 use Rattle.sig_terms.specs.TermText.{term_text, joined, after_comma}
-use Rattle.sig_terms.specs.Nodes.{node_count, count_step, depth_of, depth_step, greatest}
+use Rattle.sig_terms.specs.Nodes.{node_count, count_step, depth_of, greatest}
 use Rattle.sig_terms.specs.Readable.{is_wide, is_term}
 use Rattle.sig_terms.specs.declared.pid.Pid.{Pid}
 use Rattle.sig_terms.specs.declared.reference.Ref.{Ref}
@@ -218,17 +218,6 @@ counted_step (layer.List counts) = omega arith
 one_node : (t : Term) → 1 ≤ node_count t
 one_node t = let P : ℕ → Type 0 = λ n. 1 ≤ n in subst P (sym (fold_out-Term ℕ count_step t)) (counted_step (map-Term Term ℕ node_count (out-Term t)))
 
-deep_step : (x : Term-F ℕ) → 1 ≤ depth_step x
-deep_step (layer.Int z) = omega arith
-deep_step (layer.Atom bytes) = omega arith
-deep_step (layer.Pid p) = omega arith
-deep_step (layer.Ref r) = omega arith
-deep_step (layer.Tuple depths) = omega arith
-deep_step (layer.List depths) = omega arith
-
-one_depth : (t : Term) → 1 ≤ depth_of t
-one_depth t = let P : ℕ → Type 0 = λ n. 1 ≤ n in subst P (sym (fold_out-Term ℕ depth_step t)) (deep_step (map-Term Term ℕ depth_of (out-Term t)))
-
 fewer_than_nodes : (ts : List Term) → length ts ≤ sum (map node_count ts)
 fewer_than_nodes [] = omega arith
 fewer_than_nodes (t ∷ ts) = omega (arith, one_node t, fewer_than_nodes ts, sum_by-cons (λ x. x) (node_count t) (map node_count ts))
@@ -295,43 +284,40 @@ items_again close c depth left (e ∷ es) rest lawful deep =
     items_open (term_at depth) close nodes (joined (map term_text (e.0 ∷ ts)) ++ close ∷ rest) r.found (nothing_is_none depth nodes) (c.no_term depth nodes) read
     ∙ elements_again close c depth left nodes [] e es rest lawful deep (omega (arith, fewer_than_nodes (e.0 ∷ ts), length-map es (λ e. e.0)))
 
-tuple_comes : (es : List Read) → Reads (term.Tuple (terms es))
-unfolding term_at front_by node_at
-tuple_comes es lawful zero left rest le = absurd (omega (arith, one_depth (term.Tuple (terms es))))
-tuple_comes es lawful (suc depth) left rest le =
+-- one whose elements stand between two brackets
+compound_comes : (make : List Term → Term) (opening close : ℕ) → Closes close
+    → ((read : ℕ → List ℕ → Option (Term × ℕ × List ℕ)) (nodes : ℕ) (bytes : List ℕ) → node_at read nodes (opening ∷ bytes) ≡ (items_at read close nodes bytes >>= λ x. Some (make x.0, x.1, x.2)))
+    → (es : List Read) → term_text (make (terms es)) ≡ opening ∷ (joined (map term_text (terms es)) ++ close ∷ []) → node_count (make (terms es)) ≡ 1 + sum (map node_count (terms es))
+    → depth_of (make (terms es)) ≡ 1 + greatest (map depth_of (terms es)) → is_term (make (terms es)) ≡ list_all (λ b. b) (map is_term (terms es)) → Reads (make (terms es))
+unfolding term_at front_by
+compound_comes make opening close c opens es text count deep test lawful zero left rest le = absurd (omega arith)
+compound_comes make opening close c opens es text count deep test lawful (suc depth) left rest le =
     let ts : List Term = terms es in
-    let s = shows-Tuple ts in
     let nodes : ℕ = sum (map node_count ts) + left in
-    let count : node_count (term.Tuple ts) + left ≡ suc nodes = omega (arith, s.nodes) in
-    let bytes : term_text (term.Tuple ts) ++ rest ≡ 123 ∷ (joined (map term_text ts) ++ 125 ∷ rest) =
-    ap (λ (t : List ℕ). t ++ rest) s.text ∙ ap (λ (t : List ℕ). 123 ∷ t) (append_assoc (joined (map term_text ts)) (125 ∷ []) rest) in
-    let inside = items_again 125 brace depth left es rest (sym s.term ∙ lawful) (omega (arith, s.depth)) in
-    let here : node_at (term_at depth) nodes (123 ∷ (joined (map term_text ts) ++ 125 ∷ rest)) ≡ Some (term.Tuple ts, left, rest) = rw inside refl in
+    let more : node_count (make ts) + left ≡ suc nodes = omega arith in
+    let bytes : term_text (make ts) ++ rest ≡ opening ∷ (joined (map term_text ts) ++ close ∷ rest) =
+    ap (λ (t : List ℕ). t ++ rest) text ∙ ap (λ (t : List ℕ). opening ∷ t) (append_assoc (joined (map term_text ts)) (close ∷ []) rest) in
+    let inside = items_again close c depth left es rest (sym test ∙ lawful) (omega arith) in
+    let here : node_at (term_at depth) nodes (opening ∷ (joined (map term_text ts) ++ close ∷ rest)) ≡ Some (make ts, left, rest) =
+    opens (term_at depth) nodes _ ∙ rw inside refl in
     record {
-      found = (term.Tuple ts, left, rest);
-      is = ap (λ (n : ℕ). term_at (suc depth) n (term_text (term.Tuple ts) ++ rest)) count ∙ ap (node_at (term_at depth) nodes) bytes ∙ here;
+      found = (make ts, left, rest);
+      is = ap (λ (n : ℕ). term_at (suc depth) n (term_text (make ts) ++ rest)) more ∙ ap (node_at (term_at depth) nodes) bytes ∙ here;
       shorter = omega arith;
       whole = λ _. refl;
     }
 
+tuple_comes : (es : List Read) → Reads (term.Tuple (terms es))
+unfolding node_at
+tuple_comes es =
+    let s = shows-Tuple (terms es) in
+    compound_comes term.Tuple 123 125 brace (λ read nodes bytes. refl) es s.text s.nodes s.depth s.term
+
 list_comes : (es : List Read) → Reads (term.List (terms es))
-unfolding term_at front_by node_at
-list_comes es lawful zero left rest le = absurd (omega (arith, one_depth (term.List (terms es))))
-list_comes es lawful (suc depth) left rest le =
-    let ts : List Term = terms es in
-    let s = shows-List ts in
-    let nodes : ℕ = sum (map node_count ts) + left in
-    let count : node_count (term.List ts) + left ≡ suc nodes = omega (arith, s.nodes) in
-    let bytes : term_text (term.List ts) ++ rest ≡ 91 ∷ (joined (map term_text ts) ++ 93 ∷ rest) =
-    ap (λ (t : List ℕ). t ++ rest) s.text ∙ ap (λ (t : List ℕ). 91 ∷ t) (append_assoc (joined (map term_text ts)) (93 ∷ []) rest) in
-    let inside = items_again 93 bracket depth left es rest (sym s.term ∙ lawful) (omega (arith, s.depth)) in
-    let here : node_at (term_at depth) nodes (91 ∷ (joined (map term_text ts) ++ 93 ∷ rest)) ≡ Some (term.List ts, left, rest) = rw inside refl in
-    record {
-      found = (term.List ts, left, rest);
-      is = ap (λ (n : ℕ). term_at (suc depth) n (term_text (term.List ts) ++ rest)) count ∙ ap (node_at (term_at depth) nodes) bytes ∙ here;
-      shorter = omega arith;
-      whole = λ _. refl;
-    }
+unfolding node_at
+list_comes es =
+    let s = shows-List (terms es) in
+    compound_comes term.List 91 93 bracket (λ read nodes bytes. refl) es s.text s.nodes s.depth s.term
 
 int_comes : (z : ℤ) → Reads (term.Int z)
 int_comes z lawful =

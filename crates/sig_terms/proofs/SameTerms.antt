@@ -17,8 +17,8 @@ use Rattle.sig_terms.specs.declared.term.Term.TheViews.{out-roll-Term}
 abbrev test : Term-F (Term → Bool) → Term → Bool
 test s t = same_layer s (out-Term t)
 
-at : (x z : Term-F Term) → same_term (roll-Term x) (roll-Term z) ≡ same_layer (map-Term Term (Term → Bool) same_term x) z
-at x z = ap (λ f. f (roll-Term z)) (fold-roll-Term (Term → Bool) test x) ∙ ap (same_layer (map-Term Term (Term → Bool) same_term x)) (out-roll-Term z)
+pub same_at : (x z : Term-F Term) → same_term (roll-Term x) (roll-Term z) ≡ same_layer (map-Term Term (Term → Bool) same_term x) z
+same_at x z = ap (λ f. f (roll-Term z)) (fold-roll-Term (Term → Bool) test x) ∙ ap (same_layer (map-Term Term (Term → Bool) same_term x)) (out-roll-Term z)
 
 -- a term passes beside itself
 abbrev IsSame : Term → Type 0
@@ -32,12 +32,12 @@ list_self : (ts : List ((t : Term) × IsSame t)) → same_list (map same_term (m
 list_self ts = rw (length-map (map (λ e. e.0) ts) same_term, (Decides-eqb (length (map (λ e. e.0) ts)) (length (map (λ e. e.0) ts))).1 refl) (each_self ts)
 
 self_step : (y : Term-F ((t : Term) × IsSame t)) → IsSame (roll-Term (map-Term ((t : Term) × IsSame t) Term (λ e. e.0) y))
-self_step (layer.Int n) = at (layer.Int n) (layer.Int n) ∙ (Decides-int_eq n n).1 refl
-self_step (layer.Atom a) = at (layer.Atom a) (layer.Atom a) ∙ (bytes_eq-Decides a a).1 refl
-self_step (layer.Pid p) = at (layer.Pid p) (layer.Pid p) ∙ (Decides-eqb p.0 p.0).1 refl
-self_step (layer.Ref r) = at (layer.Ref r) (layer.Ref r) ∙ (Decides-and _ _ (Decides-eqb r.owner.0 r.owner.0) (Decides-eqb r.serial r.serial)).1 (refl, refl)
-self_step (layer.Tuple ts) = let us : List Term = map (λ e. e.0) ts in at (layer.Tuple us) (layer.Tuple us) ∙ list_self ts
-self_step (layer.List ts) = let us : List Term = map (λ e. e.0) ts in at (layer.List us) (layer.List us) ∙ list_self ts
+self_step (layer.Int n) = same_at (layer.Int n) (layer.Int n) ∙ (Decides-int_eq n n).1 refl
+self_step (layer.Atom a) = same_at (layer.Atom a) (layer.Atom a) ∙ (bytes_eq-Decides a a).1 refl
+self_step (layer.Pid p) = same_at (layer.Pid p) (layer.Pid p) ∙ (Decides-eqb p.0 p.0).1 refl
+self_step (layer.Ref r) = same_at (layer.Ref r) (layer.Ref r) ∙ (Decides-and _ _ (Decides-eqb r.owner.0 r.owner.0) (Decides-eqb r.serial r.serial)).1 (refl, refl)
+self_step (layer.Tuple ts) = let us : List Term = map (λ e. e.0) ts in same_at (layer.Tuple us) (layer.Tuple us) ∙ list_self ts
+self_step (layer.List ts) = let us : List Term = map (λ e. e.0) ts in same_at (layer.List us) (layer.List us) ∙ list_self ts
 
 pub same_self : (t : Term) → IsSame t
 same_self = ind-Term IsSame (λ x y is. subst (λ z. IsSame (roll-Term z)) is (self_step y))
@@ -86,7 +86,7 @@ layer_apart _ _ h = absurd cc
 apart_step : (y : Term-F Apart) (u : Term) → same_term (roll-Term (map-Term Apart Term (λ e. e.0) y)) u ≡ true → roll-Term (map-Term Apart Term (λ e. e.0) y) ≡ u
 apart_step y =
     let x : Term-F Term = map-Term Apart Term (λ e. e.0) y in
-    ind-Term (λ u. same_term (roll-Term x) u ≡ true → roll-Term x ≡ u) (λ z _ _ h. ap roll-Term (layer_apart y z (sym (at x z) ∙ h)))
+    ind-Term (λ u. same_term (roll-Term x) u ≡ true → roll-Term x ≡ u) (λ z _ _ h. ap roll-Term (layer_apart y z (sym (same_at x z) ∙ h)))
 
 pub same_apart : (t : Term) → IsApart t
 same_apart = ind-Term IsApart (λ x y is. subst (λ z. IsApart (roll-Term z)) is (apart_step y))
