@@ -63,13 +63,9 @@ closed_here test x y nodes [] d long h e = absurd (omega arith)
 closed_here {A} test x y nodes (t ∷ ts) d long h e =
     rw h (ap (λ (z : A). Ok (z, nodes, ts)) (sym e) ∙ ap (λ (us : List Token). Ok (y, nodes, us)) (sym (take_all (suc (length ts) - 1) ts (omega arith))))
 
-pub closed_not : {A : Type 0} (test : TokenKind → Bool) (x : A) (nodes : ℕ) (ts : List Token) (d : Token) → 1 ≤ length ts → test (get_or ts 0 d).kind ≡ false → closed test x nodes ts ≡ Err Syntax
-closed_not test x nodes [] d long h = refl
-closed_not test x nodes (t ∷ ts) d long h = rw h refl
-
-pub closed_none : {A : Type 0} (test : TokenKind → Bool) (x : A) (nodes : ℕ) (ts : List Token) → length ts < 1 → closed test x nodes ts ≡ Err Syntax
-closed_none test x nodes [] h = refl
-closed_none test x nodes (t ∷ ts) h = absurd (omega arith)
+pub closed_not : {A : Type 0} (test : TokenKind → Bool) (x : A) (nodes : ℕ) (ts : List Token) (d : Token) → (1 ≤ length ts → test (get_or ts 0 d).kind ≡ false) → closed test x nodes ts ≡ Err Syntax
+closed_not test x nodes [] d h = refl
+closed_not test x nodes (t ∷ ts) d h = rw (h (omega arith)) refl
 
 -- behind elements: a tail, or none
 pub ending_tail : {A : Type 0} (s : Spelling A) (close : signs.Sign) (read : ℕ → List Token → Read A) (items : List A) (nodes : ℕ) (ts : List Token) (d : Token) → 1 ≤ length ts → is_before_tail s close (get_or ts 0 d).kind ≡ true →
@@ -78,14 +74,10 @@ ending_tail s close read items nodes [] d long h = absurd (omega arith)
 ending_tail s close read items nodes (t ∷ ts) d long h =
     rw h (ap (λ (us : List Token). read nodes us >>= λ x. closed (closes close) (s.nested items x.0) x.1 x.2) (sym (take_all (suc (length ts) - 1) ts (omega arith))))
 
-pub ending_plain : {A : Type 0} (s : Spelling A) (close : signs.Sign) (read : ℕ → List Token → Read A) (items : List A) (nodes : ℕ) (ts : List Token) (d : Token) → 1 ≤ length ts → is_before_tail s close (get_or ts 0 d).kind ≡ false →
+pub ending_plain : {A : Type 0} (s : Spelling A) (close : signs.Sign) (read : ℕ → List Token → Read A) (items : List A) (nodes : ℕ) (ts : List Token) (d : Token) → (1 ≤ length ts → is_before_tail s close (get_or ts 0 d).kind ≡ false) →
     ending s close read items nodes ts ≡ closed (closes close) (s.enclosing close items) nodes ts
-ending_plain s close read items nodes [] d long h = absurd (omega arith)
-ending_plain s close read items nodes (t ∷ ts) d long h = rw h refl
-
-pub ending_none : {A : Type 0} (s : Spelling A) (close : signs.Sign) (read : ℕ → List Token → Read A) (items : List A) (nodes : ℕ) (ts : List Token) → length ts < 1 → ending s close read items nodes ts ≡ Err Syntax
-ending_none s close read items nodes [] h = refl
-ending_none s close read items nodes (t ∷ ts) h = absurd (omega arith)
+ending_plain s close read items nodes [] d h = refl
+ending_plain s close read items nodes (t ∷ ts) d h = rw (h (omega arith)) refl
 
 -- one element, and what is behind it
 pub one_more : {A B : Type 0} (read : ℕ → List Token → Read A) (finish : List A → ℕ → List Token → Read B) (n i left : ℕ) (items : List A) (ts : List Token) (total : Read B) →

@@ -46,50 +46,10 @@ use Rattle.sig_patterns.specs.declared.building.TheConstants.{MOST_NODES, MOST_D
 abbrev ClosesNothing : TokenKind → Type 0
 ClosesNothing kind = (close : signs.Sign) → closes close kind ≡ false
 
-no_name : ClosesNothing Name
-no_name sign.CloseBrace = refl
-no_name sign.CloseBracket = refl
-no_name _ = refl
-
-no_variable : ClosesNothing Variable
-no_variable sign.CloseBrace = refl
-no_variable sign.CloseBracket = refl
-no_variable _ = refl
-
-no_integer : ClosesNothing Integer
-no_integer sign.CloseBrace = refl
-no_integer sign.CloseBracket = refl
-no_integer _ = refl
-
-no_quoted : ClosesNothing Quoted
-no_quoted sign.CloseBrace = refl
-no_quoted sign.CloseBracket = refl
-no_quoted _ = refl
-
-no_process : ClosesNothing Process
-no_process sign.CloseBrace = refl
-no_process sign.CloseBracket = refl
-no_process _ = refl
-
-no_brace : ClosesNothing (Sign sign.OpenBrace)
-no_brace sign.CloseBrace = refl
-no_brace sign.CloseBracket = refl
-no_brace _ = refl
-
-no_bracket : ClosesNothing (Sign sign.OpenBracket)
-no_bracket sign.CloseBrace = refl
-no_bracket sign.CloseBracket = refl
-no_bracket _ = refl
-
-no_caret : ClosesNothing (Sign sign.Caret)
-no_caret sign.CloseBrace = refl
-no_caret sign.CloseBracket = refl
-no_caret _ = refl
-
-no_underscore : ClosesNothing (Sign sign.Underscore)
-no_underscore sign.CloseBrace = refl
-no_underscore sign.CloseBracket = refl
-no_underscore _ = refl
+closes_nothing : (kind : TokenKind) → closes sign.CloseBrace kind ≡ false → closes sign.CloseBracket kind ≡ false → ClosesNothing kind
+closes_nothing kind brace bracket sign.CloseBrace = brace
+closes_nothing kind brace bracket sign.CloseBracket = bracket
+closes_nothing kind brace bracket _ = refl
 
 -- ---- brackets
 
@@ -98,13 +58,13 @@ and_false true = refl
 and_false false = refl
 
 brace_opens : {A : Type 0} (s : Spelling A) → Opening s sign.CloseBrace (Sign sign.OpenBrace) 123
-brace_opens s = record { word = open_brace; none = no_brace; by = λ known line read bytes nodes ts. refl }
+brace_opens s = record { word = open_brace; none = closes_nothing _ refl refl; by = λ known line read bytes nodes ts. refl }
 
 brace_closes : {A : Type 0} (s : Spelling A) → Closing s sign.CloseBrace (Sign sign.CloseBrace) 125
 brace_closes s = record { word = close_brace; stops = refl; no_comma = refl; no_tail = refl; closes = refl }
 
 bracket_opens : {A : Type 0} (s : Spelling A) → Opening s sign.CloseBracket (Sign sign.OpenBracket) 91
-bracket_opens s = record { word = open_bracket; none = no_bracket; by = λ known line read bytes nodes ts. refl }
+bracket_opens s = record { word = open_bracket; none = closes_nothing _ refl refl; by = λ known line read bytes nodes ts. refl }
 
 bracket_closes : {A : Type 0} (s : Spelling A) → Closing s sign.CloseBracket (Sign sign.CloseBracket) 93
 bracket_closes s = record { word = close_bracket; stops = refl; no_comma = refl; no_tail = and_false s.has_tails; closes = refl }
@@ -112,15 +72,15 @@ bracket_closes s = record { word = close_bracket; stops = refl; no_comma = refl;
 -- ---- phrases of one word
 
 int_read : {A : Type 0} (s : Spelling A) (known : Known) (z : ℤ) → is_wide z ≡ true → IsRead s known (signed_decimal z) (s.int z) 1 1
-int_read s known z wide = word_read s known (signed_decimal z) (s.int z) (int_word z wide) (λ rest stops. stops) no_integer (λ line read nodes ts. ap (λ (i : ℤ). Ok (s.int i, nodes, ts)) (int_again z wide))
+int_read s known z wide = word_read s known (signed_decimal z) (s.int z) (int_word z wide) (λ rest stops. stops) (closes_nothing _ refl refl) (λ line read nodes ts. ap (λ (i : ℤ). Ok (s.int i, nodes, ts)) (int_again z wide))
 
 atom_read : {A : Type 0} (s : Spelling A) (known : Known) (bytes : List ℕ) → is_atom bytes ≡ true → IsRead s known (atom_text bytes) (s.atom bytes) 1 1
 atom_read s known bytes atom =
     let test = both_true (nat_le (length bytes) MOST_WORD_BYTES) (list_all is_atom_byte bytes) atom in
     let few : length bytes ≤ MOST_WORD_BYTES = grind (arith, nat_tests, test.0) in
     elim (is_name bytes) as (λ v. is_name bytes ≡ v → IsRead s known (cond v bytes (39 ∷ (bytes ++ 39 ∷ []))) (s.atom bytes) 1 1) [
-      | true ↦ λ named. word_read s known bytes (s.atom bytes) (name_word bytes (few, named)) (λ rest stops. stops) no_name (λ line read nodes ts. refl)
-      | false ↦ λ named. word_read s known (39 ∷ (bytes ++ 39 ∷ [])) (s.atom bytes) (quoted_word bytes atom) (λ rest stops. tt) no_quoted (λ line read nodes ts. ap (λ (b : List ℕ). Ok (s.atom b, nodes, ts)) (unquoted_again bytes atom))
+      | true ↦ λ named. word_read s known bytes (s.atom bytes) (name_word bytes (few, named)) (λ rest stops. stops) (closes_nothing _ refl refl) (λ line read nodes ts. refl)
+      | false ↦ λ named. word_read s known (39 ∷ (bytes ++ 39 ∷ [])) (s.atom bytes) (quoted_word bytes atom) (λ rest stops. tt) (closes_nothing _ refl refl) (λ line read nodes ts. ap (λ (b : List ℕ). Ok (s.atom b, nodes, ts)) (unquoted_again bytes atom))
     ] refl
 
 variable_token : (word : List ℕ) → is_variable_token word ≡ true → IsVariableToken word
@@ -130,11 +90,11 @@ variable_token word h =
     (few, each.1)
 
 var_read : {A : Type 0} (s : Spelling A) (known : Known) (x : Var) → is_variable_token x.0 ≡ true → IsRead s known x.0 (s.var x) 1 1
-var_read s known x token = word_read s known x.0 (s.var x) (variable_word x.0 (variable_token x.0 token)) (λ rest stops. stops) no_variable (λ line read nodes ts. refl)
+var_read s known x token = word_read s known x.0 (s.var x) (variable_word x.0 (variable_token x.0 token)) (λ rest stops. stops) (closes_nothing _ refl refl) (λ line read nodes ts. refl)
 
 pid_read : {A : Type 0} (s : Spelling A) (known : Known) (name : List ℕ) (n : ℕ) → IsNameToken name → pid_of known name ≡ Ok n → IsRead s known (64 ∷ name) (s.pid (record { 0 = n })) 1 1
 pid_read {A} s known name n named found =
-    word_read s known (64 ∷ name) (s.pid (record { 0 = n })) (process_word name named) (λ rest stops. stops) no_process (λ line read nodes ts.
+    word_read s known (64 ∷ name) (s.pid (record { 0 = n })) (process_word name named) (λ rest stops. stops) (closes_nothing _ refl refl) (λ line read nodes ts.
     ap (λ (r : Result ℕ FaultKind). on_ok (λ (x : A × List Token). (x.0, nodes, x.1)) (on_ok (λ i. (s.pid (record { 0 = i }), ts)) r)) found)
 
 -- a name and a variable at the front
@@ -224,7 +184,7 @@ patterns_read known names f (p ∷ ps) h =
     more (p.1 each.0).whole (patterns_read known names f ps each.1)
 
 any_read : (known : Known) → IsRead pattern_spelling known (95 ∷ []) pattern.Any 1 1
-any_read known = word_read pattern_spelling known (95 ∷ []) pattern.Any underscore (λ rest stops. stops) no_underscore (λ line read nodes ts. refl)
+any_read known = word_read pattern_spelling known (95 ∷ []) pattern.Any underscore (λ rest stops. stops) (closes_nothing _ refl refl) (λ line read nodes ts. refl)
 
 pin_again : (known : Known) (x : Var) → IsVariableToken x.0 → (line rest : List ℕ) (at end : ℕ) → drop at line ≡ 94 ∷ (x.0 ++ rest) → end ≡ at + 1 + length x.0 → Stops rest → (deep left all : ℕ) → 1 ≤ deep → all ≡ 1 + left →
     phrase_at pattern_spelling known line deep all (tokens_at at (94 ∷ (x.0 ++ rest))) ≡ Ok (pattern.Pin x, left, tokens_at end rest)
@@ -239,7 +199,7 @@ pin_read known x token =
     let named = variable_token x.0 token in
     record {
       cut = byte_on 94 x.0 caret (word_is_cut x.0 (variable_word x.0 named));
-      opens = λ rest at stops. word_opens (94 ∷ []) (x.0 ++ rest) at caret tt no_caret;
+      opens = λ rest at stops. word_opens (94 ∷ []) (x.0 ++ rest) at caret tt (closes_nothing _ refl refl);
       again = λ line rest at end here e stops deep left all le count. pin_again known x named line rest at end here (omega (arith, e)) stops deep left all le count;
     }
 

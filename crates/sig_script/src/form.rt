@@ -1,7 +1,8 @@
-ghost use Rattle.std.specs.Prelude.{◌≡◌, ◌∷◌, [], true};
+ghost use Rattle.std.specs.Prelude.{◌≡◌, ◌∷◌, [], true, IfOk};
+ghost use Rattle.sig_terms.specs.Words.{is_token};
 ghost use Rattle.sig_script.specs.Faults.{Gives};
 ghost use Rattle.sig_script.specs.Tokens.{AreWellSpelled, is_token_in_range};
-ghost use Rattle.sig_script.specs.Instructions.{Operand};
+ghost use Rattle.sig_script.specs.Instructions.{Operand, operands_of};
 ghost use Rattle.sig_script.specs.Forms.{
   may_stand,
   ends,
@@ -64,12 +65,27 @@ pub enum Form {
     End,
 }
 
-/// No token is left.
-fn end(tokens: &[Token]) -> Result<(), Stop>
-    ensures { Gives (λ u. u) result (ends tt tokens.now) }
+/// The value, where no token is left behind what said it.
+fn alone<T: Drop>(value: T, rest: &[Token]) -> Result<T, Stop>
+    ensures { Gives (λ x. x) result (ends value rest.now) }
 {
-    if tokens.is_empty() {
-        Ok(())
+    if rest.is_empty() {
+        Ok(value)
+    } else {
+        drop(value);
+        Err(Stop::Fault(FaultKind::Syntax))
+    }
+}
+
+/// The bytes of a name, and nothing behind it.
+fn whole_word<'l>(line: &'l [u8], tokens: &[Token]) -> Result<&'l [u8], Stop>
+    requires { AreWellSpelled line.now tokens.now }
+    ensures word { Gives (λ w. w.now) result (whole_name line.now tokens.now) }
+    ensures token { IfOk result (λ w. is_token w.now ≡ true) }
+{
+    let (word, rest) = take_word(line, tokens)?;
+    if rest.is_empty() {
+        Ok(word)
     } else {
         Err(Stop::Fault(FaultKind::Syntax))
     }
@@ -87,8 +103,7 @@ fn some_target(
     ensures { Gives (λ t. t) result (target_of known.now here line.now tokens.now) }
 {
     let (target, rest) = take_target(known, here, line, tokens)?;
-    end(rest)?;
-    Ok(Some(target))
+    alone(Some(target), rest)
 }
 
 /// Nothing, or `->` and a label of the process with this place among the processes.
@@ -136,8 +151,7 @@ fn read_turns(line: &[u8], tokens: &[Token]) -> Result<Form, Stop>
         [] => Err(Stop::Fault(FaultKind::Syntax)),
         [token, rest @ ..] => {
             let turns = count_from(token.kind, text_of(line, *token))?;
-            end(rest)?;
-            Ok(Form::Turns(turns))
+            alone(Form::Turns(turns), rest)
         }
     }
 }
@@ -149,13 +163,7 @@ fn one_expr(alloc: Global, known: &Known, line: &[u8], tokens: &[Token]) -> Resu
     ensures { Gives (λ e. (e, tt)) result (all_said known.now 0 line.now (Operand.an_expr ∷ []) tokens.now) }
 {
     let (value, rest) = take_phrase(alloc, known, line, tokens)?;
-    match end(rest) {
-        Ok(()) => Ok(value),
-        Err(stop) => {
-            drop(value);
-            Err(stop)
-        }
-    }
+    alone(value, rest)
 }
 
 /// Two expressions, and nothing behind them.
@@ -179,20 +187,16 @@ fn two_exprs(
     }
 }
 
-/// A variable and an expression, and nothing behind them.
-fn variable_and_expr(
-    alloc: Global,
-    known: &Known,
-    line: &[u8],
-    tokens: &[Token],
-) -> Result<(Var, Expr), Stop>
+/// What stands behind `set`: the variable, and the expression.
+#[tactic(auto, unfolding(crate::specs::Forms::instr_of))]
+fn read_set(alloc: Global, known: &Known, line: &[u8], tokens: &[Token]) -> Result<Instr, Stop>
     requires known { IsFewKnown known.now }
     requires spelled { AreWellSpelled line.now tokens.now }
-    ensures { Gives (λ x. (x.0.0, (x.1, tt))) result (all_said known.now 0 line.now (Operand.a_variable ∷ Operand.an_expr ∷ []) tokens.now) }
+    ensures { Gives (λ i. i) result (instr_of known.now 0 Verb.Set line.now tokens.now) }
 {
     let (var, rest) = take_variable(alloc, line, tokens)?;
     let value = one_expr(alloc, known, line, rest)?;
-    Ok((var, value))
+    Ok(Instr::Set { var, value })
 }
 
 /// Whether the word is `on`. A word that isn't `off` either is refused.
@@ -213,10 +217,8 @@ fn one_switch(line: &[u8], tokens: &[Token]) -> Result<bool, Stop>
     requires { AreWellSpelled line.now tokens.now }
     ensures { Gives (λ on. (on, tt)) result (all_said Known.Any 0 line.now (Operand.a_switch ∷ []) tokens.now) }
 {
-    let (word, rest) = take_word(line, tokens)?;
-    let on = read_switch(word)?;
-    end(rest)?;
-    Ok(on)
+    let word = whole_word(line, tokens)?;
+    read_switch(word)
 }
 
 /// The mode of a monitor's alias.
@@ -244,8 +246,7 @@ fn one_mode(line: &[u8], tokens: &[Token]) -> Result<Option<AliasMode>, Stop>
         [_, ..] => {
             let (word, rest) = take_word(line, tokens)?;
             let mode = read_mode(word)?;
-            end(rest)?;
-            Ok(Some(mode))
+            alone(Some(mode), rest)
         }
     }
 }
@@ -269,23 +270,21 @@ fn one_flag(flag: &[u8], line: &[u8], tokens: &[Token]) -> Result<bool, Stop>
     match tokens {
         [] => Ok(false),
         [_, ..] => {
-            let (word, rest) = take_word(line, tokens)?;
-            let on = read_flag(flag, word)?;
-            end(rest)?;
-            Ok(on)
+            let word = whole_word(line, tokens)?;
+            read_flag(flag, word)
         }
     }
 }
 
-/// A label of the process with this place among the processes, and nothing behind it.
-fn one_label(known: &Known, here: usize, line: &[u8], tokens: &[Token]) -> Result<u32, Stop>
+/// What stands behind `goto`: a label of the process with this place among the processes.
+#[tactic(auto, unfolding(crate::specs::Forms::instr_of))]
+fn read_goto(known: &Known, here: usize, line: &[u8], tokens: &[Token]) -> Result<Instr, Stop>
     requires known { IsFewKnown known.now }
     requires spelled { AreWellSpelled line.now tokens.now }
-    ensures { Gives (λ l. (l, tt)) result (all_said known.now here line.now (Operand.a_label ∷ []) tokens.now) }
+    ensures { Gives (λ i. i) result (instr_of known.now here Verb.Goto line.now tokens.now) }
 {
     let (label, rest) = take_target(known, here, line, tokens)?;
-    end(rest)?;
-    Ok(label)
+    alone(Instr::Goto { label }, rest)
 }
 
 /// A variable, and nothing behind it.
@@ -294,8 +293,7 @@ fn one_variable(alloc: Global, line: &[u8], tokens: &[Token]) -> Result<Var, Sto
     ensures { Gives (λ v. (v.0, tt)) result (all_said Known.Any 0 line.now (Operand.a_variable ∷ []) tokens.now) }
 {
     let (var, rest) = take_variable(alloc, line, tokens)?;
-    end(rest)?;
-    Ok(var)
+    alone(var, rest)
 }
 
 /// What stands behind `monitor`: the variable, the process, and the mode of the alias.
@@ -353,9 +351,8 @@ fn read_name(alloc: Global, line: &[u8], tokens: &[Token]) -> Result<Name, Stop>
     requires { AreWellSpelled line.now tokens.now }
     ensures { Gives (λ n. n) result (whole_name line.now tokens.now) }
 {
-    let (word, rest) = take_word(line, tokens)?;
-    end(rest)?;
-    name_of(alloc, word)
+    let word = whole_word(line, tokens)?;
+    Ok(name_of(alloc, word)?)
 }
 
 /// The variable of a receive's marker, and nothing behind it.
@@ -364,8 +361,7 @@ fn marker_variable(alloc: Global, line: &[u8], tokens: &[Token]) -> Result<Optio
     ensures { Gives (λ v. v) result (marked_by line.now tokens.now) }
 {
     let (var, rest) = take_variable(alloc, line, tokens)?;
-    end(rest)?;
-    Ok(Some(var))
+    alone(Some(var), rest)
 }
 
 /// `using` and a variable.
@@ -410,6 +406,78 @@ fn read_on(
     }
 }
 
+/// The instruction of a verb behind which one expression stands.
+#[tactic(auto, unfolding(crate::specs::Forms::instr_of))]
+fn read_of_expr(
+    alloc: Global,
+    known: &Known,
+    verb: Verb,
+    line: &[u8],
+    tokens: &[Token],
+) -> Result<Instr, Stop>
+    requires known { IsFewKnown known.now }
+    requires spelled { AreWellSpelled line.now tokens.now }
+    requires operands { operands_of verb ≡ Operand.an_expr ∷ [] }
+    ensures { Gives (λ i. i) result (instr_of known.now 0 verb line.now tokens.now) }
+{
+    let expr = one_expr(alloc, known, line, tokens)?;
+    match verb {
+        Verb::Link => Ok(Instr::Link { peer: expr }),
+        Verb::Unlink => Ok(Instr::Unlink { peer: expr }),
+        Verb::Unalias => Ok(Instr::Unalias { reference: expr }),
+        Verb::Exit => Ok(Instr::Exit { reason: expr }),
+        _ => unreachable!(),
+    }
+}
+
+/// What stands behind `send`: the process, and the message.
+#[tactic(auto, unfolding(crate::specs::Forms::instr_of))]
+fn read_send(alloc: Global, known: &Known, line: &[u8], tokens: &[Token]) -> Result<Instr, Stop>
+    requires known { IsFewKnown known.now }
+    requires spelled { AreWellSpelled line.now tokens.now }
+    ensures { Gives (λ i. i) result (instr_of known.now 0 Verb.Send line.now tokens.now) }
+{
+    let (to, message) = two_exprs(alloc, known, line, tokens)?;
+    Ok(Instr::Send { to, message })
+}
+
+/// What stands behind `exit_to`: the process, and the reason.
+#[tactic(auto, unfolding(crate::specs::Forms::instr_of))]
+fn read_exit_to(alloc: Global, known: &Known, line: &[u8], tokens: &[Token]) -> Result<Instr, Stop>
+    requires known { IsFewKnown known.now }
+    requires spelled { AreWellSpelled line.now tokens.now }
+    ensures { Gives (λ i. i) result (instr_of known.now 0 Verb.ExitTo line.now tokens.now) }
+{
+    let (target, reason) = two_exprs(alloc, known, line, tokens)?;
+    Ok(Instr::ExitTo { target, reason })
+}
+
+/// The instruction of a verb behind which a variable stands.
+#[tactic(auto, unfolding(crate::specs::Forms::instr_of))]
+fn read_of_variable(alloc: Global, verb: Verb, line: &[u8], tokens: &[Token]) -> Result<Instr, Stop>
+    requires spelled { AreWellSpelled line.now tokens.now }
+    requires operands { operands_of verb ≡ Operand.a_variable ∷ [] }
+    ensures { Gives (λ i. i) result (instr_of Known.Any 0 verb line.now tokens.now) }
+{
+    let var = one_variable(alloc, line, tokens)?;
+    match verb {
+        Verb::MakeRef => Ok(Instr::MakeRef { var }),
+        Verb::Bind => Ok(Instr::Bind { var }),
+        Verb::Clear => Ok(Instr::Clear { var }),
+        _ => unreachable!(),
+    }
+}
+
+/// What stands behind `trap`: `on` or `off`.
+#[tactic(auto, unfolding(crate::specs::Forms::instr_of))]
+fn read_trap(line: &[u8], tokens: &[Token]) -> Result<Instr, Stop>
+    requires { AreWellSpelled line.now tokens.now }
+    ensures { Gives (λ i. i) result (instr_of Known.Any 0 Verb.Trap line.now tokens.now) }
+{
+    let on = one_switch(line, tokens)?;
+    Ok(Instr::Trap { on })
+}
+
 /// The instruction of the verb, of the process with this place among the processes.
 #[tactic(auto, unfolding(crate::specs::Forms::instr_of))]
 fn read_instr(
@@ -425,65 +493,23 @@ fn read_instr(
     ensures { Gives (λ i. i) result (instr_of known.now here verb line.now tokens.now) }
 {
     match verb {
-        Verb::Send => {
-            let (to, message) = two_exprs(alloc, known, line, tokens)?;
-            Ok(Instr::Send { to, message })
-        }
-        Verb::Set => {
-            let (var, value) = variable_and_expr(alloc, known, line, tokens)?;
-            Ok(Instr::Set { var, value })
-        }
-        Verb::MakeRef => {
-            let var = one_variable(alloc, line, tokens)?;
-            Ok(Instr::MakeRef { var })
-        }
-        Verb::Link => {
-            let peer = one_expr(alloc, known, line, tokens)?;
-            Ok(Instr::Link { peer })
-        }
-        Verb::Unlink => {
-            let peer = one_expr(alloc, known, line, tokens)?;
-            Ok(Instr::Unlink { peer })
-        }
+        Verb::Send => read_send(alloc, known, line, tokens),
+        Verb::Set => read_set(alloc, known, line, tokens),
+        Verb::MakeRef => read_of_variable(alloc, Verb::MakeRef, line, tokens),
+        Verb::Link => read_of_expr(alloc, known, Verb::Link, line, tokens),
+        Verb::Unlink => read_of_expr(alloc, known, Verb::Unlink, line, tokens),
         Verb::Monitor => read_monitor(alloc, known, line, tokens),
         Verb::Demonitor => read_demonitor(alloc, known, line, tokens),
         Verb::Alias => read_alias(alloc, line, tokens),
-        Verb::Unalias => {
-            let reference = one_expr(alloc, known, line, tokens)?;
-            Ok(Instr::Unalias { reference })
-        }
-        Verb::Exit => {
-            let reason = one_expr(alloc, known, line, tokens)?;
-            Ok(Instr::Exit { reason })
-        }
-        Verb::ExitTo => {
-            let (target, reason) = two_exprs(alloc, known, line, tokens)?;
-            Ok(Instr::ExitTo { target, reason })
-        }
-        Verb::Trap => {
-            let on = one_switch(line, tokens)?;
-            Ok(Instr::Trap { on })
-        }
-        Verb::Reserve => {
-            end(tokens)?;
-            Ok(Instr::Reserve)
-        }
-        Verb::Bind => {
-            let var = one_variable(alloc, line, tokens)?;
-            Ok(Instr::Bind { var })
-        }
-        Verb::Clear => {
-            let var = one_variable(alloc, line, tokens)?;
-            Ok(Instr::Clear { var })
-        }
-        Verb::Goto => {
-            let label = one_label(known, here, line, tokens)?;
-            Ok(Instr::Goto { label })
-        }
-        Verb::Stop => {
-            end(tokens)?;
-            Ok(Instr::Stop)
-        }
+        Verb::Unalias => read_of_expr(alloc, known, Verb::Unalias, line, tokens),
+        Verb::Exit => read_of_expr(alloc, known, Verb::Exit, line, tokens),
+        Verb::ExitTo => read_exit_to(alloc, known, line, tokens),
+        Verb::Trap => read_trap(line, tokens),
+        Verb::Reserve => alone(Instr::Reserve, tokens),
+        Verb::Bind => read_of_variable(alloc, Verb::Bind, line, tokens),
+        Verb::Clear => read_of_variable(alloc, Verb::Clear, line, tokens),
+        Verb::Goto => read_goto(known, here, line, tokens),
+        Verb::Stop => alone(Instr::Stop, tokens),
     }
 }
 
@@ -520,10 +546,7 @@ fn read_form(
             let target = take_arrow(known, here, line, tokens)?;
             Ok(Form::After(After { target }))
         }
-        Keyword::End => {
-            end(tokens)?;
-            Ok(Form::End)
-        }
+        Keyword::End => alone(Form::End, tokens),
         Keyword::Do(verb) => {
             let instr = read_instr(alloc, known, here, verb, line, tokens)?;
             Ok(Form::Do(instr))

@@ -27,26 +27,18 @@ ghost use Rattle.sig_script.specs.Generated.{
 
 use crate::instruction::{Instr, Instrs};
 use crate::label::{Label, Labels};
+use crate::names::name_of;
+use crate::phrases::atom_of;
 use crate::process::{Proc, Procs};
 use crate::script::{MOST_TURNS, Script};
 use sig_kinds::AliasMode;
 use sig_lists::Sequence;
 use sig_patterns::{Clause, Clauses, Expr, Exprs, Pattern, Patterns, Var};
-use sig_terms::{Atom, Name, Pid};
+use sig_terms::Pid;
 use std::alloc::{AllocError, Global};
 
 /// The most calls of each client of a generated script.
 pub const MOST_CALLS: u32 = 800;
-
-fn name_of(alloc: Global, word: &[u8]) -> Result<Name, AllocError>
-    requires { is_token word.now ≡ true }
-    ensures { IfOk result (λ n. n ≡ word.now) }
-{
-    match Name::new(alloc, word)? {
-        Some(name) => Ok(name),
-        None => unreachable!(),
-    }
-}
 
 fn var_of(alloc: Global, word: &[u8]) -> Result<Var, AllocError>
     requires { is_token word.now ≡ true }
@@ -54,16 +46,6 @@ fn var_of(alloc: Global, word: &[u8]) -> Result<Var, AllocError>
 {
     let name = name_of(alloc, word)?;
     Ok(Var(name))
-}
-
-fn atom_of(alloc: Global, word: &[u8]) -> Result<Atom, AllocError>
-    requires { is_atom word.now ≡ true }
-    ensures { IfOk result (λ a. a ≡ word.now) }
-{
-    match Atom::new(alloc, word)? {
-        Some(atom) => Ok(atom),
-        None => unreachable!(),
-    }
 }
 
 /// Adds the atom as a pattern.

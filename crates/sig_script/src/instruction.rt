@@ -1,4 +1,5 @@
-ghost use Rattle.std.specs.Prelude.{◌≡◌, IfOk};
+ghost use Rattle.std.specs.Prelude.{◌≡◌, Some, IfOk};
+ghost use Rattle.sig_script.specs.Instructions.{sole_expr, sole_var};
 ghost use Rattle.sig_script.specs.declared.instruction.Instr.TheVariants as instr;
 
 use sig_kinds::AliasMode;
@@ -209,6 +210,40 @@ fn copy_exit_to(alloc: Global, target: &Expr, reason: &Expr) -> Result<Instr, Al
 }
 
 impl Instr {
+    /// An equal instruction, whose parts are this expression and perhaps a flag.
+    fn copy_with_expr(&self, alloc: Global, expr: &Expr) -> Result<Instr, AllocError>
+        requires { sole_expr self.now ≡ Some expr.now }
+        ensures { IfOk result (λ i. i ≡ self.now) }
+    {
+        let expr = expr.copy(alloc)?;
+        match self {
+            Instr::Link { .. } => Ok(Instr::Link { peer: expr }),
+            Instr::Unlink { .. } => Ok(Instr::Unlink { peer: expr }),
+            Instr::Demonitor { flush, .. } => Ok(Instr::Demonitor {
+                reference: expr,
+                flush: *flush,
+            }),
+            Instr::Unalias { .. } => Ok(Instr::Unalias { reference: expr }),
+            Instr::Exit { .. } => Ok(Instr::Exit { reason: expr }),
+            _ => unreachable!(),
+        }
+    }
+
+    /// An equal instruction, whose parts are this variable and perhaps a flag.
+    fn copy_with_var(&self, alloc: Global, var: &Var) -> Result<Instr, AllocError>
+        requires { sole_var self.now ≡ Some var.now }
+        ensures { IfOk result (λ i. i ≡ self.now) }
+    {
+        let var = var.copy(alloc)?;
+        match self {
+            Instr::MakeRef { .. } => Ok(Instr::MakeRef { var }),
+            Instr::Alias { reply, .. } => Ok(Instr::Alias { var, reply: *reply }),
+            Instr::Bind { .. } => Ok(Instr::Bind { var }),
+            Instr::Clear { .. } => Ok(Instr::Clear { var }),
+            _ => unreachable!(),
+        }
+    }
+
     /// An equal instruction.
     pub fn copy(&self, alloc: Global) -> Result<Instr, AllocError>
         ensures { IfOk result (λ i. i ≡ self.now) }
@@ -216,54 +251,24 @@ impl Instr {
         match self {
             Instr::Send { to, message } => copy_send(alloc, to, message),
             Instr::Set { var, value } => copy_set(alloc, var, value),
-            Instr::MakeRef { var } => {
-                let var = var.copy(alloc)?;
-                Ok(Instr::MakeRef { var })
-            }
+            Instr::MakeRef { var } => self.copy_with_var(alloc, var),
             Instr::Receive {
                 using,
                 clauses,
                 after,
             } => copy_receive(alloc, using, clauses, after),
-            Instr::Link { peer } => {
-                let peer = peer.copy(alloc)?;
-                Ok(Instr::Link { peer })
-            }
-            Instr::Unlink { peer } => {
-                let peer = peer.copy(alloc)?;
-                Ok(Instr::Unlink { peer })
-            }
+            Instr::Link { peer } => self.copy_with_expr(alloc, peer),
+            Instr::Unlink { peer } => self.copy_with_expr(alloc, peer),
             Instr::Monitor { var, target, mode } => copy_monitor(alloc, var, target, *mode),
-            Instr::Demonitor { reference, flush } => {
-                let reference = reference.copy(alloc)?;
-                Ok(Instr::Demonitor {
-                    reference,
-                    flush: *flush,
-                })
-            }
-            Instr::Alias { var, reply } => {
-                let var = var.copy(alloc)?;
-                Ok(Instr::Alias { var, reply: *reply })
-            }
-            Instr::Unalias { reference } => {
-                let reference = reference.copy(alloc)?;
-                Ok(Instr::Unalias { reference })
-            }
-            Instr::Exit { reason } => {
-                let reason = reason.copy(alloc)?;
-                Ok(Instr::Exit { reason })
-            }
+            Instr::Demonitor { reference, .. } => self.copy_with_expr(alloc, reference),
+            Instr::Alias { var, .. } => self.copy_with_var(alloc, var),
+            Instr::Unalias { reference } => self.copy_with_expr(alloc, reference),
+            Instr::Exit { reason } => self.copy_with_expr(alloc, reason),
             Instr::ExitTo { target, reason } => copy_exit_to(alloc, target, reason),
             Instr::Trap { on } => Ok(Instr::Trap { on: *on }),
             Instr::Reserve => Ok(Instr::Reserve),
-            Instr::Bind { var } => {
-                let var = var.copy(alloc)?;
-                Ok(Instr::Bind { var })
-            }
-            Instr::Clear { var } => {
-                let var = var.copy(alloc)?;
-                Ok(Instr::Clear { var })
-            }
+            Instr::Bind { var } => self.copy_with_var(alloc, var),
+            Instr::Clear { var } => self.copy_with_var(alloc, var),
             Instr::Goto { label } => Ok(Instr::Goto { label: *label }),
             Instr::Stop => Ok(Instr::Stop),
         }

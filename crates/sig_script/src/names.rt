@@ -1,6 +1,6 @@
 //! The names at the front of tokens, and the tokens behind them.
 
-ghost use Rattle.std.specs.Prelude.{◌≡◌, true, Ok, IfOk};
+ghost use Rattle.std.specs.Prelude.{◌≡◌, true, IfOk};
 ghost use Rattle.sig_terms.specs.Words.{is_token};
 ghost use Rattle.sig_script.specs.Faults.{Gives};
 ghost use Rattle.sig_script.specs.Tokens.{AreWellSpelled};
@@ -14,7 +14,7 @@ use crate::line::text_of;
 use crate::token::{Token, TokenKind};
 use sig_patterns::Var;
 use sig_terms::Name;
-use std::alloc::Global;
+use std::alloc::{AllocError, Global};
 
 /// The bytes of a name.
 pub fn take_word<'l, 't>(
@@ -36,9 +36,9 @@ pub fn take_word<'l, 't>(
 }
 
 /// The name of these bytes.
-pub fn name_of(alloc: Global, word: &[u8]) -> Result<Name, Stop>
+pub fn name_of(alloc: Global, word: &[u8]) -> Result<Name, AllocError>
     requires { is_token word.now ≡ true }
-    ensures { Gives (λ name. name) result (Ok word.now) }
+    ensures { IfOk result (λ n. n ≡ word.now) }
 {
     match Name::new(alloc, word)? {
         Some(name) => Ok(name),

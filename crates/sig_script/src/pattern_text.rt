@@ -30,8 +30,7 @@ fn put_elements(into: &mut Vec<u8>, procs: &[Proc], items: &[Pattern]) -> Result
         [first, rest @ ..] => {
             put_pattern(into, procs, first)?;
             for item in rest {
-                put(into, b",")?;
-                put_pattern(into, procs, item)?;
+                put_behind(into, procs, b",", item)?;
             }
             Ok(())
         }

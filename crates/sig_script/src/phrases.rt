@@ -11,6 +11,7 @@ ghost use Rattle.sig_script.specs.Phrases.{
   refusal_of,
   elements,
   is_before_tail,
+  closed,
   ending,
   bracketed,
   single,
@@ -18,17 +19,20 @@ ghost use Rattle.sig_script.specs.Phrases.{
   phrase_at,
   phrase_of,
 };
+ghost use Rattle.sig_script.specs.Signs.{closes};
 ghost use Rattle.sig_script.specs.Tokens.{IsToken, AreWellSpelled, is_token_in_range, text};
 
 use crate::fault::{FaultKind, Stop};
 use crate::known::{Known, find_pid};
 use crate::line::text_of;
+use crate::names::name_of;
 use crate::number::read_int;
 use crate::token::{Sign, Token, TokenKind, behind_first, unquoted};
 use sig_lists::Sequence;
 use sig_patterns::{MOST_DEPTH, MOST_NODES, Var};
-use sig_terms::{Atom, Name, Pid};
+use sig_terms::{Atom, Pid};
 use std::alloc::{AllocError, Global};
+use std::mem::drop;
 
 /// An expression or a pattern, by how it is made of its parts.
 pub trait Phrase: Drop + Sized {
@@ -93,7 +97,7 @@ fn refusal<T: Phrase>(tokens: &[Token]) -> FaultKind
 }
 
 /// The atom of these bytes.
-fn atom(alloc: Global, bytes: &[u8]) -> Result<Atom, AllocError>
+pub fn atom_of(alloc: Global, bytes: &[u8]) -> Result<Atom, AllocError>
     requires { is_atom bytes.now ≡ true }
     ensures { IfOk result (λ a. a ≡ bytes.now) }
 {
@@ -120,13 +124,10 @@ fn take_single<'t, T: Phrase>(
 {
     let word = text_of(line, token);
     match token.kind {
-        TokenKind::Name => Ok((T::atom(atom(alloc, word)?), rest)),
-        TokenKind::Quoted => Ok((T::atom(atom(alloc, unquoted(word))?), rest)),
+        TokenKind::Name => Ok((T::atom(atom_of(alloc, word)?), rest)),
+        TokenKind::Quoted => Ok((T::atom(atom_of(alloc, unquoted(word))?), rest)),
         TokenKind::Integer => Ok((T::int(read_int(word)), rest)),
-        TokenKind::Variable => match Name::new(alloc, word)? {
-            Some(name) => Ok((T::var(Var(name)), rest)),
-            None => unreachable!(),
-        },
+        TokenKind::Variable => Ok((T::var(Var(name_of(alloc, word)?)), rest)),
         TokenKind::Process => {
             let pid = find_pid(known, behind_first(word))?;
             Ok((T::pid(Pid(pid)), rest))
@@ -142,6 +143,27 @@ fn is_before_tail<T: Phrase>(close: Sign, kind: TokenKind) -> bool
     match close {
         Sign::CloseBracket => T::has_tails() && kind.is_bar(),
         _ => false,
+    }
+}
+
+/// A phrase whose last token is the sign that closes it.
+fn closed<'t, T: Phrase>(
+    close: Sign,
+    phrase: T,
+    nodes: u64,
+    line: &[u8],
+    tokens: &'t [Token],
+) -> Result<(T, u64, &'t [Token]), Stop>
+    requires { AreWellSpelled line.now tokens.now }
+    ensures value { Gives (λ x. (x.0, x.1, x.2.now)) result (closed (closes close) phrase nodes tokens.now) }
+    ensures spelled { IfOk result (λ x. AreWellSpelled line.now x.2.now) }
+{
+    match tokens {
+        [token, rest @ ..] if token.kind.closes(close) => Ok((phrase, nodes, rest)),
+        _ => {
+            drop(phrase);
+            Err(Stop::Fault(FaultKind::Syntax))
+        }
     }
 }
 
@@ -165,18 +187,10 @@ fn end<'t, T: Phrase>(
     match tokens {
         [token, more @ ..] if is_before_tail::<T>(close, token.kind) => {
             let (tail, left, behind) = front::<T>(alloc, known, depth, nodes, line, more)?;
-            match behind {
-                [token, rest @ ..] if token.kind.closes(close) => {
-                    let list = T::nested(alloc, items, tail)?;
-                    Ok((list, left, rest))
-                }
-                _ => Err(Stop::Fault(FaultKind::Syntax)),
-            }
+            let list = T::nested(alloc, items, tail)?;
+            closed(close, list, left, line, behind)
         }
-        [token, rest @ ..] if token.kind.closes(close) => {
-            Ok((T::enclosing(close, items), nodes, rest))
-        }
-        _ => Err(Stop::Fault(FaultKind::Syntax)),
+        _ => closed(close, T::enclosing(close, items), nodes, line, tokens),
     }
 }
 

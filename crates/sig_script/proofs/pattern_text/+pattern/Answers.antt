@@ -3,7 +3,7 @@ use Rattle.std.proofs.lemmas.Bool.Decides.{nat_tests}
 use Rattle.sig_terms.specs.TermText.{joined}
 use Rattle.sig_patterns.specs.declared.pattern.Pattern.{Pattern}
 use Rattle.sig_script.specs.ScriptText.{names_of, pattern_written}
-use Rattle.sig_script.proofs.PrintLemmas.{on_error, front_on, front_behind, kept_front, kept_one, kept_two, last_text, last_front}
+use Rattle.sig_script.proofs.PrintLemmas.{on_error, front_on, kept_front, kept_one, kept_two, last_text, last_front}
 use Rattle.sig_script.proofs.JoinedLemmas.{first_put, next_put, none_left, text_put, three_pieces, last_piece, pattern-Any, pattern-Bind, pattern-Pin, pattern-Atom, pattern-Pid, pattern-Tuple, pattern-List, pattern-Cons, tail_alone}
 use Rattle.sig_script.proofs.pattern_text.+pattern.Goals as goal
 
@@ -30,23 +30,17 @@ put_elements-loop-item-init t c =
     let texts : List Pattern → List (List ℕ) = λ ps. map (λ w. w.whole) (map (pattern_written (names_of c.args.procs.now)) ps) in
     first_put text texts c.args.items.now c.first-item.result c.args.into.now.items c.put_pattern.new.into.items (λ y ys. refl) c.in-len1-up.len_at_least c.first-item.is c.in_ok-put_pattern-in-len1-up.ensures.text
 
-pub put_elements-returns-in_err-put-in-len1-up-clause-front : goal.put_elements-returns-in_err-put-in-len1-up-clause-front
-put_elements-returns-in_err-put-in-len1-up-clause-front t c =
-    on_error c.from_residual-in_err-put-in-len1-up.result
-    (front_on c.args.into.now.items c.loop-item.into.items c.put.new.into.items c.loop-item.invariant.1 c.in_err-put-in-len1-up.ensures.1)
-
-pub put_elements-returns-in_err-put_pattern-in-len1-up-2-clause-front : goal.put_elements-returns-in_err-put_pattern-in-len1-up-2-clause-front
-put_elements-returns-in_err-put_pattern-in-len1-up-2-clause-front t c =
-    on_error c.from_residual-in_err-put_pattern-in-len1-up-2.result
-    (front_behind c.args.into.now.items c.loop-item.into.items (codes ",") c.put.new.into.items c.put_pattern-in-loop-item.new.into.items
-    c.loop-item.invariant.1 c.in_ok-put-in-len1-up.ensures.0 c.in_err-put_pattern-in-len1-up-2.ensures.front)
+pub put_elements-returns-in_err-put_behind-in-len1-up-clause-front : goal.put_elements-returns-in_err-put_behind-in-len1-up-clause-front
+put_elements-returns-in_err-put_behind-in-len1-up-clause-front t c =
+    on_error c.from_residual-in_err-put_behind-in-len1-up.result
+    (front_on c.args.into.now.items c.loop-item.into.items c.put_behind.new.into.items c.loop-item.invariant.1 c.in_err-put_behind-in-len1-up.ensures.front)
 
 pub put_elements-loop-item-preserved : goal.put_elements-loop-item-preserved
 put_elements-loop-item-preserved t c =
     let text : Pattern → List ℕ = λ p. (pattern_written (names_of c.args.procs.now) p).whole in
     let texts : List Pattern → List (List ℕ) = λ ps. map (λ w. w.whole) (map (pattern_written (names_of c.args.procs.now)) ps) in
-    next_put text texts _ c.loop-item.item-index c.item-item.result c.args.into.now.items c.loop-item.into.items c.put.new.into.items c.put_pattern-in-loop-item.new.into.items _ (λ y ys. refl)
-    (grind (arith, nat_tests, c.loop-item-test.true)) c.item-item.is c.in_ok-put-in-len1-up.ensures.0 c.in_ok-put_pattern-in-len1-up-2.ensures.text c.loop-item.invariant
+    next_put text texts _ c.loop-item.item-index c.item-item.result c.args.into.now.items c.loop-item.into.items (c.loop-item.into.items ++ codes ",") c.put_behind.new.into.items _ (λ y ys. refl)
+    (grind (arith, nat_tests, c.loop-item-test.true)) c.item-item.is refl c.in_ok-put_behind-in-len1-up.ensures.text c.loop-item.invariant
 
 pub put_elements-returns-after-loop-item-clause-text : goal.put_elements-returns-after-loop-item-clause-text
 put_elements-returns-after-loop-item-clause-text t c =

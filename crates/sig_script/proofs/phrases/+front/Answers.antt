@@ -1,8 +1,8 @@
 use Rattle.std.proofs.Common.{arith, ◌∙◌, ap, refl, ◌≡◌, ◌<◌, ◌≤◌, ◌++◌, ◌∷◌, [], length, get_or, false, sym}
-use Rattle.sig_script.specs.Signs.{closes, is_comma}
-use Rattle.sig_script.specs.Phrases.{elements, ending, phrase_at}
-use Rattle.sig_script.proofs.PhraseLemmas.{stops_with, out_of_memory, stopped, stopped_ok, element_stops, last_element, no_room, no_depth, no_nodes, no_tokens, bracketed_none, bracketed_closed, bracketed_some, closed_here, closed_not, closed_none, ending_tail, ending_plain, ending_none, goes_on, phrase_step, well_spelled_rest, no_token}
-use Rattle.sig_script.proofs.phrases.+front.Goals.{front-then-depth-eq0-via-then-depth-eq0, front-then-depth-eq0-via-else-depth-eq0+then-nodes-eq0, some_elements-in_default-via-then-behind-lt1, some_elements-in_default-via-in-len1-up+else-is_comma, end-in_default-behind-via-then-behind-lt1, end-in_default-behind-via-in-len1-up-behind+else-closes, end-in_default-via-then-tokens-lt1, end-in_default-via-in-len1-up-2+else-closes-2}
+use Rattle.sig_script.specs.Signs.{is_comma}
+use Rattle.sig_script.specs.Phrases.{elements, is_before_tail, ending, phrase_at}
+use Rattle.sig_script.proofs.PhraseLemmas.{stops_with, out_of_memory, stopped, stopped_ok, element_stops, last_element, no_room, no_depth, no_nodes, no_tokens, bracketed_none, bracketed_closed, bracketed_some, ending_tail, ending_plain, goes_on, phrase_step, well_spelled_rest, no_token}
+use Rattle.sig_script.proofs.phrases.+front.Goals.{front-then-depth-eq0-via-then-depth-eq0, front-then-depth-eq0-via-else-depth-eq0+then-nodes-eq0, some_elements-in_default-via-then-behind-lt1, some_elements-in_default-via-in-len1-up+else-is_comma, end-in_default-via-then-tokens-lt1, end-in_default-via-in-len1-up+else-is_before_tail}
 use Rattle.sig_script.proofs.phrases.+front.Goals as goal
 
 pub front-returns-in-len1-up-clause-value : goal.front-returns-in-len1-up-clause-value
@@ -71,33 +71,6 @@ pub behind_token-returns-in_ok-phrase-clause-value : goal.behind_token-returns-i
 behind_token-returns-in_ok-phrase-clause-value g t c =
     rw (sym c.if-is_open_brace.ensures, sym c.if-is_open_bracket.ensures, c.in_ok-phrase.ensures.value) refl
 
-pub end-returns-in_ok-list-in-len1-up-behind-clause-value : goal.end-returns-in_ok-list-in-len1-up-behind-clause-value
-end-returns-in_ok-list-in-len1-up-behind-clause-value g t c =
-    rw (ending_tail g.T.Phrase.spelling c.args.close (phrase_at g.T.Phrase.spelling c.args.known.now c.args.line.now c.args.depth) c.args.items c.args.nodes c.args.tokens.now no_token c.in-len1-up.len_at_least (sym c.if-is_before_tail.ensures), c.in_ok-tail-in-len1-up.ensures.value)
-    (closed_here (closes c.args.close) _ _ c.in_ok-tail-in-len1-up.left c.in_ok-tail-in-len1-up.behind.now no_token c.in-len1-up-behind.len_at_least (sym c.if-closes.ensures) c.in_ok-list-in-len1-up-behind.ensures)
-
-pub end-returns-in-len1-up-2-clause-value : goal.end-returns-in-len1-up-2-clause-value
-end-returns-in-len1-up-2-clause-value g t c =
-    rw (ending_plain g.T.Phrase.spelling c.args.close (phrase_at g.T.Phrase.spelling c.args.known.now c.args.line.now c.args.depth) c.args.items c.args.nodes c.args.tokens.now no_token c.in-len1-up.len_at_least (sym c.if-is_before_tail.ensures))
-    (closed_here (closes c.args.close) _ _ c.args.nodes c.args.tokens.now no_token c.in-len1-up.len_at_least (sym c.if-closes-2.ensures) c.enclosing.ensures)
-
-pub end-returns-in_default-behind-clause-value : goal.end-returns-in_default-behind-clause-value
-end-returns-in_default-behind-clause-value g t c =
-    rw (ending_tail g.T.Phrase.spelling c.args.close (phrase_at g.T.Phrase.spelling c.args.known.now c.args.line.now c.args.depth) c.args.items c.args.nodes c.args.tokens.now no_token c.in-len1-up.len_at_least (sym c.if-is_before_tail.ensures), c.in_ok-tail-in-len1-up.ensures.value)
-    (elim c.in_default-behind.branch [
-      | end-in_default-behind-via-then-behind-lt1 w ↦ closed_none (closes c.args.close) _ c.in_ok-tail-in-len1-up.left c.in_ok-tail-in-len1-up.behind.now (grind arith)
-      | end-in_default-behind-via-in-len1-up-behind+else-closes w ↦ closed_not (closes c.args.close) _ c.in_ok-tail-in-len1-up.left c.in_ok-tail-in-len1-up.behind.now no_token w.in-len1-up-behind.len_at_least (sym w.if-closes.ensures)
-    ])
-
-pub end-returns-in_default-clause-value : goal.end-returns-in_default-clause-value
-end-returns-in_default-clause-value g t c =
-    elim c.in_default.branch [
-      | end-in_default-via-then-tokens-lt1 w ↦ ending_none g.T.Phrase.spelling c.args.close (phrase_at g.T.Phrase.spelling c.args.known.now c.args.line.now c.args.depth) c.args.items c.args.nodes c.args.tokens.now (grind arith)
-      | end-in_default-via-in-len1-up-2+else-closes-2 w ↦
-          rw (ending_plain g.T.Phrase.spelling c.args.close (phrase_at g.T.Phrase.spelling c.args.known.now c.args.line.now c.args.depth) c.args.items c.args.nodes c.args.tokens.now no_token w.in-len1-up.len_at_least (sym w.if-is_before_tail.ensures))
-          (closed_not (closes c.args.close) _ c.args.nodes c.args.tokens.now no_token w.in-len1-up.len_at_least (sym w.if-closes-2.ensures))
-    ]
-
 pub front-returns-then-depth-eq0-clause-value : goal.front-returns-then-depth-eq0-clause-value
 front-returns-then-depth-eq0-clause-value g t c =
     rw c.refusal.ensures (elim c.then-depth-eq0.branch [
@@ -129,15 +102,30 @@ end-returns-in_err-tail-in-len1-up-clause-value g t c =
     rw (ending_tail g.T.Phrase.spelling c.args.close (phrase_at g.T.Phrase.spelling c.args.known.now c.args.line.now c.args.depth) c.args.items c.args.nodes c.args.tokens.now no_token c.in-len1-up.len_at_least (sym c.if-is_before_tail.ensures))
     (stops_with _ c.from_residual.result c.in_err-tail-in-len1-up.field-0.0 _ c.from_residual.ensures.1 (stopped _ _ _ c.in_err-tail-in-len1-up.ensures.value))
 
-pub end-returns-in_err-list-in-len1-up-behind-clause-value : goal.end-returns-in_err-list-in-len1-up-behind-clause-value
-end-returns-in_err-list-in-len1-up-behind-clause-value g t c = out_of_memory _ c.from_residual-in_err-list-in-len1-up-behind.result _ c.from_residual-in_err-list-in-len1-up-behind.ensures.1
-
 pub behind_bracket-returns-in-len1-up-clause-spelled : goal.behind_bracket-returns-in-len1-up-clause-spelled
 behind_bracket-returns-in-len1-up-clause-spelled g t c = well_spelled_rest c.args.line.now c.args.tokens.now c.in-len1-up.len_at_least c.requires.spelled
 
-pub end-returns-in_ok-list-in-len1-up-behind-clause-spelled : goal.end-returns-in_ok-list-in-len1-up-behind-clause-spelled
-end-returns-in_ok-list-in-len1-up-behind-clause-spelled g t c =
-    well_spelled_rest c.args.line.now c.in_ok-tail-in-len1-up.behind.now c.in-len1-up-behind.len_at_least c.in_ok-tail-in-len1-up.ensures.spelled
+pub end-returns-in_ok-list-in-len1-up-clause-value : goal.end-returns-in_ok-list-in-len1-up-clause-value
+end-returns-in_ok-list-in-len1-up-clause-value g t c =
+    rw (
+      ending_tail g.T.Phrase.spelling c.args.close (phrase_at g.T.Phrase.spelling c.args.known.now c.args.line.now c.args.depth) c.args.items c.args.nodes c.args.tokens.now no_token c.in-len1-up.len_at_least (sym c.if-is_before_tail.ensures),
+      c.in_ok-tail-in-len1-up.ensures.value,
+      ← c.in_ok-list-in-len1-up.ensures,
+    )
+    c.closed.ensures.value
 
-pub end-returns-in-len1-up-2-clause-spelled : goal.end-returns-in-len1-up-2-clause-spelled
-end-returns-in-len1-up-2-clause-spelled g t c = well_spelled_rest c.args.line.now c.args.tokens.now c.in-len1-up.len_at_least c.requires.spelled
+pub end-returns-in_default-clause-value : goal.end-returns-in_default-clause-value
+end-returns-in_default-clause-value g t c =
+    let no_tail : (1 ≤ length c.args.tokens.now) → is_before_tail g.T.Phrase.spelling c.args.close (get_or c.args.tokens.now 0 no_token).kind ≡ false =
+    elim c.in_default.branch [
+      | end-in_default-via-then-tokens-lt1 w ↦ λ long. let short : length c.args.tokens.now < 1 = grind arith in absurd (omega arith)
+      | end-in_default-via-in-len1-up+else-is_before_tail w ↦ λ long. sym w.if-is_before_tail.ensures
+    ] in
+    rw (
+      ending_plain g.T.Phrase.spelling c.args.close (phrase_at g.T.Phrase.spelling c.args.known.now c.args.line.now c.args.depth) c.args.items c.args.nodes c.args.tokens.now no_token no_tail,
+      ← c.enclosing.ensures,
+    )
+    c.closed-in_default.ensures.value
+
+pub end-returns-in_err-list-in-len1-up-clause-value : goal.end-returns-in_err-list-in-len1-up-clause-value
+end-returns-in_err-list-in-len1-up-clause-value g t c = out_of_memory _ c.from_residual-in_err-list-in-len1-up.result _ c.from_residual-in_err-list-in-len1-up.ensures.1
