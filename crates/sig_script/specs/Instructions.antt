@@ -1,5 +1,5 @@
 -- The table of the instructions: of each that is no receive its word, the operands behind the word, and the instruction that they say.
-use Rattle.std.specs.Prelude.{ℕ, List, [], ◌∷◌, Bool, codes, Option, Some, None}
+use Rattle.std.specs.Prelude.{ℕ, List, [], ◌∷◌, Bool, codes, Option}
 use Rattle.sig_kinds.specs.declared.alias_mode.AliasMode.{AliasMode}
 use Rattle.sig_patterns.specs.declared.clause.Clause.{Clause}
 use Rattle.sig_patterns.specs.declared.var.Var.{Var}
@@ -100,20 +100,3 @@ abbrev pub verbs : List Verb
 verbs =
     verb.Send ∷ verb.Set ∷ verb.MakeRef ∷ verb.Link ∷ verb.Unlink ∷ verb.Monitor ∷ verb.Demonitor ∷ verb.Alias ∷ verb.Unalias ∷ verb.Exit
     ∷ verb.ExitTo ∷ verb.Trap ∷ verb.Reserve ∷ verb.Bind ∷ verb.Clear ∷ verb.Goto ∷ verb.Stop ∷ []
-
--- the expression of an instruction that has no other part but a flag
-abbrev pub sole_expr : Instr → Option Expr
-sole_expr (instr.Link peer) = Some peer
-sole_expr (instr.Unlink peer) = Some peer
-sole_expr (instr.Demonitor reference flush) = Some reference
-sole_expr (instr.Unalias reference) = Some reference
-sole_expr (instr.Exit reason) = Some reason
-sole_expr _ = None
-
--- the variable of an instruction that has no other part but a flag
-abbrev pub sole_var : Instr → Option Var
-sole_var (instr.MakeRef x) = Some x
-sole_var (instr.Alias x reply) = Some x
-sole_var (instr.Bind x) = Some x
-sole_var (instr.Clear x) = Some x
-sole_var _ = None

@@ -166,27 +166,6 @@ fn one_expr(alloc: Global, known: &Known, line: &[u8], tokens: &[Token]) -> Resu
     alone(value, rest)
 }
 
-/// Two expressions, and nothing behind them.
-fn two_exprs(
-    alloc: Global,
-    known: &Known,
-    line: &[u8],
-    tokens: &[Token],
-) -> Result<(Expr, Expr), Stop>
-    requires known { IsFewKnown known.now }
-    requires spelled { AreWellSpelled line.now tokens.now }
-    ensures { Gives (λ x. (x.0, (x.1, tt))) result (all_said known.now 0 line.now (Operand.an_expr ∷ Operand.an_expr ∷ []) tokens.now) }
-{
-    let (first, rest) = take_phrase(alloc, known, line, tokens)?;
-    match one_expr(alloc, known, line, rest) {
-        Ok(second) => Ok((first, second)),
-        Err(stop) => {
-            drop(first);
-            Err(stop)
-        }
-    }
-}
-
 /// What stands behind `set`: the variable, and the expression.
 #[tactic(auto, unfolding(crate::specs::Forms::instr_of))]
 fn read_set(alloc: Global, known: &Known, line: &[u8], tokens: &[Token]) -> Result<Instr, Stop>
@@ -210,15 +189,6 @@ fn read_switch(word: &[u8]) -> Result<bool, Stop>
     } else {
         Err(Stop::Fault(FaultKind::Syntax))
     }
-}
-
-/// `on` or `off`, and nothing behind it.
-fn one_switch(line: &[u8], tokens: &[Token]) -> Result<bool, Stop>
-    requires { AreWellSpelled line.now tokens.now }
-    ensures { Gives (λ on. (on, tt)) result (all_said Known.Any 0 line.now (Operand.a_switch ∷ []) tokens.now) }
-{
-    let word = whole_word(line, tokens)?;
-    read_switch(word)
 }
 
 /// The mode of a monitor's alias.
@@ -285,15 +255,6 @@ fn read_goto(known: &Known, here: usize, line: &[u8], tokens: &[Token]) -> Resul
 {
     let (label, rest) = take_target(known, here, line, tokens)?;
     alone(Instr::Goto { label }, rest)
-}
-
-/// A variable, and nothing behind it.
-fn one_variable(alloc: Global, line: &[u8], tokens: &[Token]) -> Result<Var, Stop>
-    requires { AreWellSpelled line.now tokens.now }
-    ensures { Gives (λ v. (v.0, tt)) result (all_said Known.Any 0 line.now (Operand.a_variable ∷ []) tokens.now) }
-{
-    let (var, rest) = take_variable(alloc, line, tokens)?;
-    alone(var, rest)
 }
 
 /// What stands behind `monitor`: the variable, the process, and the mode of the alias.
@@ -430,26 +391,38 @@ fn read_of_expr(
     }
 }
 
-/// What stands behind `send`: the process, and the message.
+/// The instruction of a verb behind which two expressions stand.
 #[tactic(auto, unfolding(crate::specs::Forms::instr_of))]
-fn read_send(alloc: Global, known: &Known, line: &[u8], tokens: &[Token]) -> Result<Instr, Stop>
+fn read_of_two(
+    alloc: Global,
+    known: &Known,
+    verb: Verb,
+    line: &[u8],
+    tokens: &[Token],
+) -> Result<Instr, Stop>
     requires known { IsFewKnown known.now }
     requires spelled { AreWellSpelled line.now tokens.now }
-    ensures { Gives (λ i. i) result (instr_of known.now 0 Verb.Send line.now tokens.now) }
+    requires operands { operands_of verb ≡ Operand.an_expr ∷ Operand.an_expr ∷ [] }
+    ensures { Gives (λ i. i) result (instr_of known.now 0 verb line.now tokens.now) }
 {
-    let (to, message) = two_exprs(alloc, known, line, tokens)?;
-    Ok(Instr::Send { to, message })
-}
-
-/// What stands behind `exit_to`: the process, and the reason.
-#[tactic(auto, unfolding(crate::specs::Forms::instr_of))]
-fn read_exit_to(alloc: Global, known: &Known, line: &[u8], tokens: &[Token]) -> Result<Instr, Stop>
-    requires known { IsFewKnown known.now }
-    requires spelled { AreWellSpelled line.now tokens.now }
-    ensures { Gives (λ i. i) result (instr_of known.now 0 Verb.ExitTo line.now tokens.now) }
-{
-    let (target, reason) = two_exprs(alloc, known, line, tokens)?;
-    Ok(Instr::ExitTo { target, reason })
+    let (first, rest) = take_phrase(alloc, known, line, tokens)?;
+    match one_expr(alloc, known, line, rest) {
+        Ok(second) => match verb {
+            Verb::Send => Ok(Instr::Send {
+                to: first,
+                message: second,
+            }),
+            Verb::ExitTo => Ok(Instr::ExitTo {
+                target: first,
+                reason: second,
+            }),
+            _ => unreachable!(),
+        },
+        Err(stop) => {
+            drop(first);
+            Err(stop)
+        }
+    }
 }
 
 /// The instruction of a verb behind which a variable stands.
@@ -459,11 +432,11 @@ fn read_of_variable(alloc: Global, verb: Verb, line: &[u8], tokens: &[Token]) ->
     requires operands { operands_of verb ≡ Operand.a_variable ∷ [] }
     ensures { Gives (λ i. i) result (instr_of Known.Any 0 verb line.now tokens.now) }
 {
-    let var = one_variable(alloc, line, tokens)?;
+    let (var, rest) = take_variable(alloc, line, tokens)?;
     match verb {
-        Verb::MakeRef => Ok(Instr::MakeRef { var }),
-        Verb::Bind => Ok(Instr::Bind { var }),
-        Verb::Clear => Ok(Instr::Clear { var }),
+        Verb::MakeRef => alone(Instr::MakeRef { var }, rest),
+        Verb::Bind => alone(Instr::Bind { var }, rest),
+        Verb::Clear => alone(Instr::Clear { var }, rest),
         _ => unreachable!(),
     }
 }
@@ -474,7 +447,8 @@ fn read_trap(line: &[u8], tokens: &[Token]) -> Result<Instr, Stop>
     requires { AreWellSpelled line.now tokens.now }
     ensures { Gives (λ i. i) result (instr_of Known.Any 0 Verb.Trap line.now tokens.now) }
 {
-    let on = one_switch(line, tokens)?;
+    let word = whole_word(line, tokens)?;
+    let on = read_switch(word)?;
     Ok(Instr::Trap { on })
 }
 
@@ -493,7 +467,7 @@ fn read_instr(
     ensures { Gives (λ i. i) result (instr_of known.now here verb line.now tokens.now) }
 {
     match verb {
-        Verb::Send => read_send(alloc, known, line, tokens),
+        Verb::Send => read_of_two(alloc, known, Verb::Send, line, tokens),
         Verb::Set => read_set(alloc, known, line, tokens),
         Verb::MakeRef => read_of_variable(alloc, Verb::MakeRef, line, tokens),
         Verb::Link => read_of_expr(alloc, known, Verb::Link, line, tokens),
@@ -503,7 +477,7 @@ fn read_instr(
         Verb::Alias => read_alias(alloc, line, tokens),
         Verb::Unalias => read_of_expr(alloc, known, Verb::Unalias, line, tokens),
         Verb::Exit => read_of_expr(alloc, known, Verb::Exit, line, tokens),
-        Verb::ExitTo => read_exit_to(alloc, known, line, tokens),
+        Verb::ExitTo => read_of_two(alloc, known, Verb::ExitTo, line, tokens),
         Verb::Trap => read_trap(line, tokens),
         Verb::Reserve => alone(Instr::Reserve, tokens),
         Verb::Bind => read_of_variable(alloc, Verb::Bind, line, tokens),

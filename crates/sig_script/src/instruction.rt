@@ -1,5 +1,5 @@
-ghost use Rattle.std.specs.Prelude.{◌≡◌, Some, IfOk};
-ghost use Rattle.sig_script.specs.Instructions.{sole_expr, sole_var};
+ghost use Rattle.std.specs.Prelude.{◌≡◌, [], ◌∷◌, IfOk};
+ghost use Rattle.sig_script.specs.Parts.{exprs_of, vars_of};
 ghost use Rattle.sig_script.specs.declared.instruction.Instr.TheVariants as instr;
 
 use sig_kinds::AliasMode;
@@ -154,22 +154,6 @@ fn copy_clauses(alloc: Global, clauses: &Clauses) -> Result<Clauses, AllocError>
     Ok(copies)
 }
 
-fn copy_send(alloc: Global, to: &Expr, message: &Expr) -> Result<Instr, AllocError>
-    ensures { IfOk result (λ i. i ≡ instr.Send to.now message.now) }
-{
-    let to = to.copy(alloc)?;
-    let message = message.copy(alloc)?;
-    Ok(Instr::Send { to, message })
-}
-
-fn copy_set(alloc: Global, var: &Var, value: &Expr) -> Result<Instr, AllocError>
-    ensures { IfOk result (λ i. i ≡ instr.Set var.now value.now) }
-{
-    let var = var.copy(alloc)?;
-    let value = value.copy(alloc)?;
-    Ok(Instr::Set { var, value })
-}
-
 fn copy_receive(
     alloc: Global,
     marker: &Option<Var>,
@@ -188,37 +172,37 @@ fn copy_receive(
     })
 }
 
+fn copy_set(alloc: Global, var: &Var, value: Expr) -> Result<Instr, AllocError>
+    ensures { IfOk result (λ i. i ≡ instr.Set var.now value) }
+{
+    let var = var.copy(alloc)?;
+    Ok(Instr::Set { var, value })
+}
+
 fn copy_monitor(
     alloc: Global,
     var: &Var,
-    target: &Expr,
+    target: Expr,
     mode: Option<AliasMode>,
 ) -> Result<Instr, AllocError>
-    ensures { IfOk result (λ i. i ≡ instr.Monitor var.now target.now mode) }
+    ensures { IfOk result (λ i. i ≡ instr.Monitor var.now target mode) }
 {
     let var = var.copy(alloc)?;
-    let target = target.copy(alloc)?;
     Ok(Instr::Monitor { var, target, mode })
 }
 
-fn copy_exit_to(alloc: Global, target: &Expr, reason: &Expr) -> Result<Instr, AllocError>
-    ensures { IfOk result (λ i. i ≡ instr.ExitTo target.now reason.now) }
-{
-    let target = target.copy(alloc)?;
-    let reason = reason.copy(alloc)?;
-    Ok(Instr::ExitTo { target, reason })
-}
-
 impl Instr {
-    /// An equal instruction, whose parts are this expression and perhaps a flag.
-    fn copy_with_expr(&self, alloc: Global, expr: &Expr) -> Result<Instr, AllocError>
-        requires { sole_expr self.now ≡ Some expr.now }
+    /// An equal instruction, which has this expression and no other.
+    fn copy_with_one(&self, alloc: Global, expr: &Expr) -> Result<Instr, AllocError>
+        requires { exprs_of self.now ≡ expr.now ∷ [] }
         ensures { IfOk result (λ i. i ≡ self.now) }
     {
         let expr = expr.copy(alloc)?;
         match self {
+            Instr::Set { var, .. } => copy_set(alloc, var, expr),
             Instr::Link { .. } => Ok(Instr::Link { peer: expr }),
             Instr::Unlink { .. } => Ok(Instr::Unlink { peer: expr }),
+            Instr::Monitor { var, mode, .. } => copy_monitor(alloc, var, expr, *mode),
             Instr::Demonitor { flush, .. } => Ok(Instr::Demonitor {
                 reference: expr,
                 flush: *flush,
@@ -229,9 +213,30 @@ impl Instr {
         }
     }
 
-    /// An equal instruction, whose parts are this variable and perhaps a flag.
+    /// An equal instruction, which has these two expressions.
+    fn copy_with_two(&self, alloc: Global, first: &Expr, second: &Expr) -> Result<Instr, AllocError>
+        requires { exprs_of self.now ≡ first.now ∷ second.now ∷ [] }
+        ensures { IfOk result (λ i. i ≡ self.now) }
+    {
+        let first = first.copy(alloc)?;
+        let second = second.copy(alloc)?;
+        match self {
+            Instr::Send { .. } => Ok(Instr::Send {
+                to: first,
+                message: second,
+            }),
+            Instr::ExitTo { .. } => Ok(Instr::ExitTo {
+                target: first,
+                reason: second,
+            }),
+            _ => unreachable!(),
+        }
+    }
+
+    /// An equal instruction, which has this variable and no expression.
     fn copy_with_var(&self, alloc: Global, var: &Var) -> Result<Instr, AllocError>
-        requires { sole_var self.now ≡ Some var.now }
+        requires exprs { exprs_of self.now ≡ [] }
+        requires vars { vars_of self.now ≡ var.now.0 ∷ [] }
         ensures { IfOk result (λ i. i ≡ self.now) }
     {
         let var = var.copy(alloc)?;
@@ -249,22 +254,22 @@ impl Instr {
         ensures { IfOk result (λ i. i ≡ self.now) }
     {
         match self {
-            Instr::Send { to, message } => copy_send(alloc, to, message),
-            Instr::Set { var, value } => copy_set(alloc, var, value),
+            Instr::Send { to, message } => self.copy_with_two(alloc, to, message),
+            Instr::Set { value, .. } => self.copy_with_one(alloc, value),
             Instr::MakeRef { var } => self.copy_with_var(alloc, var),
             Instr::Receive {
                 using,
                 clauses,
                 after,
             } => copy_receive(alloc, using, clauses, after),
-            Instr::Link { peer } => self.copy_with_expr(alloc, peer),
-            Instr::Unlink { peer } => self.copy_with_expr(alloc, peer),
-            Instr::Monitor { var, target, mode } => copy_monitor(alloc, var, target, *mode),
-            Instr::Demonitor { reference, .. } => self.copy_with_expr(alloc, reference),
+            Instr::Link { peer } => self.copy_with_one(alloc, peer),
+            Instr::Unlink { peer } => self.copy_with_one(alloc, peer),
+            Instr::Monitor { target, .. } => self.copy_with_one(alloc, target),
+            Instr::Demonitor { reference, .. } => self.copy_with_one(alloc, reference),
             Instr::Alias { var, .. } => self.copy_with_var(alloc, var),
-            Instr::Unalias { reference } => self.copy_with_expr(alloc, reference),
-            Instr::Exit { reason } => self.copy_with_expr(alloc, reason),
-            Instr::ExitTo { target, reason } => copy_exit_to(alloc, target, reason),
+            Instr::Unalias { reference } => self.copy_with_one(alloc, reference),
+            Instr::Exit { reason } => self.copy_with_one(alloc, reason),
+            Instr::ExitTo { target, reason } => self.copy_with_two(alloc, target, reason),
             Instr::Trap { on } => Ok(Instr::Trap { on: *on }),
             Instr::Reserve => Ok(Instr::Reserve),
             Instr::Bind { var } => self.copy_with_var(alloc, var),
