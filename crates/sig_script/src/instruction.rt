@@ -6,6 +6,7 @@ use sig_kinds::AliasMode;
 use sig_lists::Sequence;
 use sig_patterns::{Clauses, Expr, Var};
 use std::alloc::{AllocError, Global};
+use std::mem::drop;
 
 /// Where a receive goes on that finds no message.
 #[derive(Debug, Drop)]
@@ -172,37 +173,38 @@ fn copy_receive(
     })
 }
 
-fn copy_set(alloc: Global, var: &Var, value: Expr) -> Result<Instr, AllocError>
-    ensures { IfOk result (λ i. i ≡ instr.Set var.now value) }
+fn copy_set(alloc: Global, var: &Var, value: &Expr) -> Result<Instr, AllocError>
+    ensures { IfOk result (λ i. i ≡ instr.Set var.now value.now) }
 {
     let var = var.copy(alloc)?;
+    let value = value.copy(alloc)?;
     Ok(Instr::Set { var, value })
 }
 
 fn copy_monitor(
     alloc: Global,
     var: &Var,
-    target: Expr,
+    target: &Expr,
     mode: Option<AliasMode>,
 ) -> Result<Instr, AllocError>
-    ensures { IfOk result (λ i. i ≡ instr.Monitor var.now target mode) }
+    ensures { IfOk result (λ i. i ≡ instr.Monitor var.now target.now mode) }
 {
     let var = var.copy(alloc)?;
+    let target = target.copy(alloc)?;
     Ok(Instr::Monitor { var, target, mode })
 }
 
 impl Instr {
-    /// An equal instruction, which has this expression and no other.
+    /// An equal instruction, which has this expression and no variable.
     fn copy_with_one(&self, alloc: Global, expr: &Expr) -> Result<Instr, AllocError>
-        requires { exprs_of self.now ≡ expr.now ∷ [] }
+        requires exprs { exprs_of self.now ≡ expr.now ∷ [] }
+        requires vars { vars_of self.now ≡ [] }
         ensures { IfOk result (λ i. i ≡ self.now) }
     {
         let expr = expr.copy(alloc)?;
         match self {
-            Instr::Set { var, .. } => copy_set(alloc, var, expr),
             Instr::Link { .. } => Ok(Instr::Link { peer: expr }),
             Instr::Unlink { .. } => Ok(Instr::Unlink { peer: expr }),
-            Instr::Monitor { var, mode, .. } => copy_monitor(alloc, var, expr, *mode),
             Instr::Demonitor { flush, .. } => Ok(Instr::Demonitor {
                 reference: expr,
                 flush: *flush,
@@ -219,17 +221,22 @@ impl Instr {
         ensures { IfOk result (λ i. i ≡ self.now) }
     {
         let first = first.copy(alloc)?;
-        let second = second.copy(alloc)?;
-        match self {
-            Instr::Send { .. } => Ok(Instr::Send {
-                to: first,
-                message: second,
-            }),
-            Instr::ExitTo { .. } => Ok(Instr::ExitTo {
-                target: first,
-                reason: second,
-            }),
-            _ => unreachable!(),
+        match second.copy(alloc) {
+            Ok(second) => match self {
+                Instr::Send { .. } => Ok(Instr::Send {
+                    to: first,
+                    message: second,
+                }),
+                Instr::ExitTo { .. } => Ok(Instr::ExitTo {
+                    target: first,
+                    reason: second,
+                }),
+                _ => unreachable!(),
+            },
+            Err(e) => {
+                drop(first);
+                Err(e)
+            }
         }
     }
 
@@ -255,7 +262,7 @@ impl Instr {
     {
         match self {
             Instr::Send { to, message } => self.copy_with_two(alloc, to, message),
-            Instr::Set { value, .. } => self.copy_with_one(alloc, value),
+            Instr::Set { var, value } => copy_set(alloc, var, value),
             Instr::MakeRef { var } => self.copy_with_var(alloc, var),
             Instr::Receive {
                 using,
@@ -264,7 +271,7 @@ impl Instr {
             } => copy_receive(alloc, using, clauses, after),
             Instr::Link { peer } => self.copy_with_one(alloc, peer),
             Instr::Unlink { peer } => self.copy_with_one(alloc, peer),
-            Instr::Monitor { target, .. } => self.copy_with_one(alloc, target),
+            Instr::Monitor { var, target, mode } => copy_monitor(alloc, var, target, *mode),
             Instr::Demonitor { reference, .. } => self.copy_with_one(alloc, reference),
             Instr::Alias { var, .. } => self.copy_with_var(alloc, var),
             Instr::Unalias { reference } => self.copy_with_one(alloc, reference),
