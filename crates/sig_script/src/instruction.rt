@@ -2,6 +2,7 @@ ghost use Rattle.std.specs.Prelude.{◌≡◌, [], ◌∷◌, IfOk};
 ghost use Rattle.sig_script.specs.Parts.{exprs_of, vars_of};
 ghost use Rattle.sig_script.specs.declared.instruction.Instr.TheVariants as instr;
 
+use crate::copying::copy_all;
 use sig_kinds::AliasMode;
 use sig_lists::Sequence;
 use sig_patterns::{Clauses, Expr, Var};
@@ -144,17 +145,6 @@ fn copy_after(after: &Option<After>) -> Option<After>
     }
 }
 
-fn copy_clauses(alloc: Global, clauses: &Clauses) -> Result<Clauses, AllocError>
-    ensures { IfOk result (λ cs. cs ≡ clauses.now) }
-{
-    let mut copies = Sequence::new(alloc);
-    for clause in clauses.as_slice() {
-        let copy = clause.copy(alloc)?;
-        copies.add(copy)?;
-    }
-    Ok(copies)
-}
-
 fn copy_receive(
     alloc: Global,
     marker: &Option<Var>,
@@ -164,7 +154,7 @@ fn copy_receive(
     ensures { IfOk result (λ i. i ≡ instr.Receive marker.now clauses.now after.now) }
 {
     let using = copy_marker(alloc, marker)?;
-    let clauses = copy_clauses(alloc, clauses)?;
+    let clauses = copy_all(alloc, clauses)?;
     let after = copy_after(after);
     Ok(Instr::Receive {
         using,
@@ -285,16 +275,4 @@ impl Instr {
             Instr::Stop => Ok(Instr::Stop),
         }
     }
-}
-
-/// Equal instructions.
-pub fn copy_instrs(alloc: Global, instrs: &Instrs) -> Result<Instrs, AllocError>
-    ensures { IfOk result (λ is. is ≡ instrs.now) }
-{
-    let mut copies = Sequence::new(alloc);
-    for instr in instrs.as_slice() {
-        let copy = instr.copy(alloc)?;
-        copies.add(copy)?;
-    }
-    Ok(copies)
 }

@@ -28,15 +28,3 @@ impl Label {
         })
     }
 }
-
-/// Equal labels.
-pub fn copy_labels(alloc: Global, labels: &Labels) -> Result<Labels, AllocError>
-    ensures { IfOk result (λ ls. ls ≡ labels.now) }
-{
-    let mut copies = Sequence::new(alloc);
-    for label in labels.as_slice() {
-        let copy = label.copy(alloc)?;
-        copies.add(copy)?;
-    }
-    Ok(copies)
-}

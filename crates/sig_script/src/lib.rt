@@ -1,6 +1,7 @@
 //! Scripts: what the processes of a machine do, and the reader of their text.
 #![tactic(auto)]
 
+mod copying;
 mod draft;
 mod drafted;
 mod expression_text;

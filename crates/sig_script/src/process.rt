@@ -14,8 +14,9 @@ ghost use Rattle.std.specs.Prelude.{
 };
 ghost use Rattle.sig_script.specs.Scripts.{IsWithin, IsLawful};
 
-use crate::instruction::{Instr, Instrs, copy_instrs};
-use crate::label::{Labels, copy_labels};
+use crate::copying::copy_all;
+use crate::instruction::{Instr, Instrs};
+use crate::label::Labels;
 use sig_lists::Sequence;
 use sig_terms::Name;
 use std::alloc::{AllocError, Global};
@@ -86,8 +87,8 @@ impl Proc {
         ensures { IfOk result (λ p. p ≡ self.now) }
     {
         let name = self.name.copy(alloc)?;
-        let labels = copy_labels(alloc, &self.labels)?;
-        let instrs = copy_instrs(alloc, &self.instrs)?;
+        let labels = copy_all(alloc, &self.labels)?;
+        let instrs = copy_all(alloc, &self.instrs)?;
         Ok(Proc {
             name,
             labels,
