@@ -7,8 +7,6 @@ use Rattle.std.proofs.lemmas.List.Sums.{take_while-cons}
 use Rattle.sig_terms.specs.Words.{is_lower, is_upper, is_name_byte, is_variable_byte, is_atom_byte, is_name, is_variable, is_token, is_atom}
 use Rattle.sig_script.specs.declared.token.TokenKind.{TokenKind}
 use Rattle.sig_script.specs.declared.token.TokenKind.TheVariants.{Name, Variable, Quoted}
-use Rattle.sig_script.specs.declared.token.Sign as signs
-use Rattle.sig_script.specs.declared.token.Sign.TheVariants as sign
 use Rattle.sig_script.specs.declared.token.Token.{Token}
 use Rattle.sig_script.specs.Tokens.{text, front_run, front_token, is_token_in_range, IsSpelled, IsToken, AreTokens, AreWellSpelled}
 use Rattle.sig_terms.specs.declared.bytes.TheConstants.{MOST_WORD_BYTES}

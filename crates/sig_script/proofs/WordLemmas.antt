@@ -9,8 +9,6 @@ use Rattle.sig_terms.specs.Readable.{is_wide}
 use Rattle.sig_terms.specs.declared.bytes.TheConstants.{MOST_WORD_BYTES}
 use Rattle.sig_script.specs.declared.token.TokenKind.{TokenKind}
 use Rattle.sig_script.specs.declared.token.TokenKind.TheVariants.{Name, Variable, Integer, Quoted}
-use Rattle.sig_script.specs.declared.token.Sign as signs
-use Rattle.sig_script.specs.declared.token.Sign.TheVariants as sign
 use Rattle.sig_script.specs.declared.token.Token.{Token}
 use Rattle.sig_script.specs.declared.token.Cut.{Cut}
 use Rattle.sig_script.specs.Numbers.{number, is_in_range, negative, int_of}

@@ -57,7 +57,7 @@ impl Model for DraftScript {
 }
 
 /// The place of the process of this name. `None` exactly where no process has it.
-pub fn place_of_proc(procs: &[DraftProc], name: &[u8]) -> Option<usize>
+pub(crate) fn place_of_proc(procs: &[DraftProc], name: &[u8]) -> Option<usize>
     ensures place { result ≡ position (λ (p : Declared). bytes_eq p.name name.now) procs.now }
     ensures within { IfSome result (λ n. n < length procs.now) }
 {
