@@ -11,6 +11,7 @@ ghost use Rattle.sig_queue.specs.Calls.{OfferedOut};
 
 use crate::offer::Offer;
 use crate::rule::{Place, Words};
+use crate::slot::Slot;
 use crate::steps::{leave_put, leave_same, mode_on, put_value, take_value, try_outer};
 use sig_kinds::Signal;
 use sig_layout::{Policy, Via};
@@ -24,6 +25,42 @@ fn install_if(words: &Words, place: &mut Place, switched: bool)
 {
     if switched {
         mode_on(words, place);
+    }
+}
+
+// Under the outer turn: the signal joins the outer list, and the turn is left.
+fn put_held(
+    words: &Words,
+    place: &mut Place,
+    signal: Signal,
+    refused: &mut bool,
+    policy: Policy,
+) -> Offer
+    requires table { (place.old.table_id ≡ words.now.table_id) × (words.now.table_id.words ≡ 536) × (words.now.key.policy ≡ policy) }
+    requires begins { (o : Outer) × Begins place.old.me.0 o × (place.old.me.1 ≡ (0, Slot.Outer o) ∷ []) }
+    requires off { place.old.me.0.saw_off ≡ true }
+    requires blank { (place.old.me.0.mask ≡ []) × (place.old.me.0.back ≡ 0) × (place.old.me.0.moved ≡ 0) }
+    requires from { has place.old.me.0.senders signal.from.0 ≡ true }
+    requires next { IsNext words.now.key place.old.me.0.put signal }
+    requires refused { refused.old ≡ some_refused place.old.me.0.refused }
+    ensures same { (place.new.table_id ≡ place.old.table_id) × (place.new.id ≡ place.old.id) × (place.new.me.1 ≡ []) }
+    ensures offered { OfferedOut signal (record place.old.me.0 { held = None }) result place.new.me.0 }
+    ensures refused { refused.new ≡ some_refused place.new.me.0.refused }
+{
+    let mut outer = take_value(words, place);
+    match outer.put(signal, *refused, policy) {
+        Ok(switched) => {
+            install_if(words, place, switched);
+            put_value(words, place, outer);
+            leave_put(words, place);
+            *refused = false;
+            Offer::Put { via: Via::Outer }
+        }
+        Err(signal) => {
+            put_value(words, place, outer);
+            leave_same(words, place);
+            Offer::Memory { signal }
+        }
     }
 }
 
@@ -53,19 +90,5 @@ pub(crate) fn offer_outer(
         *refused = true;
         return Offer::Busy { signal, found };
     }
-    let mut outer = take_value(words, place);
-    match outer.put(signal, *refused, policy) {
-        Ok(switched) => {
-            install_if(words, place, switched);
-            put_value(words, place, outer);
-            leave_put(words, place);
-            *refused = false;
-            Offer::Put { via: Via::Outer }
-        }
-        Err(signal) => {
-            put_value(words, place, outer);
-            leave_same(words, place);
-            Offer::Memory { signal }
-        }
-    }
+    put_held(words, place, signal, refused, policy)
 }

@@ -1,5 +1,8 @@
-use Rattle.std.proofs.Common.{◌≡◌, ℕ, ◌+◌, length, ap, ◌∙◌, subst, arith, refl}
+use Rattle.std.proofs.Common.{◌≡◌, ℕ, ◌+◌, ◌∷◌, List, length, ap, sym, ◌∙◌, subst, arith, refl}
 use Rattle.std.specs.Prelude.{IfSome}
+use Rattle.atomic_table.specs.Table.{rest}
+use Rattle.sig_queue.specs.declared.slot.Slot.{Slot}
+use Rattle.sig_queue.specs.declared.slot.Slot.TheVariants as slot
 use Rattle.sig_layout.specs.Views.{flag, given_back}
 use Rattle.sig_layout.specs.declared.knows.Knows.{Knows}
 use Rattle.sig_queue.specs.Tied.{Held}
@@ -16,6 +19,10 @@ overflow_add-found c = let f = c.requires.finding in let few = finding_few f.0 f
 pub set_back-requires-clause-masked : goal.set_back-requires-clause-masked
 set_back-requires-clause-masked c = let f = c.requires.finding in let h = c.requires.fetching in let m = ap (λ (x : Held). x.0) (c.try_buffer.ensures.refused c.if-try_buffer-ne0.true).0 in
     ((h.0.0, ap (λ (v : Knows). v.held) m ∙ h.0.1), ap (λ (v : Knows). v.fetching) m ∙ h.1, ap (λ (v : Knows). flag v.mask c.args.buffer) m ∙ (f.2.to_come c.args.buffer c.requires.table.2 (omega arith) ∙ f.3))
+
+pub measure-length-requires-clause-out : goal.measure-length-requires-clause-out
+measure-length-requires-clause-out c = let t = c.try_buffer.ensures.took c.if-try_buffer-ne0.false in let e = ap (λ (m : Held). m.1) t.1 in
+    (t.0, e ∙ ap (λ (r : List (ℕ × Slot)). (c.args.buffer + 1, slot.List t.0) ∷ r) (sym (ap rest e)))
 
 pub returns-then-try_buffer-ne0-clause-finding : goal.returns-then-try_buffer-ne0-clause-finding
 returns-then-try_buffer-ne0-clause-finding c v n f bit blind = let r = c.try_buffer.ensures.refused c.if-try_buffer-ne0.true in
