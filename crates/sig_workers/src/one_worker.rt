@@ -53,7 +53,8 @@ fn run_passes<L: Ledger>(blank: Blank, crew: Crew) -> Result<Crew, AllocError>
     let mut procs = crew.procs;
     let mut sent = Signals::new(*procs.allocator());
     loop {
-        if !pass_all(&mut procs, &mut sent, &mut steps)? {
+        let moved = pass_all(&mut procs, &mut sent, &mut steps)?;
+        if !moved {
             return Ok(Crew { procs });
         }
     }

@@ -1,4 +1,7 @@
-use Rattle.std.proofs.Common.{◌≡◌, ◌&&◌, not, ◌<◌, length, subst, sym}
+use Rattle.std.proofs.Common.{◌≡◌, ◌&&◌, not, ◌<◌, length, subst, sym, ap, ◌∙◌, Result, Ok, Err}
+use Rattle.std.specs.Prelude.{IfOk}
+use Rattle.sig_layout.specs.declared.setup.Setup.{Setup}
+use Rattle.sig_layout.specs.Views.{first_seat}
 use Rattle.std.specs.Prelude.{◌==◌}
 use Rattle.sig_process.specs.Standing.{runnings_of}
 use Rattle.sig_layout.specs.Sets.{has}
@@ -12,3 +15,23 @@ open-requires c =
     let many : length (runnings_of c.args.procs.now) ≡ length c.args.procs.now = many_running c.args.procs.now in
     first_setup c.args.policy c.senders_but-senders.result (runnings_of c.args.procs.now) c.args.at _ c.requires.policy c.requires.numbered (subst (λ n. c.args.at < n) (sym many) c.requires.within) (sym many) c.in_ok-first.ensures
     (λ s. subst (λ n. has c.senders_but-senders.result s ≡ (is_in 0 n s && not (s == c.args.at))) (sym many) (c.senders_but-senders.ensures s))
+
+-- what both clauses on a result say of its value
+both : {A E : Type 0} (x : Result A E) (P Q W : A → Type 0) → ((a : A) → P a → Q a → W a) → IfOk x P → IfOk x Q → IfOk x W
+both (Ok a) P Q W f p q = f a p q
+both (Err e) P Q W f p q = tt
+
+pub returns : goal.returns
+returns c =
+    let many : length (runnings_of c.args.procs.now) ≡ length c.args.procs.now = many_running c.args.procs.now in
+    both c.open.result _ _ _
+    (λ r own first. (
+      record {
+        policy_is = ap (λ (z : Setup). z.policy) own.1;
+        receiver = ap (λ (z : Setup). z.opening.receiver.0) own.1;
+        count = ap (λ (z : Setup). z.opening.count) own.1 ∙ sym many;
+        senders = λ s. ap (λ (z : Setup). has z.senders s) own.1 ∙ subst (λ n. has c.senders_but-senders.result s ≡ (is_in 0 n s && not (s == c.args.at))) (sym many) (c.senders_but-senders.ensures s);
+        first = ap (λ (z : Setup). z.opening.first) own.1 ∙ c.in_ok-first.ensures;
+      },
+      (λ k. record { queue = own.0 k; knows = (first ∙ ap (λ (z : Setup). first_seat z.senders) (sym own.1)) k }),
+    )) c.open.ensures.own c.open.ensures.first
