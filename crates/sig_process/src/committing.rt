@@ -126,7 +126,10 @@ impl Progress {
             },
             outcome,
         };
-        self.begin(event, posts, grows)?;
+        if let Err(fault) = self.begin(event, posts, grows) {
+            drop(binding);
+            return Err(fault);
+        }
         self.bind_noted(binding)
     }
 

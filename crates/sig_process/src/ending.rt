@@ -11,6 +11,7 @@ use crate::progress::Progress;
 use sig_model::Outcome;
 use sig_terms::{Pid, Term};
 use std::alloc::AllocError;
+use std::mem::drop;
 
 impl Progress {
     /// The process ends with the reason, and tells it all those who are told at its end. (Erlang
@@ -19,13 +20,19 @@ impl Progress {
         ensures { IfOk result (λ plan. ending (after_obeying (state_of self.now) obeyed) reason ≡ body_of (state_of self.now) plan) }
     {
         let (reason, told) = with_copy(self.alloc, reason)?;
-        let posts = self.told_at_end(obeyed, &reason)?;
-        Ok(Plan {
-            obeyed,
-            change: Change::End { reason },
-            outcome: Outcome::Ended { reason: told },
-            posts,
-        })
+        match self.told_at_end(obeyed, &reason) {
+            Ok(posts) => Ok(Plan {
+                obeyed,
+                change: Change::End { reason },
+                outcome: Outcome::Ended { reason: told },
+                posts,
+            }),
+            Err(fault) => {
+                drop(reason);
+                drop(told);
+                Err(fault)
+            }
+        }
     }
 
     /// The process ends with the reason at its next instruction, and stays there.

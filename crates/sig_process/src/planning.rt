@@ -17,6 +17,7 @@ use sig_patterns::{Expr, Var};
 use sig_script::{Instr, Proc};
 use sig_terms::{Pid, Ref, Term};
 use std::alloc::{AllocError, Global};
+use std::mem::drop;
 
 /// One signal that an event sends.
 pub(crate) fn one_post(alloc: Global, to: Pid, kind: Kind) -> Result<Vec<Outgoing>, AllocError>
@@ -115,9 +116,16 @@ impl Progress {
         ensures { IfOk result (λ x. sending (state_of self.now) term (Target.Process to) ≡ executed_body (state_of self.now) x) }
     {
         let (term, message) = with_copy(self.alloc, term)?;
-        let posts = one_post(self.alloc, to, Kind::Message { term })?;
-        let to = Term::Pid(to);
-        Ok(self.telling(proc, Outcome::Sent { to, message }, posts))
+        match one_post(self.alloc, to, Kind::Message { term }) {
+            Ok(posts) => {
+                let to = Term::Pid(to);
+                Ok(self.telling(proc, Outcome::Sent { to, message }, posts))
+            }
+            Err(fault) => {
+                drop(message);
+                Err(fault)
+            }
+        }
     }
 
     /// A message through an alias to the process that made it.
@@ -132,9 +140,16 @@ impl Progress {
     {
         let (term, message) = with_copy(self.alloc, term)?;
         let kind = Kind::AliasMessage { reference, term };
-        let posts = one_post(self.alloc, reference.owner, kind)?;
-        let to = Term::Ref(reference);
-        Ok(self.telling(proc, Outcome::Sent { to, message }, posts))
+        match one_post(self.alloc, reference.owner, kind) {
+            Ok(posts) => {
+                let to = Term::Ref(reference);
+                Ok(self.telling(proc, Outcome::Sent { to, message }, posts))
+            }
+            Err(fault) => {
+                drop(message);
+                Err(fault)
+            }
+        }
     }
 
     /// A message to a process, or through an alias.
@@ -168,8 +183,14 @@ impl Progress {
         ensures { IfOk result (λ x. setting (state_of self.now) var.now.0 value ≡ executed_body (state_of self.now) x) }
     {
         let (value, told) = with_copy(self.alloc, value)?;
-        let var = var.copy(self.alloc)?;
-        Ok(self.assigning(proc, var, value, told))
+        match var.copy(self.alloc) {
+            Ok(var) => Ok(self.assigning(proc, var, value, told)),
+            Err(fault) => {
+                drop(value);
+                drop(told);
+                Err(fault)
+            }
+        }
     }
 
     /// The signal of a link, which is sent but to oneself or where the link is active.
@@ -269,15 +290,27 @@ impl Progress {
     }
 
     /// The execution of this plan, by which the variable gets the reference.
-    fn making(&self, proc: &Proc, var: Var, reference: Ref, plan: Plan) -> Execution
+    fn making(
+        &self,
+        proc: &Proc,
+        var: &Var,
+        reference: Ref,
+        plan: Plan,
+    ) -> Result<Execution, AllocError>
         requires { self.now.counts.place ≤ length proc.now.instrs }
-        ensures { result ≡ record { binding = Binding.Made var reference; inbox = InboxChange.Nothing; place = self.now.counts.place + 1; plan = plan } }
+        ensures { IfOk result (λ x. x ≡ record { binding = Binding.Made var.now reference; inbox = InboxChange.Nothing; place = self.now.counts.place + 1; plan = plan }) }
     {
-        Execution {
-            binding: Binding::Made { var, reference },
-            inbox: InboxChange::Nothing,
-            place: self.place_after(proc, None),
-            plan,
+        match var.copy(self.alloc) {
+            Ok(var) => Ok(Execution {
+                binding: Binding::Made { var, reference },
+                inbox: InboxChange::Nothing,
+                place: self.place_after(proc, None),
+                plan,
+            }),
+            Err(fault) => {
+                drop(plan);
+                Err(fault)
+            }
         }
     }
 
@@ -286,10 +319,9 @@ impl Progress {
         requires { self.now.counts.place ≤ length proc.now.instrs }
         ensures { IfOk result (λ x. making_ref (state_of self.now) var.now.0 ≡ executed_body (state_of self.now) x) }
     {
-        let var = var.copy(self.alloc)?;
         let reference = self.new_ref();
         let plan = self.made(Change::Nothing, reference, Vec::new(self.alloc));
-        Ok(self.making(proc, var, reference, plan))
+        self.making(proc, var, reference, plan)
     }
 
     /// The signal of a monitor, which is sent but to oneself.
@@ -314,7 +346,6 @@ impl Progress {
         requires { self.now.counts.place ≤ length proc.now.instrs }
         ensures { IfOk result (λ x. monitoring (state_of self.now) var.now.0 mode target ≡ executed_body (state_of self.now) x) }
     {
-        let var = var.copy(self.alloc)?;
         let reference = self.new_ref();
         let change = WatchChange::Monitor {
             reference,
@@ -323,7 +354,7 @@ impl Progress {
         };
         let posts = self.monitor_posts(target, reference)?;
         let plan = self.made(Change::Watch(change), reference, posts);
-        Ok(self.making(proc, var, reference, plan))
+        self.making(proc, var, reference, plan)
     }
 
     /// A new alias.
@@ -331,11 +362,10 @@ impl Progress {
         requires { self.now.counts.place ≤ length proc.now.instrs }
         ensures { IfOk result (λ x. aliasing (state_of self.now) var.now.0 reply ≡ executed_body (state_of self.now) x) }
     {
-        let var = var.copy(self.alloc)?;
         let reference = self.new_ref();
         let change = Change::Watch(WatchChange::Alias { reference, reply });
         let plan = self.made(change, reference, Vec::new(self.alloc));
-        Ok(self.making(proc, var, reference, plan))
+        self.making(proc, var, reference, plan)
     }
 
     /// How the end of a monitor goes: with `flush` it is told whether a message of its end is there.
@@ -467,9 +497,14 @@ impl Progress {
         requires { self.now.counts.place ≤ length proc.now.instrs }
         ensures { IsPlanned (state_of self.now) (Some (with_target (state_of self.now) to (sending (state_of self.now) message))) result }
     {
-        match self.address_of(to) {
-            Ok(to) => in_memory(self.plan_send(proc, to, message)),
-            Err(fault) => Err(fault),
+        let address = self.address_of(&to);
+        drop(to);
+        match address {
+            Ok(address) => in_memory(self.plan_send(proc, address, message)),
+            Err(fault) => {
+                drop(message);
+                Err(fault)
+            }
         }
     }
 
@@ -576,9 +611,14 @@ impl Progress {
         requires { self.now.counts.place ≤ length proc.now.instrs }
         ensures { IsPlanned (state_of self.now) (Some (with_pid (state_of self.now) target (sending_exit (state_of self.now) reason))) result }
     {
-        match self.pid_of(target) {
-            Ok(target) => in_memory(self.plan_exit_to(proc, target, reason)),
-            Err(fault) => Err(fault),
+        let pid = self.pid_of(&target);
+        drop(target);
+        match pid {
+            Ok(pid) => in_memory(self.plan_exit_to(proc, pid, reason)),
+            Err(fault) => {
+                drop(reason);
+                Err(fault)
+            }
         }
     }
 

@@ -21,6 +21,7 @@ use sig_script::{Proc, Script};
 use sig_terms::Pid;
 use std::alloc::{AllocError, Global};
 use std::marker::Model;
+use std::mem::drop;
 use std::sync::ledger::Ledger;
 
 /// A process: its state, its events, and the signals that wait for it or that it has sent. It keeps
@@ -132,14 +133,19 @@ impl Process {
         ensures saved { IfOk result (λ p. p.saved ≡ 0) }
     {
         prove!(1 <= proc.count() + 1);
-        let progress = beginning(alloc, pid, count)?;
-        Ok(Process {
-            pid,
-            count,
-            turns,
-            proc,
-            progress,
-        })
+        match beginning(alloc, pid, count) {
+            Ok(progress) => Ok(Process {
+                pid,
+                count,
+                turns,
+                proc,
+                progress,
+            }),
+            Err(fault) => {
+                drop(proc);
+                Err(fault)
+            }
+        }
     }
 
     /// Its pid.

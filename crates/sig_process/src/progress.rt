@@ -18,6 +18,7 @@ use sig_patterns::Env;
 use sig_terms::{Pid, Ref, Term};
 use sig_watch::Watch;
 use std::alloc::{AllocError, Global};
+use std::mem::drop;
 
 /// What a process holds.
 #[derive(Drop)]
@@ -69,7 +70,17 @@ impl Tables {
     pub(crate) fn into_left(self) -> (Inner, Option<Term>)
         ensures { result ≡ (self.inner, self.end) }
     {
-        (self.inner, self.end)
+        let Tables {
+            env,
+            inner,
+            links,
+            watch,
+            end,
+        } = self;
+        drop(env);
+        drop(links);
+        drop(watch);
+        (inner, end)
     }
 }
 

@@ -9,6 +9,7 @@ use sig_model::Target;
 use sig_patterns::{BuildFault, Expr, Var, build};
 use sig_terms::{Pid, Ref, Term};
 use std::alloc::AllocError;
+use std::mem::drop;
 
 /// Why an instruction has no use of a value.
 #[derive(Clone, Copy)]
@@ -42,11 +43,11 @@ impl Progress {
     }
 
     /// The process that the value names.
-    pub(crate) fn pid_of(&self, value: Term) -> Result<Pid, ValueFault>
-        ensures { IsUsed (state_of self.now) (with_pid (state_of self.now) value) result }
+    pub(crate) fn pid_of(&self, value: &Term) -> Result<Pid, ValueFault>
+        ensures { IsUsed (state_of self.now) (with_pid (state_of self.now) value.now) result }
     {
         match value {
-            Term::Pid(pid) => Ok(pid),
+            Term::Pid(pid) => Ok(*pid),
             Term::Int(_) => Err(ValueFault::BadArg),
             Term::Atom(_) => Err(ValueFault::BadArg),
             Term::Ref(_) => Err(ValueFault::BadArg),
@@ -56,11 +57,11 @@ impl Progress {
     }
 
     /// The reference that the value is.
-    fn ref_of(&self, value: Term) -> Result<Ref, ValueFault>
-        ensures { IsUsed (state_of self.now) (with_ref (state_of self.now) value) result }
+    fn ref_of(&self, value: &Term) -> Result<Ref, ValueFault>
+        ensures { IsUsed (state_of self.now) (with_ref (state_of self.now) value.now) result }
     {
         match value {
-            Term::Ref(reference) => Ok(reference),
+            Term::Ref(reference) => Ok(*reference),
             Term::Int(_) => Err(ValueFault::BadArg),
             Term::Atom(_) => Err(ValueFault::BadArg),
             Term::Pid(_) => Err(ValueFault::BadArg),
@@ -70,12 +71,12 @@ impl Progress {
     }
 
     /// The process or the alias that the value names.
-    pub(crate) fn address_of(&self, value: Term) -> Result<Target, ValueFault>
-        ensures { IsUsed (state_of self.now) (with_target (state_of self.now) value) result }
+    pub(crate) fn address_of(&self, value: &Term) -> Result<Target, ValueFault>
+        ensures { IsUsed (state_of self.now) (with_target (state_of self.now) value.now) result }
     {
         match value {
-            Term::Pid(pid) => Ok(Target::Process(pid)),
-            Term::Ref(reference) => Ok(Target::Alias(reference)),
+            Term::Pid(pid) => Ok(Target::Process(*pid)),
+            Term::Ref(reference) => Ok(Target::Alias(*reference)),
             Term::Int(_) => Err(ValueFault::BadArg),
             Term::Atom(_) => Err(ValueFault::BadArg),
             Term::Tuple(_) => Err(ValueFault::BadArg),
@@ -88,7 +89,9 @@ impl Progress {
         ensures { IsUsed (state_of self.now) (λ go. with_value (state_of self.now) expression.now (λ t. with_ref (state_of self.now) t go)) result }
     {
         let value = self.value_of(expression)?;
-        self.ref_of(value)
+        let reference = self.ref_of(&value);
+        drop(value);
+        reference
     }
 
     /// The process that the value of the expression names.
@@ -96,7 +99,9 @@ impl Progress {
         ensures { IsUsed (state_of self.now) (λ go. with_value (state_of self.now) expression.now (λ t. with_pid (state_of self.now) t go)) result }
     {
         let value = self.value_of(expression)?;
-        self.pid_of(value)
+        let pid = self.pid_of(&value);
+        drop(value);
+        pid
     }
 
     /// The reference that the variable's value is. `None` where it is none.
@@ -126,7 +131,12 @@ impl Progress {
             result }
     {
         let first = self.value_of(first)?;
-        let second = self.value_of(second)?;
-        Ok((first, second))
+        match self.value_of(second) {
+            Ok(second) => Ok((first, second)),
+            Err(fault) => {
+                drop(first);
+                Err(fault)
+            }
+        }
     }
 }

@@ -13,4 +13,4 @@ returns-in_err-value c =
 pub returns : goal.returns
 returns c =
     let s = state_of c.args.self.now in
-    used_for s (with_value s c.args.expression.now) (with_pid s) c.in_ok-value.value c.pid_of.result c.in_ok-value.ensures c.pid_of.ensures
+    used_for s (with_value s c.args.expression.now) (with_pid s) c.in_ok-value.value c.pid_of-pid.result c.in_ok-value.ensures c.pid_of-pid.ensures

@@ -11,16 +11,15 @@ returns-in_err-first c =
     let p = err_from_is_err_and c.from_residual.result c.from_residual.ensures.1 in
     rw (p.1, p.2) (λ go. c.in_err-first.ensures (λ v. with_value s c.args.second.now (λ w. go (v, w))))
 
-pub returns-in_err-second : goal.returns-in_err-second
-returns-in_err-second c =
+pub returns-in-Ok : goal.returns-in-Ok
+returns-in-Ok c =
     let s = state_of c.args.self.now in
-    let p = err_from_is_err_and c.from_residual-in_err-second.result c.from_residual-in_err-second.ensures.1 in
-    rw (p.1, p.2) (λ go.
-    refused_alike s c.in_err-second.field-0.0 _ _
-    (c.in_ok-first.ensures (λ v. with_value s c.args.second.now (λ w. go (v, w))))
-    (c.in_err-second.ensures (λ w. go (c.in_ok-first.first, w))))
+    λ go. c.in_ok-first.ensures (λ v. with_value s c.args.second.now (λ w. go (v, w))) ∙ c.in-Ok.ensures (λ w. go (c.in_ok-first.first, w))
 
-pub returns : goal.returns
-returns c =
+pub returns-in-Err : goal.returns-in-Err
+returns-in-Err c =
     let s = state_of c.args.self.now in
-    λ go. c.in_ok-first.ensures (λ v. with_value s c.args.second.now (λ w. go (v, w))) ∙ c.in_ok-second.ensures (λ w. go (c.in_ok-first.first, w))
+    λ go.
+    refused_alike s c.in-Err.fault _ _
+    (c.in_ok-first.ensures (λ v. with_value s c.args.second.now (λ w. go (v, w))))
+    (c.in-Err.ensures (λ w. go (c.in_ok-first.first, w)))

@@ -1,0 +1,5 @@
+use Rattle.std.proofs.Common.{rules}
+use Rattle.sig_process.proofs.progress.Progress.plan_exit_rule.Goals as goal
+
+pub returns : goal.returns
+returns c = search rules
