@@ -1,8 +1,13 @@
 -- The peers that are told of an end: those of the active links, but for a link that an exit signal ended.
-use Rattle.std.proofs.Common.{◌≡◌, ℕ, true, List, [], ◌∷◌, ◌++◌, map, refl, sym, ap, ◌∙◌, Option, Some, None}
+use Rattle.std.proofs.Common.{◌≡◌, ℕ, Bool, true, false, cond, not, nat_eq, arith, List, [], ◌∷◌, ◌++◌, map, refl, sym, ap, ◌∙◌, Option, Some, None}
 use mathlib.Core.List.{map-map}
+use Rattle.std.proofs.lemmas.Bool.{true≢false}
+use Rattle.std.proofs.lemmas.Bool.Decides.{nat_tests}
 use Rattle.std.specs.List.{filter}
+use Rattle.std.specs.Option.{option_eq}
+use Rattle.std.specs.Ordering.{nat_cmp, eq_by_cmp}
 use Rattle.std.proofs.lemmas.List.{map-append, append-nil, append_assoc}
+use Rattle.sig_terms.specs.contracts.pid.PidPartialEq.TheImpl.{eq-value as same_pid}
 use Rattle.sig_terms.specs.declared.pid.Pid.{Pid}
 use Rattle.sig_terms.specs.declared.term.Term.{Term}
 use Rattle.sig_kinds.specs.declared.signal.Kind.TheVariants as kind
@@ -35,6 +40,22 @@ all_told s obeyed rest reason told none is =
     ∙ ap (λ (peers : List ℕ). told ++ exits_to peers reason) (sym (ap (others obeyed) none ∙ others_none obeyed))
     ∙ is
     ∙ ap (λ (peers : List ℕ). exits_to peers reason) (others_active s obeyed)
+
+-- whether a peer is told that this process ends
+abbrev pub is_told : Option Pid → Pid → Bool
+is_told obeyed peer = not (option_eq same_pid.it obeyed (Some peer))
+
+same_number : (a b : ℕ) → eq_by_cmp nat_cmp a b ≡ nat_eq a b
+same_number a b = grind (arith, nat_tests)
+
+-- the peer whose exit signal is obeyed isn't
+pub told_not : (obeyed : Option Pid) (peer : Pid) (rest : List ℕ) → is_told obeyed peer ≡ false → others obeyed (peer.0 ∷ rest) ≡ others obeyed rest
+told_not None peer rest e = absurd (true≢false e)
+told_not (Some other) peer rest e = ap (λ (b : Bool). cond b (peer.0 ∷ filter (other_than other.0) rest) (filter (other_than other.0) rest)) (ap not (same_number other.0 peer.0) ∙ e)
+
+pub told_too : (obeyed : Option Pid) (peer : Pid) (rest : List ℕ) → is_told obeyed peer ≡ true → others obeyed (peer.0 ∷ rest) ≡ peer.0 ∷ others obeyed rest
+told_too None peer rest e = refl
+told_too (Some other) peer rest e = ap (λ (b : Bool). cond b (peer.0 ∷ filter (other_than other.0) rest) (filter (other_than other.0) rest)) (ap not (same_number other.0 peer.0) ∙ e)
 
 -- one more is told
 abbrev pub exit_post : Pid → Term → Outgoing

@@ -1,8 +1,5 @@
 use Rattle.std.proofs.Common.{rules}
 use Rattle.sig_process.proofs.progress.Progress.make_room.Goals as goal
 
-pub returns-clause-same : goal.returns-clause-same
-returns-clause-same c = search rules
-
 pub returns-in_err-room-3-clause-same : goal.returns-in_err-room-3-clause-same
 returns-in_err-room-3-clause-same c = search rules
