@@ -9,3 +9,6 @@ returns-else-is_saved-clause-within g c = search rules
 
 pub returns-then-is_saved-clause-ticks : goal.returns-then-is_saved-clause-ticks
 returns-then-is_saved-clause-ticks g c = search rules
+
+pub receive-requires-clause-asked : goal.receive-requires-clause-asked
+receive-requires-clause-asked g c = c.requires.asked
