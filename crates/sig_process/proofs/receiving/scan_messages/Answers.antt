@@ -1,12 +1,6 @@
 use Rattle.std.proofs.Common.{rules}
 use Rattle.sig_process.proofs.receiving.scan_messages.Goals as goal
 
-pub returns-else-is_saved-clause-answer : goal.returns-else-is_saved-clause-answer
-returns-else-is_saved-clause-answer g c = search rules
-
-pub returns-else-is_saved-clause-within : goal.returns-else-is_saved-clause-within
-returns-else-is_saved-clause-within g c = search rules
-
 pub returns-then-is_saved-clause-ticks : goal.returns-then-is_saved-clause-ticks
 returns-then-is_saved-clause-ticks g c = search rules
 
