@@ -13,7 +13,6 @@ use Rattle.sig_patterns.proofs.MarkLemmas.{cleared_none}
 use Rattle.sig_inner.specs.InnerQueue.{InnerQueue, marked_by, cleared}
 use Rattle.sig_inner.specs.InnerQueue.{bound as bound_queue}
 use Rattle.sig_model.specs.declared.event.Event.{Event}
-use Rattle.sig_model.specs.declared.event.Did.TheVariants as did
 use Rattle.sig_model.specs.ProcessState.{ProcessState, Post}
 use Rattle.sig_model.specs.Finishing.{numbered, finished_exec}
 use Rattle.sig_model.specs.Running.{to_itself, to_others}

@@ -16,7 +16,6 @@ use sig_kinds::AliasMode;
 use sig_patterns::Var;
 use sig_terms::{Pid, Ref, Term};
 use std::alloc::AllocError;
-use std::mem::{self, drop};
 
 /// What an event changes in the links.
 #[derive(Drop)]
@@ -213,7 +212,7 @@ impl Tables {
         self.links.empty();
         self.watch.empty();
         self.inner.empty();
-        drop(mem::replace(&mut self.end, Some(reason)));
+        self.end = Some(reason);
     }
 
     /// The message comes to the end of the list, where there is room.

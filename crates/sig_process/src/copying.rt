@@ -17,11 +17,3 @@ pub(crate) fn with_copy(alloc: Global, term: Term) -> Result<(Term, Term), Alloc
         }
     }
 }
-
-/// Two copies of the term. The error is want of memory.
-pub(crate) fn two_copies(alloc: Global, term: &Term) -> Result<(Term, Term), AllocError>
-    ensures { IfOk result (λ x. x ≡ (term.now, term.now)) }
-{
-    let copy = term.copy(alloc)?;
-    with_copy(alloc, copy)
-}

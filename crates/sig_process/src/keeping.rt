@@ -87,10 +87,7 @@ impl Progress {
             (λ _. IfSome (next_of self.old.own.items self.old.taken_in.items) (λ x. HasKept self.old self.new x told))
             (λ _. IsSame self.old self.new) }
     {
-        if let Err(fault) = self.keeping_room() {
-            drop(told);
-            return Err(fault);
-        }
+        self.keeping_room()?;
         let event = self.handling_event(Outcome::Kept { message: told });
         let stamp = event.stamp;
         self.events.add(event)?;

@@ -1,4 +1,4 @@
-ghost use Rattle.std.specs.Prelude.{◌≡◌, IfOk, None, Some, [], map, codes};
+ghost use Rattle.std.specs.Prelude.{◌≡◌, IfOk, None, Some, [], map};
 ghost use Rattle.sig_kinds.specs.LinkRules.{on_link, on_unlink, on_ack};
 ghost use Rattle.sig_kinds.specs.WatchRules.{mode_of, by_mode, on_alias_message, on_monitor, on_demonitor, on_down};
 ghost use Rattle.sig_kinds.specs.declared.alias_answer.AliasAnswer.TheVariants as alias_answer;
@@ -12,7 +12,7 @@ ghost use Rattle.sig_process.specs.Planning.{noproc_answer};
 ghost use Rattle.sig_process.specs.Progressing.{state_of};
 
 use crate::changing::{Change, LinkChange, WatchChange};
-use crate::copying::{two_copies, with_copy};
+use crate::copying::with_copy;
 use crate::plan::{Outgoing, Plan};
 use crate::planning::{demonitor_posts, one_post};
 use crate::progress::Progress;
@@ -21,37 +21,15 @@ use sig_lists::Sequence;
 use sig_model::Outcome;
 use sig_terms::{Pid, Ref, Term};
 use std::alloc::{AllocError, Global};
-use std::mem::drop;
 
 /// The message of an exit signal that is trapped.
 fn exit_message(alloc: Global, sender: Pid, reason: &Term) -> Result<Term, AllocError>
     ensures { IfOk result (λ message. message ≡ exit_message sender.0 reason.now) }
 {
+    let exit = Term::plain_atom(alloc, b"EXIT")?;
     let reason = reason.copy(alloc)?;
-    match Term::plain_atom(alloc, b"EXIT") {
-        Ok(exit) => {
-            let parts = vec![in alloc; exit, Term::Pid(sender), reason]?;
-            Ok(Term::Tuple(Sequence::from_vec(parts)))
-        }
-        Err(fault) => {
-            drop(reason);
-            Err(fault)
-        }
-    }
-}
-
-/// The atoms in the message of a down.
-fn down_atoms(alloc: Global) -> Result<(Term, Term), AllocError>
-    ensures { IfOk result (λ atoms. atoms ≡ (Term.Atom (codes "DOWN"), Term.Atom (codes "process"))) }
-{
-    let down = Term::plain_atom(alloc, b"DOWN")?;
-    match Term::plain_atom(alloc, b"process") {
-        Ok(process) => Ok((down, process)),
-        Err(fault) => {
-            drop(down);
-            Err(fault)
-        }
-    }
+    let parts = vec![in alloc; exit, Term::Pid(sender), reason]?;
+    Ok(Term::Tuple(Sequence::from_vec(parts)))
 }
 
 /// The message of the end of a process that is monitored.
@@ -63,23 +41,17 @@ fn down_message(
 ) -> Result<Term, AllocError>
     ensures { IfOk result (λ message. message ≡ down_message reference sender.0 reason.now) }
 {
+    let down = Term::plain_atom(alloc, b"DOWN")?;
+    let process = Term::plain_atom(alloc, b"process")?;
     let reason = reason.copy(alloc)?;
-    match down_atoms(alloc) {
-        Ok((down, process)) => {
-            let parts = vec![in alloc;
-                down,
-                Term::Ref(reference),
-                process,
-                Term::Pid(sender),
-                reason,
-            ]?;
-            Ok(Term::Tuple(Sequence::from_vec(parts)))
-        }
-        Err(fault) => {
-            drop(reason);
-            Err(fault)
-        }
-    }
+    let parts = vec![in alloc;
+        down,
+        Term::Ref(reference),
+        process,
+        Term::Pid(sender),
+        reason,
+    ]?;
+    Ok(Term::Tuple(Sequence::from_vec(parts)))
 }
 
 impl Progress {
@@ -197,17 +169,11 @@ impl Progress {
     ) -> Result<Plan, AllocError>
         ensures { IfOk result (λ plan. (s : ProcessState) → body_of s plan ≡ record { state = changed s (Change.ThroughAlias reference term.now); outcome = Outcome.Kept term.now; posts = map post_of posts.items }) }
     {
-        match two_copies(self.alloc, term) {
-            Ok((message, told)) => {
-                let outcome = Outcome::Kept { message: told };
-                let change = Change::ThroughAlias { reference, message };
-                Ok(Plan::sending(change, outcome, posts))
-            }
-            Err(fault) => {
-                drop(posts);
-                Err(fault)
-            }
-        }
+        let told = term.copy(self.alloc)?;
+        let message = term.copy(self.alloc)?;
+        let outcome = Outcome::Kept { message: told };
+        let change = Change::ThroughAlias { reference, message };
+        Ok(Plan::sending(change, outcome, posts))
     }
 
     /// Who is told that the monitor ends, where the alias of its reference has this mode.
