@@ -1,7 +1,7 @@
 -- What the words and the run that they ask for make of an answer.
 use Rattle.std.proofs.Common.{◌≡◌, ◌⊎◌, ◌∙◌, ℕ, List, Option, Some, None, Result, Ok, Err, inl, inr, refl, ap, sym, subst}
 use Rattle.std.specs.Prelude.{IfSome}
-use Rattle.sig_script.specs.Scripts.{Program}
+use Rattle.sig_program.specs.Scripts.{Program}
 use Rattle.sig_script.specs.Faults.{Fault}
 use Rattle.sig_script.specs.Grammar.{script_of}
 use Rattle.sig_script.specs.declared.fault.FaultKind.{FaultKind}

@@ -2,7 +2,7 @@
 use Rattle.std.specs.Prelude.{◌≡◌, ℕ, Bool, List, take, true, false, Option, Some, None, IfSome, Result, Ok, Err, ⊤}
 use Rattle.sig_base.specs.Flow.{Rose, Adds}
 use Rattle.sig_script.specs.declared.fault.FaultKind.{FaultKind}
-use Rattle.sig_script.specs.Scripts.{Program}
+use Rattle.sig_program.specs.Scripts.{Program}
 use Rattle.sig_script.specs.Grammar.{script_of}
 use Rattle.sig_kinds.specs.declared.signal.Signal.{Signal}
 use Rattle.sig_runs.specs.Machine.{Machine}

@@ -1,6 +1,6 @@
 ghost use Rattle.std.specs.Prelude.{◌≡◌, ◌≢◌, ◌≤◌, ◌⊎◌, ℕ, Bool, true, List, map, string_bytes, IfOk, Option, Some};
 ghost use Rattle.sig_base.specs.Flow.{Rose, Adds};
-ghost use Rattle.sig_script.specs.Scripts.{Program, IsSound};
+ghost use Rattle.sig_program.specs.Scripts.{Program, IsSound};
 ghost use Rattle.sig_script.specs.Generated.{generated};
 ghost use Rattle.sig_model.specs.OneWorker.{IsClear, RunsTo};
 ghost use Rattle.sig_model.specs.CrewLaw.{IsLawfulCrew};
@@ -32,10 +32,9 @@ use crate::words_error::WordsError;
 use sig_base::{Gate, ReadAll, Sink, Source, Written, read_all, write_whole};
 use sig_model::lawful_crew_comes_to_rest;
 use sig_process::Crew;
+use sig_program::{MOST_PROCESSES, Script};
 use sig_record::{Record, a_lawful_crew_tells_a_run, print_record, summarize};
-use sig_script::{
-    FaultKind, MOST_BYTES, MOST_CALLS, MOST_PROCESSES, Script, ScriptError, generate, read_script,
-};
+use sig_script::{FaultKind, MOST_BYTES, MOST_CALLS, ScriptError, generate, read_script};
 use sig_workers::{run_one, run_rounds};
 use std::alloc::{AllocError, Global};
 use std::sync::Wait;

@@ -3,7 +3,7 @@ use Rattle.std.proofs.Common.{[]}
 use Rattle.sig_terms.specs.Names.{Named}
 use Rattle.sig_kinds.specs.declared.signal.Signal.{Signal}
 use Rattle.sig_kinds.specs.SignalNames.{SignalNames}
-use Rattle.sig_script.specs.Scripts.{Declared}
+use Rattle.sig_program.specs.Scripts.{Declared}
 use Rattle.sig_model.specs.Names.{ScriptNames}
 
 -- whatever a process names

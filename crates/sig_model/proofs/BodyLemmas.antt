@@ -15,7 +15,7 @@ use Rattle.sig_kinds.specs.declared.signal.Kind.TheVariants as kind
 use Rattle.sig_kinds.specs.LinkRules.{LinkState, is_active, awaited_from, link, unlink, on_link, on_ack}
 use Rattle.sig_kinds.specs.SignalNames.{names_of_kind, LinkNames}
 use Rattle.sig_patterns.specs.Inbox.{Inbox, emptied_inbox}
-use Rattle.sig_script.specs.Scripts.{Declared}
+use Rattle.sig_program.specs.Scripts.{Declared}
 use Rattle.sig_model.specs.declared.event.Outcome.{Outcome}
 use Rattle.sig_model.specs.ProcessState.{ProcessState, owner_of, relinked, Post, downs_due}
 use Rattle.sig_model.specs.Bodies.{Body, dropping, ending}

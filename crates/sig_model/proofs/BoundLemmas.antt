@@ -3,7 +3,7 @@ use Rattle.std.proofs.Common.{ℕ, zero, suc, ◌+◌, ◌≤◌, ◌<◌, IfSom
 use Rattle.std.specs.Prelude.{slice_index, replicate}
 use Rattle.std.proofs.lemmas.Option.{IfSome_then}
 use Rattle.sig_kinds.specs.declared.signal.Signal.{Signal}
-use Rattle.sig_script.specs.Scripts.{Declared, IsWithin}
+use Rattle.sig_program.specs.Scripts.{Declared, IsWithin}
 use Rattle.sig_model.specs.declared.event.Did.{Did}
 use Rattle.sig_model.specs.ProcessState.{ProcessState, opening_state, downs_due}
 use Rattle.sig_model.specs.Bodies.{Body}

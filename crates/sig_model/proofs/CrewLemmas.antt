@@ -16,7 +16,7 @@ use Rattle.sig_runs.specs.Crew.{Member}
 use Rattle.sig_runs.specs.OnTheWay.{IsHandledNext, outgoing, own_part, taken_in_part, on_way, boxes_after, boxes_with}
 use Rattle.sig_runs.proofs.Steps.{applies, pulled, IsOldest}
 use Rattle.sig_runs.proofs.OnTheWay.{next_is_oldest, way_step, delivery_keeps_way}
-use Rattle.sig_script.specs.Scripts.{Program}
+use Rattle.sig_program.specs.Scripts.{Program}
 use Rattle.sig_model.specs.declared.event.Event.{Event}
 use Rattle.sig_model.specs.ProcessState.{ProcessState}
 use Rattle.sig_model.specs.Machine.{rules_of, rules_with}

@@ -11,7 +11,7 @@ use Rattle.sig_runs.specs.LocalRun.{Input, CanDo, own_left, handled_in}
 use Rattle.sig_runs.specs.LocalRun.Input.{Execute, Handle}
 use Rattle.sig_runs.specs.Crew.{Member}
 use Rattle.sig_runs.specs.OnTheWay.{IsHandledNext, outgoing, taken_in_left}
-use Rattle.sig_script.specs.Scripts.{Declared, Program}
+use Rattle.sig_program.specs.Scripts.{Declared, Program}
 use Rattle.sig_model.specs.declared.event.Event.{Event}
 use Rattle.sig_model.specs.ProcessState.{ProcessState, is_cut}
 use Rattle.sig_model.specs.Bodies.{Body}

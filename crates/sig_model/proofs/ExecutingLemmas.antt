@@ -30,12 +30,12 @@ use Rattle.sig_patterns.specs.Environment.{value_of_var}
 use Rattle.sig_patterns.specs.Building.{value_of, is_small}
 use Rattle.sig_patterns.specs.Inbox.{Inbox, terms_of, without_message, down_place, emptied_inbox, reserved, without_mark, is_made_since, bound_by, bound_in, cleared_in}
 use Rattle.sig_patterns.specs.Scanning.{Hit}
-use Rattle.sig_script.specs.declared.label.Label.{Label}
-use Rattle.sig_script.specs.declared.instruction.Instr.{Instr}
-use Rattle.sig_script.specs.declared.instruction.Instr.TheVariants as instr
-use Rattle.sig_script.specs.declared.instruction.After.{After}
-use Rattle.sig_script.specs.Parts.{exprs_of}
-use Rattle.sig_script.specs.Scripts.{Declared, IsInstrBelow, IsProcBelow, IsPlace, IsWithin}
+use Rattle.sig_program.specs.declared.label.Label.{Label}
+use Rattle.sig_program.specs.declared.instruction.Instr.{Instr}
+use Rattle.sig_program.specs.declared.instruction.Instr.TheVariants as instr
+use Rattle.sig_program.specs.declared.instruction.After.{After}
+use Rattle.sig_program.specs.Parts.{exprs_of}
+use Rattle.sig_program.specs.Scripts.{Declared, IsInstrBelow, IsProcBelow, IsPlace, IsWithin}
 use Rattle.sig_model.specs.declared.event.Outcome.{Outcome}
 use Rattle.sig_model.specs.declared.event.Outcome.TheVariants as outcome
 use Rattle.sig_model.specs.ProcessState.{ProcessState, owner_of, Post, rewatched, InboxNames, TableNames}

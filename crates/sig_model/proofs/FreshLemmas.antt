@@ -8,7 +8,7 @@ use Rattle.sig_terms.specs.declared.reference.Ref.{Ref}
 use Rattle.sig_terms.specs.Names.{reference}
 use Rattle.sig_kinds.specs.declared.signal.Signal.{Signal}
 use Rattle.sig_kinds.specs.SignalNames.{names_of_kind}
-use Rattle.sig_script.specs.Scripts.{Declared}
+use Rattle.sig_program.specs.Scripts.{Declared}
 use Rattle.sig_runs.specs.Rules.{Effect}
 use Rattle.sig_runs.specs.Fresh.{Holds, StandsAfter, IsNew, MakesFresh}
 use Rattle.sig_model.specs.declared.event.Event.{Event}

@@ -26,7 +26,7 @@ use Rattle.sig_kinds.specs.SignalNames.{names_of_kind, LinkNames, WatchNames, Si
 use Rattle.sig_kinds.proofs.LinkNameLemmas.{deactivated_names, on_link_names, on_unlink_names, on_ack_names}
 use Rattle.sig_kinds.proofs.WatchNameLemmas.{unmonitored_names, told_names, on_alias_message_names, on_monitor_names, on_demonitor_names}
 use Rattle.sig_patterns.specs.Inbox.{Inbox, arrived_in, emptied_inbox}
-use Rattle.sig_script.specs.Scripts.{Declared}
+use Rattle.sig_program.specs.Scripts.{Declared}
 use Rattle.sig_model.specs.declared.event.Outcome.{Outcome}
 use Rattle.sig_model.specs.declared.event.Outcome.TheVariants as outcome
 use Rattle.sig_model.specs.ProcessState.{ProcessState, Post, relinked, rewatched, TableNames}

@@ -7,7 +7,7 @@ use Rattle.std.proofs.lemmas.Option.{IfSome_then}
 use Rattle.sig_terms.specs.Names.{IsNameBelow}
 use Rattle.sig_kinds.specs.declared.signal.Signal.{Signal}
 use Rattle.sig_kinds.specs.SignalNames.{IsSignalBelow}
-use Rattle.sig_script.specs.Scripts.{Declared, IsWithin, IsProcBelow}
+use Rattle.sig_program.specs.Scripts.{Declared, IsWithin, IsProcBelow}
 use Rattle.sig_runs.specs.Rules.{Effect, Rules}
 use Rattle.sig_runs.specs.LocalRun.{Input, handled_in}
 use Rattle.sig_runs.specs.LocalRun.Input.{Execute, Handle}

@@ -9,7 +9,7 @@ use Rattle.std.proofs.lemmas.List.Elements.{All-head, All-tail}
 use Rattle.std.proofs.lemmas.Option.{same_Some, slice_get-get_or, get_or_from_slice_get}
 use Rattle.sig_kinds.specs.declared.signal.Signal.{Signal}
 use Rattle.sig_kinds.specs.SignalNames.{IsSignalBelow}
-use Rattle.sig_script.specs.Scripts.{Program}
+use Rattle.sig_program.specs.Scripts.{Program}
 use Rattle.sig_runs.specs.LocalRun.{Input, Act, CanDo}
 use Rattle.sig_runs.specs.LocalRun.Input.{Execute, Handle}
 use Rattle.sig_runs.specs.OnTheWay.{IsHandledNext, DoesAct, Delivers, outgoing, boxes_after, boxes_with}

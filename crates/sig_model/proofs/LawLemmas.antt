@@ -7,7 +7,7 @@ use Rattle.std.proofs.lemmas.Bool.Decides.{eqb_tells}
 use Rattle.std.proofs.lemmas.List.Elements.{filter-append, All-weaker}
 use Rattle.std.proofs.lemmas.Option.{slice_get-map, slice_get_past}
 use Rattle.sig_kinds.specs.declared.signal.Signal.{Signal}
-use Rattle.sig_script.specs.Scripts.{Declared, Program}
+use Rattle.sig_program.specs.Scripts.{Declared, Program}
 use Rattle.sig_runs.specs.Rules.{Effect, addressed, coming_from}
 use Rattle.sig_runs.specs.LocalRun.{Local, Act, Input, CanDo, after, IsLocalRun, handles, sends}
 use Rattle.sig_runs.specs.LocalRun.Input.{Execute, Handle}

@@ -2,7 +2,7 @@
 use Rattle.std.proofs.Common.{◌≡◌, ℕ, List, [], ◌∷◌, map, Option, Some, None, refl, ap, ◌∙◌}
 use Rattle.std.specs.Prelude.{slice_get}
 use Rattle.sig_kinds.specs.declared.signal.Signal.{Signal}
-use Rattle.sig_script.specs.Scripts.{Program}
+use Rattle.sig_program.specs.Scripts.{Program}
 use Rattle.sig_runs.specs.LocalRun.{Act}
 use Rattle.sig_runs.specs.Crew.{Member, acts_of, queued_at, crew_machine}
 use Rattle.sig_runs.specs.Order.{Place, IsOrder, events_at}

@@ -4,7 +4,7 @@ use Rattle.std.specs.Prelude.{All, slice_get, slice_set}
 use Rattle.std.proofs.lemmas.List.{set-set, set_comm}
 use Rattle.std.proofs.lemmas.Option.{same_Some, slice_get-map, slice_get_within, MatchOption-at_some}
 use Rattle.sig_kinds.specs.declared.signal.Signal.{Signal}
-use Rattle.sig_script.specs.Scripts.{Program, IsWithin, IsProcBelow, IsSound}
+use Rattle.sig_program.specs.Scripts.{Program, IsWithin, IsProcBelow, IsSound}
 use Rattle.sig_runs.specs.Crew.{Member, crew_machine}
 use Rattle.sig_runs.specs.Settled.{IsSettled}
 use Rattle.sig_runs.specs.Quiet.{IsQuiet}

@@ -1,7 +1,7 @@
 -- The runs of a script's machine from its opening, from the marks and over all messages.
 use Rattle.std.proofs.Common.{◌≡◌, ℕ, List, All, length, Some, slice_get}
 use Rattle.sig_kinds.specs.declared.signal.Signal.{Signal}
-use Rattle.sig_script.specs.Scripts.{Declared, Program, IsWithin, IsProcBelow, IsSound}
+use Rattle.sig_program.specs.Scripts.{Declared, Program, IsWithin, IsProcBelow, IsSound}
 use Rattle.sig_runs.specs.Machine.{Machine, At, IsRun}
 use Rattle.sig_runs.specs.Crew.{opening_machine}
 use Rattle.sig_runs.specs.Fresh.{MakesFresh}

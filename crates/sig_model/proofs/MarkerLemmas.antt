@@ -8,9 +8,9 @@ use Rattle.sig_terms.specs.declared.term.Term.{Term}
 use Rattle.sig_terms.specs.Nodes.{holds}
 use Rattle.sig_kinds.specs.declared.signal.Signal.{Signal}
 use Rattle.sig_patterns.specs.Inbox.{terms_of, start_of, bound_in}
-use Rattle.sig_script.specs.declared.instruction.Instr.{Instr}
-use Rattle.sig_script.specs.declared.instruction.Instr.TheVariants as instr
-use Rattle.sig_script.specs.Scripts.{Declared, Program, IsWithin}
+use Rattle.sig_program.specs.declared.instruction.Instr.{Instr}
+use Rattle.sig_program.specs.declared.instruction.Instr.TheVariants as instr
+use Rattle.sig_program.specs.Scripts.{Declared, Program, IsWithin}
 use Rattle.sig_runs.specs.Rules.{Effect}
 use Rattle.sig_runs.specs.Crew.{opening_machine}
 use Rattle.sig_runs.specs.Marks.{OwnMade, KeepsSound, AllSound}

@@ -5,7 +5,7 @@ use Rattle.std.proofs.lemmas.Option.{MatchOption-at_some}
 use Rattle.sig_terms.specs.Names.{IsNameBelow}
 use Rattle.sig_kinds.specs.declared.signal.Signal.{Signal}
 use Rattle.sig_kinds.specs.SignalNames.{IsSignalBelow}
-use Rattle.sig_script.specs.Scripts.{Declared, Program, IsProcBelow}
+use Rattle.sig_program.specs.Scripts.{Declared, Program, IsProcBelow}
 use Rattle.sig_runs.specs.Rules.{Effect}
 use Rattle.sig_runs.specs.Crew.{opening_machine}
 use Rattle.sig_runs.specs.Everywhere.{HoldEverywhere, HoldAfter, EventKeeps}

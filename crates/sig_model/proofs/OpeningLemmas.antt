@@ -8,7 +8,7 @@ use Rattle.sig_kinds.specs.declared.signal.Signal.{Signal}
 use Rattle.sig_runs.specs.Rules.{addressed}
 use Rattle.sig_runs.specs.Crew.{opening_machine}
 use Rattle.sig_runs.specs.OnTheWay.{own_part, taken_in_part, on_way}
-use Rattle.sig_script.specs.Scripts.{Declared, Program}
+use Rattle.sig_program.specs.Scripts.{Declared, Program}
 use Rattle.sig_model.specs.ProcessState.{opening_state}
 use Rattle.sig_model.specs.Machine.{rules_of, opening_from, opening_of}
 use Rattle.sig_model.specs.Running.{Running, opened}

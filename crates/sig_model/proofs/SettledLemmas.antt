@@ -16,7 +16,7 @@ use Rattle.sig_runs.specs.Quiet.{can_handle as may_handle, can_exec as may_exec}
 use Rattle.sig_runs.specs.Crew.{queued_at}
 use Rattle.sig_runs.proofs.Delivery.{at_rest}
 use Rattle.sig_runs.proofs.Quiet.{quiet_at_rest}
-use Rattle.sig_script.specs.Scripts.{Program}
+use Rattle.sig_program.specs.Scripts.{Program}
 use Rattle.sig_model.specs.declared.event.Event.{Event}
 use Rattle.sig_model.specs.declared.state.TheConstants.{LAST_STAMP}
 use Rattle.sig_model.specs.ProcessState.{ProcessState, is_cut}

@@ -17,10 +17,10 @@ use Rattle.sig_patterns.specs.Pinning.{pins, AskFor}
 use Rattle.sig_patterns.specs.Scanning.{Hit, behind_messages, hit}
 use Rattle.sig_patterns.proofs.MarkLemmas.{start_within}
 use Rattle.sig_patterns.proofs.PinLemmas.{older_skipped}
-use Rattle.sig_script.specs.declared.instruction.Instr.{Instr}
-use Rattle.sig_script.specs.declared.instruction.Instr.TheVariants as instr
-use Rattle.sig_script.specs.declared.instruction.After.{After}
-use Rattle.sig_script.specs.Scripts.{Declared, AreMarked, IsLawful, IsWithin}
+use Rattle.sig_program.specs.declared.instruction.Instr.{Instr}
+use Rattle.sig_program.specs.declared.instruction.Instr.TheVariants as instr
+use Rattle.sig_program.specs.declared.instruction.After.{After}
+use Rattle.sig_program.specs.Scripts.{Declared, AreMarked, IsLawful, IsWithin}
 use Rattle.sig_model.specs.ProcessState.{ProcessState}
 use Rattle.sig_model.specs.Executing.{ref_in, using_ref, marked_start, from_mark, from_oldest, hit_from, taking, receiving, exec_body, executing, executing_whole, IsWaiting, IsSoundAt, SkipsNone}
 use Rattle.sig_model.specs.Finishing.{finished_exec}

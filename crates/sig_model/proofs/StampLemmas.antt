@@ -8,7 +8,7 @@ use Rattle.sig_runs.specs.Rules.{Effect, IsStamped, KeepStamps}
 use Rattle.sig_runs.specs.Rules.Did.{Exec}
 use Rattle.sig_runs.specs.LocalRun.{Input, CanDo, handled_in}
 use Rattle.sig_runs.specs.LocalRun.Input.{Execute, Handle}
-use Rattle.sig_script.specs.Scripts.{Declared}
+use Rattle.sig_program.specs.Scripts.{Declared}
 use Rattle.sig_model.specs.declared.event.Event.{Event}
 use Rattle.sig_model.specs.declared.event.Did.{Did}
 use Rattle.sig_model.specs.declared.event.Did.TheVariants as did

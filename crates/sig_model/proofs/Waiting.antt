@@ -2,10 +2,10 @@
 use Rattle.std.proofs.Common.{◌≡◌, ℕ, ◌-◌, Option, Some, None, slice_get, refl, ap, ◌∙◌}
 use Rattle.std.specs.Prelude.{◌↔◌, IsSome}
 use Rattle.sig_patterns.specs.Scanning.{Hit}
-use Rattle.sig_script.specs.declared.instruction.Instr.{Instr}
-use Rattle.sig_script.specs.declared.instruction.Instr.TheVariants as instr
-use Rattle.sig_script.specs.declared.instruction.After.{After}
-use Rattle.sig_script.specs.Scripts.{Declared}
+use Rattle.sig_program.specs.declared.instruction.Instr.{Instr}
+use Rattle.sig_program.specs.declared.instruction.Instr.TheVariants as instr
+use Rattle.sig_program.specs.declared.instruction.After.{After}
+use Rattle.sig_program.specs.Scripts.{Declared}
 use Rattle.sig_model.specs.ProcessState.{ProcessState}
 use Rattle.sig_model.specs.Executing.{marked_start, from_mark, hit_from, receiving, exec_body, executing, IsWaiting}
 

@@ -1,7 +1,7 @@
 -- How far the counts of a process go. The bounds are this project's own; stamps are Lamport's logical clocks.
 use Rattle.std.specs.Prelude.{ℕ, ◌+◌, ◌≤◌, ◌==◌, List, length, slice_index}
 use Rattle.std.specs.List.{filter}
-use Rattle.sig_script.specs.Scripts.{Declared}
+use Rattle.sig_program.specs.Scripts.{Declared}
 use Rattle.sig_model.specs.ProcessState.{ProcessState, Post, downs_due}
 use Rattle.sig_model.specs.Bodies.{Body}
 

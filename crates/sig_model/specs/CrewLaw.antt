@@ -1,7 +1,7 @@
 -- The law of a crew of processes that run: of each two of them, all that one sent to the other, once and in order.
 use Rattle.std.specs.Prelude.{◌≡◌, ◌≢◌, ℕ, List, [], ◌∷◌, ◌++◌, map, length, Option, Some, None, slice_get, slice_set}
 use Rattle.sig_kinds.specs.declared.signal.Signal.{Signal}
-use Rattle.sig_script.specs.Scripts.{Program}
+use Rattle.sig_program.specs.Scripts.{Program}
 use Rattle.sig_runs.specs.Machine.{Machine, apply, choice}
 use Rattle.sig_runs.specs.Replay.{acts_told}
 use Rattle.sig_runs.specs.Crew.{Member}

@@ -20,10 +20,10 @@ use Rattle.sig_patterns.specs.Environment.{Environment, value_of_var}
 use Rattle.sig_patterns.specs.Building.{value_of, is_small}
 use Rattle.sig_patterns.specs.Inbox.{Inbox, terms_of, without_message, flushed_down, reserved, bound_in, cleared_in, start_of}
 use Rattle.sig_patterns.specs.Scanning.{Hit, hit}
-use Rattle.sig_script.specs.declared.instruction.Instr.{Instr}
-use Rattle.sig_script.specs.declared.instruction.Instr.TheVariants as instr
-use Rattle.sig_script.specs.declared.instruction.After.{After}
-use Rattle.sig_script.specs.Scripts.{Declared}
+use Rattle.sig_program.specs.declared.instruction.Instr.{Instr}
+use Rattle.sig_program.specs.declared.instruction.Instr.TheVariants as instr
+use Rattle.sig_program.specs.declared.instruction.After.{After}
+use Rattle.sig_program.specs.Scripts.{Declared}
 use Rattle.sig_model.specs.declared.event.Outcome.TheVariants as outcome
 use Rattle.sig_model.specs.declared.target.Target.{Target}
 use Rattle.sig_model.specs.declared.target.Target.TheVariants as target

@@ -2,7 +2,7 @@
 use Rattle.std.specs.Prelude.{◌≡◌, ◌≢◌, ℕ, ◌≤◌, List, [], length, All, Some, slice_get}
 use Rattle.sig_kinds.specs.declared.signal.Signal.{Signal}
 use Rattle.sig_kinds.specs.SignalNames.{IsSignalBelow}
-use Rattle.sig_script.specs.Scripts.{IsWithin}
+use Rattle.sig_program.specs.Scripts.{IsWithin}
 use Rattle.sig_runs.specs.Rules.{Rules}
 use Rattle.sig_runs.specs.LocalRun.{Local}
 use Rattle.sig_runs.specs.Replay.{RanAlone}

@@ -2,8 +2,8 @@
 use Rattle.std.specs.Prelude.{ℕ, ◌+◌, List, [], ◌∷◌, length, Option, Some, None, is_some, slice_get}
 use Rattle.std.specs.Option.{option_map}
 use Rattle.sig_kinds.specs.declared.signal.Signal.{Signal}
-use Rattle.sig_script.specs.Scripts.{Declared}
-use Rattle.sig_script.specs.Scripts.{Program}
+use Rattle.sig_program.specs.Scripts.{Declared}
+use Rattle.sig_program.specs.Scripts.{Program}
 use Rattle.sig_runs.specs.Rules.{Effect, Rules}
 use Rattle.sig_runs.specs.Rules.{Did as Acted}
 use Rattle.sig_runs.specs.Rules.Did.{Exec as Executed, From as Handled}

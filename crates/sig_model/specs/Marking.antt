@@ -11,7 +11,7 @@ use Rattle.sig_kinds.specs.SignalNames.{names_of_kind}
 use Rattle.sig_patterns.specs.declared.mark.Reserve.{Reserve}
 use Rattle.sig_patterns.specs.declared.mark.Mark.{Mark}
 use Rattle.sig_patterns.specs.Inbox.{Inbox}
-use Rattle.sig_script.specs.Scripts.{Declared, Program}
+use Rattle.sig_program.specs.Scripts.{Declared, Program}
 use Rattle.sig_runs.specs.Rules.{Effect}
 use Rattle.sig_runs.specs.Fresh.{Marking}
 use Rattle.sig_model.specs.declared.event.Event.{Event}

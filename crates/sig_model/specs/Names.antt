@@ -4,9 +4,9 @@ use Rattle.std.specs.Prelude.{ℕ, ◌<◌, All}
 use Rattle.sig_terms.specs.Names.{Named, process, IsNameBelow}
 use Rattle.sig_kinds.specs.SignalNames.{names_of_kind, IsSignalBelow}
 use Rattle.sig_patterns.specs.declared.expression.Expr.{Expr}
-use Rattle.sig_script.specs.declared.instruction.Instr.{Instr}
-use Rattle.sig_script.specs.Parts.{exprs_of, pids_of}
-use Rattle.sig_script.specs.Scripts.{Declared, IsProcBelow}
+use Rattle.sig_program.specs.declared.instruction.Instr.{Instr}
+use Rattle.sig_program.specs.Parts.{exprs_of, pids_of}
+use Rattle.sig_program.specs.Scripts.{Declared, IsProcBelow}
 use Rattle.sig_model.specs.ProcessState.{Post, TableNames}
 use Rattle.sig_model.specs.Bodies.{Body}
 use Rattle.sig_model.specs.Running.{Running}

@@ -2,8 +2,8 @@
 use Rattle.std.specs.Prelude.{◌≡◌, ℕ, zero, suc, ◌+◌, List, [], ◌∷◌, ◌++◌, length, All, slice_get, slice_set, Bool, true, false, ◌||◌, not, ◌==◌, Option, Some, None, unwrap_or}
 use Rattle.std.specs.Option.{option_map_or}
 use Rattle.sig_kinds.specs.declared.signal.Signal.{Signal}
-use Rattle.sig_script.specs.Scripts.{Declared}
-use Rattle.sig_script.specs.Scripts.{Program}
+use Rattle.sig_program.specs.Scripts.{Declared}
+use Rattle.sig_program.specs.Scripts.{Program}
 use Rattle.sig_model.specs.Running.{Running, opened, exec_next, handle_next}
 
 -- handlings of signals, as long as one may be handled, at most n

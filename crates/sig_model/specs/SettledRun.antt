@@ -2,7 +2,7 @@
 use Rattle.std.specs.Prelude.{◌≡◌, ℕ, ◌==◌, true, List, [], length, map, Option, Some, None, IsSome, ◌⊎◌, slice_get, if◌then◌else◌}
 use Rattle.std.specs.List.{filter}
 use Rattle.sig_kinds.specs.declared.signal.Signal.{Signal}
-use Rattle.sig_script.specs.Scripts.{Program}
+use Rattle.sig_program.specs.Scripts.{Program}
 use Rattle.sig_runs.specs.Machine.{Machine, At, IsRun}
 use Rattle.sig_runs.specs.Crew.{opening_machine}
 use Rattle.sig_runs.specs.Order.{events_by}

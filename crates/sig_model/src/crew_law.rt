@@ -1,7 +1,7 @@
 ghost use Rattle.std.specs.Prelude.{◌≡◌, ◌≢◌, ℕ, ◌+◌, List, ◌∷◌, map, length, All, Some, slice_get, slice_set};
 ghost use Rattle.sig_kinds.specs.declared.signal.Signal.{Signal};
 ghost use Rattle.sig_kinds.specs.Counting.{IsCounting};
-ghost use Rattle.sig_script.specs.Scripts.{Program, IsSound, IsWithin};
+ghost use Rattle.sig_program.specs.Scripts.{Program, IsSound, IsWithin};
 ghost use Rattle.sig_runs.specs.Crew.{IsLawful, crew_machine};
 ghost use Rattle.sig_runs.specs.Order.{Place, IsOrder, events_at};
 ghost use Rattle.sig_runs.specs.OnTheWay.{IsLawfulAtWork};

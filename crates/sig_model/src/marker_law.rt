@@ -1,6 +1,6 @@
 ghost use Rattle.std.specs.Prelude.{◌≡◌, ℕ, List, All, Some, length, slice_get};
 ghost use Rattle.sig_kinds.specs.declared.signal.Signal.{Signal};
-ghost use Rattle.sig_script.specs.Scripts.{Declared, Program, IsWithin, IsSound};
+ghost use Rattle.sig_program.specs.Scripts.{Declared, Program, IsWithin, IsSound};
 ghost use Rattle.sig_runs.specs.Machine.{Machine, At, IsRun};
 ghost use Rattle.sig_runs.specs.Crew.{opening_machine};
 ghost use Rattle.sig_runs.specs.Fresh.{MakesFresh};

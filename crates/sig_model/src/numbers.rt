@@ -1,6 +1,6 @@
 ghost use Rattle.std.specs.Prelude.{◌≡◌, ℕ, List, ◌++◌, Some};
 ghost use Rattle.sig_kinds.specs.declared.signal.Signal.{Signal};
-ghost use Rattle.sig_script.specs.Scripts.{Declared};
+ghost use Rattle.sig_program.specs.Scripts.{Declared};
 ghost use Rattle.sig_model.specs.Running.{Running, opened, exec_next, handle_next};
 ghost use Rattle.sig_model.specs.Keeping.{IsKeeping};
 ghost use Rattle.sig_model.specs.Accounts.{IsNumbered};

@@ -1,5 +1,5 @@
 ghost use Rattle.std.specs.Prelude.{◌≡◌, ◌↔◌, None};
-ghost use Rattle.sig_script.specs.Scripts.{Declared, IsWithin};
+ghost use Rattle.sig_program.specs.Scripts.{Declared, IsWithin};
 ghost use Rattle.sig_model.specs.ProcessState.{ProcessState};
 ghost use Rattle.sig_model.specs.Executing.{executing, executing_whole, IsWaiting, SkipsNone};
 

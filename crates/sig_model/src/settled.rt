@@ -1,5 +1,5 @@
 ghost use Rattle.std.specs.Prelude.{◌≡◌, List};
-ghost use Rattle.sig_script.specs.Scripts.{Program};
+ghost use Rattle.sig_program.specs.Scripts.{Program};
 ghost use Rattle.sig_model.specs.Running.{Running};
 ghost use Rattle.sig_model.specs.OneWorker.{RunsTo, opened_crew};
 ghost use Rattle.sig_model.specs.SettledRun.{IsSettledRun};

@@ -1,5 +1,5 @@
 ghost use Rattle.sig_runs.specs.Rules.{KeepStamps};
-ghost use Rattle.sig_script.specs.Scripts.{Program};
+ghost use Rattle.sig_program.specs.Scripts.{Program};
 ghost use Rattle.sig_model.specs.Machine.{rules_of};
 
 /// The stamps of every script's machine are as the theory of merged runs wants them: an execution

@@ -3,7 +3,7 @@ ghost use Rattle.sig_kinds.specs.declared.signal.Signal.{Signal};
 ghost use Rattle.sig_runs.specs.Machine.{Machine, At, IsRun};
 ghost use Rattle.sig_runs.specs.Crew.{opening_machine};
 ghost use Rattle.sig_runs.specs.Everywhere.{HoldEverywhere};
-ghost use Rattle.sig_script.specs.Scripts.{Program};
+ghost use Rattle.sig_program.specs.Scripts.{Program};
 ghost use Rattle.sig_model.specs.declared.event.Event.{Event};
 ghost use Rattle.sig_model.specs.ProcessState.{ProcessState};
 ghost use Rattle.sig_model.specs.Machine.{rules_of, opening_of};

@@ -12,8 +12,8 @@ use Rattle.sig_patterns.proofs.MarkLemmas.{start_arrived}
 use Rattle.sig_inner.specs.InnerQueue.{InnerQueue, appended, emptied}
 use Rattle.sig_inner.proofs.Resuming.{passed_append, passed_appended, passed_unsaved}
 use Rattle.sig_inner.specs.Receiving.{passed, HasPassed}
-use Rattle.sig_script.specs.declared.instruction.Instr.{Instr}
-use Rattle.sig_script.specs.declared.instruction.Instr.TheVariants as instr
+use Rattle.sig_program.specs.declared.instruction.Instr.{Instr}
+use Rattle.sig_program.specs.declared.instruction.Instr.TheVariants as instr
 use Rattle.sig_kinds.specs.declared.signal.Signal.{Signal}
 use Rattle.sig_model.specs.ProcessState.{ProcessState}
 use Rattle.sig_model.specs.Bodies.{Body}

@@ -8,9 +8,9 @@ use Rattle.sig_patterns.specs.Inbox.{terms_of, start_of}
 use Rattle.sig_patterns.specs.Scanning.{Hit, places_of, hit, scan}
 use Rattle.sig_inner.specs.InnerQueue.{InnerQueue}
 use Rattle.sig_inner.specs.Receiving.{passed}
-use Rattle.sig_script.specs.declared.instruction.Instr.{Instr}
-use Rattle.sig_script.specs.declared.instruction.Instr.TheVariants as instr
-use Rattle.sig_script.specs.Scripts.{Declared}
+use Rattle.sig_program.specs.declared.instruction.Instr.{Instr}
+use Rattle.sig_program.specs.declared.instruction.Instr.TheVariants as instr
+use Rattle.sig_program.specs.Scripts.{Declared}
 use Rattle.sig_model.specs.Executing.{using_ref, IsWaiting}
 use Rattle.sig_process.specs.declared.progress.Progress.{Progress}
 use Rattle.sig_process.specs.Idling.{is_bare_receive}

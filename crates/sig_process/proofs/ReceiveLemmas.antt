@@ -17,9 +17,9 @@ use Rattle.sig_patterns.proofs.HitLemmas.{IsByClause, hit_message, hit_clause}
 use Rattle.sig_inner.specs.declared.last_scan.LastScan.TheVariants as last
 use Rattle.sig_inner.specs.InnerQueue.{InnerQueue, InnerTable, found_message}
 use Rattle.sig_inner.specs.Receiving.{scanned, left_by, after_scan, is_saved, HasPassed, IsAsked}
-use Rattle.sig_script.specs.declared.instruction.Instr.TheVariants as instr
-use Rattle.sig_script.specs.declared.instruction.After.{After}
-use Rattle.sig_script.specs.Scripts.{Declared, AreMarked}
+use Rattle.sig_program.specs.declared.instruction.Instr.TheVariants as instr
+use Rattle.sig_program.specs.declared.instruction.After.{After}
+use Rattle.sig_program.specs.Scripts.{Declared, AreMarked}
 use Rattle.sig_model.proofs.SkipLemmas.{asks}
 use Rattle.sig_runs.specs.Rules.{Effect}
 use Rattle.sig_kinds.specs.declared.signal.Signal.{Signal}

@@ -7,8 +7,8 @@ use Rattle.sig_inner.specs.declared.last_scan.LastScan.TheVariants as last
 use Rattle.sig_inner.specs.InnerQueue.{InnerQueue}
 use Rattle.sig_inner.specs.Receiving.{is_saved, passed}
 use Rattle.sig_inner.proofs.Resuming.{passed_unsaved}
-use Rattle.sig_script.specs.declared.instruction.Instr.{Instr}
-use Rattle.sig_script.specs.declared.instruction.Instr.TheVariants as instr
+use Rattle.sig_program.specs.declared.instruction.Instr.{Instr}
+use Rattle.sig_program.specs.declared.instruction.Instr.TheVariants as instr
 use Rattle.sig_model.specs.Executing.{using_ref}
 use Rattle.sig_process.specs.Soundness.{HasPassedAt}
 

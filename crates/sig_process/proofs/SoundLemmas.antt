@@ -8,8 +8,8 @@ use Rattle.sig_terms.specs.declared.term.Term.{Term}
 use Rattle.sig_kinds.specs.declared.signal.Signal.{Signal}
 use Rattle.sig_kinds.specs.SignalList.{SignalList}
 use Rattle.sig_kinds.specs.SignalNames.{IsSignalBelow}
-use Rattle.sig_script.specs.declared.instruction.Instr.{Instr}
-use Rattle.sig_script.specs.Scripts.{Declared, Program, IsProcBelow, IsWithin, IsSound as IsSoundScript}
+use Rattle.sig_program.specs.declared.instruction.Instr.{Instr}
+use Rattle.sig_program.specs.Scripts.{Declared, Program, IsProcBelow, IsWithin, IsSound as IsSoundScript}
 use Rattle.sig_runs.specs.Rules.{Effect}
 use Rattle.sig_inner.specs.InnerQueue.{InnerQueue, opened as no_queue}
 use Rattle.sig_inner.specs.Receiving.{is_saved, passed}

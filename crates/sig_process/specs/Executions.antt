@@ -6,8 +6,8 @@ use Rattle.sig_patterns.specs.declared.mark.Mark.{Mark}
 use Rattle.sig_patterns.specs.Scanning.{Hit}
 use Rattle.sig_inner.specs.InnerQueue.{InnerQueue}
 use Rattle.sig_inner.specs.declared.last_scan.LastScan.TheVariants as last
-use Rattle.sig_script.specs.declared.instruction.Instr.{Instr}
-use Rattle.sig_script.specs.Scripts.{Declared, IsWithin}
+use Rattle.sig_program.specs.declared.instruction.Instr.{Instr}
+use Rattle.sig_program.specs.Scripts.{Declared, IsWithin}
 use Rattle.sig_runs.specs.Rules.{Effect}
 use Rattle.sig_inner.specs.Receiving.{is_saved, passed}
 use Rattle.sig_model.specs.declared.event.Event.{Event}

@@ -1,7 +1,7 @@
 -- A process that has nothing to do. (Erlang Reference Manual, Expressions, Receive; Processes, Process Termination.)
 use Rattle.std.specs.Prelude.{◌≡◌, ◌==◌, ◌-◌, ◌&&◌, ◌||◌, not, nat_le, length, slice_get, [], Bool, true, false, Option, Some, None}
-use Rattle.sig_script.specs.declared.instruction.Instr.{Instr}
-use Rattle.sig_script.specs.declared.instruction.Instr.TheVariants as instr
+use Rattle.sig_program.specs.declared.instruction.Instr.{Instr}
+use Rattle.sig_program.specs.declared.instruction.Instr.TheVariants as instr
 use Rattle.sig_model.specs.Running.{Running, can_exec, exec_next}
 use Rattle.sig_process.specs.Standing.{Standing}
 

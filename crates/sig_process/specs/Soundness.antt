@@ -4,9 +4,9 @@ use Rattle.sig_patterns.specs.Environment.{Environment}
 use Rattle.sig_patterns.specs.Inbox.{start_of}
 use Rattle.sig_inner.specs.InnerQueue.{InnerQueue}
 use Rattle.sig_inner.specs.Receiving.{HasPassed, passed}
-use Rattle.sig_script.specs.declared.instruction.Instr.{Instr}
-use Rattle.sig_script.specs.declared.instruction.Instr.TheVariants as instr
-use Rattle.sig_script.specs.Scripts.{Declared}
+use Rattle.sig_program.specs.declared.instruction.Instr.{Instr}
+use Rattle.sig_program.specs.declared.instruction.Instr.TheVariants as instr
+use Rattle.sig_program.specs.Scripts.{Declared}
 use Rattle.sig_model.specs.Executing.{using_ref}
 use Rattle.sig_model.specs.Keeping.{IsKeeping}
 use Rattle.sig_process.specs.declared.progress.Progress.{Progress}

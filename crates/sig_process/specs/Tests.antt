@@ -2,8 +2,8 @@
 use Rattle.std.specs.Prelude.{ℕ, ◌-◌, ◌*◌, length, drop, slice_get, Option, Some}
 use Rattle.sig_patterns.specs.Inbox.{terms_of}
 use Rattle.sig_patterns.specs.Scanning.{scan, looked}
-use Rattle.sig_script.specs.declared.instruction.Instr.{Instr}
-use Rattle.sig_script.specs.declared.instruction.Instr.TheVariants as instr
+use Rattle.sig_program.specs.declared.instruction.Instr.{Instr}
+use Rattle.sig_program.specs.declared.instruction.Instr.TheVariants as instr
 use Rattle.sig_model.specs.ProcessState.{ProcessState}
 use Rattle.sig_model.specs.Executing.{marked_start}
 use Rattle.sig_process.specs.Standing.{Standing}

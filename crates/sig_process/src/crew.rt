@@ -7,7 +7,7 @@ ghost use Rattle.sig_model.specs.Keeping.{IsPlaced};
 ghost use Rattle.sig_model.specs.CrewLaw.{IsLawfulCrew};
 
 use crate::process::Process;
-use sig_script::Script;
+use sig_program::Script;
 use sig_terms::Pid;
 use std::alloc::{AllocError, Global};
 use std::marker::Model;

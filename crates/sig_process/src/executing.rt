@@ -8,7 +8,7 @@ ghost use Rattle.sig_process.specs.Tests.{tests_of};
 
 use crate::progress::Progress;
 use sig_base::Steps;
-use sig_script::{Instr, Proc};
+use sig_program::{Instr, Proc};
 use sig_terms::Pid;
 use std::alloc::AllocError;
 use std::sync::ledger::Ledger;

@@ -10,7 +10,7 @@ use crate::plan::Plan;
 use crate::progress::Progress;
 use crate::waiting::next_signal;
 use sig_model::LAST_STAMP;
-use sig_script::Proc;
+use sig_program::Proc;
 use sig_terms::Pid;
 use std::alloc::AllocError;
 

@@ -10,7 +10,7 @@ ghost use Rattle.sig_process.specs.Soundness.{IsSaved};
 
 use crate::process::Process;
 use crate::progress::Progress;
-use sig_script::{Instr, Proc};
+use sig_program::{Instr, Proc};
 
 /// Whether it is a receive without `after`.
 fn is_bare_receive(instr: Option<&Instr>) -> bool

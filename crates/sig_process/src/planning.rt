@@ -14,7 +14,7 @@ use crate::values::ValueFault;
 use sig_kinds::{AliasMode, Kind};
 use sig_model::{Outcome, Target};
 use sig_patterns::{Expr, Var};
-use sig_script::{Instr, Proc};
+use sig_program::{Instr, Proc};
 use sig_terms::{Pid, Ref, Term};
 use std::alloc::{AllocError, Global};
 use std::mem::drop;

@@ -1,6 +1,6 @@
 ghost use Rattle.std.specs.Prelude.{ℕ, ◌≡◌, ◌+◌, ◌<◌, ◌≤◌, true, length, IfOk, IfSome, MatchResult, slice_get, replicate};
 ghost use Rattle.sig_inner.specs.InnerQueue.{opened as no_queue};
-ghost use Rattle.sig_script.specs.Scripts.{Declared, IsProcBelow};
+ghost use Rattle.sig_program.specs.Scripts.{Declared, IsProcBelow};
 ghost use Rattle.sig_model.specs.ProcessState.{is_cut, opening_tables};
 ghost use Rattle.sig_model.specs.Executing.{SkipsNone};
 ghost use Rattle.sig_model.specs.Keeping.{IsKeeping};
@@ -17,7 +17,7 @@ use sig_base::Steps;
 use sig_kinds::Signals;
 use sig_lists::Sequence;
 use sig_model::{Events, LAST_STAMP};
-use sig_script::{Proc, Script};
+use sig_program::{Proc, Script};
 use sig_terms::Pid;
 use std::alloc::{AllocError, Global};
 use std::marker::Model;

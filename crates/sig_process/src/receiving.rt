@@ -2,7 +2,7 @@ ghost use Rattle.std.specs.Prelude.{ℕ, ◌≡◌, ◌-◌, ◌+◌, ◌*◌, �
 ghost use Rattle.sig_inner.specs.Receiving.{scanned, looked_in, answer_to, after_scan, is_saved, passed, HasPassed, IsScanWithin, IsAsked};
 ghost use Rattle.sig_patterns.specs.Inbox.{start_of};
 ghost use Rattle.sig_patterns.specs.Scanning.{Hit};
-ghost use Rattle.sig_script.specs.Scripts.{AreMarked};
+ghost use Rattle.sig_program.specs.Scripts.{AreMarked};
 ghost use Rattle.sig_model.specs.Bodies.{going_on, place_after};
 ghost use Rattle.sig_model.specs.Bounds.{IsBounded};
 ghost use Rattle.sig_model.specs.Executing.{taking};
@@ -20,7 +20,7 @@ use sig_base::Steps;
 use sig_inner::{Inner, Scan};
 use sig_model::{LAST_STAMP, Outcome};
 use sig_patterns::{Clauses, Env, Var};
-use sig_script::{After, Instr, Proc};
+use sig_program::{After, Instr, Proc};
 use sig_terms::{Pid, Ref};
 use std::alloc::AllocError;
 use std::sync::ledger::Ledger;

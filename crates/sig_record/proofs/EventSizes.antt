@@ -11,7 +11,7 @@ use Rattle.sig_runs.specs.Crew.{opening_machine}
 use Rattle.sig_runs.specs.Everywhere.{HoldEverywhere}
 use Rattle.sig_runs.proofs.Choices.{DidExecute, DidHandle, did_execute, did_handle}
 use Rattle.sig_runs.proofs.Runs.{run-push}
-use Rattle.sig_script.specs.Scripts.{Declared, Program}
+use Rattle.sig_program.specs.Scripts.{Declared, Program}
 use Rattle.sig_model.specs.declared.event.Event.{Event}
 use Rattle.sig_model.specs.ProcessState.{ProcessState}
 use Rattle.sig_model.specs.Bodies.{Body}

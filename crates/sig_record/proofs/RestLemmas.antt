@@ -9,7 +9,7 @@ use Rattle.std.proofs.lemmas.List.{append-nil}
 use Rattle.std.proofs.lemmas.List.Elements.{All-weaker}
 use Rattle.sig_kinds.specs.declared.signal.Signal.{Signal}
 use Rattle.sig_kinds.specs.SignalNames.{IsSignalBelow}
-use Rattle.sig_script.specs.Scripts.{Program, Declared}
+use Rattle.sig_program.specs.Scripts.{Program, Declared}
 use Rattle.sig_runs.specs.Rules.{Effect, IsStamped}
 use Rattle.sig_runs.specs.LocalRun.{Local, Input, Act, CanDo, after, IsLocalRun}
 use Rattle.sig_runs.specs.LocalRun.Input.{Execute, Handle}

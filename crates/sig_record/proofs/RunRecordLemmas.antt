@@ -10,7 +10,7 @@ use Rattle.std.proofs.lemmas.Option.{same_Some}
 use Rattle.std.proofs.lemmas.List.Elements.{All-head, All-tail, All-weaker}
 use Rattle.sig_terms.specs.declared.term.Term.{Term}
 use Rattle.sig_kinds.specs.declared.signal.Signal.{Signal}
-use Rattle.sig_script.specs.Scripts.{Declared, Program}
+use Rattle.sig_program.specs.Scripts.{Declared, Program}
 use Rattle.sig_runs.specs.Machine.{Machine, At}
 use Rattle.sig_runs.specs.Order.{events_by}
 use Rattle.sig_model.specs.declared.event.Event.{Event}

@@ -2,7 +2,7 @@
 use Rattle.std.proofs.Common.{◌≡◌, ℕ, List, [], ◌∷◌, map, All, Ok, true, codes, refl}
 use Rattle.std.proofs.lemmas.List.Elements.{All-nil, All-cons}
 use Rattle.sig_terms.specs.Words.{is_name}
-use Rattle.sig_script.specs.Scripts.{Declared, Program}
+use Rattle.sig_program.specs.Scripts.{Declared, Program}
 use Rattle.sig_script.specs.Grammar.{script_of}
 use Rattle.sig_script.specs.Generated.{hub, client, client_names, generated}
 use Rattle.sig_script.proofs.ReadableLemmas.{readable}

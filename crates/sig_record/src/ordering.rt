@@ -1,6 +1,6 @@
 ghost use Rattle.std.specs.Prelude.{ℕ, ◌≡◌, List, map, slice_get};
 ghost use Rattle.sig_kinds.specs.declared.signal.Signal.{Signal};
-ghost use Rattle.sig_script.specs.Scripts.{Program};
+ghost use Rattle.sig_program.specs.Scripts.{Program};
 ghost use Rattle.sig_runs.specs.Crew.{Member, acts_of};
 ghost use Rattle.sig_runs.specs.Order.{IsOrder};
 ghost use Rattle.sig_model.specs.declared.event.Event.{Event};

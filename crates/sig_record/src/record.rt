@@ -1,5 +1,5 @@
 ghost use Rattle.std.specs.Prelude.{◌≡◌, IfOk, map};
-ghost use Rattle.sig_script.specs.Scripts.{Program};
+ghost use Rattle.sig_program.specs.Scripts.{Program};
 ghost use Rattle.sig_runs.specs.Crew.{crew_machine};
 ghost use Rattle.sig_model.specs.Machine.{rules_of};
 ghost use Rattle.sig_model.specs.CrewLaw.{IsLawfulCrew, whole_member};

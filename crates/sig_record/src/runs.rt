@@ -1,5 +1,5 @@
 ghost use Rattle.std.specs.Prelude.{◌≡◌, ℕ, List, Some, Ok, map, true};
-ghost use Rattle.sig_script.specs.Scripts.{Program};
+ghost use Rattle.sig_program.specs.Scripts.{Program};
 ghost use Rattle.sig_script.specs.Grammar.{script_of};
 ghost use Rattle.sig_script.specs.Generated.{generated};
 ghost use Rattle.sig_runs.specs.Machine.{IsRun};

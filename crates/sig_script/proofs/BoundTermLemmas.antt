@@ -10,8 +10,8 @@ use Rattle.sig_patterns.specs.declared.var.Var.{Var}
 use Rattle.sig_patterns.specs.declared.expression.Expr.{Expr}
 use Rattle.sig_patterns.specs.declared.pattern.Pattern.{Pattern}
 use Rattle.sig_patterns.specs.declared.pattern.Pattern.TheVariants as pattern
-use Rattle.sig_script.specs.declared.label.Label.{Label}
-use Rattle.sig_script.specs.declared.instruction.Instr.{Instr}
+use Rattle.sig_program.specs.declared.label.Label.{Label}
+use Rattle.sig_program.specs.declared.instruction.Instr.{Instr}
 use Rattle.sig_script.specs.declared.fault.FaultKind.TheVariants.{UnknownProcess, UnknownLabel}
 use Rattle.sig_script.specs.declared.token.Sign as signs
 use Rattle.sig_script.specs.declared.token.Sign.TheVariants.{CloseBrace, CloseBracket}
@@ -19,15 +19,15 @@ use Rattle.sig_script.specs.declared.token.TokenKind.{TokenKind}
 use Rattle.sig_script.specs.declared.token.TokenKind.TheVariants.{Name, Variable, Integer, Quoted, Process, Sign}
 use Rattle.sig_script.specs.declared.token.Token.{Token}
 use Rattle.sig_script.specs.declared.known.Known.TheVariants.{Among}
-use Rattle.sig_script.specs.declared.keyword.Verb.{Verb}
+use Rattle.sig_program.specs.declared.verb.Verb.{Verb}
 use Rattle.sig_script.specs.declared.keyword.Keyword.{Keyword}
 use Rattle.sig_script.specs.declared.keyword.Keyword.TheVariants as keyword
 use Rattle.sig_script.specs.declared.draft.Draft.{Draft}
 use Rattle.sig_script.specs.declared.form.Form.{Form}
 use Rattle.sig_script.specs.declared.form.Form.TheVariants as form
-use Rattle.sig_script.specs.Instructions.{Operand, an_expr, a_label, a_mode, AllSaid, operands_of, instr_by}
-use Rattle.sig_script.specs.Parts.{said_exprs, said_labels, said_mode, exprs_in, targets_in, mode_by, clauses_in, using_in}
-use Rattle.sig_script.specs.Scripts.{Declared, Program, AreMarked, IsLawful, IsExprBelow, IsPatternBelow, IsInstrBelow}
+use Rattle.sig_program.specs.Instructions.{Operand, an_expr, a_label, a_mode, AllSaid, operands_of, instr_by}
+use Rattle.sig_program.specs.Parts.{said_exprs, said_labels, said_mode, exprs_in, targets_in, mode_by, clauses_in, using_in}
+use Rattle.sig_program.specs.Scripts.{Declared, Program, AreMarked, IsLawful, IsExprBelow, IsPatternBelow, IsInstrBelow}
 use Rattle.sig_script.specs.Faults.{◌>>=◌, on_ok}
 use Rattle.sig_script.specs.Tokens.{text, unquoted}
 use Rattle.sig_script.specs.Numbers.{int_of}
@@ -38,7 +38,8 @@ use Rattle.sig_script.specs.Expressions.{expr_enclosing, expr_spelling, expr_of}
 use Rattle.sig_script.specs.PatternTexts.{pattern_signed, pattern_enclosing, pattern_spelling, pattern_of}
 use Rattle.sig_script.specs.Forms.{word_at, mode_of, operand_at, all_said, tokens_of, keyword_of, may_stand, ends, target_at, arrow_of, count_from, turns_of, whole_name, marker_of, on_of, instr_of, form_of, form_behind, said_by, said}
 use Rattle.sig_script.proofs.TableLemmas.{spoken_again, instr_as}
-use Rattle.sig_script.proofs.PidLemmas.{int_pids, atom_pids, var_pids, pid_pids, tuple_pids, list_pids, any_pattern_pids, bind_pattern_pids, pin_pattern_pids, int_pattern_pids, atom_pattern_pids, pid_pattern_pids, tuple_pattern_pids, list_pattern_pids, nested_pids}
+use Rattle.sig_script.proofs.NestLemmas.{nested_pids}
+use Rattle.sig_program.proofs.PidLemmas.{int_pids, atom_pids, var_pids, pid_pids, tuple_pids, list_pids, any_pattern_pids, bind_pattern_pids, pin_pattern_pids, int_pattern_pids, atom_pattern_pids, pid_pattern_pids, tuple_pattern_pids, list_pattern_pids}
 use Rattle.sig_patterns.specs.declared.building.TheConstants.{MOST_NODES, MOST_DEPTH}
 
 -- what holds of a result that isn't a refusal

@@ -6,14 +6,14 @@ use Rattle.std.proofs.lemmas.List.{length-map}
 use Rattle.std.proofs.lemmas.List.Elements.{All-head, All-tail, All-map}
 use Rattle.sig_patterns.specs.declared.clause.Clause.{Clause}
 use Rattle.sig_terms.proofs.Choices.{both_true}
-use Rattle.sig_script.specs.declared.label.Label.{Label}
-use Rattle.sig_script.specs.declared.instruction.After.{After}
-use Rattle.sig_script.specs.declared.instruction.Instr.{Instr}
-use Rattle.sig_script.specs.declared.instruction.Instr.TheVariants as instr
+use Rattle.sig_program.specs.declared.label.Label.{Label}
+use Rattle.sig_program.specs.declared.instruction.After.{After}
+use Rattle.sig_program.specs.declared.instruction.Instr.{Instr}
+use Rattle.sig_program.specs.declared.instruction.Instr.TheVariants as instr
 use Rattle.sig_script.specs.declared.known.Known.TheVariants.{Any}
 use Rattle.sig_script.specs.declared.keyword.Keyword.TheVariants as keyword
 use Rattle.sig_script.specs.declared.form.Form.TheVariants as form
-use Rattle.sig_script.specs.Scripts.{Declared, Program, IsLawful}
+use Rattle.sig_program.specs.Scripts.{Declared, Program, IsLawful}
 use Rattle.sig_script.specs.Lines.{lines_of, onto_first}
 use Rattle.sig_script.specs.ScriptText.{clause_line, after_lines, instr_lines, label_line, labels_there, placed_lines, process_lines, names_of, procs_lines, turns_line, script_lines, line_text, script_text}
 use Rattle.sig_script.specs.ReadableScript.{IsNameToken, IsReadablePattern, IsReadableInstr, IsReadableProc, IsReadableScript}

@@ -4,8 +4,8 @@ use Rattle.std.specs.List.{list_any}
 use Rattle.std.specs.Str.{bytes_eq}
 use Rattle.std.proofs.lemmas.Slice.Eq.{bytes_eq-Decides}
 use Rattle.std.proofs.lemmas.List.Elements.{All-nil, All-cons, All-head, All-tail, All-push}
-use Rattle.sig_script.specs.declared.label.Label.{Label}
-use Rattle.sig_script.specs.Scripts.{AreRising}
+use Rattle.sig_program.specs.declared.label.Label.{Label}
+use Rattle.sig_program.specs.Scripts.{AreRising}
 use Rattle.sig_script.specs.ReadableScript.{AreDistinct}
 
 pub distinct-first : (name : List ℕ) (names : List (List ℕ)) → AreDistinct (name ∷ names) → All (λ other. name ≢ other) names

@@ -1,7 +1,7 @@
 -- The bounds while a text is read.
 use Rattle.std.proofs.Common.{ℕ, ◌<◌, ◌^◌, List, [], ◌∷◌, ◌++◌, All, arith}
 use Rattle.std.proofs.lemmas.List.Elements.{All-nil, All-cons, All-head, All-tail}
-use Rattle.sig_script.specs.Scripts.{Declared}
+use Rattle.sig_program.specs.Scripts.{Declared}
 use Rattle.sig_script.specs.declared.draft.Section.{Section}
 use Rattle.sig_script.specs.declared.draft.Section.TheVariants.{Before, Outside, Inside}
 use Rattle.sig_script.specs.Drafts.{open_proc}

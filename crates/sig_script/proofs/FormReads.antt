@@ -27,7 +27,7 @@ use Rattle.sig_script.specs.Names.{label_of, name_at, variable_at}
 use Rattle.sig_script.specs.Tokens.{cut_of, text, is_token_in_range}
 use Rattle.sig_script.specs.Expressions.{expr_spelling}
 use Rattle.sig_script.specs.PatternTexts.{pattern_spelling}
-use Rattle.sig_script.specs.Instructions.{Operand, an_expr, a_variable, a_label, a_switch, a_mode, a_flag, Said, AllSaid}
+use Rattle.sig_program.specs.Instructions.{Operand, an_expr, a_variable, a_label, a_switch, a_mode, a_flag, Said, AllSaid}
 use Rattle.sig_script.specs.Forms.{checked, tokens_of, keyword_of, may_stand, ends, target_at, arrow_of, count_from, turns_of, switch_of, word_at, mode_of, flag_of, operand_at, all_said, whole_name, marker_of, on_of, form_of, form_behind, said_by, said}
 use Rattle.sig_script.specs.ScriptText.{name_of_place, expr_text, after_blank, flag_text, mode_text, switch_text, target_text, marker_text, pattern_text}
 use Rattle.sig_script.specs.ReadableScript.{IsNameToken, IsVariableToken, IsReadableExpr, IsReadablePattern}

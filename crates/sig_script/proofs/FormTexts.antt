@@ -7,17 +7,17 @@ use Rattle.sig_kinds.specs.declared.alias_mode.AliasMode.TheVariants as alias_mo
 use Rattle.sig_patterns.specs.declared.clause.Clause.{Clause}
 use Rattle.sig_patterns.specs.declared.var.Var.{Var}
 use Rattle.sig_patterns.specs.declared.expression.Expr.{Expr}
-use Rattle.sig_script.specs.declared.label.Label.{Label}
-use Rattle.sig_script.specs.declared.instruction.After.{After}
-use Rattle.sig_script.specs.declared.instruction.Instr.{Instr}
+use Rattle.sig_program.specs.declared.label.Label.{Label}
+use Rattle.sig_program.specs.declared.instruction.After.{After}
+use Rattle.sig_program.specs.declared.instruction.Instr.{Instr}
 use Rattle.sig_script.specs.declared.known.Known.{Known}
-use Rattle.sig_script.specs.declared.keyword.Verb.{Verb}
+use Rattle.sig_program.specs.declared.verb.Verb.{Verb}
 use Rattle.sig_script.specs.declared.keyword.Keyword.TheVariants as keyword
 use Rattle.sig_script.specs.declared.form.Form.TheVariants as form
-use Rattle.sig_script.specs.declared.script.TheConstants.{MOST_TURNS}
-use Rattle.sig_script.specs.Instructions.{Operand, an_expr, a_variable, a_label, a_switch, a_mode, a_flag, AllSaid, word_of, operands_of, instr_by, Spoken, Says, Receives, spoken}
-use Rattle.sig_script.specs.Parts.{said_exprs, said_vars, said_labels, said_mode, exprs_in, vars_in, targets_in, mode_by}
-use Rattle.sig_script.specs.Scripts.{IsLawful}
+use Rattle.sig_program.specs.declared.script.TheConstants.{MOST_TURNS}
+use Rattle.sig_program.specs.Instructions.{Operand, an_expr, a_variable, a_label, a_switch, a_mode, a_flag, AllSaid, word_of, operands_of, instr_by, Spoken, Says, Receives, spoken}
+use Rattle.sig_program.specs.Parts.{said_exprs, said_vars, said_labels, said_mode, exprs_in, vars_in, targets_in, mode_by}
+use Rattle.sig_program.specs.Scripts.{IsLawful}
 use Rattle.sig_script.specs.Faults.{on_ok}
 use Rattle.sig_script.specs.Forms.{form_of}
 use Rattle.sig_script.specs.ScriptText.{name_of_place, spaced, after_blank, expr_text, pattern_text, switch_text, target_text, marker_text, clause_line, said_texts, spoken_lines, instr_lines, label_line, turns_line}

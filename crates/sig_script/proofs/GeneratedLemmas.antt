@@ -15,14 +15,14 @@ use Rattle.sig_patterns.specs.declared.pattern.Pattern.TheOpen.{Pattern-F}
 use Rattle.sig_patterns.specs.declared.pattern.Pattern.TheOpen as pattern
 use Rattle.sig_patterns.specs.declared.pattern.Pattern.TheFolds.{fold-roll-Pattern}
 use Rattle.sig_patterns.specs.Pinning.{pins, pins_step}
-use Rattle.sig_script.specs.declared.label.Label.{Label}
-use Rattle.sig_script.specs.declared.instruction.Instr.{Instr}
-use Rattle.sig_script.specs.declared.instruction.Instr.TheVariants as instr
-use Rattle.sig_script.specs.declared.script.TheConstants.{MOST_TURNS}
-use Rattle.sig_script.specs.Parts.{pids_of, pids_of_pattern}
-use Rattle.sig_script.specs.Scripts.{Declared, IsLawful, IsPlace, AreRising, IsWithin, IsExprBelow, IsPatternBelow, IsInstrBelow, IsProcBelow, IsSound}
+use Rattle.sig_program.specs.declared.label.Label.{Label}
+use Rattle.sig_program.specs.declared.instruction.Instr.{Instr}
+use Rattle.sig_program.specs.declared.instruction.Instr.TheVariants as instr
+use Rattle.sig_program.specs.declared.script.TheConstants.{MOST_TURNS}
+use Rattle.sig_program.specs.Parts.{pids_of, pids_of_pattern}
+use Rattle.sig_program.specs.Scripts.{Declared, IsLawful, IsPlace, AreRising, IsWithin, IsExprBelow, IsPatternBelow, IsInstrBelow, IsProcBelow, IsSound}
 use Rattle.sig_script.specs.Generated.{var_named, call_clause, hub_receive, hub_answer, hub, to_hub, watch_hub, bind_mark, send_call, answer_clause, down_clause, await_answer, call, client, client_names, generated}
-use Rattle.sig_script.proofs.PidLemmas.{pids_of-Int, pids_of-Atom, pids_of-Var, pids_of-Pid, pids_of-Tuple, pids_of_pattern-Any, pids_of_pattern-Bind, pids_of_pattern-Pin, pids_of_pattern-Atom, pids_of_pattern-Tuple}
+use Rattle.sig_program.proofs.PidLemmas.{pids_of-Int, pids_of-Atom, pids_of-Var, pids_of-Pid, pids_of-Tuple, pids_of_pattern-Any, pids_of_pattern-Bind, pids_of_pattern-Pin, pids_of_pattern-Atom, pids_of_pattern-Tuple}
 use Rattle.sig_script.proofs.BoundTermLemmas.{no-mode, IsMonitorMode}
 
 -- one call more

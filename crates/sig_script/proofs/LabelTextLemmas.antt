@@ -4,9 +4,9 @@ use Rattle.std.specs.List.{flat_map}
 use Rattle.std.proofs.lemmas.Bool.Decides.{nat_tests}
 use Rattle.std.proofs.lemmas.List.Elements.{All-cons, All-head, All-tail, All-weaker, All-filter, filter_passes}
 use Rattle.std.proofs.lemmas.Grind.{flat_map-append}
-use Rattle.sig_script.specs.declared.label.Label.{Label}
-use Rattle.sig_script.specs.declared.instruction.Instr.{Instr}
-use Rattle.sig_script.specs.Scripts.{AreRising}
+use Rattle.sig_program.specs.declared.label.Label.{Label}
+use Rattle.sig_program.specs.declared.instruction.Instr.{Instr}
+use Rattle.sig_program.specs.Scripts.{AreRising}
 use Rattle.sig_script.specs.ScriptText.{labels_there, label_line, instr_lines, placed_lines, line_text}
 use Rattle.sig_script.specs.Printing.{labels_from}
 

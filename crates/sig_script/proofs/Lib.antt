@@ -3,7 +3,6 @@ pub mod FrontTokens
 pub mod SpellingLemmas
 pub mod CutLemmas
 pub mod LineLemmas
-pub mod PidLemmas
 pub mod LabelLemmas
 pub mod FitLemmas
 pub mod PhraseLemmas

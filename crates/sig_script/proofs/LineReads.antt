@@ -3,9 +3,9 @@ use Rattle.std.proofs.Common.{◌≡◌, ℕ, ◌<◌, ◌≤◌, true, false, L
 use Rattle.std.specs.Prelude.{IfSome, Option, Some, option_map, Ok, codes}
 use Rattle.sig_patterns.specs.declared.clause.Clause.{Clause}
 use Rattle.sig_patterns.specs.declared.var.Var.{Var}
-use Rattle.sig_script.specs.declared.label.Label.{Label}
-use Rattle.sig_script.specs.declared.instruction.After.{After}
-use Rattle.sig_script.specs.declared.instruction.Instr.{Instr}
+use Rattle.sig_program.specs.declared.label.Label.{Label}
+use Rattle.sig_program.specs.declared.instruction.After.{After}
+use Rattle.sig_program.specs.declared.instruction.Instr.{Instr}
 use Rattle.sig_script.specs.declared.known.Known.{Known}
 use Rattle.sig_script.specs.declared.keyword.Keyword.TheVariants as keyword
 use Rattle.sig_script.specs.declared.draft.Section.{Section}
@@ -13,8 +13,8 @@ use Rattle.sig_script.specs.declared.draft.Section.TheVariants.{Outside}
 use Rattle.sig_script.specs.declared.draft.Draft.{Draft}
 use Rattle.sig_script.specs.declared.form.Form.{Form}
 use Rattle.sig_script.specs.declared.form.Form.TheVariants as form
-use Rattle.sig_script.specs.declared.script.TheConstants.{MOST_TURNS}
-use Rattle.sig_script.specs.Scripts.{Declared, IsLawful}
+use Rattle.sig_program.specs.declared.script.TheConstants.{MOST_TURNS}
+use Rattle.sig_program.specs.Scripts.{Declared, IsLawful}
 use Rattle.sig_script.specs.ScriptText.{spaced, target_text, marker_text, clause_line, instr_lines, label_line, turns_line}
 use Rattle.sig_script.specs.ReadableScript.{IsNameToken, IsVariableToken, IsReadablePattern, IsReadableInstr}
 use Rattle.sig_script.specs.Forms.{may_stand, said, tokens_of}

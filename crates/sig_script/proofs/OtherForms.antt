@@ -2,10 +2,10 @@
 use Rattle.std.proofs.Common.{◌≡◌, ℕ, List, [], ◌∷◌, length, map, false, Option, Some, None, Ok, refl, sym, ap, subst}
 use Rattle.std.specs.Option.{option_map, is_some}
 use Rattle.std.proofs.lemmas.List.{length-map}
-use Rattle.sig_script.specs.declared.instruction.After.{After}
+use Rattle.sig_program.specs.declared.instruction.After.{After}
 use Rattle.sig_script.specs.declared.token.Token.{Token}
 use Rattle.sig_script.specs.declared.known.Known.{Known}
-use Rattle.sig_script.specs.declared.keyword.Verb.{Verb}
+use Rattle.sig_program.specs.declared.verb.Verb.{Verb}
 use Rattle.sig_script.specs.declared.keyword.Keyword.{Keyword}
 use Rattle.sig_script.specs.declared.keyword.Keyword.TheVariants as keyword
 use Rattle.sig_script.specs.declared.draft.Section.{Section}
@@ -13,13 +13,13 @@ use Rattle.sig_script.specs.declared.draft.Section.TheVariants.{Before, Outside,
 use Rattle.sig_script.specs.declared.draft.Draft.{Draft}
 use Rattle.sig_script.specs.declared.form.Form.{Form}
 use Rattle.sig_script.specs.declared.form.Form.TheVariants as form
-use Rattle.sig_script.specs.Scripts.{Declared}
+use Rattle.sig_program.specs.Scripts.{Declared}
 use Rattle.sig_script.specs.Faults.{on_ok}
 use Rattle.sig_script.specs.Tokens.{text}
 use Rattle.sig_script.specs.Names.{pid_of, label_of, name_at, variable_at}
 use Rattle.sig_script.specs.Signs.{is_arrow}
 use Rattle.sig_script.specs.PatternTexts.{pattern_of}
-use Rattle.sig_script.specs.Instructions.{Operand, an_expr, a_variable, a_label, a_switch, a_mode, a_flag, operands_of, instr_by, Spoken}
+use Rattle.sig_program.specs.Instructions.{Operand, an_expr, a_variable, a_label, a_switch, a_mode, a_flag, operands_of, instr_by, Spoken}
 use Rattle.sig_script.specs.Forms.{switch_at, word_at, mode_of, flag_of, operand_at, all_said, tokens_of, keyword_of, may_stand, ends, target_at, arrow_of, count_from, turns_of, whole_name, marker_of, on_of, instr_of, form_of, form_behind, said_by, said}
 use Rattle.sig_script.proofs.TableLemmas.{made_of, spoken_again, instr_as}
 use Rattle.sig_script.proofs.Seen.{pattern_seen, clause_seen, after_seen, said_seen, all_seen, spoken_seen, instr_seen}

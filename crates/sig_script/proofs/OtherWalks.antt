@@ -8,9 +8,9 @@ use Rattle.std.proofs.lemmas.List.{map-append, length-map}
 use Rattle.sig_patterns.specs.declared.clause.Clause.{Clause}
 use Rattle.sig_patterns.specs.declared.pattern.Pattern.{Pattern}
 use Rattle.sig_patterns.specs.declared.var.Var.{Var}
-use Rattle.sig_script.specs.declared.label.Label.{Label}
-use Rattle.sig_script.specs.declared.instruction.Instr.{Instr}
-use Rattle.sig_script.specs.declared.instruction.Instr.TheVariants as instr
+use Rattle.sig_program.specs.declared.label.Label.{Label}
+use Rattle.sig_program.specs.declared.instruction.Instr.{Instr}
+use Rattle.sig_program.specs.declared.instruction.Instr.TheVariants as instr
 use Rattle.sig_script.specs.declared.fault.FaultKind.{FaultKind}
 use Rattle.sig_script.specs.declared.fault.FaultKind.TheVariants.{DuplicateName, TooManyProcesses, UnknownProcess, UnknownLabel}
 use Rattle.sig_script.specs.declared.known.Known.{Known}
@@ -20,8 +20,8 @@ use Rattle.sig_script.specs.declared.draft.Section.TheVariants.{Before, Outside,
 use Rattle.sig_script.specs.declared.draft.Draft.{Draft}
 use Rattle.sig_script.specs.declared.form.Form.{Form}
 use Rattle.sig_script.specs.declared.form.Form.TheVariants as form
-use Rattle.sig_script.specs.declared.script.TheConstants.{DEFAULT_TURNS, MOST_PROCESSES, MOST_TURNS}
-use Rattle.sig_script.specs.Scripts.{Declared, Program, IsWithin, IsSound}
+use Rattle.sig_program.specs.declared.script.TheConstants.{DEFAULT_TURNS, MOST_PROCESSES, MOST_TURNS}
+use Rattle.sig_program.specs.Scripts.{Declared, Program, IsWithin, IsSound}
 use Rattle.sig_script.specs.Faults.{Fault, ◌>>=◌}
 use Rattle.sig_script.specs.Names.{pid_of, labels_at, label_of, label_names, Named, named, names_within, AreItsNames}
 use Rattle.sig_script.specs.Forms.{said}

@@ -4,9 +4,9 @@ use Rattle.std.proofs.lemmas.List.{take-take, take_at, take_all, take_more, flat
 use Rattle.std.proofs.lemmas.Grind.{flat_map-append}
 use Rattle.std.specs.List.{flat_map}
 use Rattle.std.specs.Prelude.{IsErr, OnOk, OnErr}
-use Rattle.sig_script.specs.declared.instruction.Instr.{Instr}
-use Rattle.sig_script.specs.Instructions.{Spoken, Says, Receives, spoken}
-use Rattle.sig_script.specs.Scripts.{Declared}
+use Rattle.sig_program.specs.declared.instruction.Instr.{Instr}
+use Rattle.sig_program.specs.Instructions.{Spoken, Says, Receives, spoken}
+use Rattle.sig_program.specs.Scripts.{Declared}
 use Rattle.sig_script.specs.ScriptText.{spoken_lines, instr_lines, turns_line, procs_lines, script_lines, script_text, line_text}
 use Rattle.sig_script.specs.Printing.{first_of, rest_of}
 use Rattle.sig_script.specs.Putting.{IsPut}

@@ -6,15 +6,15 @@ use Rattle.std.proofs.lemmas.List.{append-nil, map-append}
 use Rattle.std.proofs.lemmas.List.Elements.{All-nil, All-cons, All-head, All-tail, All-append, All-weaker}
 use Rattle.sig_patterns.specs.declared.clause.Clause.{Clause}
 use Rattle.sig_patterns.specs.declared.var.Var.{Var}
-use Rattle.sig_script.specs.declared.label.Label.{Label}
-use Rattle.sig_script.specs.declared.instruction.After.{After}
-use Rattle.sig_script.specs.declared.instruction.Instr.{Instr}
-use Rattle.sig_script.specs.declared.instruction.Instr.TheVariants as instr
+use Rattle.sig_program.specs.declared.label.Label.{Label}
+use Rattle.sig_program.specs.declared.instruction.After.{After}
+use Rattle.sig_program.specs.declared.instruction.Instr.{Instr}
+use Rattle.sig_program.specs.declared.instruction.Instr.TheVariants as instr
 use Rattle.sig_script.specs.declared.known.Known.{Known}
 use Rattle.sig_script.specs.declared.draft.Section.TheVariants.{Outside, Inside}
 use Rattle.sig_script.specs.declared.draft.Draft.{Draft}
 use Rattle.sig_script.specs.declared.form.Form.TheVariants as form
-use Rattle.sig_script.specs.Scripts.{Declared, AreMarked, IsLawful, IsPlace, AreRising}
+use Rattle.sig_program.specs.Scripts.{Declared, AreMarked, IsLawful, IsPlace, AreRising}
 use Rattle.sig_script.specs.Drafts.{with_instr, is_marked, taken}
 use Rattle.sig_script.specs.ScriptText.{spaced, marker_text, target_text, clause_line, after_lines, instr_lines, label_line, labels_there, placed_lines}
 use Rattle.sig_script.specs.ReadableScript.{IsNameToken, IsReadablePattern, IsReadableInstr, AreDistinct}

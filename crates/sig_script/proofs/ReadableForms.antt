@@ -4,19 +4,19 @@ use Rattle.std.proofs.lemmas.List.Elements.{All-nil, All-cons}
 use Rattle.sig_patterns.specs.declared.clause.Clause.{Clause}
 use Rattle.sig_patterns.specs.declared.var.Var.{Var}
 use Rattle.sig_patterns.specs.declared.pattern.Pattern.{Pattern}
-use Rattle.sig_script.specs.declared.instruction.Instr.{Instr}
+use Rattle.sig_program.specs.declared.instruction.Instr.{Instr}
 use Rattle.sig_script.specs.declared.fault.FaultKind.{FaultKind}
 use Rattle.sig_script.specs.declared.token.Token.{Token}
 use Rattle.sig_script.specs.declared.known.Known.TheVariants.{Among}
-use Rattle.sig_script.specs.declared.keyword.Verb.{Verb}
+use Rattle.sig_program.specs.declared.verb.Verb.{Verb}
 use Rattle.sig_script.specs.declared.keyword.Keyword.{Keyword}
 use Rattle.sig_script.specs.declared.keyword.Keyword.TheVariants as keyword
 use Rattle.sig_script.specs.declared.draft.Draft.{Draft}
 use Rattle.sig_script.specs.declared.form.Form.{Form}
 use Rattle.sig_script.specs.declared.form.Form.TheVariants as form
-use Rattle.sig_script.specs.Instructions.{Operand, an_expr, a_variable, a_label, a_switch, a_mode, a_flag, Said, AllSaid, operands_of, instr_by, Says, spoken}
-use Rattle.sig_script.specs.Parts.{said_exprs, said_vars, exprs_in, vars_in, clauses_in, using_in}
-use Rattle.sig_script.specs.Scripts.{Program}
+use Rattle.sig_program.specs.Instructions.{Operand, an_expr, a_variable, a_label, a_switch, a_mode, a_flag, Said, AllSaid, operands_of, instr_by, Says, spoken}
+use Rattle.sig_program.specs.Parts.{said_exprs, said_vars, exprs_in, vars_in, clauses_in, using_in}
+use Rattle.sig_program.specs.Scripts.{Program}
 use Rattle.sig_script.specs.Faults.{◌>>=◌, on_ok}
 use Rattle.sig_script.specs.Tokens.{text}
 use Rattle.sig_script.specs.Names.{label_of, name_at, variable_at}

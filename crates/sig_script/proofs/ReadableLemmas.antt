@@ -8,24 +8,24 @@ use Rattle.std.proofs.lemmas.List.Elements.{All-nil, All-push}
 use Rattle.sig_patterns.specs.declared.clause.Clause.{Clause}
 use Rattle.sig_patterns.specs.declared.pattern.Pattern.{Pattern}
 use Rattle.sig_patterns.specs.declared.var.Var.{Var}
-use Rattle.sig_script.specs.declared.label.Label.{Label}
-use Rattle.sig_script.specs.declared.instruction.After.{After}
-use Rattle.sig_script.specs.declared.instruction.Instr.{Instr}
-use Rattle.sig_script.specs.declared.instruction.Instr.TheVariants as instr
+use Rattle.sig_program.specs.declared.label.Label.{Label}
+use Rattle.sig_program.specs.declared.instruction.After.{After}
+use Rattle.sig_program.specs.declared.instruction.Instr.{Instr}
+use Rattle.sig_program.specs.declared.instruction.Instr.TheVariants as instr
 use Rattle.sig_script.specs.declared.known.Known.TheVariants.{Any, Among}
 use Rattle.sig_script.specs.declared.draft.Section.{Section}
 use Rattle.sig_script.specs.declared.draft.Section.TheVariants.{Before, Outside, Inside}
 use Rattle.sig_script.specs.declared.draft.Draft.{Draft}
 use Rattle.sig_script.specs.declared.form.Form.{Form}
 use Rattle.sig_script.specs.declared.form.Form.TheVariants as form
-use Rattle.sig_script.specs.Scripts.{Declared, Program}
+use Rattle.sig_program.specs.Scripts.{Declared, Program}
 use Rattle.sig_script.specs.Faults.{Fault, ◌>>=◌}
 use Rattle.sig_script.specs.Lines.{lines_of}
 use Rattle.sig_script.specs.Forms.{tokens_of, said}
 use Rattle.sig_script.specs.Drafts.{blank, open_proc, all_procs, begun, labelled, with_instr, is_marked, with_clause, taken_at}
 use Rattle.sig_script.specs.Grammar.{taken_if, line_taken, walk, walk_twice, is_header, script_of_lines, script_of}
 use Rattle.sig_script.specs.ReadableScript.{IsNameToken, IsVariableToken, IsReadablePattern, IsReadableInstr, AreDistinct, IsReadableScript}
-use Rattle.sig_script.specs.declared.script.TheConstants.{MOST_PROCESSES, MOST_TURNS}
+use Rattle.sig_program.specs.declared.script.TheConstants.{MOST_PROCESSES, MOST_TURNS}
 use Rattle.sig_script.specs.declared.reader.TheConstants.{MOST_BYTES}
 use Rattle.sig_script.proofs.FitLemmas.{all-last}
 use Rattle.sig_script.proofs.BoundTermLemmas.{Holds, holds-of, holds-if, holds-on_ok, holds-then}

@@ -17,7 +17,7 @@ use Rattle.sig_script.specs.declared.token.TokenKind.{TokenKind}
 use Rattle.sig_script.specs.declared.token.TokenKind.TheVariants.{Name, Variable, Integer, Quoted, Process, Sign}
 use Rattle.sig_script.specs.declared.token.Token.{Token}
 use Rattle.sig_script.specs.declared.known.Known.TheVariants.{Among}
-use Rattle.sig_script.specs.Scripts.{Program}
+use Rattle.sig_program.specs.Scripts.{Program}
 use Rattle.sig_script.specs.Tokens.{text, unquoted}
 use Rattle.sig_script.specs.Numbers.{int_of}
 use Rattle.sig_script.specs.Names.{pid_of, name_of, variable_of, name_at, variable_at}

@@ -5,7 +5,7 @@ use Rattle.sig_script.specs.declared.fault.FaultKind.{FaultKind}
 use Rattle.sig_script.specs.declared.fault.FaultKind.TheVariants.{Header}
 use Rattle.sig_script.specs.declared.known.Known.{Known}
 use Rattle.sig_script.specs.declared.draft.Draft.{Draft}
-use Rattle.sig_script.specs.Scripts.{Program}
+use Rattle.sig_program.specs.Scripts.{Program}
 use Rattle.sig_script.specs.Faults.{Fault}
 use Rattle.sig_script.specs.Lines.{lines_of}
 use Rattle.sig_script.specs.Forms.{tokens_of}

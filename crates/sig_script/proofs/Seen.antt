@@ -12,9 +12,9 @@ use Rattle.sig_patterns.specs.declared.pattern.Pattern.TheOpen.{Pattern-F}
 use Rattle.sig_patterns.specs.declared.pattern.Pattern.TheOpen as layer
 use Rattle.sig_patterns.specs.declared.pattern.Pattern.TheFolds.{fold-Pattern}
 use Rattle.sig_script.specs.declared.known.Known.{Known}
-use Rattle.sig_script.specs.declared.instruction.After.{After}
-use Rattle.sig_script.specs.declared.instruction.Instr.{Instr}
-use Rattle.sig_script.specs.Instructions.{Operand, an_expr, a_label, Said, AllSaid, operands_of, Spoken, Says, Receives, spoken}
+use Rattle.sig_program.specs.declared.instruction.After.{After}
+use Rattle.sig_program.specs.declared.instruction.Instr.{Instr}
+use Rattle.sig_program.specs.Instructions.{Operand, an_expr, a_label, Said, AllSaid, operands_of, Spoken, Says, Receives, spoken}
 use Rattle.sig_script.specs.ScriptText.{name_of_place}
 use Rattle.sig_script.specs.ReadableScript.{IsNameToken}
 use Rattle.sig_script.specs.Names.{pid_of, label_of}

@@ -19,13 +19,13 @@ use Rattle.sig_patterns.specs.declared.pattern.Pattern.TheOpen.{Pattern-F}
 use Rattle.sig_patterns.specs.declared.pattern.Pattern.TheOpen as layer
 use Rattle.sig_patterns.specs.declared.pattern.Pattern.TheFolds.{fold-roll-Pattern, ind-Pattern}
 use Rattle.sig_patterns.specs.Pinning.{pins, pins_step}
-use Rattle.sig_script.specs.declared.label.Label.{Label}
+use Rattle.sig_program.specs.declared.label.Label.{Label}
 use Rattle.sig_script.specs.declared.fault.FaultKind.TheVariants.{UnknownProcess, UnknownLabel}
-use Rattle.sig_script.specs.declared.instruction.After.{After}
-use Rattle.sig_script.specs.declared.instruction.Instr.{Instr}
+use Rattle.sig_program.specs.declared.instruction.After.{After}
+use Rattle.sig_program.specs.declared.instruction.Instr.{Instr}
 use Rattle.sig_script.specs.declared.known.Known.TheVariants.{Any, Among}
-use Rattle.sig_script.specs.Instructions.{Operand, an_expr, Said, AllSaid, operands_of, Spoken, Says, Receives, spoken}
-use Rattle.sig_script.specs.Scripts.{Declared, Program}
+use Rattle.sig_program.specs.Instructions.{Operand, an_expr, Said, AllSaid, operands_of, Spoken, Says, Receives, spoken}
+use Rattle.sig_program.specs.Scripts.{Declared, Program}
 use Rattle.sig_script.specs.Names.{labels_at}
 use Rattle.sig_script.specs.ScriptText.{name_of_place, names_of}
 use Rattle.sig_script.specs.ReadableScript.{IsNameToken, AreDistinct}

@@ -6,8 +6,8 @@ use Rattle.std.specs.Option.{option_map_or}
 use Rattle.std.proofs.lemmas.Bool.Decides.{nat_tests}
 use Rattle.std.proofs.lemmas.List.{append-nil, map-append, length-map}
 use Rattle.std.proofs.lemmas.List.Elements.{All-head, All-map}
-use Rattle.sig_script.specs.declared.label.Label.{Label}
-use Rattle.sig_script.specs.declared.instruction.Instr.{Instr}
+use Rattle.sig_program.specs.declared.label.Label.{Label}
+use Rattle.sig_program.specs.declared.instruction.Instr.{Instr}
 use Rattle.sig_script.specs.declared.fault.FaultKind.TheVariants.{Header}
 use Rattle.sig_script.specs.declared.keyword.Keyword.TheVariants as keyword
 use Rattle.sig_script.specs.declared.known.Known.{Known}
@@ -16,9 +16,9 @@ use Rattle.sig_script.specs.declared.draft.Section.{Section}
 use Rattle.sig_script.specs.declared.draft.Section.TheVariants.{Before, Outside, Inside}
 use Rattle.sig_script.specs.declared.draft.Draft.{Draft}
 use Rattle.sig_script.specs.declared.form.Form.TheVariants as form
-use Rattle.sig_script.specs.declared.script.TheConstants.{DEFAULT_TURNS, MOST_PROCESSES, MOST_TURNS}
+use Rattle.sig_program.specs.declared.script.TheConstants.{DEFAULT_TURNS, MOST_PROCESSES, MOST_TURNS}
 use Rattle.sig_script.specs.declared.reader.TheConstants.{MOST_BYTES}
-use Rattle.sig_script.specs.Scripts.{Declared, Program, IsLawful}
+use Rattle.sig_program.specs.Scripts.{Declared, Program, IsLawful}
 use Rattle.sig_script.specs.Faults.{Fault, ◌>>=◌}
 use Rattle.sig_script.specs.Names.{labels_at}
 use Rattle.sig_script.specs.Forms.{may_stand}

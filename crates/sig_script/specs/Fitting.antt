@@ -3,9 +3,9 @@ use Rattle.std.specs.Prelude.{ℕ, ◌≤◌, ◌^◌, length, All}
 use Rattle.sig_script.specs.declared.known.Known.{Known}
 use Rattle.sig_script.specs.declared.known.Known.TheVariants.{Any, Among}
 use Rattle.sig_script.specs.declared.draft.Draft.{Draft}
-use Rattle.sig_script.specs.Scripts.{Declared}
+use Rattle.sig_program.specs.Scripts.{Declared}
 use Rattle.sig_script.specs.Drafts.{all_procs}
-use Rattle.sig_script.specs.declared.script.TheConstants.{MOST_PROCESSES}
+use Rattle.sig_program.specs.declared.script.TheConstants.{MOST_PROCESSES}
 
 -- a process has at most so many instructions and labels
 pub record IsSmall (n : ℕ) (p : Declared) : Type 0 where

@@ -5,7 +5,7 @@ use Rattle.std.specs.Str.{bytes_eq}
 use Rattle.sig_kinds.specs.declared.alias_mode.AliasMode.{AliasMode}
 use Rattle.sig_kinds.specs.declared.alias_mode.AliasMode.TheVariants as alias_mode
 use Rattle.sig_patterns.specs.declared.var.Var.{Var}
-use Rattle.sig_script.specs.declared.instruction.Instr.{Instr}
+use Rattle.sig_program.specs.declared.instruction.Instr.{Instr}
 use Rattle.sig_script.specs.declared.fault.FaultKind.{FaultKind}
 use Rattle.sig_script.specs.declared.fault.FaultKind.TheVariants.{Syntax, IntRange}
 use Rattle.sig_script.specs.declared.token.TokenKind.{TokenKind}
@@ -13,8 +13,8 @@ use Rattle.sig_script.specs.declared.token.TokenKind.TheVariants.{Integer}
 use Rattle.sig_script.specs.declared.token.Token.{Token}
 use Rattle.sig_script.specs.declared.token.Cut.{Cut}
 use Rattle.sig_script.specs.declared.known.Known.{Known}
-use Rattle.sig_script.specs.declared.keyword.Verb.{Verb}
-use Rattle.sig_script.specs.declared.keyword.Verb.TheVariants as verb
+use Rattle.sig_program.specs.declared.verb.Verb.{Verb}
+use Rattle.sig_program.specs.declared.verb.Verb.TheVariants as verb
 use Rattle.sig_script.specs.declared.keyword.Keyword.{Keyword}
 use Rattle.sig_script.specs.declared.keyword.Keyword.TheVariants as keyword
 use Rattle.sig_script.specs.declared.draft.Section.{Section}
@@ -22,7 +22,7 @@ use Rattle.sig_script.specs.declared.draft.Section.TheVariants.{Before, Outside,
 use Rattle.sig_script.specs.declared.draft.Draft.{Draft}
 use Rattle.sig_script.specs.declared.form.Form.{Form}
 use Rattle.sig_script.specs.declared.form.Form.TheVariants as form
-use Rattle.sig_script.specs.Instructions.{Operand, an_expr, a_variable, a_label, a_switch, a_mode, a_flag, Said, AllSaid, verbs, word_of, operands_of, instr_by}
+use Rattle.sig_program.specs.Instructions.{Operand, an_expr, a_variable, a_label, a_switch, a_mode, a_flag, Said, AllSaid, verbs, word_of, operands_of, instr_by}
 use Rattle.sig_script.specs.Faults.{◌>>=◌, on_ok}
 use Rattle.sig_script.specs.Numbers.{count_of}
 use Rattle.sig_script.specs.Tokens.{text, cut_of, is_token_in_range}

@@ -9,10 +9,10 @@ use Rattle.sig_patterns.specs.declared.expression.Expr.{Expr}
 use Rattle.sig_patterns.specs.declared.expression.Expr.TheVariants as expr
 use Rattle.sig_patterns.specs.declared.pattern.Pattern.{Pattern}
 use Rattle.sig_patterns.specs.declared.pattern.Pattern.TheVariants as pattern
-use Rattle.sig_script.specs.declared.instruction.Instr.{Instr}
-use Rattle.sig_script.specs.declared.instruction.Instr.TheVariants as instr
-use Rattle.sig_script.specs.declared.script.TheConstants.{MOST_TURNS}
-use Rattle.sig_script.specs.Scripts.{Declared, Program}
+use Rattle.sig_program.specs.declared.instruction.Instr.{Instr}
+use Rattle.sig_program.specs.declared.instruction.Instr.TheVariants as instr
+use Rattle.sig_program.specs.declared.script.TheConstants.{MOST_TURNS}
+use Rattle.sig_program.specs.Scripts.{Declared, Program}
 
 abbrev pub var_named : List ℕ → Var
 var_named word = record { 0 = word }

@@ -12,7 +12,7 @@ use Rattle.sig_script.specs.declared.draft.Section.{Section}
 use Rattle.sig_script.specs.declared.draft.Section.TheVariants.{Inside}
 use Rattle.sig_script.specs.declared.draft.Draft.{Draft}
 use Rattle.sig_script.specs.declared.form.Form.{Form}
-use Rattle.sig_script.specs.Scripts.{Program}
+use Rattle.sig_program.specs.Scripts.{Program}
 use Rattle.sig_script.specs.Faults.{Fault, ◌>>=◌}
 use Rattle.sig_script.specs.Lines.{lines_of}
 use Rattle.sig_script.specs.Tokens.{text}

@@ -7,7 +7,7 @@ use Rattle.std.specs.BTreeMap.{is_at}
 use Rattle.std.specs.Str.{bytes_eq}
 use Rattle.std.specs.declared.vec.Vec.{Vec}
 use Rattle.std.specs.declared.alloc.Global.{Global}
-use Rattle.sig_script.specs.declared.label.Label.{Label}
+use Rattle.sig_program.specs.declared.label.Label.{Label}
 
 -- the entries give for each name the place of the label of that name, and nothing where there is none
 abbrev pub IsIndexed : List Label → List (Vec ℕ Global × ℕ) → Type 0

@@ -1,6 +1,3 @@
-pub mod Instructions
-pub mod Parts
-pub mod Scripts
 pub mod LabelPlaces
 pub mod Faults
 pub mod Lines

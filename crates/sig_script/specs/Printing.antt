@@ -1,8 +1,8 @@
 -- Parts of the canonical text, as they are printed one after another.
 use Rattle.std.specs.Prelude.{ℕ, List, [], ◌∷◌, ◌++◌, map, filter, nat_le, Option, codes}
 use Rattle.sig_patterns.specs.declared.clause.Clause.{Clause}
-use Rattle.sig_script.specs.declared.instruction.After.{After}
-use Rattle.sig_script.specs.declared.label.Label.{Label}
+use Rattle.sig_program.specs.declared.instruction.After.{After}
+use Rattle.sig_program.specs.declared.label.Label.{Label}
 use Rattle.sig_script.specs.ScriptText.{clause_line, after_lines}
 
 -- the first of several lines

@@ -15,10 +15,10 @@ use Rattle.sig_patterns.specs.declared.pattern.Pattern.{Pattern}
 use Rattle.sig_patterns.specs.declared.pattern.Pattern.TheOpen.{Pattern-F}
 use Rattle.sig_patterns.specs.declared.pattern.Pattern.TheOpen as pattern
 use Rattle.sig_patterns.specs.declared.pattern.Pattern.TheFolds.{fold-Pattern}
-use Rattle.sig_script.specs.declared.label.Label.{Label}
-use Rattle.sig_script.specs.declared.instruction.Instr.{Instr}
-use Rattle.sig_script.specs.Parts.{exprs_of, vars_of, clauses_of, using_of}
-use Rattle.sig_script.specs.Scripts.{Declared, Program, IsWithin, IsSound}
+use Rattle.sig_program.specs.declared.label.Label.{Label}
+use Rattle.sig_program.specs.declared.instruction.Instr.{Instr}
+use Rattle.sig_program.specs.Parts.{exprs_of, vars_of, clauses_of, using_of}
+use Rattle.sig_program.specs.Scripts.{Declared, Program, IsWithin, IsSound}
 
 -- a name token
 abbrev pub IsNameToken : List ℕ → Type 0

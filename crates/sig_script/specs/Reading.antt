@@ -4,7 +4,7 @@ use Rattle.sig_script.specs.declared.draft.Section.{Section}
 use Rattle.sig_script.specs.declared.draft.Draft.{Draft}
 use Rattle.sig_script.specs.declared.reader.ScriptError.{ScriptError}
 use Rattle.sig_script.specs.declared.reader.ScriptError.TheVariants as error
-use Rattle.sig_script.specs.Scripts.{Program}
+use Rattle.sig_program.specs.Scripts.{Program}
 use Rattle.sig_script.specs.Faults.{Fault}
 use Rattle.sig_script.specs.Drafts.{program_of}
 use Rattle.sig_script.specs.Grammar.{finished}

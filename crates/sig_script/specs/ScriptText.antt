@@ -17,11 +17,11 @@ use Rattle.sig_patterns.specs.declared.pattern.Pattern.TheOpen.{Pattern-F}
 use Rattle.sig_patterns.specs.declared.pattern.Pattern.TheOpen as pattern
 use Rattle.sig_patterns.specs.declared.pattern.Pattern.TheFolds.{fold-Pattern}
 use Rattle.sig_terms.specs.TermText.{atom_text, joined}
-use Rattle.sig_script.specs.declared.label.Label.{Label}
-use Rattle.sig_script.specs.declared.instruction.After.{After}
-use Rattle.sig_script.specs.declared.instruction.Instr.{Instr}
-use Rattle.sig_script.specs.Instructions.{Operand, an_expr, a_variable, a_label, a_switch, a_mode, a_flag, Said, AllSaid, word_of, operands_of, Spoken, Says, Receives, spoken}
-use Rattle.sig_script.specs.Scripts.{Declared, Program}
+use Rattle.sig_program.specs.declared.label.Label.{Label}
+use Rattle.sig_program.specs.declared.instruction.After.{After}
+use Rattle.sig_program.specs.declared.instruction.Instr.{Instr}
+use Rattle.sig_program.specs.Instructions.{Operand, an_expr, a_variable, a_label, a_switch, a_mode, a_flag, Said, AllSaid, word_of, operands_of, Spoken, Says, Receives, spoken}
+use Rattle.sig_program.specs.Scripts.{Declared, Program}
 
 -- the name at this place, from 0; every place that a script names has one
 abbrev pub name_of_place : List (List ℕ) → ℕ → List ℕ

@@ -1,7 +1,7 @@
 -- Where the next line stands behind a form that begins no process and tells no turns.
 use Rattle.std.specs.Prelude.{[], Option, Some, None, Result, Ok, Err}
 use Rattle.sig_patterns.specs.declared.var.Var.{Var}
-use Rattle.sig_script.specs.declared.instruction.Instr.TheVariants as instr
+use Rattle.sig_program.specs.declared.instruction.Instr.TheVariants as instr
 use Rattle.sig_script.specs.declared.fault.FaultKind.{FaultKind}
 use Rattle.sig_script.specs.declared.fault.FaultKind.TheVariants.{Syntax}
 use Rattle.sig_script.specs.declared.draft.Section.{Section}

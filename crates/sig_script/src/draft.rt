@@ -4,7 +4,7 @@ ghost use Rattle.std.specs.Str.{bytes_eq};
 ghost use Rattle.sig_script.specs.declared.fault.FaultKind.TheVariants.{Syntax};
 ghost use Rattle.sig_script.specs.declared.fault.Stop.TheVariants.{Fault};
 ghost use Rattle.sig_script.specs.Faults.{Gives};
-ghost use Rattle.sig_script.specs.Scripts.{Declared};
+ghost use Rattle.sig_program.specs.Scripts.{Declared};
 ghost use Rattle.sig_script.specs.Drafts.{
   blank,
   open_proc,
@@ -25,15 +25,13 @@ ghost use Rattle.sig_script.specs.Fitting.{IsFewKnown, IsSmall, IsFit};
 use crate::drafted::{DraftProc, DraftProcs, DraftScript, place_of_proc};
 use crate::fault::{FaultKind, Stop};
 use crate::form::{Form, read_line};
-use crate::instruction::{After, Instr};
 use crate::known::Known;
-use crate::label::Label;
 use crate::label_table::LabelTable;
 use crate::reader::ScriptError;
-use crate::script::{DEFAULT_TURNS, MOST_PROCESSES, MOST_TURNS};
 use crate::token::Tokens;
 use sig_lists::Sequence;
 use sig_patterns::{Clause, Clauses, Pattern, Var, pins};
+use sig_program::{After, DEFAULT_TURNS, Instr, Label, MOST_PROCESSES, MOST_TURNS};
 use sig_terms::Name;
 use std::alloc::Global;
 use std::mem::{drop, replace};

@@ -1,13 +1,13 @@
 ghost use Rattle.std.specs.Prelude.{◌≡◌, ◌≤◌, ◌<◌, length, position, IfSome};
 ghost use Rattle.std.specs.Str.{bytes_eq};
-ghost use Rattle.sig_script.specs.declared.label.Label.{Label};
-ghost use Rattle.sig_script.specs.declared.script.TheConstants.{MOST_PROCESSES};
-ghost use Rattle.sig_script.specs.Scripts.{Declared};
+ghost use Rattle.sig_program.specs.declared.label.Label.{Label};
+ghost use Rattle.sig_program.specs.declared.script.TheConstants.{MOST_PROCESSES};
+ghost use Rattle.sig_program.specs.Scripts.{Declared};
 ghost use Rattle.sig_script.specs.Names.{labels_at};
 
-use crate::instruction::Instrs;
 use crate::label_table::LabelTable;
 use sig_lists::Sequence;
+use sig_program::Instrs;
 use sig_terms::Name;
 use sig_terms::bytes::equal_bytes;
 use std::marker::Model;
@@ -24,7 +24,7 @@ impl Model for DraftProc {
     ghost use Rattle.std.specs.Coded.{codes};
     ghost use Rattle.sig_patterns.specs.contracts.expression.Expr as expr;
     ghost use Rattle.sig_patterns.specs.contracts.pattern.Pattern as pattern;
-    ghost use Rattle.sig_script.specs.Scripts.{Declared};
+    ghost use Rattle.sig_program.specs.Scripts.{Declared};
 
     ghost Value = { Declared };
 
@@ -47,7 +47,7 @@ impl Model for DraftScript {
     ghost use Rattle.std.specs.Coded.{codes};
     ghost use Rattle.sig_patterns.specs.contracts.expression.Expr as expr;
     ghost use Rattle.sig_patterns.specs.contracts.pattern.Pattern as pattern;
-    ghost use Rattle.sig_script.specs.Scripts.{Program};
+    ghost use Rattle.sig_program.specs.Scripts.{Program};
 
     ghost Value = { Program };
 

@@ -5,9 +5,9 @@ ghost use Rattle.sig_terms.specs.TermText.{joined};
 ghost use Rattle.sig_script.specs.Putting.{IsPut};
 ghost use Rattle.sig_script.specs.ScriptText.{names_of, process_text, expr_text};
 
-use crate::process::Proc;
 use crate::putting::{put, put_int};
 use sig_patterns::Expr;
+use sig_program::Proc;
 use sig_terms::Pid;
 use std::alloc::AllocError;
 

@@ -2,7 +2,7 @@ ghost use Rattle.std.specs.Prelude.{◌≡◌, ◌∷◌, [], true, IfOk};
 ghost use Rattle.sig_terms.specs.Words.{is_token};
 ghost use Rattle.sig_script.specs.Faults.{Gives};
 ghost use Rattle.sig_script.specs.Tokens.{AreWellSpelled, is_token_in_range};
-ghost use Rattle.sig_script.specs.Instructions.{Operand, operands_of};
+ghost use Rattle.sig_program.specs.Instructions.{Operand, operands_of};
 ghost use Rattle.sig_script.specs.Forms.{
   may_stand,
   ends,
@@ -29,8 +29,7 @@ ghost use Rattle.sig_script.specs.Fitting.{IsFewKnown};
 
 use crate::draft::{Draft, Section};
 use crate::fault::{FaultKind, Stop};
-use crate::instruction::{After, Instr};
-use crate::keyword::{Keyword, Verb, read_keyword};
+use crate::keyword::{Keyword, read_keyword};
 use crate::known::Known;
 use crate::line::{read_tokens, text_of};
 use crate::names::{name_of, take_target, take_variable, take_word};
@@ -39,6 +38,7 @@ use crate::phrases::take_phrase;
 use crate::token::{Token, TokenKind, Tokens};
 use sig_kinds::AliasMode;
 use sig_patterns::{Expr, Pattern, Var};
+use sig_program::{After, Instr, Verb};
 use sig_terms::Name;
 use sig_terms::bytes::equal_bytes;
 use std::alloc::Global;

@@ -25,15 +25,12 @@ ghost use Rattle.sig_script.specs.Generated.{
   generated,
 };
 
-use crate::instruction::{Instr, Instrs};
-use crate::label::{Label, Labels};
 use crate::names::name_of;
 use crate::phrases::atom_of;
-use crate::process::{Proc, Procs};
-use crate::script::{MOST_TURNS, Script};
 use sig_kinds::AliasMode;
 use sig_lists::Sequence;
 use sig_patterns::{Clause, Clauses, Expr, Exprs, Pattern, Patterns, Var};
+use sig_program::{Instr, Instrs, Label, Labels, MOST_TURNS, Proc, Procs, Script};
 use sig_terms::Pid;
 use std::alloc::{AllocError, Global};
 

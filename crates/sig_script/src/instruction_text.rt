@@ -20,16 +20,14 @@ ghost use Rattle.sig_script.specs.ScriptText.{
   line_text,
 };
 ghost use Rattle.sig_script.specs.Printing.{first_of, rest_of, inside_lines};
-ghost use Rattle.sig_script.specs.declared.label.Label.{Label};
+ghost use Rattle.sig_program.specs.declared.label.Label.{Label};
 
 use crate::expression_text::put_expr;
-use crate::instruction::{After, Instr};
-use crate::label::Label;
 use crate::pattern_text::put_pattern;
-use crate::process::Proc;
 use crate::putting::{put, put_word};
 use sig_kinds::AliasMode;
 use sig_patterns::{Clause, Clauses, Expr, Var};
+use sig_program::{After, Instr, Label, Proc};
 use std::alloc::AllocError;
 
 /// The name of the label at this place among the labels, from 0, in constant time.

@@ -1,5 +1,4 @@
 ghost use Rattle.std.specs.Prelude.{◌≡◌};
-ghost use Rattle.sig_script.specs.Instructions.{word_of};
 ghost use Rattle.sig_script.specs.Forms.{
   verb_of,
   keyword_of,
@@ -8,29 +7,8 @@ ghost use Rattle.sig_script.specs.Forms.{
   may_be_inside,
 };
 
+use sig_program::Verb;
 use sig_terms::bytes::equal_bytes;
-
-/// The word of an instruction that is no receive.
-#[derive(Clone, Copy)]
-pub enum Verb {
-    Send,
-    Set,
-    MakeRef,
-    Link,
-    Unlink,
-    Monitor,
-    Demonitor,
-    Alias,
-    Unalias,
-    Exit,
-    ExitTo,
-    Trap,
-    Reserve,
-    Bind,
-    Clear,
-    Goto,
-    Stop,
-}
 
 /// The word with which a line begins.
 #[derive(Clone, Copy)]
@@ -65,33 +43,6 @@ const VERBS: [Verb; 17] = [
     Verb::Goto,
     Verb::Stop,
 ];
-
-impl Verb {
-    /// The word of the instruction.
-    fn word(self) -> &'static [u8]
-        ensures { result.now ≡ word_of self }
-    {
-        match self {
-            Verb::Send => b"send",
-            Verb::Set => b"set",
-            Verb::MakeRef => b"make_ref",
-            Verb::Link => b"link",
-            Verb::Unlink => b"unlink",
-            Verb::Monitor => b"monitor",
-            Verb::Demonitor => b"demonitor",
-            Verb::Alias => b"alias",
-            Verb::Unalias => b"unalias",
-            Verb::Exit => b"exit",
-            Verb::ExitTo => b"exit_to",
-            Verb::Trap => b"trap",
-            Verb::Reserve => b"reserve",
-            Verb::Bind => b"bind",
-            Verb::Clear => b"clear",
-            Verb::Goto => b"goto",
-            Verb::Stop => b"stop",
-        }
-    }
-}
 
 /// The verb of these bytes.
 fn read_verb(word: &[u8]) -> Option<Verb>

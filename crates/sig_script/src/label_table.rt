@@ -1,10 +1,10 @@
 ghost use Rattle.std.specs.Prelude.{◌≡◌, ◌<◌, ◌^◌, ◌++◌, [], ◌∷◌, length, position, false, None, IfOk};
 ghost use Rattle.std.specs.List.{list_any};
 ghost use Rattle.std.specs.Str.{bytes_eq};
-ghost use Rattle.sig_script.specs.declared.label.Label.{Label};
+ghost use Rattle.sig_program.specs.declared.label.Label.{Label};
 
-use crate::label::{Label, Labels};
 use sig_lists::Sequence;
+use sig_program::{Label, Labels};
 use sig_terms::Name;
 use std::alloc::{AllocError, Global};
 use std::collections::BTreeMap;
@@ -22,7 +22,7 @@ pub struct LabelTable {
 
 impl Model for LabelTable {
     ghost use Rattle.std.specs.Prelude.{List};
-    ghost use Rattle.sig_script.specs.declared.label.Label.{Label};
+    ghost use Rattle.sig_program.specs.declared.label.Label.{Label};
     ghost use Rattle.sig_script.specs.LabelPlaces.{IsIndexed};
 
     ghost Value = { List Label };

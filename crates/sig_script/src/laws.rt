@@ -4,7 +4,7 @@ ghost use Rattle.std.specs.Prelude.{◌≡◌, ◌≤◌, ℕ, List, length, Ok}
 ghost use Rattle.sig_script.specs.Grammar.{script_of};
 ghost use Rattle.sig_script.specs.ReadableScript.{IsReadableScript};
 ghost use Rattle.sig_script.specs.ScriptText.{script_text};
-ghost use Rattle.sig_script.specs.Scripts.{Program};
+ghost use Rattle.sig_program.specs.Scripts.{Program};
 ghost use Rattle.sig_script.specs.declared.reader.TheConstants.{MOST_BYTES};
 
 /// A script that was read is one that a canonical text may spell; and the canonical text of such a

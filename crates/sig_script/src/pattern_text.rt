@@ -6,9 +6,9 @@ ghost use Rattle.sig_script.specs.Putting.{IsPut};
 ghost use Rattle.sig_script.specs.ScriptText.{names_of, pattern_text, pattern_written};
 
 use crate::expression_text::put_process;
-use crate::process::Proc;
 use crate::putting::{put, put_int};
 use sig_patterns::{Pattern, Var};
+use sig_program::Proc;
 use std::alloc::AllocError;
 
 /// Appends `^` and the variable.

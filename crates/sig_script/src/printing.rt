@@ -2,8 +2,8 @@
 
 ghost use Rattle.std.specs.Prelude.{◌≡◌, ◌++◌, ◌+◌, ◌<◌, ◌≤◌, ◌^◌, [], ◌∷◌, OnOk, OnErr, IfOk, All, length};
 ghost use Rattle.std.specs.List.{flat_map};
-ghost use Rattle.sig_script.specs.declared.label.Label.{Label};
-ghost use Rattle.sig_script.specs.Scripts.{AreRising};
+ghost use Rattle.sig_program.specs.declared.label.Label.{Label};
+ghost use Rattle.sig_program.specs.Scripts.{AreRising};
 ghost use Rattle.sig_script.specs.Putting.{IsPut};
 ghost use Rattle.sig_script.specs.Printing.{labels_from};
 ghost use Rattle.sig_script.specs.ScriptText.{
@@ -18,12 +18,9 @@ ghost use Rattle.sig_script.specs.ScriptText.{
   script_text,
 };
 
-use crate::instruction::Instr;
 use crate::instruction_text::put_instr;
-use crate::label::Label;
-use crate::process::Proc;
 use crate::putting::{put, put_count, put_word};
-use crate::script::Script;
+use sig_program::{Instr, Label, Proc, Script};
 use sig_terms::Name;
 use std::alloc::AllocError;
 

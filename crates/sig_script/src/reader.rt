@@ -12,7 +12,7 @@ ghost use Rattle.sig_script.specs.Grammar.{
   script_of,
 };
 ghost use Rattle.sig_script.specs.Drafts.{blank};
-ghost use Rattle.sig_script.specs.Scripts.{IsWithin, IsSound};
+ghost use Rattle.sig_program.specs.Scripts.{IsWithin, IsSound};
 ghost use Rattle.sig_script.specs.Fitting.{IsFewKnown};
 ghost use Rattle.sig_script.specs.Reading.{IsReading, IsWalked};
 ghost use Rattle.sig_script.specs.declared.reader.ScriptError.TheVariants.{Memory};
@@ -24,11 +24,10 @@ use crate::guess::guess_names;
 use crate::known::Known;
 use crate::line::{first_line, read_tokens, text_of};
 use crate::number::spells_one;
-use crate::process::{Proc, Procs};
 use crate::same_names::are_its_names;
-use crate::script::Script;
 use crate::token::{Token, TokenKind};
 use sig_lists::Sequence;
+use sig_program::{Proc, Procs, Script};
 use sig_terms::bytes::equal_bytes;
 use std::alloc::{AllocError, Global};
 use thiserror::Error;

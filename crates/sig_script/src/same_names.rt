@@ -5,7 +5,7 @@ ghost use Rattle.sig_script.specs.Names.{label_names, named, names_within, AreIt
 
 use crate::drafted::{DraftProc, DraftScript};
 use crate::known::Known;
-use crate::label::Label;
+use sig_program::Label;
 use sig_terms::bytes::equal_bytes;
 
 fn same_labels(labels: &[Label], others: &[Label]) -> bool

@@ -3,7 +3,7 @@ use Rattle.std.proofs.Common.{◌≡◌, ℕ, ◌+◌, ◌<◌, ◌≤◌, List,
 use Rattle.std.specs.Prelude.{◌==◌, slice_get, slice_index_or}
 use Rattle.std.proofs.lemmas.Bool.{eq-eqb, ne_eqb}
 use Rattle.std.proofs.lemmas.Option.{same_Some, slice_get_within}
-use Rattle.sig_script.specs.Scripts.{Program}
+use Rattle.sig_program.specs.Scripts.{Program}
 use Rattle.sig_model.specs.declared.event.Event.{Event}
 use Rattle.sig_model.specs.Running.{Running}
 use Rattle.sig_model.specs.OneWorker.{IsClear}

@@ -2,7 +2,7 @@
 use Rattle.std.proofs.Common.{◌≡◌, ℕ, ◌+◌, ◌<◌, ◌≤◌, List, length, Bool, true, false, Some, refl, sym, ap, ◌∙◌, subst, arith}
 use Rattle.std.specs.Prelude.{slice_get, All, slice_index}
 use Rattle.std.proofs.lemmas.Option.{same_Some, slice_get_within}
-use Rattle.sig_script.specs.Scripts.{Program, IsSound}
+use Rattle.sig_program.specs.Scripts.{Program, IsSound}
 use Rattle.sig_model.specs.Running.{Running}
 use Rattle.sig_model.specs.OneWorker.{IsClear}
 use Rattle.sig_model.specs.Still.{IsStill}

@@ -17,8 +17,8 @@ use Rattle.sig_kinds.specs.contracts.signals.Signals as signals
 use Rattle.sig_links.specs.contracts.links.Links as links
 use Rattle.sig_inner.specs.contracts.inner.Inner as inner
 use Rattle.sig_patterns.specs.contracts.env.Env as env
-use Rattle.sig_script.specs.contracts.process.Proc as proc
-use Rattle.sig_script.specs.contracts.instruction.Instr as instr
+use Rattle.sig_program.specs.contracts.process.Proc as proc
+use Rattle.sig_program.specs.contracts.instruction.Instr as instr
 use Rattle.sig_model.specs.contracts.event.Event as event
 use Rattle.sig_process.specs.contracts.process.Process as process
 use Rattle.sig_queue.proofs.Sendable.{seat_send, queue_sync}

@@ -1,7 +1,7 @@
 -- What a round makes of a crew, and what several rounds make.
 use Rattle.std.specs.Prelude.{◌≡◌, ◌≢◌, ℕ, ◌+◌, ◌<◌, ◌≤◌, Bool, true, false, List, ◌++◌, length, map, slice_get, slice_index_or, Some, cond}
 use Rattle.std.specs.Bool.{MatchBool}
-use Rattle.sig_script.specs.Scripts.{Program}
+use Rattle.sig_program.specs.Scripts.{Program}
 use Rattle.sig_runs.specs.Crew.{crew_machine}
 use Rattle.sig_runs.specs.Settled.{IsSettled}
 use Rattle.sig_model.specs.declared.event.Event.{Event}

@@ -1,5 +1,5 @@
 ghost use Rattle.std.specs.Prelude.{◌≤◌, IfOk};
-ghost use Rattle.sig_script.specs.Scripts.{Program, IsSound};
+ghost use Rattle.sig_program.specs.Scripts.{Program, IsSound};
 ghost use Rattle.sig_model.specs.CrewLaw.{IsLawfulCrew};
 ghost use Rattle.sig_model.specs.OneWorker.{IsClear};
 ghost use Rattle.sig_layout.specs.Policies.{IsPolicy};

@@ -1,5 +1,5 @@
 use Rattle.std.proofs.Common.{sym, subst}
-use Rattle.sig_script.specs.Scripts.{IsWithin}
+use Rattle.sig_program.specs.Scripts.{IsWithin}
 use Rattle.sig_script.proofs.GeneratedLemmas.{client_within, client_is}
 use Rattle.sig_script.proofs.generating.add_client.Goals as goal
 

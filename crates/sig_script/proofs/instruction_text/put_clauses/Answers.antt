@@ -3,7 +3,7 @@ use Rattle.std.specs.List.{flat_map}
 use Rattle.std.proofs.lemmas.Bool.Decides.{nat_tests}
 use Rattle.std.proofs.lemmas.List.Folds.{flat_map-map}
 use Rattle.sig_patterns.specs.declared.clause.Clause.{Clause}
-use Rattle.sig_script.specs.declared.label.Label.{Label}
+use Rattle.sig_program.specs.declared.label.Label.{Label}
 use Rattle.sig_script.specs.ScriptText.{names_of, clause_line, line_text}
 use Rattle.sig_script.proofs.PrintLemmas.{refused, kept_front, each_put, all_put}
 use Rattle.sig_script.proofs.instruction_text.put_clauses.Goals as goal

@@ -1,7 +1,7 @@
 use Rattle.std.proofs.Common.{◌≡◌, ◌++◌, take, map}
 use Rattle.std.specs.List.{flat_map}
 use Rattle.sig_patterns.specs.declared.clause.Clause.{Clause}
-use Rattle.sig_script.specs.declared.label.Label.{Label}
+use Rattle.sig_program.specs.declared.label.Label.{Label}
 use Rattle.sig_script.specs.ScriptText.{names_of, clause_line, line_text}
 use Rattle.sig_script.proofs.instruction_text.put_clauses.Given as goal
 

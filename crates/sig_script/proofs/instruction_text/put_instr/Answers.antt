@@ -1,6 +1,6 @@
 use Rattle.std.proofs.Common.{List, ℕ, map, codes}
 use Rattle.std.specs.List.{flat_map}
-use Rattle.sig_script.specs.declared.label.Label.{Label}
+use Rattle.sig_program.specs.declared.label.Label.{Label}
 use Rattle.sig_script.specs.ScriptText.{names_of, instr_lines, line_text}
 use Rattle.sig_script.specs.Printing.{first_of, rest_of}
 use Rattle.sig_script.proofs.PrintLemmas.{three_put, instr_split}

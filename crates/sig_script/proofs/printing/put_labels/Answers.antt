@@ -1,6 +1,6 @@
 use Rattle.std.proofs.Common.{arith, ◌≡◌, ◌==◌, ◌∷◌, ◌+◌, ◌≤◌, ◌∙◌, sym, All, true, false}
 use Rattle.std.proofs.lemmas.Bool.Decides.{nat_tests}
-use Rattle.sig_script.specs.declared.label.Label.{Label}
+use Rattle.sig_program.specs.declared.label.Label.{Label}
 use Rattle.sig_script.specs.ScriptText.{label_line, line_text}
 use Rattle.sig_script.proofs.PrintLemmas.{refused, front_on, kept_more}
 use Rattle.sig_script.proofs.LabelTextLemmas.{stop_behind, stop_from, stop_text, step_text, step_from, step_rising, step_behind}

@@ -1,7 +1,7 @@
 use Rattle.std.proofs.Common.{◌≡◌, ◌+◌, ◌++◌, ◌≤◌, take, length, All}
 use Rattle.std.specs.List.{flat_map}
-use Rattle.sig_script.specs.declared.label.Label.{Label}
-use Rattle.sig_script.specs.Scripts.{AreRising}
+use Rattle.sig_program.specs.declared.label.Label.{Label}
+use Rattle.sig_program.specs.Scripts.{AreRising}
 use Rattle.sig_script.specs.ScriptText.{labels_there, line_text}
 use Rattle.sig_script.specs.Printing.{labels_from}
 use Rattle.sig_script.proofs.printing.put_labels.Given as goal

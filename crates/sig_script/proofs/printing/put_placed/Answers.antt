@@ -3,7 +3,7 @@ use Rattle.std.specs.List.{flat_map}
 use Rattle.std.proofs.lemmas.Bool.Decides.{nat_tests}
 use Rattle.std.proofs.lemmas.List.{drop_all, drop_more}
 use Rattle.std.proofs.Math.Seq.{take-length}
-use Rattle.sig_script.specs.declared.label.Label.{Label}
+use Rattle.sig_program.specs.declared.label.Label.{Label}
 use Rattle.sig_script.specs.ScriptText.{names_of, labels_there, instr_lines, line_text}
 use Rattle.sig_script.proofs.PrintLemmas.{refused, kept_more, front_on, front_behind}
 use Rattle.sig_script.proofs.LabelTextLemmas.{all_from, placed_step, placed_end, next_from, rest_rising, rest_behind}

@@ -1,7 +1,7 @@
 use Rattle.std.proofs.Common.{arith, List, ℕ, take}
 use Rattle.std.specs.List.{flat_map}
 use Rattle.std.proofs.lemmas.Bool.Decides.{nat_tests}
-use Rattle.sig_script.specs.Scripts.{Declared}
+use Rattle.sig_program.specs.Scripts.{Declared}
 use Rattle.sig_script.specs.ScriptText.{names_of, process_lines, line_text}
 use Rattle.sig_script.proofs.PrintLemmas.{refused, kept_front, each_put, all_put, lines_of_each}
 use Rattle.sig_script.proofs.printing.put_procs.Goals as goal

@@ -1,6 +1,6 @@
 use Rattle.std.proofs.Common.{◌≡◌, ◌++◌, take}
 use Rattle.std.specs.List.{flat_map}
-use Rattle.sig_script.specs.Scripts.{Declared}
+use Rattle.sig_program.specs.Scripts.{Declared}
 use Rattle.sig_script.specs.ScriptText.{names_of, process_lines, line_text}
 use Rattle.sig_script.proofs.printing.put_procs.Given as goal
 

@@ -1,6 +1,6 @@
 use Rattle.std.proofs.Common.{◌^◌, ◌≤◌, length, sym, ap, ◌∙◌, arith, Ok}
 use Rattle.sig_script.specs.Lines.{lines_of}
-use Rattle.sig_script.specs.Scripts.{Program}
+use Rattle.sig_program.specs.Scripts.{Program}
 use Rattle.sig_script.proofs.BoundLemmas.{few_lines}
 use Rattle.sig_script.proofs.OtherWalks.{once_read, once_within, once_sound}
 use Rattle.sig_script.proofs.reader.read_once.Goals as goal

@@ -6,7 +6,7 @@ use Rattle.sig_terms.specs.Names.{IsNameBelow}
 use Rattle.sig_kinds.specs.declared.signal.Signal.{Signal}
 use Rattle.sig_kinds.specs.declared.signal.Kind.TheVariants.{Link}
 use Rattle.sig_kinds.specs.Counting.{IsCounting}
-use Rattle.sig_script.specs.Scripts.{Declared}
+use Rattle.sig_program.specs.Scripts.{Declared}
 use Rattle.sig_model.specs.Accounts.{Continues}
 use Rattle.sig_model.specs.Keeping.{IsArriving}
 use Rattle.sig_model.specs.Running.{Running, opened}

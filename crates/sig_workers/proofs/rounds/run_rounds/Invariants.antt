@@ -1,5 +1,5 @@
 use Rattle.std.proofs.Common.{◌≡◌, false}
-use Rattle.sig_script.specs.Scripts.{Program}
+use Rattle.sig_program.specs.Scripts.{Program}
 use Rattle.sig_model.specs.CrewLaw.{IsLawfulCrew}
 use Rattle.sig_workers.specs.Rounds.{IsRounds, HasSettled, room_left}
 use Rattle.sig_workers.proofs.rounds.run_rounds.Given as goal

@@ -4,7 +4,7 @@ use Rattle.sig_model.specs.Keeping.{IsPlaced}
 use Rattle.sig_model.proofs.OpeningLemmas.{clear_from}
 use Rattle.sig_model.proofs.PlacedLemmas.{opened_placed}
 use Rattle.sig_model.proofs.LawfulRunLemmas.{opened_keeping_lawful}
-use Rattle.sig_script.specs.Scripts.{Declared}
+use Rattle.sig_program.specs.Scripts.{Declared}
 use Rattle.sig_process.specs.Standing.{runnings_of}
 use Rattle.sig_process.proofs.Lists.{opened_more, all_opened, keeping_more}
 use Rattle.sig_process.proofs.crew.Crew.open.Goals as goal

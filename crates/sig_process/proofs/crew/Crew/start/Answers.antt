@@ -4,7 +4,7 @@ use Rattle.std.proofs.lemmas.List.{append-nil, length-append}
 use Rattle.std.proofs.lemmas.List.Elements.{All-nil, All-head, All-tail}
 use Rattle.std.specs.Prelude.{All}
 use Rattle.std.specs.Vec.Iter.{into_iter_items}
-use Rattle.sig_script.specs.Scripts.{Declared, Program, IsProcBelow}
+use Rattle.sig_program.specs.Scripts.{Declared, Program, IsProcBelow}
 use Rattle.sig_model.specs.Keeping.{IsKeeping, IsPlaced}
 use Rattle.sig_model.specs.OneWorker.{IsClear, opened_from}
 use Rattle.sig_model.specs.Running.{Running}

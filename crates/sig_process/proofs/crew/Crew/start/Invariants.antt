@@ -1,7 +1,7 @@
 use Rattle.std.proofs.Common.{◌≡◌, ◌+◌, ◌++◌, length}
 use Rattle.std.specs.Prelude.{All}
 use Rattle.std.specs.Vec.Iter.{into_iter_items}
-use Rattle.sig_script.specs.Scripts.{IsProcBelow}
+use Rattle.sig_program.specs.Scripts.{IsProcBelow}
 use Rattle.sig_model.specs.Keeping.{IsKeeping}
 use Rattle.sig_model.specs.OneWorker.{opened_from}
 use Rattle.sig_process.specs.Standing.{runnings_of}

@@ -1,5 +1,5 @@
 use Rattle.std.proofs.Common.{◌≡◌, Option, Some, subst}
-use Rattle.sig_script.specs.declared.instruction.Instr.{Instr}
+use Rattle.sig_program.specs.declared.instruction.Instr.{Instr}
 use Rattle.sig_model.specs.Executing.{from_mark, exec_body}
 use Rattle.sig_process.specs.Plans.{executed_body}
 use Rattle.sig_process.specs.Progressing.{state_of}

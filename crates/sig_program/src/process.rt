@@ -12,7 +12,7 @@ ghost use Rattle.std.specs.Prelude.{
   option_copied,
   option_map,
 };
-ghost use Rattle.sig_script.specs.Scripts.{IsWithin, IsLawful};
+ghost use Rattle.sig_program.specs.Scripts.{IsWithin, IsLawful};
 
 use crate::copying::copy_all;
 use crate::instruction::{Instr, Instrs};
@@ -39,7 +39,7 @@ impl Model for Proc {
     ghost use Rattle.std.specs.Coded.{codes};
     ghost use Rattle.sig_patterns.specs.contracts.expression.Expr as expr;
     ghost use Rattle.sig_patterns.specs.contracts.pattern.Pattern as pattern;
-    ghost use Rattle.sig_script.specs.Scripts.{Declared, IsWithin};
+    ghost use Rattle.sig_program.specs.Scripts.{Declared, IsWithin};
 
     ghost Value = { Declared };
 

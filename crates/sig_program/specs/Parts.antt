@@ -12,9 +12,9 @@ use Rattle.sig_patterns.specs.declared.pattern.Pattern.{Pattern}
 use Rattle.sig_patterns.specs.declared.pattern.Pattern.TheOpen.{Pattern-F}
 use Rattle.sig_patterns.specs.declared.pattern.Pattern.TheOpen as pattern
 use Rattle.sig_patterns.specs.declared.pattern.Pattern.TheFolds.{fold-Pattern}
-use Rattle.sig_script.specs.declared.instruction.After.{After}
-use Rattle.sig_script.specs.declared.instruction.Instr.{Instr}
-use Rattle.sig_script.specs.Instructions.{Operand, an_expr, a_variable, a_label, a_mode, AllSaid, operands_of, Spoken, Says, Receives, spoken}
+use Rattle.sig_program.specs.declared.instruction.After.{After}
+use Rattle.sig_program.specs.declared.instruction.Instr.{Instr}
+use Rattle.sig_program.specs.Instructions.{Operand, an_expr, a_variable, a_label, a_mode, AllSaid, operands_of, Spoken, Says, Receives, spoken}
 
 -- the expressions among operands
 abbrev pub said_exprs : (os : List Operand) → AllSaid os → List Expr

@@ -2,8 +2,8 @@ use Rattle.std.proofs.Common.{arith, subst, sym, ◌≡◌, ◌-◌, ℕ, List, 
 use Rattle.std.proofs.lemmas.Option.{slice_get_cases, slice_get_within}
 use Rattle.std.proofs.lemmas.Grind.{common_steps}
 use Rattle.std.specs.Prelude.{Option, IfSome, option_copied, slice_get}
-use Rattle.sig_script.specs.Scripts.{IsWithin, IsLawful}
-use Rattle.sig_script.proofs.process.Proc.instr.Goals as goal
+use Rattle.sig_program.specs.Scripts.{IsWithin, IsLawful}
+use Rattle.sig_program.proofs.process.Proc.instr.Goals as goal
 
 at_place : {A : Type 0} (xs : List A) (i : ℕ) (x : A) → slice_get xs i ≡ Some x → get_or xs i x ≡ x
 at_place xs i x e = grind (arith, common_steps, slice_get_cases xs i)

@@ -1,6 +1,6 @@
 ghost use Rattle.std.specs.Prelude.{◌≡◌, [], ◌∷◌, IfOk};
-ghost use Rattle.sig_script.specs.Parts.{exprs_of, vars_of};
-ghost use Rattle.sig_script.specs.declared.instruction.Instr.TheVariants as instr;
+ghost use Rattle.sig_program.specs.Parts.{exprs_of, vars_of};
+ghost use Rattle.sig_program.specs.declared.instruction.Instr.TheVariants as instr;
 
 use crate::copying::copy_all;
 use sig_kinds::AliasMode;

@@ -4,11 +4,11 @@ use Rattle.sig_kinds.specs.declared.alias_mode.AliasMode.{AliasMode}
 use Rattle.sig_patterns.specs.declared.clause.Clause.{Clause}
 use Rattle.sig_patterns.specs.declared.var.Var.{Var}
 use Rattle.sig_patterns.specs.declared.expression.Expr.{Expr}
-use Rattle.sig_script.specs.declared.instruction.After.{After}
-use Rattle.sig_script.specs.declared.instruction.Instr.{Instr}
-use Rattle.sig_script.specs.declared.instruction.Instr.TheVariants as instr
-use Rattle.sig_script.specs.declared.keyword.Verb.{Verb}
-use Rattle.sig_script.specs.declared.keyword.Verb.TheVariants as verb
+use Rattle.sig_program.specs.declared.instruction.After.{After}
+use Rattle.sig_program.specs.declared.instruction.Instr.{Instr}
+use Rattle.sig_program.specs.declared.instruction.Instr.TheVariants as instr
+use Rattle.sig_program.specs.declared.verb.Verb.{Verb}
+use Rattle.sig_program.specs.declared.verb.Verb.TheVariants as verb
 
 -- what may stand behind the word of an instruction; a mode and a flag may be left out, so that they stand last
 pub data Operand : Type 0 where

@@ -1,5 +1,5 @@
 ghost use Rattle.std.specs.Prelude.{◌≡◌, ◌≤◌, length, slice_get, option_copied};
-ghost use Rattle.sig_script.specs.Scripts.{IsSound};
+ghost use Rattle.sig_program.specs.Scripts.{IsSound};
 
 use crate::process::{Proc, Procs};
 use std::marker::Model;
@@ -28,7 +28,7 @@ impl Model for Script {
     ghost use Rattle.std.specs.Coded.{codes};
     ghost use Rattle.sig_patterns.specs.contracts.expression.Expr as expr;
     ghost use Rattle.sig_patterns.specs.contracts.pattern.Pattern as pattern;
-    ghost use Rattle.sig_script.specs.Scripts.{Program, IsSound};
+    ghost use Rattle.sig_program.specs.Scripts.{Program, IsSound};
 
     ghost Value = { Program };
 

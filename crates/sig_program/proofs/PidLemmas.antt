@@ -13,8 +13,7 @@ use Rattle.sig_patterns.specs.declared.pattern.Pattern.TheVariants as pat
 use Rattle.sig_patterns.specs.declared.pattern.Pattern.TheOpen.{Pattern-F}
 use Rattle.sig_patterns.specs.declared.pattern.Pattern.TheOpen as pattern
 use Rattle.sig_patterns.specs.declared.pattern.Pattern.TheFolds.{fold-roll-Pattern}
-use Rattle.sig_script.specs.PatternTexts.{nested}
-use Rattle.sig_script.specs.Parts.{expr_pids, pids_of, pattern_pids, pids_of_pattern}
+use Rattle.sig_program.specs.Parts.{expr_pids, pids_of, pattern_pids, pids_of_pattern}
 
 -- a layer at a time
 pub pids_of-roll : (x : Expr-F Expr) → pids_of (roll-Expr x) ≡ expr_pids (map-Expr Expr (List ℕ) pids_of x)
@@ -117,7 +116,7 @@ module _ (P : ℕ → Type 0) where
   list_pids es h = All-same P (pids_of (expr.List es)) (concat (map pids_of es)) (pids_of-List es) (concat_all pids_of es h)
 
   -- of the pids of a pattern
-  abbrev OfPattern : Pattern → Type 0
+  abbrev pub OfPattern : Pattern → Type 0
   OfPattern p = All P (pids_of_pattern p)
 
   pub any_pattern_pids : OfPattern pat.Any
@@ -148,7 +147,3 @@ module _ (P : ℕ → Type 0) where
   cons_pattern_pids head tail h k =
       All-same P (pids_of_pattern (pat.Cons head tail)) (pids_of_pattern head ++ pids_of_pattern tail) (pids_of_pattern-Cons head tail)
       (All-append P (pids_of_pattern head) (pids_of_pattern tail) h k)
-
-  pub nested_pids : (items : List Pattern) (tail : Pattern) → All OfPattern items → OfPattern tail → OfPattern (nested items tail)
-  nested_pids [] tail h k = k
-  nested_pids (p ∷ ps) tail h k = cons_pattern_pids p (nested ps tail) (All-head OfPattern p ps h) (nested_pids ps tail (All-tail OfPattern p ps h) k)

@@ -1,0 +1,3 @@
+pub mod Instructions
+pub mod Parts
+pub mod Scripts
