@@ -12,4 +12,4 @@ pub use instruction::{After, Instr, Instrs};
 pub use label::{Label, Labels};
 pub use process::{Proc, Procs};
 pub use script::{DEFAULT_TURNS, MOST_PROCESSES, MOST_TURNS, Script};
-pub use verb::Verb;
+pub use verb::{VERBS, Verb};

@@ -23,6 +23,27 @@ pub enum Verb {
     Stop,
 }
 
+/// The verbs, each once.
+pub const VERBS: [Verb; 17] = [
+    Verb::Send,
+    Verb::Set,
+    Verb::MakeRef,
+    Verb::Link,
+    Verb::Unlink,
+    Verb::Monitor,
+    Verb::Demonitor,
+    Verb::Alias,
+    Verb::Unalias,
+    Verb::Exit,
+    Verb::ExitTo,
+    Verb::Trap,
+    Verb::Reserve,
+    Verb::Bind,
+    Verb::Clear,
+    Verb::Goto,
+    Verb::Stop,
+];
+
 impl Verb {
     /// The word of the instruction.
     pub fn word(self) -> &'static [u8]

@@ -7,7 +7,7 @@ ghost use Rattle.sig_script.specs.Forms.{
   may_be_inside,
 };
 
-use sig_program::Verb;
+use sig_program::{VERBS, Verb};
 use sig_terms::bytes::equal_bytes;
 
 /// The word with which a line begins.
@@ -22,27 +22,6 @@ pub enum Keyword {
     After,
     End,
 }
-
-/// The verbs, each once.
-const VERBS: [Verb; 17] = [
-    Verb::Send,
-    Verb::Set,
-    Verb::MakeRef,
-    Verb::Link,
-    Verb::Unlink,
-    Verb::Monitor,
-    Verb::Demonitor,
-    Verb::Alias,
-    Verb::Unalias,
-    Verb::Exit,
-    Verb::ExitTo,
-    Verb::Trap,
-    Verb::Reserve,
-    Verb::Bind,
-    Verb::Clear,
-    Verb::Goto,
-    Verb::Stop,
-];
 
 /// The verb of these bytes.
 fn read_verb(word: &[u8]) -> Option<Verb>
