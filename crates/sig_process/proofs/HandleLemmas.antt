@@ -31,16 +31,10 @@ use Rattle.sig_process.specs.Progressing.{state_of, IsSame}
 use Rattle.sig_process.specs.Executions.{KeepsSaved, HasHandledNext, IsPlacedWithin}
 use Rattle.sig_process.specs.Committing.{queue_after, HasHandled}
 use Rattle.sig_process.specs.Soundness.{HasPassedAt}
+use Rattle.sig_process.proofs.ChangeLemmas.{changed_owner}
 
 -- what a change keeps of the place
 module _ (q : InnerQueue) (within : passed q.last ≤ length q.inbox.messages) (early : All (λ (m : Mark). m.arrival ≤ q.inbox.next_arrival) q.inbox.marks) where
-  changed_owner : (c : Change) → (queue_after q c).owner ≡ q.owner
-  changed_owner (change.Append message) = refl
-  changed_owner (change.ThroughAlias reference message) = refl
-  changed_owner (change.ToldDown reference message) = refl
-  changed_owner (change.End reason) = refl
-  changed_owner _ = refl
-
   -- a message comes behind each start
   arrived_passes : (using : Option Ref) (clauses : List Clause) (env : Environment) (message : Term) → HasPassed q (start_of q.inbox using) clauses env
       → HasPassed (appended q message) (start_of (appended q message).inbox using) clauses env
@@ -84,7 +78,7 @@ pub handled_keeps : (before after : Progress) (peer : Option Pid) (c : Change) �
 handled_keeps before after peer c steady end queue within early ended =
     let q = before.tables.inner.queue in
     record {
-      owner = ap (λ (r : InnerQueue). r.owner) queue ∙ changed_owner q within early c;
+      owner = ap (λ (r : InnerQueue). r.owner) queue ∙ changed_owner q c;
       place = steady.1;
       saved =
           ap (λ (r : InnerQueue). passed r.last) queue
