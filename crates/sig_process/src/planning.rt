@@ -101,13 +101,27 @@ impl Progress {
         }
     }
 
-    /// The execution that changes nothing and sends these signals.
-    fn telling(&self, proc: &Proc, outcome: Outcome, posts: Vec<Outgoing>) -> Execution
+    /// The execution that changes nothing and sends one signal.
+    fn posting(
+        &self,
+        proc: &Proc,
+        to: Pid,
+        kind: Kind,
+        outcome: Outcome,
+    ) -> Result<Execution, AllocError>
         requires { self.now.counts.place ≤ length proc.now.instrs }
-        ensures { executed_body (state_of self.now) result ≡ record { state = at_next (state_of self.now); outcome = outcome; posts = map post_of posts.items } }
+        ensures { IfOk result (λ x. executed_body (state_of self.now) x ≡ record { state = at_next (state_of self.now); outcome = outcome; posts = record { to = to.0; kind = kind } ∷ [] }) }
     {
-        let plan = Plan::sending(Change::Nothing, outcome, posts);
-        self.going(proc, None, plan)
+        match one_post(self.alloc, to, kind) {
+            Ok(posts) => {
+                let plan = Plan::sending(Change::Nothing, outcome, posts);
+                Ok(self.going(proc, None, plan))
+            }
+            Err(fault) => {
+                drop(outcome);
+                Err(fault)
+            }
+        }
     }
 
     /// A message to a process.
@@ -116,16 +130,12 @@ impl Progress {
         ensures { IfOk result (λ x. sending (state_of self.now) term (Target.Process to) ≡ executed_body (state_of self.now) x) }
     {
         let (term, message) = with_copy(self.alloc, term)?;
-        match one_post(self.alloc, to, Kind::Message { term }) {
-            Ok(posts) => {
-                let to = Term::Pid(to);
-                Ok(self.telling(proc, Outcome::Sent { to, message }, posts))
-            }
-            Err(fault) => {
-                drop(message);
-                Err(fault)
-            }
-        }
+        let kind = Kind::Message { term };
+        let outcome = Outcome::Sent {
+            to: Term::Pid(to),
+            message,
+        };
+        self.posting(proc, to, kind, outcome)
     }
 
     /// A message through an alias to the process that made it.
@@ -139,17 +149,9 @@ impl Progress {
         ensures { IfOk result (λ x. sending (state_of self.now) term (Target.Alias reference) ≡ executed_body (state_of self.now) x) }
     {
         let (term, message) = with_copy(self.alloc, term)?;
+        let to = Term::Ref(reference);
         let kind = Kind::AliasMessage { reference, term };
-        match one_post(self.alloc, reference.owner, kind) {
-            Ok(posts) => {
-                let to = Term::Ref(reference);
-                Ok(self.telling(proc, Outcome::Sent { to, message }, posts))
-            }
-            Err(fault) => {
-                drop(message);
-                Err(fault)
-            }
-        }
+        self.posting(proc, reference.owner, kind, Outcome::Sent { to, message })
     }
 
     /// A message to a process, or through an alias.
@@ -249,8 +251,7 @@ impl Progress {
             reason,
             linked: false,
         };
-        let posts = one_post(self.alloc, target, kind)?;
-        Ok(self.telling(proc, Outcome::Done, posts))
+        self.posting(proc, target, kind, Outcome::Done)
     }
 
     /// The process traps exits from now on, or does no more.
