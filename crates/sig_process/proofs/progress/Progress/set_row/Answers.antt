@@ -1,14 +1,8 @@
-use Rattle.sig_model.specs.Executing.{with_value, setting}
-use Rattle.sig_process.specs.Progressing.{state_of}
 use Rattle.sig_process.proofs.ValueLemmas.{planned_for}
 use Rattle.sig_process.proofs.progress.Progress.set_row.Goals as goal
 
 pub returns-in-Ok : goal.returns-in-Ok
-returns-in-Ok c =
-    let s = state_of c.args.self.now in
-    planned_for s (with_value s c.args.value.now) (setting s c.args.var.now.0) c.in-Ok.value c.in_memory.result c.in-Ok.ensures (c.in_memory.ensures s _ c.plan_set.ensures)
+returns-in-Ok c = planned_for _ _ _ c.in-Ok.value c.in_memory.result c.in-Ok.ensures (c.in_memory.ensures _ _ c.plan_set.ensures)
 
 pub returns-in-Err : goal.returns-in-Err
-returns-in-Err c =
-    let s = state_of c.args.self.now in
-    c.in-Err.ensures (setting s c.args.var.now.0)
+returns-in-Err c = c.in-Err.ensures _
