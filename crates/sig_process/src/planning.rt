@@ -124,44 +124,23 @@ impl Progress {
         }
     }
 
-    /// A message to a process.
-    fn plan_message(&self, proc: &Proc, to: Pid, term: Term) -> Result<Execution, AllocError>
-        requires { self.now.counts.place ≤ length proc.now.instrs }
-        ensures { IfOk result (λ x. sending (state_of self.now) term (Target.Process to) ≡ executed_body (state_of self.now) x) }
-    {
-        let (term, message) = with_copy(self.alloc, term)?;
-        let kind = Kind::Message { term };
-        let outcome = Outcome::Sent {
-            to: Term::Pid(to),
-            message,
-        };
-        self.posting(proc, to, kind, outcome)
-    }
-
-    /// A message through an alias to the process that made it.
-    fn plan_alias_message(
-        &self,
-        proc: &Proc,
-        reference: Ref,
-        term: Term,
-    ) -> Result<Execution, AllocError>
-        requires { self.now.counts.place ≤ length proc.now.instrs }
-        ensures { IfOk result (λ x. sending (state_of self.now) term (Target.Alias reference) ≡ executed_body (state_of self.now) x) }
-    {
-        let (term, message) = with_copy(self.alloc, term)?;
-        let to = Term::Ref(reference);
-        let kind = Kind::AliasMessage { reference, term };
-        self.posting(proc, reference.owner, kind, Outcome::Sent { to, message })
-    }
-
-    /// A message to a process, or through an alias.
+    /// A message to a process, or through an alias to the process that made it.
     fn plan_send(&self, proc: &Proc, to: Target, message: Term) -> Result<Execution, AllocError>
         requires { self.now.counts.place ≤ length proc.now.instrs }
         ensures { IfOk result (λ x. sending (state_of self.now) message to ≡ executed_body (state_of self.now) x) }
     {
+        let (term, message) = with_copy(self.alloc, message)?;
         match to {
-            Target::Process(pid) => self.plan_message(proc, pid, message),
-            Target::Alias(reference) => self.plan_alias_message(proc, reference, message),
+            Target::Process(pid) => {
+                let kind = Kind::Message { term };
+                let to = Term::Pid(pid);
+                self.posting(proc, pid, kind, Outcome::Sent { to, message })
+            }
+            Target::Alias(reference) => {
+                let kind = Kind::AliasMessage { reference, term };
+                let to = Term::Ref(reference);
+                self.posting(proc, reference.owner, kind, Outcome::Sent { to, message })
+            }
         }
     }
 
