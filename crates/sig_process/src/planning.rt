@@ -144,20 +144,6 @@ impl Progress {
         }
     }
 
-    /// The variable gets the value, and the event tells this copy of it.
-    fn assigning(&self, proc: &Proc, var: Var, value: Term, told: Term) -> Execution
-        requires within { self.now.counts.place ≤ length proc.now.instrs }
-        requires copy { told ≡ value }
-        ensures { setting (state_of self.now) var.0 value ≡ executed_body (state_of self.now) result }
-    {
-        Execution {
-            binding: Binding::Value { var, value },
-            inbox: InboxChange::Nothing,
-            place: self.place_after(proc, None),
-            plan: self.silent(Change::Nothing, Outcome::Set { value: told }),
-        }
-    }
-
     /// The variable gets the value.
     fn plan_set(&self, proc: &Proc, var: &Var, value: Term) -> Result<Execution, AllocError>
         requires { self.now.counts.place ≤ length proc.now.instrs }
@@ -165,7 +151,12 @@ impl Progress {
     {
         let (value, told) = with_copy(self.alloc, value)?;
         match var.copy(self.alloc) {
-            Ok(var) => Ok(self.assigning(proc, var, value, told)),
+            Ok(var) => Ok(Execution {
+                binding: Binding::Value { var, value },
+                inbox: InboxChange::Nothing,
+                place: self.place_after(proc, None),
+                plan: self.silent(Change::Nothing, Outcome::Set { value: told }),
+            }),
             Err(fault) => {
                 drop(value);
                 drop(told);

@@ -1,19 +1,19 @@
-ghost use Rattle.std.specs.Prelude.{◌≡◌, IfOk, None, Some, [], map};
+ghost use Rattle.std.specs.Prelude.{◌≡◌, IfOk, None, Some};
 ghost use Rattle.sig_kinds.specs.LinkRules.{on_link, on_unlink, on_ack};
 ghost use Rattle.sig_kinds.specs.WatchRules.{mode_of, by_mode, on_alias_message, on_monitor, on_demonitor, on_down};
 ghost use Rattle.sig_kinds.specs.declared.alias_answer.AliasAnswer.TheVariants as alias_answer;
-ghost use Rattle.sig_model.specs.ProcessState.{ProcessState, rewatched};
+ghost use Rattle.sig_model.specs.ProcessState.{rewatched};
 ghost use Rattle.sig_model.specs.Bodies.{appending, dropping};
 ghost use Rattle.sig_model.specs.ExitRule.{exit_message, exit_rule, plain_exit, linked_exit};
 ghost use Rattle.sig_model.specs.Handling.{linking_up, unlinking_from, acknowledging, through_alias, watching, unwatching, down_message, told_down, live_body, answering_noproc, ended_body, handling};
 ghost use Rattle.sig_process.specs.KeptMessage.{message_of};
-ghost use Rattle.sig_process.specs.Plans.{after_obeying, body_of, changed, post_of};
+ghost use Rattle.sig_process.specs.Plans.{after_obeying, body_of};
 ghost use Rattle.sig_process.specs.Planning.{noproc_answer};
 ghost use Rattle.sig_process.specs.Progressing.{state_of};
 
 use crate::changing::{Change, LinkChange, WatchChange};
 use crate::copying::with_copy;
-use crate::plan::{Outgoing, Plan};
+use crate::plan::Plan;
 use crate::planning::{demonitor_posts, one_post};
 use crate::progress::Progress;
 use sig_kinds::{AliasMode, Kind, Signal};
@@ -21,6 +21,7 @@ use sig_lists::Sequence;
 use sig_model::Outcome;
 use sig_terms::{Pid, Ref, Term};
 use std::alloc::{AllocError, Global};
+use std::mem::drop;
 
 /// The message of an exit signal that is trapped.
 fn exit_message(alloc: Global, sender: Pid, reason: &Term) -> Result<Term, AllocError>
@@ -159,23 +160,6 @@ impl Progress {
         self.plan_exit_rule(pid, Some(sender), sender, reason)
     }
 
-    /// A message through an alias that is active comes to the end of the list, and these signals are
-    /// sent.
-    fn keeping_through(
-        &self,
-        reference: Ref,
-        term: &Term,
-        posts: Vec<Outgoing>,
-    ) -> Result<Plan, AllocError>
-        ensures { IfOk result (λ plan. (s : ProcessState) → body_of s plan ≡ record { state = changed s (Change.ThroughAlias reference term.now); outcome = Outcome.Kept term.now; posts = map post_of posts.items }) }
-    {
-        let told = term.copy(self.alloc)?;
-        let message = term.copy(self.alloc)?;
-        let outcome = Outcome::Kept { message: told };
-        let change = Change::ThroughAlias { reference, message };
-        Ok(Plan::sending(change, outcome, posts))
-    }
-
     /// Who is told that the monitor ends, where the alias of its reference has this mode.
     fn told_by(&self, mode: AliasMode, reference: Ref) -> Option<Pid>
         ensures { (by_mode self.now.tables.watch.watch reference (Some mode)).0 ≡ alias_answer.Kept result }
@@ -198,9 +182,21 @@ impl Progress {
         requires { mode_of self.now.tables.watch.watch reference ≡ Some mode }
         ensures { IfOk result (λ plan. through_alias (state_of self.now) reference term.now (by_mode self.now.tables.watch.watch reference (Some mode)) ≡ body_of (state_of self.now) plan) }
     {
+        let message = term.copy(self.alloc)?;
+        let (message, kept) = with_copy(self.alloc, message)?;
         let told = self.told_by(mode, reference);
-        let posts = demonitor_posts(self.alloc, reference, told)?;
-        self.keeping_through(reference, term, posts)
+        match demonitor_posts(self.alloc, reference, told) {
+            Ok(posts) => {
+                let change = Change::ThroughAlias { reference, message };
+                let outcome = Outcome::Kept { message: kept };
+                Ok(Plan::sending(change, outcome, posts))
+            }
+            Err(fault) => {
+                drop(message);
+                drop(kept);
+                Err(fault)
+            }
+        }
     }
 
     /// A message through an alias: kept where the alias is active.
@@ -236,21 +232,14 @@ impl Progress {
         self.silent(Change::Watch(WatchChange::Unwatched { reference }), outcome)
     }
 
-    /// The message of a down comes to the end of the list.
-    fn keeping_down(&self, reference: Ref, message: Term) -> Result<Plan, AllocError>
-        ensures { IfOk result (λ plan. (s : ProcessState) → body_of s plan ≡ record { state = changed s (Change.ToldDown reference message); outcome = Outcome.Kept message; posts = [] }) }
-    {
-        let (message, told) = with_copy(self.alloc, message)?;
-        let outcome = Outcome::Kept { message: told };
-        Ok(self.silent(Change::ToldDown { reference, message }, outcome))
-    }
-
     /// A down signal of a monitor that is held: a message.
     fn plan_held_down(&self, sender: Pid, reference: Ref, reason: &Term) -> Result<Plan, AllocError>
         ensures { IfOk result (λ plan. appending (rewatched (state_of self.now) (on_down self.now.tables.watch.watch reference).1) (down_message reference sender.0 reason.now) ≡ body_of (state_of self.now) plan) }
     {
         let message = down_message(self.alloc, reference, sender, reason)?;
-        self.keeping_down(reference, message)
+        let (message, told) = with_copy(self.alloc, message)?;
+        let outcome = Outcome::Kept { message: told };
+        Ok(self.silent(Change::ToldDown { reference, message }, outcome))
     }
 
     /// A down signal: a message, where the monitor is held.
