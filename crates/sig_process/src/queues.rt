@@ -11,16 +11,6 @@ use sig_terms::Pid;
 use std::alloc::AllocError;
 use std::mem::{self, drop};
 
-/// The next number for this peer.
-fn number_for(numbers: &[u64], peer: Pid) -> u64
-    ensures { result ≡ slice_index numbers.now peer.0 }
-{
-    match numbers.get(peer.0 as usize) {
-        None => 0,
-        Some(next) => *next,
-    }
-}
-
 /// The signal joins the list. The error is want of memory; then the list is as before.
 fn push_signal(signals: &mut Signals, signal: Signal) -> Result<(), AllocError>
     ensures { MatchResult result (λ _. signals.new.items ≡ signals.old.items ++ signal ∷ []) (λ _. signals.new.items ≡ signals.old.items) }
@@ -53,7 +43,10 @@ impl Process {
     pub fn next_number(&self, to: Pid) -> u64
         ensures { result ≡ slice_index self.now.running.state.counts.next_numbers to.0 }
     {
-        number_for(self.progress.counts.next_numbers.as_slice(), to)
+        match self.progress.counts.next_numbers.get(to.0 as usize) {
+            None => 0,
+            Some(next) => *next,
+        }
     }
 
     /// A signal of another process joins those that wait for this one. The error is want of memory;
