@@ -58,13 +58,6 @@ impl Model for Process {
     ghost invariant = { λ p. IsSound p.pid.0 p.count p.turns p.proc p.progress };
 }
 
-/// The first numbers for all peers.
-fn first_numbers(alloc: Global, count: u32) -> Result<Vec<u64>, AllocError>
-    ensures { IfOk result (λ numbers. numbers.items ≡ replicate count 1) }
-{
-    vec![in alloc; 1; count as usize]
-}
-
 /// A process that has done nothing, with these tables and first numbers.
 fn before_all(alloc: Global, tables: Tables, next_numbers: Vec<u64>) -> Progress
     ensures running { (pid count turns : ℕ) (proc : Declared) → tables_of tables ≡ opening_tables pid → next_numbers.items ≡ replicate count 1 → running_of pid count turns proc result ≡ opened pid count turns proc }
@@ -95,7 +88,7 @@ fn beginning(alloc: Global, pid: Pid, count: u32) -> Result<Progress, AllocError
     ensures running { IfOk result (λ p. (turns : ℕ) (proc : Declared) → running_of pid.0 count turns proc p ≡ opened pid.0 count turns proc) }
     ensures queue { IfOk result (λ p. p.tables.inner.queue ≡ no_queue pid.0) }
 {
-    let numbers = first_numbers(alloc, count)?;
+    let numbers = vec![in alloc; 1; count as usize]?;
     let tables = Tables::open(alloc, pid)?;
     Ok(before_all(alloc, tables, numbers))
 }
