@@ -6,7 +6,7 @@ ghost use Rattle.sig_process.specs.PartsOf.{IsPartsOf};
 
 use crate::process::Process;
 use sig_inner::Inner;
-use sig_kinds::{Signal, Signals};
+use sig_kinds::Signals;
 use sig_model::{Events, LAST_STAMP, State};
 use sig_terms::{Name, Pid, Term};
 
@@ -29,18 +29,12 @@ pub struct Parts {
     pub state: State,
 }
 
-fn is_late(signal: &Signal) -> bool
-    ensures { result ≡ is_late_signal signal.now }
-{
-    LAST_STAMP <= signal.stamp
-}
-
 fn is_late_at(signals: &Signals, at: usize) -> bool
     requires { at < length signals.now.items }
     ensures { (result || list_any is_late_signal (drop (at + 1) signals.now.items)) ≡ list_any is_late_signal (drop at signals.now.items) }
 {
     match signals.get(at) {
-        Some(signal) => is_late(signal),
+        Some(signal) => LAST_STAMP <= signal.stamp,
         None => unreachable!(),
     }
 }
