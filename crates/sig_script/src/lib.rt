@@ -1,4 +1,4 @@
-//! Scripts: what the processes of a machine do, and the reader of their text.
+//! The reader of scripts, their canonical text, and the generated script.
 #![tactic(auto)]
 
 mod draft;
