@@ -2,7 +2,7 @@
 
 ghost use Rattle.std.specs.Prelude.{◌≡◌, ◌<◌};
 
-use crate::shared::{each_row_goes, passes};
+use crate::shared::{Row, each_row_holds};
 use sig_base::*;
 use std::alloc::{AllocError, Global};
 use std::io;
@@ -18,100 +18,14 @@ const FRONT: &[u8] = b"abcdefghij";
 /// The others.
 const REST: &[u8] = b"klmnopqrstuvwxy";
 
-/// Whether the source, read up to the limit, gives this answer and these bytes.
-fn gives<S: Source>(
-    source: &mut S,
-    limit: u8,
-    into: &mut Vec<u8>,
-    answer: ReadAll,
-    bytes: &[u8],
-) -> bool {
-    into.clear();
-    read_all(source, limit as usize, into) == answer && into.as_slice() == bytes
-}
-
-/// How many bytes of the text come at a call, the limit, what reading answers, and what it gives.
-const READS: [(usize, u8, ReadAll, &[u8]); 6] = [
-    (1, 25, ReadAll::Whole, TEXT),
-    (7, 26, ReadAll::Whole, TEXT),
-    (10, 25, ReadAll::Whole, TEXT),
-    (10, 24, ReadAll::TooLong, TEXT),
-    (10, 9, ReadAll::TooLong, FRONT),
-    (10, 0, ReadAll::TooLong, b"a"),
-];
-
-/// Whether the text, so many bytes of which come at a call, is read so up to the limit.
-fn reads(
-    alloc: Global,
-    piece: usize,
-    limit: u8,
-    into: &mut Vec<u8>,
-    answer: ReadAll,
-    bytes: &[u8],
-) -> Result<bool, AllocError> {
-    let text = TEXT.to_vec(alloc)?;
-    let mut source = MemorySource::new(text, piece.max(1));
-    Ok(gives(&mut source, limit, into, answer, bytes))
-}
-
-/// The place of the first of these reads that goes another way.
-fn first_other_read(alloc: Global, into: &mut Vec<u8>) -> Result<Option<usize>, AllocError> {
-    for (place, (piece, limit, answer, bytes)) in READS.iter().enumerate() {
-        if !reads(alloc, *piece, *limit, into, *answer, bytes)? {
-            return Ok(Some(place));
-        }
-    }
-    Ok(None)
-}
-
-#[test]
-fn reads_up_to_the_limit(rt: HostRuntime) {
-    let mut into = Vec::new(rt.alloc());
-    each_row_goes(&rt, first_other_read(rt.alloc(), &mut into));
-}
-
-/// For how many bytes there is room, what writing the text answers, and what is held then.
-const WRITES: [(usize, Written, &[u8]); 4] = [
-    (30, Written::Whole, TEXT),
-    (25, Written::Whole, TEXT),
-    (
-        24,
-        Written::WriteFault { written: 24 },
-        b"abcdefghijklmnopqrstuvwx",
-    ),
-    (0, Written::WriteFault { written: 0 }, b""),
-];
-
-/// Whether writing the text to a sink with so much room answers so, and it holds these bytes then.
-fn writes(alloc: Global, room: usize, answer: Written, held: &[u8]) -> Result<bool, AllocError> {
-    let mut sink = MemorySink::with_room(alloc, room)?;
-    let written = write_whole(&mut sink, TEXT);
-    Ok(written == answer && sink.held() == held)
-}
-
-/// The place of the first of these writes that goes another way.
-fn first_other_write(alloc: Global) -> Result<Option<usize>, AllocError> {
-    for (place, (room, answer, held)) in WRITES.iter().enumerate() {
-        if !writes(alloc, *room, *answer, held)? {
-            return Ok(Some(place));
-        }
-    }
-    Ok(None)
-}
-
-#[test]
-fn writes_until_full(rt: HostRuntime) {
-    each_row_goes(&rt, first_other_write(rt.alloc()));
-}
-
 // Gives and takes at most 10 bytes a call. Its second call fails.
 #[derive(Drop)]
-struct Device {
-    bytes: Vec<u8>,
+struct Device<T: Drop> {
+    inner: T,
     calls: u32,
 }
 
-impl Device {
+impl<T: Drop> Device<T> {
     fn begin(&mut self) -> io::Result<()> {
         self.calls = self.calls.saturating_add(1);
         if self.calls == 2 {
@@ -121,22 +35,19 @@ impl Device {
     }
 }
 
-impl Read for Device {
+impl<T: Read + Drop> Read for Device<T> {
     fn read(&mut self, into: &mut [u8]) -> io::Result<usize> {
         self.begin()?;
-        let n = into.len().min(10).min(self.bytes.len());
-        into[..n].copy_from_slice(&self.bytes[..n]);
-        self.bytes.drain(..n);
-        Ok(n)
+        let most = into.len().min(10);
+        self.inner.read(&mut into[..most])
     }
 }
 
-impl Write for Device {
+impl<T: Write + Drop> Write for Device<T> {
     fn write(&mut self, piece: &[u8]) -> io::Result<usize> {
         self.begin()?;
-        let n = piece.len().min(10);
-        self.bytes.extend_from_slice(&piece[..n])?;
-        Ok(n)
+        let most = piece.len().min(10);
+        self.inner.write(&piece[..most])
     }
 
     fn flush(&mut self) -> io::Result<()> {
@@ -144,98 +55,218 @@ impl Write for Device {
     }
 }
 
-/// Whether the source fails after ten bytes, and gives the others then.
-fn gives_the_rest<S: Source>(source: &mut S, into: &mut Vec<u8>) -> bool {
-    gives(source, 100, into, ReadAll::ReadFault, FRONT)
-        && gives(source, 100, into, ReadAll::Whole, REST)
+/// Where the text is read from.
+enum From {
+    /// Memory, so many bytes a call.
+    Memory(usize),
+    /// Memory, ten bytes a call, the second of which fails.
+    Failing,
+    /// A device under std's.
+    Device,
+    /// A slice under std's.
+    Slice,
 }
 
-/// Whether a source in memory that fails at its second call gives the rest after the fault.
-fn source_gives_the_rest(alloc: Global, into: &mut Vec<u8>) -> Result<bool, AllocError> {
+/// Limits, what reading up to them answers, and what it gives.
+type Limits<'a> = &'a [(u8, ReadAll, &'a [u8])];
+
+/// Whether the source, read up to each limit, answers and gives this.
+fn gives<S: Source>(source: &mut S, limits: Limits, into: &mut Vec<u8>) -> bool {
+    for (limit, answer, bytes) in limits {
+        into.clear();
+        if read_all(source, *limit as usize, into) != *answer || into.as_slice() != *bytes {
+            return false;
+        }
+    }
+    true
+}
+
+fn memory_gives(
+    alloc: Global,
+    piece: usize,
+    limits: Limits,
+    into: &mut Vec<u8>,
+) -> Result<bool, AllocError> {
+    let mut source = MemorySource::new(TEXT.to_vec(alloc)?, piece.max(1));
+    Ok(gives(&mut source, limits, into))
+}
+
+fn failing_gives(alloc: Global, limits: Limits, into: &mut Vec<u8>) -> Result<bool, AllocError> {
     let faults = [2].to_vec(alloc)?;
     let mut source = FailingSource::new(TEXT.to_vec(alloc)?, 10, faults);
-    Ok(gives_the_rest(&mut source, into))
+    Ok(gives(&mut source, limits, into))
 }
 
-/// The same of a device under std's.
-fn device_gives_the_rest(alloc: Global, into: &mut Vec<u8>) -> Result<bool, AllocError> {
-    let bytes = TEXT.to_vec(alloc)?;
-    let mut device = StdSource::new(Device { bytes, calls: 0 });
-    Ok(gives_the_rest(&mut device, into))
+fn device_gives(limits: Limits, into: &mut Vec<u8>) -> bool {
+    let device = Device {
+        inner: TEXT,
+        calls: 0,
+    };
+    gives(&mut StdSource::new(device), limits, into)
 }
+
+/// Where the text is read from, and what comes.
+struct Reading(From, Limits<'static>);
+
+impl Row for Reading {
+    fn holds(&self, alloc: Global) -> Result<bool, AllocError> {
+        let mut into = Vec::new(alloc);
+        match self.0 {
+            From::Memory(piece) => memory_gives(alloc, piece, self.1, &mut into),
+            From::Failing => failing_gives(alloc, self.1, &mut into),
+            From::Device => Ok(device_gives(self.1, &mut into)),
+            From::Slice => Ok(gives(&mut StdSource::new(TEXT), self.1, &mut into)),
+        }
+    }
+}
+
+/// It fails after ten bytes, and gives the others then.
+const FAULT: Limits<'static> = &[
+    (100, ReadAll::ReadFault, FRONT),
+    (100, ReadAll::Whole, REST),
+];
+
+const READINGS: [Reading; 9] = [
+    Reading(From::Memory(1), &[(25, ReadAll::Whole, TEXT)]),
+    Reading(From::Memory(7), &[(26, ReadAll::Whole, TEXT)]),
+    Reading(From::Memory(10), &[(25, ReadAll::Whole, TEXT)]),
+    Reading(From::Memory(10), &[(24, ReadAll::TooLong, TEXT)]),
+    Reading(From::Memory(10), &[(9, ReadAll::TooLong, FRONT)]),
+    Reading(From::Memory(10), &[(0, ReadAll::TooLong, b"a")]),
+    Reading(From::Failing, FAULT),
+    Reading(From::Device, FAULT),
+    Reading(From::Slice, &[(100, ReadAll::Whole, TEXT)]),
+];
 
 #[test]
-fn reads_on_after_a_fault(rt: HostRuntime) {
-    let mut into = Vec::new(rt.alloc());
-    passes(&rt, source_gives_the_rest(rt.alloc(), &mut into));
-    passes(&rt, device_gives_the_rest(rt.alloc(), &mut into));
+fn reads_up_to_the_limit_and_on_after_a_fault(rt: HostRuntime) {
+    each_row_holds(&rt, rt.alloc(), &READINGS);
 }
 
-#[test]
-fn reads_from_std(rt: HostRuntime) {
-    let mut into = Vec::new(rt.alloc());
-    assert!(rt;
-        gives(
-            &mut StdSource::new(TEXT),
-            100,
-            &mut into,
-            ReadAll::Whole,
-            TEXT
-        )
-    );
+/// Where bytes are written to.
+enum To {
+    /// Memory with so much room.
+    Memory(usize),
+    /// Memory with room for 35 bytes, ten bytes a call, the second of which fails.
+    Failing,
+    /// A device under std's.
+    Device,
+    /// A list under std's.
+    List,
+    /// Four bytes under std's.
+    Slice,
 }
 
-/// Whether the sink takes so many bytes of the text before a fault.
-fn faults_after<O: Sink>(sink: &mut O, written: usize) -> bool {
-    write_whole(sink, TEXT) == Written::WriteFault { written }
+/// Bytes, and what writing them answers.
+type Pieces = &'static [(&'static [u8], Written)];
+
+/// Whether writing the pieces one after another answers so.
+fn takes<O: Sink>(sink: &mut O, pieces: Pieces) -> bool {
+    for (piece, answer) in pieces {
+        if write_whole(sink, piece) != *answer {
+            return false;
+        }
+    }
+    true
 }
 
-/// Whether the sink in memory takes ten bytes before a fault, then the rest, and ten when it gets full.
-fn takes_the_rest(sink: &mut FailingSink) -> bool {
-    faults_after(sink, 10)
-        && sink.held() == FRONT
-        && write_whole(sink, REST) == Written::Whole
-        && sink.held() == TEXT
-        && faults_after(sink, 10)
+fn memory_takes(
+    alloc: Global,
+    room: usize,
+    pieces: Pieces,
+    held: &[u8],
+) -> Result<bool, AllocError> {
+    let mut sink = MemorySink::with_room(alloc, room)?;
+    Ok(takes(&mut sink, pieces) && sink.held() == held)
 }
 
-/// The same of one that has room for 35 bytes, and whose second call fails.
-fn sink_takes_the_rest(alloc: Global) -> Result<bool, AllocError> {
+fn failing_takes(alloc: Global, pieces: Pieces, held: &[u8]) -> Result<bool, AllocError> {
     let mut sink = FailingSink::with_room(alloc, 35, 10, [2].to_vec(alloc)?)?;
-    Ok(takes_the_rest(&mut sink))
+    Ok(takes(&mut sink, pieces) && sink.held() == held)
 }
 
-/// Whether the sink takes ten bytes before a fault, and then the rest.
-fn goes_on<O: Sink>(sink: &mut O) -> bool {
-    faults_after(sink, 10) && write_whole(sink, REST) == Written::Whole
+fn list_takes(is_device: bool, into: &mut Vec<u8>, pieces: Pieces) -> bool {
+    if is_device {
+        let inner = into;
+        return takes(&mut StdSink::new(Device { inner, calls: 0 }), pieces);
+    }
+    takes(&mut StdSink::new(into), pieces)
 }
 
-/// Whether a device under std's takes the rest after a fault, and has the text then.
-fn device_takes_the_rest(device: &mut Device) -> bool {
-    let goes = goes_on(&mut StdSink::new(&mut *device));
-    goes && device.bytes.as_slice() == TEXT
+fn list_holds(alloc: Global, is_device: bool, pieces: Pieces, held: &[u8]) -> bool {
+    let mut into = Vec::new(alloc);
+    list_takes(is_device, &mut into, pieces) && into.as_slice() == held
 }
 
-#[test]
-fn writes_on_after_a_fault(rt: HostRuntime) {
-    let bytes = Vec::new(rt.alloc());
-    let mut device = Device { bytes, calls: 0 };
-    passes(&rt, sink_takes_the_rest(rt.alloc()));
-    assert!(rt; device_takes_the_rest(&mut device));
-}
-
-/// Whether a list under std's takes the text.
-fn takes_the_text(out: &mut Vec<u8>) -> bool {
-    let written = write_whole(&mut StdSink::new(&mut *out), TEXT);
-    written == Written::Whole && out.as_slice() == TEXT
-}
-
-#[test]
-fn writes_to_std(rt: HostRuntime) {
-    let mut out = Vec::new(rt.alloc());
+fn slice_takes(pieces: Pieces, held: &[u8]) -> bool {
     let mut room = [0; 4];
-    let is_full = faults_after(&mut StdSink::new(room.as_mut_slice()), 4);
-    assert!(rt; is_full && takes_the_text(&mut out));
+    takes(&mut StdSink::new(room.as_mut_slice()), pieces) && room.as_slice() == held
+}
+
+/// Where bytes are written to, these, and what is held then.
+struct Writing(To, Pieces, &'static [u8]);
+
+impl Row for Writing {
+    fn holds(&self, alloc: Global) -> Result<bool, AllocError> {
+        match self.0 {
+            To::Memory(room) => memory_takes(alloc, room, self.1, self.2),
+            To::Failing => failing_takes(alloc, self.1, self.2),
+            To::Device => Ok(list_holds(alloc, true, self.1, self.2)),
+            To::List => Ok(list_holds(alloc, false, self.1, self.2)),
+            To::Slice => Ok(slice_takes(self.1, self.2)),
+        }
+    }
+}
+
+const FULL_AFTER_24: Written = Written::WriteFault { written: 24 };
+
+const FAULT_AFTER_10: Written = Written::WriteFault { written: 10 };
+
+const WRITINGS: [Writing; 10] = [
+    Writing(To::Memory(30), &[(TEXT, Written::Whole)], TEXT),
+    Writing(To::Memory(25), &[(TEXT, Written::Whole)], TEXT),
+    Writing(
+        To::Memory(24),
+        &[(TEXT, FULL_AFTER_24)],
+        b"abcdefghijklmnopqrstuvwx",
+    ),
+    Writing(
+        To::Memory(0),
+        &[(TEXT, Written::WriteFault { written: 0 })],
+        b"",
+    ),
+    // ten bytes before the fault, then the rest, and ten when it gets full
+    Writing(To::Failing, &[(TEXT, FAULT_AFTER_10)], FRONT),
+    Writing(
+        To::Failing,
+        &[(TEXT, FAULT_AFTER_10), (REST, Written::Whole)],
+        TEXT,
+    ),
+    Writing(
+        To::Failing,
+        &[
+            (TEXT, FAULT_AFTER_10),
+            (REST, Written::Whole),
+            (TEXT, FAULT_AFTER_10),
+        ],
+        b"abcdefghijklmnopqrstuvwxyabcdefghij",
+    ),
+    Writing(
+        To::Device,
+        &[(TEXT, FAULT_AFTER_10), (REST, Written::Whole)],
+        TEXT,
+    ),
+    Writing(To::List, &[(TEXT, Written::Whole)], TEXT),
+    Writing(
+        To::Slice,
+        &[(TEXT, Written::WriteFault { written: 4 })],
+        b"abcd",
+    ),
+];
+
+#[test]
+fn writes_until_full_and_on_after_a_fault(rt: HostRuntime) {
+    each_row_holds(&rt, rt.alloc(), &WRITINGS);
 }
 
 // The bytes that a counter of its own takes after two steps, with an open gate between them.

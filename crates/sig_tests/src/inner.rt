@@ -1,143 +1,114 @@
-//! The calls of an inner queue that no script makes so, and its marks. What receives find is tested by scripts.
+//! The calls of an inner queue that no script makes so, and its marks. What receives find is tested by
+//! scripts.
+//!
+//! A call is written as a sign and a digit: `+5` appends the integer 5, `-5` takes the first message out,
+//! which is the integer 5, `#0` asks how many there are, `?0` whether there is none, and `*0` takes all
+//! out. `r5` reserves the serial 5; `b5` and `c5` bind and clear the owner's reference with the serial 5,
+//! `B5` and `C5` that of another process. An answer is `y`, `n`, the digit of a count or of the number by
+//! which the message came, or `.` where there is none.
 
-use crate::shared::{each_row_goes, int, passes};
+use crate::shared::{Row, digit, each_row_holds, int};
 use sig_inner::{Append, Inner};
 use sig_terms::{Pid, Ref, Term};
 use std::alloc::{AllocError, Global};
 
+const OWNER: Pid = Pid(7);
+
 /// Whether there was room for the integer, as the last of fewer than a thousand messages.
-fn appends(queue: &mut Inner, number: i64) -> bool {
+fn appends(queue: &mut Inner, number: u8) -> bool {
     if queue.next_arrival() >= 1000 || queue.room().is_err() {
         return false;
     }
-    let appended = queue.append(Term::Int(number));
+    let appended = queue.append(Term::Int(number as i64));
     let is_added = matches!(appended, Append::Added);
     drop(appended);
     is_added
 }
 
-/// Whether the first message, which is taken out, came as the one of this number and is this integer.
-fn takes(queue: &mut Inner, arrival: u64, number: i64) -> bool {
+/// The digit of the number by which the first message came, which is taken out and is this integer.
+fn taken(queue: &mut Inner, number: u8) -> u8 {
     let Some((arrived, message)) = queue.pop_front() else {
-        return false;
+        return b'n';
     };
-    let is_so = arrived == arrival && int(&message) == Some(number);
+    let is_so = int(&message) == Some(number as i64);
     drop(message);
-    is_so
+    if is_so { digit(arrived) } else { b'-' }
 }
 
-/// Whether no message is left.
-fn is_over(queue: &mut Inner) -> bool {
-    let first = queue.pop_front();
-    let is_none = first.is_none();
-    drop(first);
-    is_none && queue.is_empty()
+/// What a call answers.
+fn called(queue: &mut Inner, sign: u8, number: u8) -> u8 {
+    let owner = if matches!(sign, b'B' | b'C') {
+        Pid(1)
+    } else {
+        OWNER
+    };
+    let serial = number as u64;
+    let yes = match sign {
+        b'+' => appends(queue, number),
+        b'-' => return taken(queue, number),
+        b'#' => return digit(queue.len() as u64),
+        b'?' => queue.is_empty(),
+        b'b' | b'B' => queue.bind(Ref { owner, serial }),
+        b'c' | b'C' => queue.clear(Ref { owner, serial }),
+        b'r' => {
+            queue.reserve(serial);
+            return b'.';
+        }
+        _ => {
+            queue.empty();
+            return b'.';
+        }
+    };
+    if yes { b'y' } else { b'n' }
 }
 
-/// Whether the numbers go on after the queue was emptied.
-fn go_on(queue: &mut Inner) -> bool {
-    let two = appends(queue, 10) && appends(queue, 11) && queue.len() == 2;
-    let first = takes(queue, 1, 10);
-    queue.empty();
-    let none = is_over(queue);
-    two && first && none && appends(queue, 12) && takes(queue, 3, 12)
+/// Whether these calls are answered so.
+fn are_answered(queue: &mut Inner, calls: &[&[u8; 2]], answers: &[u8]) -> bool {
+    for (call, answer) in calls.iter().zip(answers.iter()) {
+        if called(queue, call[0], call[1].wrapping_sub(b'0')) != *answer {
+            return false;
+        }
+    }
+    calls.len() == answers.len()
 }
 
-/// The same of a new queue, which tells its owner too.
-fn go_on_anew(alloc: Global) -> Result<bool, AllocError> {
-    let mut queue = Inner::open(alloc, Pid(7))?;
-    Ok(queue.owner() == Pid(7) && go_on(&mut queue))
-}
+/// Calls, and what they answer.
+struct Rule(&'static [&'static [u8; 2]], &'static [u8]);
 
-#[test]
-fn numbers_go_on(rt: HostRuntime) {
-    passes(&rt, go_on_anew(rt.alloc()));
-}
-
-fn made(owner: u32, serial: u64) -> Ref {
-    Ref {
-        owner: Pid(owner),
-        serial,
+impl Row for Rule {
+    /// Whether the rule holds of a new queue, which tells its owner too.
+    fn holds(&self, alloc: Global) -> Result<bool, AllocError> {
+        let mut queue = Inner::open(alloc, OWNER)?;
+        Ok(queue.owner() == OWNER && are_answered(&mut queue, self.0, self.1))
     }
 }
 
-/// A reserve, the owner and the serial of a reference, and whether it is bound then. A bind needs a
-/// reserve, and a reference that the process made since then.
-const BINDS: [(Option<u64>, u32, u64, bool); 5] = [
-    (None, 0, 5, false),
-    (Some(5), 1, 5, false),
-    (Some(5), 0, 4, false),
-    (Some(5), 0, 5, true),
-    (Some(5), 0, 6, true),
+const RULES: [Rule; 7] = [
+    // numbers go on after the queue was emptied
+    Rule(
+        &[
+            b"+5", b"+6", b"#0", b"-5", b"*0", b"-0", b"?0", b"+7", b"-7",
+        ],
+        b"yy21.nyy3",
+    ),
+    // a bind needs a reserve, and a reference that the process made since then
+    Rule(&[b"b5", b"b5", b"c5", b"c5"], b"nnnn"),
+    Rule(&[b"r5", b"B5", b"B5", b"C5", b"C5"], b".nnnn"),
+    Rule(&[b"r5", b"b4", b"b4", b"c4", b"c4"], b".nnnn"),
+    Rule(&[b"r5", b"b5", b"b5", b"c5", b"c5"], b".ynyn"),
+    Rule(&[b"r5", b"b6", b"b6", b"c6", b"c6"], b".ynyn"),
+    // of nine marks the oldest is gone
+    Rule(
+        &[
+            b"r1", b"b1", b"r2", b"b2", b"r3", b"b3", b"r4", b"b4", b"r5", b"b5", b"r6", b"b6",
+            b"r7", b"b7", b"r8", b"b8", b"r9", b"b9", b"c1", b"c2", b"c3", b"c4", b"c5", b"c6",
+            b"c7", b"c8", b"c9",
+        ],
+        b".y.y.y.y.y.y.y.y.ynyyyyyyyy",
+    ),
 ];
 
-/// Whether the first bind and the first clear after the reserve answer so, and the second ones that
-/// there is none.
-fn answers(queue: &mut Inner, reserve: Option<u64>, reference: Ref, answer: bool) -> bool {
-    if let Some(reserved) = reserve {
-        queue.reserve(reserved);
-    }
-    queue.bind(reference) == answer
-        && !queue.bind(reference)
-        && queue.clear(reference) == answer
-        && !queue.clear(reference)
-}
-
-/// The same of a new queue.
-fn answers_anew(
-    alloc: Global,
-    reserve: Option<u64>,
-    reference: Ref,
-    answer: bool,
-) -> Result<bool, AllocError> {
-    let mut queue = Inner::open(alloc, Pid(0))?;
-    Ok(answers(&mut queue, reserve, reference, answer))
-}
-
-/// The place of the first of the rows that answers otherwise.
-fn first_other_bind(alloc: Global) -> Result<Option<usize>, AllocError> {
-    for (place, (reserve, owner, serial, answer)) in BINDS.iter().enumerate() {
-        if !answers_anew(alloc, *reserve, made(*owner, *serial), *answer)? {
-            return Ok(Some(place));
-        }
-    }
-    Ok(None)
-}
-
 #[test]
-fn binds_answer(rt: HostRuntime) {
-    each_row_goes(&rt, first_other_bind(rt.alloc()));
-}
-
-/// Reserves and binds the serials 1 to 9. It tells the first that isn't bound.
-fn first_unbound(queue: &mut Inner) -> Option<u64> {
-    for serial in 1..10 {
-        queue.reserve(serial);
-        if !queue.bind(made(0, serial)) {
-            return Some(serial);
-        }
-    }
-    None
-}
-
-/// The first of these serials that is cleared though it is the oldest, or isn't though it is another.
-fn first_other_clear(queue: &mut Inner) -> Option<u64> {
-    for serial in 1..10 {
-        if queue.clear(made(0, serial)) == (serial == 1) {
-            return Some(serial);
-        }
-    }
-    None
-}
-
-/// The first serials of either kind in a new queue.
-fn first_of_nine(alloc: Global) -> Result<(Option<u64>, Option<u64>), AllocError> {
-    let mut queue = Inner::open(alloc, Pid(0))?;
-    Ok((first_unbound(&mut queue), first_other_clear(&mut queue)))
-}
-
-/// Of nine marks the oldest is gone.
-#[test]
-fn eight_marks_are_kept(rt: HostRuntime) {
-    assert!(rt; first_of_nine(rt.alloc()) == Ok((None, None)));
+fn rules_hold_line_by_line(rt: HostRuntime) {
+    each_row_holds(&rt, rt.alloc(), &RULES);
 }

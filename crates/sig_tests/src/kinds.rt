@@ -1,6 +1,6 @@
 //! One call of each growing call with memory to spare.
 
-use crate::shared::{each_row_goes, int, passes};
+use crate::shared::{Row, each_row_holds, int, passes};
 use sig_kinds::*;
 use sig_terms::{Pid, Ref, Term};
 use std::alloc::{AllocError, Global};
@@ -61,99 +61,6 @@ fn leave(signals: &mut Signals, numbers: &[u64]) -> bool {
     signals.is_empty()
 }
 
-#[test]
-fn signals_leave_in_the_order_of_their_coming(rt: HostRuntime) {
-    let mut signals = Signals::new(rt.alloc());
-    passes(&rt, push_copies(rt.alloc(), &mut signals, &[1, 2, 3]));
-    assert!(rt; leave(&mut signals, &[1, 2, 3]));
-}
-
-/// All that a kind says: its word, its number, its reference, and the integer that is its term.
-type Said = (&'static str, u64, Option<Ref>, Option<i64>);
-
-fn said(kind: &Kind) -> Said {
-    match kind {
-        Kind::Message { term } => ("message", 0, None, int(term)),
-        Kind::AliasMessage { reference, term } => ("alias", 0, Some(*reference), int(term)),
-        Kind::Link => ("link", 0, None, None),
-        Kind::Unlink { id } => ("unlink", *id, None, None),
-        Kind::UnlinkAck { id } => ("unlink_ack", *id, None, None),
-        Kind::Monitor { reference } => ("monitor", 0, Some(*reference), None),
-        Kind::Demonitor { reference } => ("demonitor", 0, Some(*reference), None),
-        Kind::Exit { reason, linked } => ("exit", if *linked { 1 } else { 0 }, None, int(reason)),
-        Kind::Down { reference, reason } => ("down", 0, Some(*reference), int(reason)),
-    }
-}
-
-const REFERENCE: Ref = Ref {
-    owner: Pid(5),
-    serial: 7,
-};
-
-/// What a kind of each variant says.
-const SAID: [Said; 9] = [
-    ("message", 0, None, Some(1)),
-    ("alias", 0, Some(REFERENCE), Some(2)),
-    ("link", 0, None, None),
-    ("unlink", 3, None, None),
-    ("unlink_ack", 4, None, None),
-    ("monitor", 0, Some(REFERENCE), None),
-    ("demonitor", 0, Some(REFERENCE), None),
-    ("exit", 1, None, Some(6)),
-    ("down", 0, Some(REFERENCE), Some(8)),
-];
-
-/// The kind that says what stands at this place.
-fn kind_at(place: usize) -> Kind {
-    let reference = REFERENCE;
-    match place {
-        0 => Kind::Message { term: Term::Int(1) },
-        1 => Kind::AliasMessage {
-            reference,
-            term: Term::Int(2),
-        },
-        2 => Kind::Link,
-        3 => Kind::Unlink { id: 3 },
-        4 => Kind::UnlinkAck { id: 4 },
-        5 => Kind::Monitor { reference },
-        6 => Kind::Demonitor { reference },
-        7 => Kind::Exit {
-            reason: Term::Int(6),
-            linked: true,
-        },
-        _ => Kind::Down {
-            reference,
-            reason: Term::Int(8),
-        },
-    }
-}
-
-/// A copy of the kind that says what stands at this place.
-fn copy_at(alloc: Global, place: usize) -> Result<Kind, AllocError> {
-    let kind = kind_at(place);
-    let copy = kind.copy(alloc);
-    drop(kind);
-    copy
-}
-
-/// The place of the first of the kinds whose copy says something else.
-fn first_other_copy(alloc: Global) -> Result<Option<usize>, AllocError> {
-    for (place, expected) in SAID.iter().enumerate() {
-        let copy = copy_at(alloc, place)?;
-        let is_other = said(&copy) != *expected;
-        drop(copy);
-        if is_other {
-            return Ok(Some(place));
-        }
-    }
-    Ok(None)
-}
-
-#[test]
-fn each_kind_is_copied(rt: HostRuntime) {
-    each_row_goes(&rt, first_other_copy(rt.alloc()));
-}
-
 /// Whether the signals stand with these numbers, and there are no others.
 fn stand(signals: &Signals, numbers: &[u64]) -> bool {
     for (place, number) in numbers.iter().enumerate() {
@@ -167,24 +74,113 @@ fn stand(signals: &Signals, numbers: &[u64]) -> bool {
     signals.len() == numbers.len()
 }
 
-/// Whether the others move behind the signals, and two more after them.
-fn move_behind(
+/// Whether signals that are pushed leave in the order of their coming, and others move behind.
+fn come_and_leave(
     alloc: Global,
     signals: &mut Signals,
     others: &mut Signals,
 ) -> Result<bool, AllocError> {
+    let three = push_copies(alloc, others, &[1, 2, 3])? && leave(others, &[1, 2, 3]);
     let one = push_copies(alloc, signals, &[1])?;
     let two = push_copies(alloc, others, &[2, 3])?;
     signals.append(others)?;
     signals.room(2)?;
     signals.add(numbered(4));
     signals.add(numbered(5));
-    Ok(one & two & others.is_empty() & stand(signals, &[1, 2, 3, 4, 5]))
+    let all = [1, 2, 3, 4, 5];
+    Ok(three & one & two & others.is_empty() & stand(signals, &all) & leave(signals, &all))
 }
 
 #[test]
-fn signals_move_behind_the_others(rt: HostRuntime) {
+fn signals_leave_in_the_order_of_their_coming(rt: HostRuntime) {
     let mut signals = Signals::new(rt.alloc());
     let mut others = Signals::new(rt.alloc());
-    passes(&rt, move_behind(rt.alloc(), &mut signals, &mut others));
+    passes(&rt, come_and_leave(rt.alloc(), &mut signals, &mut others));
+}
+
+const REFERENCE: Ref = Ref {
+    owner: Pid(5),
+    serial: 7,
+};
+
+/// The kind of this sign.
+fn kind_of(sign: u8) -> Kind {
+    let reference = REFERENCE;
+    match sign {
+        b'm' => Kind::Message { term: Term::Int(1) },
+        b'a' => Kind::AliasMessage {
+            reference,
+            term: Term::Int(2),
+        },
+        b'l' => Kind::Link,
+        b'u' => Kind::Unlink { id: 3 },
+        b'k' => Kind::UnlinkAck { id: 4 },
+        b'+' => Kind::Monitor { reference },
+        b'-' => Kind::Demonitor { reference },
+        b'e' => Kind::Exit {
+            reason: Term::Int(6),
+            linked: true,
+        },
+        _ => Kind::Down {
+            reference,
+            reason: Term::Int(8),
+        },
+    }
+}
+
+/// A copy of the kind of this sign.
+fn copy_of(alloc: Global, sign: u8) -> Result<Kind, AllocError> {
+    let kind = kind_of(sign);
+    let copy = kind.copy(alloc);
+    drop(kind);
+    copy
+}
+
+/// The sign of a kind, and all that the kind says: its number, its reference, and the integer that is
+/// its term.
+struct Said(u8, u64, Option<Ref>, Option<i64>);
+
+impl Said {
+    /// Whether the kind is of this sign, and says this.
+    fn is_of(&self, kind: &Kind) -> bool {
+        let (sign, number, reference, term) = match kind {
+            Kind::Message { term } => (b'm', 0, None, int(term)),
+            Kind::AliasMessage { reference, term } => (b'a', 0, Some(*reference), int(term)),
+            Kind::Link => (b'l', 0, None, None),
+            Kind::Unlink { id } => (b'u', *id, None, None),
+            Kind::UnlinkAck { id } => (b'k', *id, None, None),
+            Kind::Monitor { reference } => (b'+', 0, Some(*reference), None),
+            Kind::Demonitor { reference } => (b'-', 0, Some(*reference), None),
+            Kind::Exit { reason, linked } => (b'e', if *linked { 1 } else { 0 }, None, int(reason)),
+            Kind::Down { reference, reason } => (b'd', 0, Some(*reference), int(reason)),
+        };
+        self.0 == sign && self.1 == number && self.2 == reference && self.3 == term
+    }
+}
+
+impl Row for Said {
+    /// Whether a copy of the kind of the sign says this.
+    fn holds(&self, alloc: Global) -> Result<bool, AllocError> {
+        let copy = copy_of(alloc, self.0)?;
+        let is_said = self.is_of(&copy);
+        drop(copy);
+        Ok(is_said)
+    }
+}
+
+const KINDS: [Said; 9] = [
+    Said(b'm', 0, None, Some(1)),
+    Said(b'a', 0, Some(REFERENCE), Some(2)),
+    Said(b'l', 0, None, None),
+    Said(b'u', 3, None, None),
+    Said(b'k', 4, None, None),
+    Said(b'+', 0, Some(REFERENCE), None),
+    Said(b'-', 0, Some(REFERENCE), None),
+    Said(b'e', 1, None, Some(6)),
+    Said(b'd', 0, Some(REFERENCE), Some(8)),
+];
+
+#[test]
+fn each_kind_is_copied(rt: HostRuntime) {
+    each_row_holds(&rt, rt.alloc(), &KINDS);
 }

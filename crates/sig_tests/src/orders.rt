@@ -1,6 +1,6 @@
 //! What signals and journals say of the order in which they came.
 
-use sig_kinds::{Kind, Signal, Signals};
+use sig_kinds::{Kind, Push, Signal, Signals};
 use sig_layout::{Entry, Journal};
 use sig_queue::Rest;
 use sig_terms::Term;
@@ -15,41 +15,38 @@ fn serial_of(signal: &Signal) -> Option<u64> {
     }
 }
 
-// The serial of the signal at this place.
-fn serial_at(signals: &Signals, place: usize) -> Option<u64> {
-    serial_of(signals.get(place)?)
-}
-
-/// Whether the signals have these three serials.
-pub(crate) fn are_three(signals: &Signals, serials: [u64; 3]) -> bool {
-    let first = serial_at(signals, 0) == Some(serials[0]);
-    let second = serial_at(signals, 1) == Some(serials[1]);
-    let third = serial_at(signals, 2) == Some(serials[2]);
-    signals.len() == 3 && first && second && third
-}
-
-// The serial of the next signal that is left.
-fn next_serial(rest: &mut Rest) -> Option<u64> {
-    let signal = rest.next()?;
-    let serial = serial_of(&signal);
-    drop(signal);
-    serial
-}
-
-// Whether nothing is left.
-fn is_over(rest: &mut Rest) -> bool {
-    match rest.next() {
-        Some(signal) => {
-            drop(signal);
-            false
+/// Whether the signals have these serials.
+pub(crate) fn are(signals: &Signals, serials: &[u64]) -> bool {
+    for (place, serial) in serials.iter().enumerate() {
+        let Some(signal) = signals.get(place) else {
+            return false;
+        };
+        if serial_of(signal) != Some(*serial) {
+            return false;
         }
-        None => true,
     }
+    signals.len() == serials.len()
 }
 
-/// Whether one signal is left, with this serial.
-pub(crate) fn is_one(rest: &mut Rest, serial: u64) -> bool {
-    next_serial(rest) == Some(serial) && is_over(rest)
+// Takes the next signal that is left, and adds it to the others. It tells whether there was one, and
+// memory for it.
+fn gather_next(rest: &mut Rest, signals: &mut Signals) -> bool {
+    let Some(signal) = rest.next() else {
+        return false;
+    };
+    let pushed = signals.push(signal);
+    let is_added = matches!(pushed, Push::Added);
+    drop(pushed);
+    is_added
+}
+
+/// Adds the signals that are left to the others, as many as memory allows.
+pub(crate) fn gather(rest: &mut Rest, signals: &mut Signals) {
+    for _ in 0..u64::MAX {
+        if !gather_next(rest, signals) {
+            break;
+        }
+    }
 }
 
 // Counts the signal for its sender, one of 0 to 3. Whether its serial was the count before.
@@ -60,72 +57,26 @@ fn count(counts: &mut [u64; 4], signal: &Signal) -> bool {
     is_next
 }
 
-// Counts the signals, which come in order for each sender.
-fn count_all(counts: &mut [u64; 4], signals: &Signals) -> bool {
+/// Whether the signals are so many of each of the senders 0 to 3, those of each in order.
+pub(crate) fn are_in_order(signals: &Signals, expected: [u64; 4]) -> bool {
+    let mut counts = [0; 4];
     for place in 0..signals.len() {
         let Some(signal) = signals.get(place) else {
             return false;
         };
-        if !count(counts, signal) {
+        if !count(&mut counts, signal) {
             return false;
         }
     }
-    true
+    counts == expected
 }
 
-// Counts the next signal that is left.
-fn count_next(counts: &mut [u64; 4], rest: &mut Rest) -> Option<bool> {
-    let signal = rest.next()?;
-    let is_next = count(counts, &signal);
-    drop(signal);
-    Some(is_next)
-}
-
-// Counts the signals that are left, which come in order for each sender.
-fn count_rest(counts: &mut [u64; 4], rest: &mut Rest) -> bool {
-    for _ in 0..u64::MAX {
-        match count_next(counts, rest) {
-            Some(true) => {}
-            Some(false) => return false,
-            None => break,
-        }
-    }
-    true
-}
-
-/// Whether the signals are a hundred of the sender 3, in order.
-pub(crate) fn is_hundred(signals: &Signals) -> bool {
-    let mut counts = [0; 4];
-    count_all(&mut counts, signals) && counts == [0, 0, 0, 100]
-}
-
-/// Whether these signals, and then those that are left, are twenty of each of the senders 1 to 3, in
-/// order.
-pub(crate) fn is_sixty(signals: &Signals, rest: &mut Rest) -> bool {
-    let mut counts = [0; 4];
-    count_all(&mut counts, signals) && count_rest(&mut counts, rest) && counts == [0, 20, 20, 20]
-}
-
-/// Whether the journal has one entry, of a put to the outer list after a refusal.
-pub(crate) fn is_put_after_refusal(journal: &Journal) -> bool {
-    let direct = journal.get(0) == Some(&Entry::Direct { refused: true });
-    journal.len() == 1 && direct
-}
-
-/// Whether the journal has the entries of one switch on, one fetch, one switch off and one on.
-pub(crate) fn has_switched(journal: &Journal) -> bool {
-    let entries = [
-        Entry::Direct { refused: false },
-        Entry::Install,
-        Entry::Fetch { moved: 2 },
-        Entry::Remove,
-        Entry::Direct { refused: false },
-        Entry::Install,
-    ];
+/// Whether the journal has these entries.
+pub(crate) fn has(journal: &Journal, entries: &[Entry]) -> bool {
     for (place, entry) in entries.iter().enumerate() {
         if journal.get(place) != Some(entry) {
             return false;
         }
     }
-    journal.len() == 6
+    journal.len() == entries.len()
 }

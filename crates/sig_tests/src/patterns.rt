@@ -2,7 +2,7 @@
 
 ghost use Rattle.std.specs.Prelude.{◌≡◌, ◌<◌};
 
-use crate::shared::{each_row_goes, int};
+use crate::shared::{Row, each_row_holds, int};
 use sig_base::Steps;
 use sig_lists::Sequence;
 use sig_patterns::{BuildFault, Env, Expr, Pattern, Var, bind_match, build, matches, pins};
@@ -48,11 +48,13 @@ fn extent(built: &Result<Term, BuildFault>) -> Option<(u64, u64)> {
 }
 
 /// The extent of what a copy of the expression builds.
-fn size_of(alloc: Global, expression: Expr, env: &Env) -> Result<Option<(u64, u64)>, AllocError> {
+fn extent_of(alloc: Global, expression: Expr) -> Result<Option<(u64, u64)>, AllocError> {
     let copied = expression.copy(alloc);
     drop(expression);
     let copy = copied?;
-    let built = build(alloc, &copy, env);
+    let env = Env::new(alloc);
+    let built = build(alloc, &copy, &env);
+    drop(env);
     drop(copy);
     let extent = extent(&built);
     drop(built);
@@ -61,36 +63,29 @@ fn size_of(alloc: Global, expression: Expr, env: &Env) -> Result<Option<(u64, u6
 
 /// How many integers a list has, or none for an integer in tuples; how many tuples; the nodes and the
 /// depth of its value.
-const SIZES: [(Option<u16>, u8, u64, u64); 4] = [
-    (Some(1023), 0, 1024, 2),
-    (Some(1024), 0, 1025, 2),
-    (None, 63, 64, 64),
-    (None, 64, 65, 65),
+struct Size(Option<u16>, u8, u64, u64);
+
+impl Row for Size {
+    /// Whether the value is of this size.
+    fn holds(&self, alloc: Global) -> Result<bool, AllocError> {
+        let expression = match self.0 {
+            Some(count) => row(alloc, count)?,
+            None => nest(alloc, self.1)?,
+        };
+        Ok(extent_of(alloc, expression)? == Some((self.2, self.3)))
+    }
+}
+
+const SIZES: [Size; 4] = [
+    Size(Some(1023), 0, 1024, 2),
+    Size(Some(1024), 0, 1025, 2),
+    Size(None, 63, 64, 64),
+    Size(None, 64, 65, 65),
 ];
-
-/// The list of so many integers, or an integer in so many tuples.
-fn nested(alloc: Global, count: Option<u16>, depth: u8) -> Result<Expr, AllocError> {
-    match count {
-        Some(count) => row(alloc, count),
-        None => nest(alloc, depth),
-    }
-}
-
-/// The place of the first of the sizes that is measured otherwise.
-fn first_other_size(alloc: Global, env: &Env) -> Result<Option<usize>, AllocError> {
-    for (place, (count, tuples, nodes, depth)) in SIZES.iter().enumerate() {
-        let expression = nested(alloc, *count, *tuples)?;
-        if size_of(alloc, expression, env)? != Some((*nodes, *depth)) {
-            return Ok(Some(place));
-        }
-    }
-    Ok(None)
-}
 
 #[test]
 fn sizes_are_measured(rt: HostRuntime) {
-    let env = Env::new(rt.alloc());
-    each_row_goes(&rt, first_other_size(rt.alloc(), &env));
+    each_row_holds(&rt, rt.alloc(), &SIZES);
 }
 
 /// The integer that is the variable's value.
@@ -118,22 +113,6 @@ fn matched<L: Ledger>(
 /// The same of a new environment and the integer.
 fn bound<L: Ledger>(
     alloc: Global,
-    steps: &mut Steps<L>,
-    pattern: &Pattern,
-    x: &Var,
-    number: i64,
-) -> Result<Option<Option<i64>>, AllocError> {
-    let mut env = Env::new(alloc);
-    let term = Term::Int(number);
-    let value = matched(alloc, steps, pattern, &mut env, x, &term);
-    drop(term);
-    drop(env);
-    value
-}
-
-/// The same of a copy of the pattern.
-fn bound_by<L: Ledger>(
-    alloc: Global,
     blank: Blank,
     pattern: &Pattern,
     x: &Var,
@@ -143,10 +122,12 @@ fn bound_by<L: Ledger>(
     requires parts { blank.parts ≡ L.parts }
     requires some { 0 < blank.parts }
 {
-    let copy = pattern.copy(alloc)?;
     let mut steps: Steps<L> = Steps::open(blank);
-    let value = bound(alloc, &mut steps, &copy, x, number);
-    drop(copy);
+    let mut env = Env::new(alloc);
+    let term = Term::Int(number);
+    let value = matched(alloc, &mut steps, pattern, &mut env, x, &term);
+    drop(term);
+    drop(env);
     value
 }
 
@@ -162,41 +143,45 @@ fn pattern_of(alloc: Global, pin: bool, letter: u8) -> Result<Pattern, ReadTerm>
 
 /// Whether a variable is pinned and which one, the integer that it is matched with, the value of X
 /// after a match, and whether the pattern pins X.
-type Match = (bool, u8, i64, Option<Option<i64>>, bool);
+struct Match(bool, u8, i64, Option<Option<i64>>, bool);
+
+impl Match {
+    /// Whether the match of a copy of the pattern goes so.
+    fn goes(&self, alloc: Global, pattern: &Pattern, x: &Var) -> Result<bool, AllocError> {
+        let copy = pattern.copy(alloc)?;
+        let value = bound::<Brand>(alloc, Blank::new(1), &copy, x, self.2);
+        drop(copy);
+        Ok(value? == self.3 && pins(pattern, x) == self.4)
+    }
+
+    /// Whether the match goes so with the variable X.
+    fn goes_with(&self, alloc: Global, x: &Var) -> Result<bool, ReadTerm> {
+        let pattern = pattern_of(alloc, self.0, self.1)?;
+        let goes = self.goes(alloc, &pattern, x);
+        drop(pattern);
+        Ok(goes?)
+    }
+}
+
+impl Row for Match {
+    fn holds(&self, alloc: Global) -> Result<bool, AllocError> {
+        let Ok(x) = var(alloc, b'X') else {
+            return Ok(false);
+        };
+        let goes = self.goes_with(alloc, &x);
+        drop(x);
+        Ok(goes == Ok(true))
+    }
+}
 
 const MATCHES: [Match; 4] = [
-    (false, b'X', 2, Some(Some(2)), false),
-    (true, b'X', 2, None, true),
-    (true, b'X', 1, Some(Some(1)), true),
-    (true, b'Y', 1, None, false),
+    Match(false, b'X', 2, Some(Some(2)), false),
+    Match(true, b'X', 2, None, true),
+    Match(true, b'X', 1, Some(Some(1)), true),
+    Match(true, b'Y', 1, None, false),
 ];
-
-/// Whether the match goes so.
-fn goes(alloc: Global, x: &Var, row: &Match) -> Result<bool, ReadTerm> {
-    let (pin, letter, number, value, pinned) = row;
-    let pattern = pattern_of(alloc, *pin, *letter)?;
-    let answer = bound_by::<Brand>(alloc, Blank::new(1), &pattern, x, *number);
-    let is_pinned = pins(&pattern, x);
-    drop(pattern);
-    Ok(answer? == *value && is_pinned == *pinned)
-}
-
-/// The place of the first of the matches that goes another way.
-fn first_other_match(alloc: Global, x: &Var) -> Result<Option<usize>, ReadTerm> {
-    for (place, row) in MATCHES.iter().enumerate() {
-        if !goes(alloc, x, row)? {
-            return Ok(Some(place));
-        }
-    }
-    Ok(None)
-}
-
-/// The same with the variable X.
-fn first_other_match_of_x(alloc: Global) -> Result<Option<usize>, ReadTerm> {
-    first_other_match(alloc, &var(alloc, b'X')?)
-}
 
 #[test]
 fn a_match_binds(rt: HostRuntime) {
-    assert_eq!(rt; first_other_match_of_x(rt.alloc()), Ok(None));
+    each_row_holds(&rt, rt.alloc(), &MATCHES);
 }

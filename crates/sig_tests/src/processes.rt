@@ -9,7 +9,7 @@ ghost use Rattle.std.specs.Prelude.{◌≡◌, ◌<◌, [], length, IfSome, slic
 ghost use Rattle.sig_model.specs.Keeping.{IsArriving};
 ghost use Rattle.sig_model.specs.Running.{opened as beginning};
 
-use crate::shared::each_row_goes;
+use crate::shared::{Row, each_row_holds};
 use sig_base::Steps;
 use sig_kinds::{Kind, Signal, Signals};
 use sig_model::{Event, Outcome};
@@ -23,118 +23,111 @@ use std::sync::ledger::{Blank, Ledger};
 
 /// Lines of a script of two processes, the moves, the outcomes of both, and the next number for
 /// process 1 of a signal of process 0.
-const PLAYS: [(
-    &'static [u8],
-    &'static [u8],
-    &'static [u8],
-    &'static [u8],
-    u64,
-); 12] = [
-    // A link signal is dropped while an id is awaited.
-    (
-        b"process a\nlink @b\nunlink @b\nprocess b\nunlink @a\nlink @a\n",
-        b"a>Babb<AA>BB<A",
-        b"ddu-k",
-        b"ldduk",
-        4,
-    ),
-    // An acknowledgement of another id is dropped.
-    (
-        b"process a\nlink @b\nunlink @b\nlink @b\nunlink @b\nprocess b\n",
-        b"aaaa>BBBB<AA",
-        b"dddd-k",
-        b"lulu",
-        5,
-    ),
-    // An unlink of an inactive link is acknowledged.
-    (
-        b"process a\nlink @b\nunlink @b\nprocess b\nunlink @a\n",
-        b"a>Bab><AB<>AB",
-        b"dduk",
-        b"lduk",
-        4,
-    ),
-    // An exit of an inactive link is dropped.
-    (
-        b"process a\nlink @b\nunlink @b\nstop\nprocess b\nexit boom\n",
-        b"a>Bab<Aa",
-        b"dd-e",
-        b"le",
-        3,
-    ),
-    // An exit of an active link is obeyed, and the peer that told it isn't told.
-    (
-        b"process a\nlink @b\nstop\nprocess b\nexit boom\n",
-        b"a>Bb<A",
-        b"de",
-        b"le",
-        2,
-    ),
-    // A link to a process that has ended comes back.
-    (
-        b"process a\nlink @b\nunlink @b\nprocess b\n",
-        b"baa>BB<A",
-        b"dd-",
-        b"en-",
-        3,
-    ),
-    // A message through an alias counts by the moment at which it is handled.
-    (
-        b"process a\nalias A\nsend @b A\nunalias A\nunalias A\n\
-          process b\nreceive\non X\nend\nsend X late\n",
-        b"aa>Bbba<Aa",
-        b"=sy-x",
-        b"mts",
-        2,
-    ),
-    (
-        b"process a\nalias A\nsend @b A\nunalias A\nunalias A\n\
-          process b\nreceive\non X\nend\nsend X early\n",
-        b"aa>Bbb<Aaa",
-        b"=smyx",
-        b"mts",
-        2,
-    ),
-    // A monitor that has ended on both sides, and a down that is on its way then.
-    (
-        b"process a\nmonitor M @b\ndemonitor M\ndemonitor M flush\nprocess b\n",
-        b"a>Bba<A>Ba",
-        b"=d-x",
-        b"we-",
-        3,
-    ),
-    // Signals to a process are numbered.
-    (
-        b"process a\nlink @b\nsend @b hi\nprocess b\n",
-        b"",
-        b"",
-        b"",
-        1,
-    ),
-    (
-        b"process a\nlink @b\nsend @b hi\nprocess b\n",
-        b"a",
-        b"d",
-        b"",
-        2,
-    ),
-    (
-        b"process a\nlink @b\nsend @b hi\nprocess b\n",
-        b"aa",
-        b"ds",
-        b"",
-        3,
-    ),
-];
-
-/// The moves of a play, the outcomes of both processes, and the number of the next signal to process 1.
-#[derive(Clone, Copy, Drop)]
 struct Play {
+    lines: &'static [u8],
     moves: &'static [u8],
     first: &'static [u8],
     second: &'static [u8],
     number: u64,
 }
+
+const PLAYS: [Play; 12] = [
+    // A link signal is dropped while an id is awaited.
+    Play {
+        lines: b"process a\nlink @b\nunlink @b\nprocess b\nunlink @a\nlink @a\n",
+        moves: b"a>Babb<AA>BB<A",
+        first: b"ddu-k",
+        second: b"ldduk",
+        number: 4,
+    },
+    // An acknowledgement of another id is dropped.
+    Play {
+        lines: b"process a\nlink @b\nunlink @b\nlink @b\nunlink @b\nprocess b\n",
+        moves: b"aaaa>BBBB<AA",
+        first: b"dddd-k",
+        second: b"lulu",
+        number: 5,
+    },
+    // An unlink of an inactive link is acknowledged.
+    Play {
+        lines: b"process a\nlink @b\nunlink @b\nprocess b\nunlink @a\n",
+        moves: b"a>Bab><AB<>AB",
+        first: b"dduk",
+        second: b"lduk",
+        number: 4,
+    },
+    // An exit of an inactive link is dropped.
+    Play {
+        lines: b"process a\nlink @b\nunlink @b\nstop\nprocess b\nexit boom\n",
+        moves: b"a>Bab<Aa",
+        first: b"dd-e",
+        second: b"le",
+        number: 3,
+    },
+    // An exit of an active link is obeyed, and the peer that told it isn't told.
+    Play {
+        lines: b"process a\nlink @b\nstop\nprocess b\nexit boom\n",
+        moves: b"a>Bb<A",
+        first: b"de",
+        second: b"le",
+        number: 2,
+    },
+    // A link to a process that has ended comes back.
+    Play {
+        lines: b"process a\nlink @b\nunlink @b\nprocess b\n",
+        moves: b"baa>BB<A",
+        first: b"dd-",
+        second: b"en-",
+        number: 3,
+    },
+    // A message through an alias counts by the moment at which it is handled.
+    Play {
+        lines: b"process a\nalias A\nsend @b A\nunalias A\nunalias A\n\
+          process b\nreceive\non X\nend\nsend X late\n",
+        moves: b"aa>Bbba<Aa",
+        first: b"=sy-x",
+        second: b"mts",
+        number: 2,
+    },
+    Play {
+        lines: b"process a\nalias A\nsend @b A\nunalias A\nunalias A\n\
+          process b\nreceive\non X\nend\nsend X early\n",
+        moves: b"aa>Bbb<Aaa",
+        first: b"=smyx",
+        second: b"mts",
+        number: 2,
+    },
+    // A monitor that has ended on both sides, and a down that is on its way then.
+    Play {
+        lines: b"process a\nmonitor M @b\ndemonitor M\ndemonitor M flush\nprocess b\n",
+        moves: b"a>Bba<A>Ba",
+        first: b"=d-x",
+        second: b"we-",
+        number: 3,
+    },
+    // Signals to a process are numbered.
+    Play {
+        lines: b"process a\nlink @b\nsend @b hi\nprocess b\n",
+        moves: b"",
+        first: b"",
+        second: b"",
+        number: 1,
+    },
+    Play {
+        lines: b"process a\nlink @b\nsend @b hi\nprocess b\n",
+        moves: b"a",
+        first: b"d",
+        second: b"",
+        number: 2,
+    },
+    Play {
+        lines: b"process a\nlink @b\nsend @b hi\nprocess b\n",
+        moves: b"aa",
+        first: b"ds",
+        second: b"",
+        number: 3,
+    },
+];
 
 /// The letter of the outcome of an event.
 fn letter(event: &Event) -> u8 {
@@ -255,15 +248,10 @@ fn move_all<L: Ledger>(
 fn stands<L: Ledger>(
     first: &mut Process,
     second: &mut Process,
-    blank: Blank,
+    steps: &mut Steps<L>,
     play: &Play,
-) -> Result<bool, AllocError>
-    requires name { blank.name ≡ L.name }
-    requires parts { blank.parts ≡ L.parts }
-    requires some { 0 < blank.parts }
-{
-    let mut steps: Steps<L> = Steps::open(blank);
-    let made = move_all(play.moves, first, second, &mut steps)?;
+) -> Result<bool, AllocError> {
+    let made = move_all(play.moves, first, second, steps)?;
     let told = tells(first, play.first) & tells(second, play.second);
     let number = first.next_number(Pid(1));
     Ok(made & told & (first.count() == 2) & (number == play.number))
@@ -290,60 +278,45 @@ fn stand<L: Ledger>(procs: &mut [Process], blank: Blank, play: &Play) -> Result<
     requires parts { blank.parts ≡ L.parts }
     requires some { 0 < blank.parts }
 {
+    let mut steps: Steps<L> = Steps::open(blank);
     let Some((first, rest)) = procs.split_first_mut() else {
         return Ok(false);
     };
     let Some(second) = rest.first_mut() else {
         return Ok(false);
     };
-    stands::<L>(first, second, blank, play)
-}
-
-/// Whether the play goes as the table has it.
-fn goes(alloc: Global, lines: &[u8], play: &Play) -> Result<bool, ScriptError> {
-    let mut crew = opened(alloc, lines)?;
-    let went = stand::<Brand>(crew.procs.as_mut_slice(), Blank::new(1), play)?;
-    Ok(went)
-}
-
-/// The place of the first of the plays that goes another way.
-fn first_other_play(alloc: Global) -> Option<usize> {
-    for (place, (lines, moves, first, second, number)) in PLAYS.iter().enumerate() {
-        let play = Play {
-            moves: *moves,
-            first: *first,
-            second: *second,
-            number: *number,
-        };
-        if !matches!(goes(alloc, lines, &play), Ok(true)) {
-            return Some(place);
-        }
-    }
-    None
-}
-
-#[test]
-fn plays_go_by_the_rules(rt: HostRuntime) {
-    each_row_goes(&rt, Ok(first_other_play(rt.alloc())));
+    stands(first, second, &mut steps, play)
 }
 
 /// Whether the crew has a second process and no third.
 fn has_two(crew: &mut Crew) -> bool {
-    let second = crew.get_mut(Pid(1)).is_some_and(|p| p.pid() == Pid(1));
-    second && crew.get_mut(Pid(2)).is_none()
+    let is_second = match crew.get_mut(Pid(1)) {
+        Some(second) => second.pid() == Pid(1),
+        None => false,
+    };
+    is_second && crew.get_mut(Pid(2)).is_none()
 }
 
-/// Whether the crew of a script of two processes has two.
-fn two_are_opened(alloc: Global) -> Result<bool, ScriptError> {
-    let mut crew = opened(alloc, b"process a\nprocess b")?;
-    let are_two = has_two(&mut crew);
-    drop(crew);
-    Ok(are_two)
+impl Play {
+    /// Whether the crew of the script has its two processes, and the play goes so.
+    fn goes(&self, alloc: Global) -> Result<bool, ScriptError> {
+        let mut crew = opened(alloc, self.lines)?;
+        let are_two = has_two(&mut crew);
+        let went = stand::<Brand>(crew.procs.as_mut_slice(), Blank::new(1), self);
+        drop(crew);
+        Ok(went? && are_two)
+    }
+}
+
+impl Row for Play {
+    fn holds(&self, alloc: Global) -> Result<bool, AllocError> {
+        Ok(self.goes(alloc) == Ok(true))
+    }
 }
 
 #[test]
-fn a_crew_has_the_processes_of_its_script(rt: HostRuntime) {
-    assert!(rt; two_are_opened(rt.alloc()) == Ok(true));
+fn plays_go_by_the_rules(rt: HostRuntime) {
+    each_row_holds(&rt, rt.alloc(), &PLAYS);
 }
 
 /// How many signals wait for process 1, as the script opens it, after a first one of process 0 was

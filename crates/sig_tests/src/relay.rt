@@ -5,13 +5,13 @@ ghost use Rattle.sig_layout.specs.Sets.{has};
 ghost use Rattle.sig_tests.specs.Queues.{IsOfFour, IsFresh, HasAll};
 
 use crate::held::hold_and_offer;
-use crate::orders::{are_three, has_switched, is_hundred, is_one, is_put_after_refusal, is_sixty};
+use crate::orders::{are, are_in_order, gather, has};
 use crate::pids::{only, pair, trio};
 use crate::putting::{put_and_receive, put_three};
-use crate::shared::passes;
+use crate::shared::{none_is_other, passes};
 use crate::switching::switch;
 use sig_kinds::Signals;
-use sig_layout::{Numbers, Opening, Policy, Senders};
+use sig_layout::{Entry, Numbers, Opening, Policy, Senders};
 use sig_queue::{Fetch, QSeat, SigQueue};
 use sig_relay::{Line, Relayed, relay};
 use sig_terms::Pid;
@@ -67,63 +67,47 @@ fn line(from: u32) -> Line
 }
 
 // The serials 0 to 99.
-fn hundred_serials(alloc: Global) -> Result<Vec<u64>, AllocError> {
-    let mut serials = Vec::new(alloc);
-    for serial in 0..100u64 {
-        serials.push(serial)?;
+fn hundred_serials() -> [u64; 100] {
+    let mut serials = [0; 100];
+    for (place, serial) in serials.iter_mut().enumerate() {
+        *serial = place as u64;
     }
-    Ok(serials)
+    serials
 }
+
+// A hundred signals of the sender 3.
+const HUNDRED: [u64; 4] = [0, 0, 0, 100];
 
 // Whether a hundred were sent and fetched, in order.
 fn has_hundred(relayed: Relayed) -> bool {
-    let come = relayed.sent == 100 && is_hundred(&relayed.taken);
+    let come = relayed.sent == 100 && are_in_order(&relayed.taken, HUNDRED);
     drop(relayed);
     come
 }
 
-// Whether one thread sends a message of the sender 3 for each serial, and another fetches a hundred in
-// order.
-fn relays_hundred<R: Threads + Wait + Sync>(
+// Whether one thread sends a hundred messages of the sender 3, and another fetches them in order.
+fn two_threads<R: Threads + Wait + Sync>(
     rt: &R,
     alloc: Global,
     policy: Policy,
-    opening: &Opening,
-    serials: &[u64],
 ) -> Result<bool, AllocError>
-    requires { IsPolicy policy × IsOfFour opening.now }
+    requires { IsPolicy policy }
 {
-    let three = Pid(3);
-    let relayed = relay(rt, alloc, policy, only(three), opening, three, serials, 100)?;
-    Ok(has_hundred(relayed))
-}
-
-// The same under each policy.
-fn relays_under_each_policy<R: Threads + Wait + Sync>(
-    rt: &R,
-    alloc: Global,
-    opening: &Opening,
-    serials: &[u64],
-) -> Result<bool, AllocError>
-    requires { IsOfFour opening.now }
-{
-    for number in 0..5 {
-        if !relays_hundred(rt, alloc, policy(number), opening, serials)? {
-            return Ok(false);
-        }
-    }
-    Ok(true)
-}
-
-fn two_threads<R: Threads + Wait + Sync>(rt: &R, alloc: Global) -> Result<bool, AllocError> {
     let opening = opening(alloc)?;
-    let serials = hundred_serials(alloc)?;
-    relays_under_each_policy(rt, alloc, &opening, &serials)
-}
-
-#[test]
-fn two_threads_under_each_policy(rt: HostRuntime) {
-    passes(&rt, two_threads(&rt, rt.alloc()));
+    let three = Pid(3);
+    let serials = hundred_serials();
+    let relayed = relay(
+        rt,
+        alloc,
+        policy,
+        only(three),
+        &opening,
+        three,
+        &serials,
+        100,
+    );
+    drop(opening);
+    Ok(has_hundred(relayed?))
 }
 
 // A seat holds the outer turn while another offers and fetches: both are refused with its number.
@@ -136,7 +120,7 @@ fn refuses_while_held(alloc: Global, queue: SigQueue, mut seat: QSeat, senders: 
     let (holder, told) = hold_and_offer(&queue, &mut seat, holder, line(1), &mut into, 3);
     queue.join(&mut seat, holder);
     let closed = queue.close(seat);
-    let put = is_put_after_refusal(&closed.journal);
+    let put = has(&closed.journal, &[Entry::Direct { refused: true }]);
     drop(closed);
     drop(into);
     told & put
@@ -153,6 +137,16 @@ fn another_seat_holds_the_outer_turn(rt: HostRuntime) {
     passes(&rt, a_held_turn(rt.alloc()));
 }
 
+// The entries of one switch on, one fetch, one switch off and one on.
+const SWITCHED: [Entry; 6] = [
+    Entry::Direct { refused: false },
+    Entry::Install,
+    Entry::Fetch { moved: 2 },
+    Entry::Remove,
+    Entry::Direct { refused: false },
+    Entry::Install,
+];
+
 // Buffers are installed by a put, emptied by a fetch, the outer list before them, and removed.
 fn switches<R: Wait>(
     rt: &R,
@@ -166,9 +160,10 @@ fn switches<R: Wait>(
 {
     let mut into = Signals::new(alloc);
     let done = switch(rt, &queue, &mut seat, line(1), line(2), &mut into);
-    let fetched = are_three(&into, [11, 13, 12]);
+    let fetched = are(&into, &[11, 13, 12]);
     let mut closed = queue.close(seat);
-    let left = is_one(&mut closed.rest, 14) & has_switched(&closed.journal);
+    gather(&mut closed.rest, &mut into);
+    let left = are(&into, &[11, 13, 12, 14]) & has(&closed.journal, &SWITCHED);
     drop(closed);
     drop(into);
     done & fetched & left
@@ -208,18 +203,18 @@ fn fetch_all(queue: &SigQueue, seat: &mut QSeat, into: &mut Signals) -> bool
 fn learns<R: Threads + Wait + Sync>(
     rt: &R,
     alloc: Global,
-    queue: &SigQueue,
+    queue: SigQueue,
     mut seat: QSeat,
     senders: Senders,
 ) -> bool
-    requires fresh { IsFresh queue.now senders seat }
+    requires fresh { IsFresh queue senders seat }
     requires three { has senders 3 ≡ true }
 {
     let sender = queue.split(&mut seat, senders, false);
     let taken = Signals::new(alloc);
     let ((mut sender, aside), (mut seat, mut taken)) = put_and_receive(
         rt,
-        queue,
+        &queue,
         sender,
         seat,
         line(3),
@@ -229,18 +224,19 @@ fn learns<R: Threads + Wait + Sync>(
     );
     let note = queue.note(&mut sender);
     queue.learn(&mut seat, note);
-    let all = fetch_all(queue, &mut seat, &mut taken);
-    let come = is_hundred(&taken);
+    let all = fetch_all(&queue, &mut seat, &mut taken);
+    let come = are_in_order(&taken, HUNDRED);
     drop(sender);
     drop(seat);
     drop(taken);
+    drop(queue);
     aside & all & come
 }
 
 fn a_note<R: Threads + Wait + Sync>(rt: &R, alloc: Global) -> Result<bool, AllocError> {
     let senders = only(Pid(3));
     let (queue, seat) = opened(alloc, Policy::Always, senders)?;
-    Ok(learns(rt, alloc, &queue, seat, senders))
+    Ok(learns(rt, alloc, queue, seat, senders))
 }
 
 #[test]
@@ -276,7 +272,7 @@ fn put_sixty<R: Threads + Wait + Sync>(
     (seat, taken)
 }
 
-// Those of each sender come in order, and then are left in order.
+// Those that come, and then those that are left, are twenty of each sender, in order.
 fn sixty_come<R: Threads + Wait + Sync>(
     rt: &R,
     alloc: Global,
@@ -288,9 +284,10 @@ fn sixty_come<R: Threads + Wait + Sync>(
     requires three { (has senders 1 ≡ true) × (has senders 2 ≡ true) × (has senders 3 ≡ true) }
     requires alone { (s : ℕ) → has senders s ≡ true → (s ≡ 1) ⊎ ((s ≡ 2) ⊎ (s ≡ 3)) }
 {
-    let (seat, taken) = put_sixty(rt, alloc, &queue, seat, senders);
+    let (seat, mut taken) = put_sixty(rt, alloc, &queue, seat, senders);
     let mut closed = queue.close(seat);
-    let come = is_sixty(&taken, &mut closed.rest);
+    gather(&mut closed.rest, &mut taken);
+    let come = are_in_order(&taken, [0, 20, 20, 20]);
     drop(closed);
     drop(taken);
     come
@@ -308,19 +305,25 @@ fn four_threads<R: Threads + Wait + Sync>(
     Ok(sixty_come(rt, alloc, queue, seat, senders))
 }
 
-fn four_under_each_policy<R: Threads + Wait + Sync>(
+// The number of the first run that goes another way: two threads under each policy, and then four.
+fn first_other_run<R: Threads + Wait + Sync>(
     rt: &R,
     alloc: Global,
-) -> Result<bool, AllocError> {
-    for number in 0..5 {
-        if !four_threads(rt, alloc, policy(number))? {
-            return Ok(false);
+) -> Result<Option<usize>, AllocError> {
+    for number in 0..10 {
+        let goes = if number < 5 {
+            two_threads(rt, alloc, policy(number))?
+        } else {
+            four_threads(rt, alloc, policy(number - 5))?
+        };
+        if !goes {
+            return Ok(Some(number as usize));
         }
     }
-    Ok(true)
+    Ok(None)
 }
 
 #[test]
-fn four_threads_under_each_policy(rt: HostRuntime) {
-    passes(&rt, four_under_each_policy(&rt, rt.alloc()));
+fn two_and_four_threads_under_each_policy(rt: HostRuntime) {
+    none_is_other(&rt, first_other_run(&rt, rt.alloc()));
 }

@@ -1,7 +1,7 @@
 //! What tests of several calls share.
 
 use sig_terms::Term;
-use std::alloc::AllocError;
+use std::alloc::{AllocError, Global};
 use std::process::Abort;
 
 /// The last digit of the number.
@@ -22,7 +22,28 @@ pub(crate) fn passes<R: Abort>(rt: &R, answer: Result<bool, AllocError>) {
     assert!(rt; answer == Ok(true));
 }
 
-/// Ends the test where a row of its table goes another way, and names the place of the first that does.
-pub(crate) fn each_row_goes<R: Abort>(rt: &R, first_other: Result<Option<usize>, AllocError>) {
+/// Ends the test where something goes another way, and tells the place of the first that does.
+pub(crate) fn none_is_other<R: Abort>(rt: &R, first_other: Result<Option<usize>, AllocError>) {
     assert_eq!(rt; first_other, Ok(None));
+}
+
+/// A row of a table.
+pub(crate) trait Row {
+    /// Whether what the row says holds.
+    fn holds(&self, alloc: Global) -> Result<bool, AllocError>;
+}
+
+/// The place of the first row that doesn't hold.
+fn first_broken<T: Row>(alloc: Global, rows: &[T]) -> Result<Option<usize>, AllocError> {
+    for (place, row) in rows.iter().enumerate() {
+        if !row.holds(alloc)? {
+            return Ok(Some(place));
+        }
+    }
+    Ok(None)
+}
+
+/// Ends the test where a row doesn't hold, and names the place of the first that doesn't.
+pub(crate) fn each_row_holds<R: Abort, T: Row>(rt: &R, alloc: Global, rows: &[T]) {
+    none_is_other(rt, first_broken(alloc, rows));
 }

@@ -1,128 +1,37 @@
 //! Texts of terms both ways, and what is an atom or a name.
 
-use crate::shared::{each_row_goes, passes};
+use crate::shared::{Row, each_row_holds, passes};
 use sig_lists::Sequence;
 use sig_terms::*;
 use std::alloc::{AllocError, Global};
 
-/// Bytes, and whether they make an atom and a name.
-const WORDS: [(&[u8], bool, bool); 8] = [
-    (b"ok", true, true),
-    (b"Var", true, true),
-    (b"", true, false),
-    (b"a@b_C9", true, true),
-    (b"A@", true, false),
-    (b"'", false, false),
-    (b"\\", false, false),
-    (b"two words", true, false),
-];
+/// A term that is made from nothing.
+enum Plain {
+    Int(i64),
+    Pid(u32),
+    Ref(u32, u64),
+    TwoWords,
+    EmptyList,
+    EmptyTuple,
+}
 
-/// Texts of terms, with their nodes and their depth.
-const TEXTS: [(&[u8], u64, u64); 21] = [
-    (b"0", 1, 1),
-    (b"-1", 1, 1),
-    (b"10", 1, 1),
-    (b"9223372036854775807", 1, 1),
-    (b"-9223372036854775808", 1, 1),
-    (b"ok", 1, 1),
-    (b"a@b_C9", 1, 1),
-    (b"''", 1, 1),
-    (b"'Big'", 1, 1),
-    (b"'two words'", 1, 1),
-    (b"'10'", 1, 1),
-    (b"'{a,b}'", 1, 1),
-    (b"<0>", 1, 1),
-    (b"<4294967295>", 1, 1),
-    (b"#Ref<0.1>", 1, 1),
-    (b"#Ref<4294967295.18446744073709551615>", 1, 1),
-    (b"{}", 1, 1),
-    (b"[]", 1, 1),
-    (b"{[],{},[[]]}", 5, 3),
-    (b"[a,b,c]", 4, 2),
-    (b"{ok,'Big',-5,<3>,#Ref<2.7>,[1,{}]}", 9, 3),
-];
-
-/// Bytes that are no text of a term.
-const NO_TEXTS: [&[u8]; 34] = [
-    b"",
-    b" ",
-    b"'ok'",
-    b"00",
-    b"01",
-    b"-0",
-    b"-",
-    b"-01",
-    b"+1",
-    b"1.5",
-    b"1a",
-    b"9223372036854775808",
-    b"-9223372036854775809",
-    b"'a\\'",
-    b"'it's'",
-    b"'",
-    b"Var",
-    b"_",
-    b"<>",
-    b"<01>",
-    b"<4294967296>",
-    b"<1",
-    b"#Ref<1>",
-    b"#Ref<4294967296.1>",
-    b"#Ref<1.18446744073709551616>",
-    b"#Ref<1.02>",
-    b"{",
-    b"{a,}",
-    b"{a, b}",
-    b"{a]",
-    b"[a}",
-    b"[a|b]",
-    b"a ",
-    b"a\n",
-];
-
-/// Pieces of a text with how often each stands, and whether that can be read.
-const LONG: [(&[(&[u8], usize)], bool); 8] = [
-    (&[(b"a", 255)], true),
-    (&[(b"a", 256)], false),
-    (&[(b"'", 1), (b" ", 255), (b"'", 1)], true),
-    (&[(b"'", 1), (b" ", 256), (b"'", 1)], false),
-    (&[(b"[0", 1), (b",0", 1027), (b"]", 1)], true),
-    (&[(b"[0", 1), (b",0", 1028), (b"]", 1)], false),
-    (&[(b"[", 65), (b"]", 65)], true),
-    (&[(b"[", 66), (b"]", 66)], false),
-];
-
-/// Bytes, and how many of them at the front are a text, as many as can be.
-const FRONTS: [(&[u8], Option<usize>); 18] = [
-    (b"ok", Some(2)),
-    (b"ok,more", Some(2)),
-    (b"aB@ c", Some(3)),
-    (b"12a", Some(2)),
-    (b"01", Some(1)),
-    (b"-12-", Some(3)),
-    (b"99999999999999999999", Some(18)),
-    (b"-9223372036854775809", Some(19)),
-    (b"''x", Some(2)),
-    (b"{a}]", Some(3)),
-    (b"[][]", Some(2)),
-    (b"<1>2", Some(3)),
-    (b"#Ref<1.2>3", Some(9)),
-    (b"", None),
-    (b"-0", None),
-    (b"{a", None),
-    (b" a", None),
-    (b"'ok'", None),
-];
-
-/// Texts, and whether a node of the term is `#Ref<1.2>`.
-const HOLDING: [(&[u8], bool); 6] = [
-    (b"#Ref<1.2>", true),
-    (b"{a,[#Ref<1.2>],b}", true),
-    (b"#Ref<1.3>", false),
-    (b"#Ref<2.2>", false),
-    (b"[<1>,2]", false),
-    (b"[]", false),
-];
+/// What is so of a text.
+enum Said {
+    /// Whether it makes an atom, and a name.
+    Word(bool, bool),
+    /// How many bytes at its front are a text of a term, as many as can be.
+    Front(Option<usize>),
+    /// It is no text of a term.
+    NoTerm,
+    /// It is a text of a term.
+    SomeTerm,
+    /// It is the text of a term with so many nodes and this depth, which prints it.
+    Term(u64, u64),
+    /// It is a text of this term.
+    Plain(Plain),
+    /// It is a text of a term, and whether a node of that is `#Ref<1.2>`.
+    Holds(bool),
+}
 
 /// Whether the bytes make an atom.
 fn makes_atom(alloc: Global, bytes: &[u8]) -> Result<bool, AllocError> {
@@ -140,19 +49,255 @@ fn makes_name(alloc: Global, bytes: &[u8]) -> Result<bool, AllocError> {
     Ok(is_made)
 }
 
-/// The place of the first of the words that makes an atom or a name where it shouldn't, or none.
-fn first_other_word(alloc: Global) -> Result<Option<usize>, AllocError> {
-    for (place, (bytes, atom, name)) in WORDS.iter().enumerate() {
-        if makes_atom(alloc, bytes)? != *atom || makes_name(alloc, bytes)? != *name {
-            return Ok(Some(place));
-        }
+/// How many bytes the longest front that is a text has, if there is one.
+fn front_length(alloc: Global, bytes: &[u8]) -> Option<usize> {
+    match read_front(alloc, bytes) {
+        Ok(front) => Some(front.used),
+        Err(_) => None,
     }
-    Ok(None)
 }
 
+/// Whether the term prints this text.
+fn prints(alloc: Global, term: &Term, text: &[u8]) -> Result<bool, AllocError> {
+    let mut printed = Vec::new(alloc);
+    term.print(&mut printed)?;
+    Ok(printed.as_slice() == text)
+}
+
+fn term_of(alloc: Global, plain: &Plain) -> Result<Term, AllocError> {
+    Ok(match plain {
+        Plain::Int(number) => Term::Int(*number),
+        Plain::Pid(pid) => Term::Pid(Pid(*pid)),
+        Plain::Ref(owner, serial) => Term::Ref(Ref {
+            owner: Pid(*owner),
+            serial: *serial,
+        }),
+        Plain::TwoWords => Term::plain_atom(alloc, b"Two words")?,
+        Plain::EmptyList => Term::List(Sequence::new(alloc)),
+        Plain::EmptyTuple => Term::Tuple(Sequence::new(alloc)),
+    })
+}
+
+/// Whether the term is this one, and an atom is known by its bytes.
+fn is_plain(alloc: Global, term: &Term, plain: &Plain) -> Result<bool, AllocError> {
+    let other = term_of(alloc, plain)?;
+    let is_same = term.same(&other);
+    let is_known = match plain {
+        Plain::TwoWords => other.is_atom(b"Two words"),
+        _ => true,
+    };
+    drop(other);
+    Ok(is_same && is_known)
+}
+
+/// Whether this is so of the term of this text.
+fn is_said(alloc: Global, term: &Term, text: &[u8], said: &Said) -> Result<bool, AllocError> {
+    let reference = Ref {
+        owner: Pid(1),
+        serial: 2,
+    };
+    match said {
+        Said::SomeTerm => Ok(true),
+        Said::Term(nodes, depth) => {
+            let is_large = term.size() == *nodes && term.depth() == *depth;
+            Ok(prints(alloc, term, text)? && is_large)
+        }
+        Said::Plain(plain) => is_plain(alloc, term, plain),
+        Said::Holds(answer) => Ok(term.holds_ref(reference) == *answer),
+        _ => Ok(false),
+    }
+}
+
+/// Whether this is so of the term that is read, where one is.
+fn is_read(alloc: Global, text: &[u8], said: &Said) -> Result<bool, AllocError> {
+    match read(alloc, text) {
+        Ok(term) => {
+            let answer = is_said(alloc, &term, text, said);
+            drop(term);
+            answer
+        }
+        Err(ReadTerm::BadTerm) => Ok(matches!(said, Said::NoTerm)),
+        Err(_) => Ok(false),
+    }
+}
+
+/// Whether this is so of the text.
+fn is_so(alloc: Global, text: &[u8], said: &Said) -> Result<bool, AllocError> {
+    match said {
+        Said::Word(atom, name) => {
+            Ok(makes_atom(alloc, text)? == *atom && makes_name(alloc, text)? == *name)
+        }
+        Said::Front(length) => Ok(front_length(alloc, text) == *length),
+        _ => is_read(alloc, text, said),
+    }
+}
+
+/// A text, and what is so of it.
+struct Text(&'static [u8], Said);
+
+impl Row for Text {
+    fn holds(&self, alloc: Global) -> Result<bool, AllocError> {
+        is_so(alloc, self.0, &self.1)
+    }
+}
+
+const TEXTS: [Text; 55] = [
+    Text(b"0", Said::Term(1, 1)),
+    Text(b"-1", Said::Term(1, 1)),
+    Text(b"10", Said::Term(1, 1)),
+    Text(b"9223372036854775807", Said::Term(1, 1)),
+    Text(b"-9223372036854775808", Said::Term(1, 1)),
+    Text(b"ok", Said::Term(1, 1)),
+    Text(b"a@b_C9", Said::Term(1, 1)),
+    Text(b"''", Said::Term(1, 1)),
+    Text(b"'Big'", Said::Term(1, 1)),
+    Text(b"'two words'", Said::Term(1, 1)),
+    Text(b"'10'", Said::Term(1, 1)),
+    Text(b"'{a,b}'", Said::Term(1, 1)),
+    Text(b"<0>", Said::Term(1, 1)),
+    Text(b"<4294967295>", Said::Term(1, 1)),
+    Text(b"#Ref<0.1>", Said::Term(1, 1)),
+    Text(b"#Ref<4294967295.18446744073709551615>", Said::Term(1, 1)),
+    Text(b"{}", Said::Term(1, 1)),
+    Text(b"[]", Said::Term(1, 1)),
+    Text(b"{[],{},[[]]}", Said::Term(5, 3)),
+    Text(b"[a,b,c]", Said::Term(4, 2)),
+    Text(b"{ok,'Big',-5,<3>,#Ref<2.7>,[1,{}]}", Said::Term(9, 3)),
+    // no texts
+    Text(b"", Said::NoTerm),
+    Text(b" ", Said::NoTerm),
+    Text(b"'ok'", Said::NoTerm),
+    Text(b"00", Said::NoTerm),
+    Text(b"01", Said::NoTerm),
+    Text(b"-0", Said::NoTerm),
+    Text(b"-", Said::NoTerm),
+    Text(b"-01", Said::NoTerm),
+    Text(b"+1", Said::NoTerm),
+    Text(b"1.5", Said::NoTerm),
+    Text(b"1a", Said::NoTerm),
+    Text(b"9223372036854775808", Said::NoTerm),
+    Text(b"-9223372036854775809", Said::NoTerm),
+    Text(b"'a\\'", Said::NoTerm),
+    Text(b"'it's'", Said::NoTerm),
+    Text(b"'", Said::NoTerm),
+    Text(b"Var", Said::NoTerm),
+    Text(b"_", Said::NoTerm),
+    Text(b"<>", Said::NoTerm),
+    Text(b"<01>", Said::NoTerm),
+    Text(b"<4294967296>", Said::NoTerm),
+    Text(b"<1", Said::NoTerm),
+    Text(b"#Ref<1>", Said::NoTerm),
+    Text(b"#Ref<4294967296.1>", Said::NoTerm),
+    Text(b"#Ref<1.18446744073709551616>", Said::NoTerm),
+    Text(b"#Ref<1.02>", Said::NoTerm),
+    Text(b"{", Said::NoTerm),
+    Text(b"{a,}", Said::NoTerm),
+    Text(b"{a, b}", Said::NoTerm),
+    Text(b"{a]", Said::NoTerm),
+    Text(b"[a}", Said::NoTerm),
+    Text(b"[a|b]", Said::NoTerm),
+    Text(b"a ", Said::NoTerm),
+    Text(b"a\n", Said::NoTerm),
+];
+
 #[test]
-fn bytes_make_atoms_and_names(rt: HostRuntime) {
-    each_row_goes(&rt, first_other_word(rt.alloc()));
+fn texts_of_terms_and_no_others_are_read(rt: HostRuntime) {
+    each_row_holds(&rt, rt.alloc(), &TEXTS);
+}
+
+const PARTS: [Text; 39] = [
+    // words
+    Text(b"ok", Said::Word(true, true)),
+    Text(b"Var", Said::Word(true, true)),
+    Text(b"", Said::Word(true, false)),
+    Text(b"a@b_C9", Said::Word(true, true)),
+    Text(b"A@", Said::Word(true, false)),
+    Text(b"'", Said::Word(false, false)),
+    Text(b"\\", Said::Word(false, false)),
+    Text(b"two words", Said::Word(true, false)),
+    // the longest front
+    Text(b"ok", Said::Front(Some(2))),
+    Text(b"ok,more", Said::Front(Some(2))),
+    Text(b"aB@ c", Said::Front(Some(3))),
+    Text(b"12a", Said::Front(Some(2))),
+    Text(b"01", Said::Front(Some(1))),
+    Text(b"-12-", Said::Front(Some(3))),
+    Text(b"99999999999999999999", Said::Front(Some(18))),
+    Text(b"-9223372036854775809", Said::Front(Some(19))),
+    Text(b"''x", Said::Front(Some(2))),
+    Text(b"{a}]", Said::Front(Some(3))),
+    Text(b"[][]", Said::Front(Some(2))),
+    Text(b"<1>2", Said::Front(Some(3))),
+    Text(b"#Ref<1.2>3", Said::Front(Some(9))),
+    Text(b"", Said::Front(None)),
+    Text(b"-0", Said::Front(None)),
+    Text(b"{a", Said::Front(None)),
+    Text(b" a", Said::Front(None)),
+    Text(b"'ok'", Said::Front(None)),
+    // terms
+    Text(b"-9223372036854775808", Said::Plain(Plain::Int(i64::MIN))),
+    Text(b"9223372036854775807", Said::Plain(Plain::Int(i64::MAX))),
+    Text(b"<12>", Said::Plain(Plain::Pid(12))),
+    Text(b"#Ref<12.34>", Said::Plain(Plain::Ref(12, 34))),
+    Text(b"[]", Said::Plain(Plain::EmptyList)),
+    Text(b"{}", Said::Plain(Plain::EmptyTuple)),
+    Text(b"'Two words'", Said::Plain(Plain::TwoWords)),
+    // references inside
+    Text(b"#Ref<1.2>", Said::Holds(true)),
+    Text(b"{a,[#Ref<1.2>],b}", Said::Holds(true)),
+    Text(b"#Ref<1.3>", Said::Holds(false)),
+    Text(b"#Ref<2.2>", Said::Holds(false)),
+    Text(b"[<1>,2]", Said::Holds(false)),
+    Text(b"[]", Said::Holds(false)),
+];
+
+#[test]
+fn texts_have_words_fronts_and_references(rt: HostRuntime) {
+    each_row_holds(&rt, rt.alloc(), &PARTS);
+}
+
+/// Appends the piece so often.
+fn repeat(text: &mut Vec<u8>, piece: &[u8], times: usize) -> Result<(), AllocError> {
+    for _ in 0..times {
+        text.extend_from_slice(piece)?;
+    }
+    Ok(())
+}
+
+/// The text of these pieces, each as often as it says.
+fn text_of(alloc: Global, pieces: &[(&[u8], usize)]) -> Result<Vec<u8>, AllocError> {
+    let mut text = Vec::new(alloc);
+    for (piece, times) in pieces {
+        repeat(&mut text, piece, *times)?;
+    }
+    Ok(text)
+}
+
+/// Pieces of a text with how often each stands, and what is so of it.
+struct Long(&'static [(&'static [u8], usize)], Said);
+
+impl Row for Long {
+    fn holds(&self, alloc: Global) -> Result<bool, AllocError> {
+        let text = text_of(alloc, self.0)?;
+        is_so(alloc, text.as_slice(), &self.1)
+    }
+}
+
+const LONG: [Long; 9] = [
+    Long(&[(b"a", 255)], Said::SomeTerm),
+    Long(&[(b"a", 256)], Said::NoTerm),
+    Long(&[(b"'", 1), (b" ", 255), (b"'", 1)], Said::SomeTerm),
+    Long(&[(b"'", 1), (b" ", 256), (b"'", 1)], Said::NoTerm),
+    Long(&[(b"[0", 1), (b",0", 1027), (b"]", 1)], Said::SomeTerm),
+    Long(&[(b"[0", 1), (b",0", 1028), (b"]", 1)], Said::NoTerm),
+    Long(&[(b"[", 65), (b"]", 65)], Said::SomeTerm),
+    Long(&[(b"[", 66), (b"]", 66)], Said::NoTerm),
+    Long(&[(b"a", 300)], Said::Front(Some(255))),
+];
+
+#[test]
+fn texts_have_limits(rt: HostRuntime) {
+    each_row_holds(&rt, rt.alloc(), &LONG);
 }
 
 /// Adds atoms, and a term of each other kind but a tuple.
@@ -166,13 +311,6 @@ fn add_kinds(alloc: Global, items: &mut Sequence<Term>) -> Result<(), AllocError
     items.add(Term::Ref(Ref { owner, serial: 7 }))?;
     items.add(Term::List(Sequence::new(alloc)))?;
     Ok(())
-}
-
-/// Whether the term prints this text.
-fn prints(alloc: Global, term: &Term, text: &[u8]) -> Result<bool, AllocError> {
-    let mut printed = Vec::new(alloc);
-    term.print(&mut printed)?;
-    Ok(printed.as_slice() == text)
 }
 
 /// Whether the term is the integer 0.
@@ -203,203 +341,4 @@ fn kinds_print(alloc: Global) -> Result<bool, AllocError> {
 #[test]
 fn terms_print_their_texts(rt: HostRuntime) {
     passes(&rt, kinds_print(rt.alloc()));
-}
-
-/// Whether the term has so many nodes and this depth, and prints this text.
-fn is_so(
-    alloc: Global,
-    term: &Term,
-    nodes: u64,
-    depth: u64,
-    text: &[u8],
-) -> Result<bool, AllocError> {
-    Ok(prints(alloc, term, text)? && term.size() == nodes && term.depth() == depth)
-}
-
-/// Whether the text is read as a term with so many nodes and this depth, which prints it.
-fn is_read(alloc: Global, text: &[u8], nodes: u64, depth: u64) -> Result<bool, ReadTerm> {
-    let term = read(alloc, text)?;
-    let answer = is_so(alloc, &term, nodes, depth, text);
-    drop(term);
-    Ok(answer?)
-}
-
-/// The place of the first of the texts that is read as another term.
-fn first_other_text(alloc: Global) -> Option<usize> {
-    for (place, (text, nodes, depth)) in TEXTS.iter().enumerate() {
-        if !matches!(is_read(alloc, text, *nodes, *depth), Ok(true)) {
-            return Some(place);
-        }
-    }
-    None
-}
-
-#[test]
-fn texts_are_read_and_printed_again(rt: HostRuntime) {
-    each_row_goes(&rt, Ok(first_other_text(rt.alloc())));
-}
-
-/// Whether the bytes are read as this term.
-fn reads_as(alloc: Global, bytes: &[u8], term: &Term) -> bool {
-    let Ok(found) = read(alloc, bytes) else {
-        return false;
-    };
-    let same = found.same(term);
-    drop(found);
-    same
-}
-
-/// Texts of the terms of `term_at`, by their places.
-const READ: [&[u8]; 6] = [
-    b"-9223372036854775808",
-    b"9223372036854775807",
-    b"<12>",
-    b"#Ref<12.34>",
-    b"[]",
-    b"{}",
-];
-
-/// The term of the text at this place.
-fn term_at(alloc: Global, place: usize) -> Term {
-    let owner = Pid(12);
-    match place {
-        0 => Term::Int(i64::MIN),
-        1 => Term::Int(i64::MAX),
-        2 => Term::Pid(owner),
-        3 => Term::Ref(Ref { owner, serial: 34 }),
-        4 => Term::List(Sequence::new(alloc)),
-        _ => Term::Tuple(Sequence::new(alloc)),
-    }
-}
-
-/// The place of the first of the texts that isn't read as its term.
-fn first_other_term(alloc: Global) -> Option<usize> {
-    for (place, bytes) in READ.iter().enumerate() {
-        let term = term_at(alloc, place);
-        let is_read = reads_as(alloc, bytes, &term);
-        drop(term);
-        if !is_read {
-            return Some(place);
-        }
-    }
-    None
-}
-
-#[test]
-fn read_gives_the_term(rt: HostRuntime) {
-    each_row_goes(&rt, Ok(first_other_term(rt.alloc())));
-}
-
-/// Whether the atom is known by its bytes, and read from its text.
-fn two_words_are_known(alloc: Global) -> Result<bool, AllocError> {
-    let atom = Term::plain_atom(alloc, b"Two words")?;
-    let are_known = atom.is_atom(b"Two words") && reads_as(alloc, b"'Two words'", &atom);
-    drop(atom);
-    Ok(are_known)
-}
-
-#[test]
-fn an_atom_is_known_by_its_bytes(rt: HostRuntime) {
-    passes(&rt, two_words_are_known(rt.alloc()));
-}
-
-/// Whether the bytes are refused.
-fn is_bad(alloc: Global, bytes: &[u8]) -> bool {
-    matches!(read(alloc, bytes), Err(ReadTerm::BadTerm))
-}
-
-#[test]
-fn read_refuses_what_is_no_text(rt: HostRuntime) {
-    let alloc = rt.alloc();
-    for bytes in &NO_TEXTS {
-        assert!(rt; is_bad(alloc, bytes), "{bytes:?}");
-    }
-}
-
-/// Appends the piece so often.
-fn repeat(text: &mut Vec<u8>, piece: &[u8], times: usize) -> Result<(), AllocError> {
-    for _ in 0..times {
-        text.extend_from_slice(piece)?;
-    }
-    Ok(())
-}
-
-/// The pieces one after another, each as often as it says.
-fn text_of(alloc: Global, pieces: &[(&[u8], usize)]) -> Result<Vec<u8>, AllocError> {
-    let mut text = Vec::new(alloc);
-    for (piece, times) in pieces {
-        repeat(&mut text, piece, *times)?;
-    }
-    Ok(text)
-}
-
-/// Whether the text of these pieces is read where it fits, and refused where it doesn't.
-fn is_limited(alloc: Global, pieces: &[(&[u8], usize)], fits: bool) -> Result<bool, AllocError> {
-    let text = text_of(alloc, pieces)?;
-    Ok(is_bad(alloc, text.as_slice()) != fits)
-}
-
-/// The place of the first of the long texts that is read where it shouldn't be, or isn't.
-fn first_other_long(alloc: Global) -> Result<Option<usize>, AllocError> {
-    for (place, (pieces, fits)) in LONG.iter().enumerate() {
-        if !is_limited(alloc, pieces, *fits)? {
-            return Ok(Some(place));
-        }
-    }
-    Ok(None)
-}
-
-/// How many bytes the longest front that is a text has, if there is one.
-fn front_length(alloc: Global, bytes: &[u8]) -> Option<usize> {
-    match read_front(alloc, bytes) {
-        Ok(front) => Some(front.used),
-        Err(_) => None,
-    }
-}
-
-/// How many of 300 letters are taken as an atom.
-fn front_of_letters(alloc: Global) -> Result<Option<usize>, AllocError> {
-    let long = text_of(alloc, &[(b"a", 300)])?;
-    Ok(front_length(alloc, long.as_slice()))
-}
-
-#[test]
-fn read_stops_at_its_limits(rt: HostRuntime) {
-    each_row_goes(&rt, first_other_long(rt.alloc()));
-    assert!(rt; front_of_letters(rt.alloc()) == Ok(Some(255)));
-}
-
-#[test]
-fn read_front_takes_the_longest(rt: HostRuntime) {
-    let alloc = rt.alloc();
-    for (bytes, used) in &FRONTS {
-        assert!(rt; front_length(alloc, bytes) == *used, "{bytes:?}");
-    }
-}
-
-/// Whether a node of the term of this text is the reference, where it is read.
-fn holds(alloc: Global, bytes: &[u8], reference: Ref) -> Option<bool> {
-    let Ok(term) = read(alloc, bytes) else {
-        return None;
-    };
-    let holds = term.holds_ref(reference);
-    drop(term);
-    Some(holds)
-}
-
-/// The place of the first of the texts that holds the reference where it shouldn't, or doesn't.
-fn first_other_holding(alloc: Global, reference: Ref) -> Option<usize> {
-    for (place, (bytes, expected)) in HOLDING.iter().enumerate() {
-        if holds(alloc, bytes, reference) != Some(*expected) {
-            return Some(place);
-        }
-    }
-    None
-}
-
-#[test]
-fn references_are_found_inside(rt: HostRuntime) {
-    let owner = Pid(1);
-    let reference = Ref { owner, serial: 2 };
-    each_row_goes(&rt, Ok(first_other_holding(rt.alloc(), reference)));
 }
