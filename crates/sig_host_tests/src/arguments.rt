@@ -1,23 +1,15 @@
 //! The arguments: their settings, and what is told of them.
 
-use crate::runs::{ONE_MESSAGE, ROOM};
-use sig_base::{MemorySink, MemorySource, OpenGate, read_all};
-use sig_host::{Settings, Status, WordsError, run, words};
+use crate::runs::ONE_MESSAGE;
+use crate::whole::{PLAIN, Ran, Setting, push_words};
+use sig_base::{OpenGate, read_all};
+use sig_host::{Settings, WordsError, words};
 use sig_layout::Policy;
 use std::alloc::{AllocError, Global};
 use std::sync::Wait;
 use std::thread::Threads;
 
 const SUMMARY_OF_100: &[u8] = b"processes 9\nevents 9608\nkept 1600\nended 8\nwaiting 1\ncut 0\n";
-
-/// The text of each of these words.
-pub(crate) fn strings(alloc: Global, list: &[&str]) -> Result<Vec<String>, AllocError> {
-    let mut strings = Vec::new(alloc);
-    for word in list {
-        strings.push(String::from_str(alloc, word)?)?;
-    }
-    Ok(strings)
-}
 
 /// Words that the command takes, and the settings that they give: the workers, the quota, the policy
 /// and the calls.
@@ -115,7 +107,8 @@ fn answers(
     list: &[&str],
     expected: Result<Settings, WordsError>,
 ) -> Result<bool, AllocError> {
-    let given = strings(alloc, list)?;
+    let mut given = Vec::new(alloc);
+    push_words(alloc, list, &mut given)?;
     Ok(words(alloc, given.as_slice()) == expected)
 }
 
@@ -137,32 +130,10 @@ fn words_give_their_settings(rt: HostRuntime) {
     }
 }
 
-/// Runs with these arguments. It tells the status, and whether something was written.
-fn run_words<R: Threads + Wait + Sync>(
-    rt: &R,
-    alloc: Global,
-    list: &[&str],
-    source: &mut MemorySource,
-    err: &mut MemorySink,
-) -> Result<(Status, bool), AllocError> {
-    let given = strings(alloc, list)?;
-    let mut out = MemorySink::with_room(alloc, ROOM)?;
-    let status = run(
-        rt,
-        alloc,
-        given.as_slice(),
-        source,
-        &mut out,
-        err,
-        &OpenGate,
-    );
-    Ok((status, !out.held().is_empty()))
-}
-
-/// Whether the script is still there.
-fn is_unread(alloc: Global, source: &mut MemorySource) -> bool {
+/// Whether the script of the run is still there.
+fn is_unread(alloc: Global, ran: &mut Ran) -> bool {
     let mut left = Vec::new(alloc);
-    let _ = read_all(source, 1000, &mut left);
+    let _ = read_all(&mut ran.script, 1000, &mut left);
     left.as_slice() == ONE_MESSAGE
 }
 
@@ -172,16 +143,14 @@ fn is_unread(alloc: Global, source: &mut MemorySource) -> bool {
 fn ends_so<R: Threads + Wait + Sync>(
     rt: &R,
     alloc: Global,
-    list: &[&str],
-    room: usize,
+    setting: &Setting,
     number: u8,
     told: &[u8],
 ) -> Result<bool, AllocError> {
-    let mut source = MemorySource::new(Vec::from_slice(alloc, ONE_MESSAGE)?, 100);
-    let mut err = MemorySink::with_room(alloc, room)?;
-    let (status, written) = run_words(rt, alloc, list, &mut source, &mut err)?;
-    let unread = is_unread(alloc, &mut source);
-    Ok(unread && status.number() == number && written == (number != 2) && err.held() == told)
+    let mut ran = Ran::of(rt, alloc, setting, &[(ONE_MESSAGE, 1)], &OpenGate)?;
+    let written = !ran.out.held().is_empty();
+    let tells = ran.status.number() == number && ran.err.held() == told;
+    Ok(is_unread(alloc, &mut ran) && tells && written == (number != 2))
 }
 
 const TOLD_USAGE: &[u8] =
@@ -229,7 +198,12 @@ const ARGUMENTS: [(&[&str], usize, u8, &[u8]); 12] = [
 fn arguments_are_told(rt: HostRuntime) {
     let alloc = rt.alloc();
     for (list, room, number, told) in ARGUMENTS {
-        let ends = ends_so(&rt, alloc, list, room, number, told);
+        let setting = Setting {
+            words: list,
+            room,
+            ..PLAIN
+        };
+        let ends = ends_so(&rt, alloc, &setting, number, told);
         assert!(rt; ends == Ok(true), "{list:?}");
     }
 }

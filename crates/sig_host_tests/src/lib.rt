@@ -29,4 +29,6 @@ mod texts;
 #[cfg(test)]
 mod watches;
 #[cfg(test)]
+mod whole;
+#[cfg(test)]
 mod workers;

@@ -1,7 +1,6 @@
 //! Records: merged, sorted, and read back.
 
 use crate::runs::{ONE_MESSAGE, ONE_MESSAGE_RECORD};
-use itoa::Buffer;
 use sig_process::Crew;
 use sig_record::{Record, RecordError, print_record, read_record};
 use sig_script::{ScriptError, read_script};
@@ -25,39 +24,43 @@ fn record_of(alloc: Global, text: &[u8]) -> Result<Record, ScriptError> {
     Ok(Record::gather(alloc, crew)?)
 }
 
-/// The first lines of a script in which process 1 is cut before it has handled one signal of each of
-/// the others, and one of its own. That of process 0 comes last.
-const FIRST_SENDERS: &[u8] = b"sigscript 1\nturns 3\n\
+/// A script in which process 1 is cut before it has handled one signal of each of the others, and one of
+/// its own. That of process 0 comes last.
+const SENDERS: &[u8] = b"sigscript 1\nturns 3\n\
     process b\nreceive\non go\nend\nsend @hub b1\nsend @hub b2\n\
     process hub\nsend @hub h1\nsend @hub h2\nsend @hub h3\n\
-    process c\nsend @b go\nset X 1\nsend @hub c1\n";
-
-/// Appends so many further processes, the last ones.
-fn push_senders(text: &mut Vec<u8>, last: u64) -> Result<(), AllocError> {
-    for number in 0..last {
-        let mut buffer = Buffer::new();
-        text.extend_from_slice(b"process d")?;
-        text.extend_from_slice(buffer.format(number).as_bytes())?;
-        text.extend_from_slice(b"\nset X 1\nset X 2\nsend @hub d\n")?;
-    }
-    Ok(())
-}
-
-/// The pid and the place of each event of a record, merged.
-fn merged(alloc: Global, record: &Record) -> Result<Vec<(u32, u64)>, AllocError> {
-    let mut events = Vec::new(alloc);
-    for at in record.merge(alloc)?.as_slice() {
-        events.push((at.pid.0, at.place))?;
-    }
-    Ok(events)
-}
+    process c\nsend @b go\nset X 1\nsend @hub c1\n\
+    process d0\nset X 1\nset X 2\nsend @hub d\n\
+    process d1\nset X 1\nset X 2\nsend @hub d\n\
+    process d2\nset X 1\nset X 2\nsend @hub d\n\
+    process d3\nset X 1\nset X 2\nsend @hub d\n\
+    process d4\nset X 1\nset X 2\nsend @hub d\n\
+    process d5\nset X 1\nset X 2\nsend @hub d\n\
+    process d6\nset X 1\nset X 2\nsend @hub d\n\
+    process d7\nset X 1\nset X 2\nsend @hub d\n\
+    process d8\nset X 1\nset X 2\nsend @hub d\n\
+    process d9\nset X 1\nset X 2\nsend @hub d\n\
+    process d10\nset X 1\nset X 2\nsend @hub d\n\
+    process d11\nset X 1\nset X 2\nsend @hub d\n\
+    process d12\nset X 1\nset X 2\nsend @hub d\n\
+    process d13\nset X 1\nset X 2\nsend @hub d\n\
+    process d14\nset X 1\nset X 2\nsend @hub d\n\
+    process d15\nset X 1\nset X 2\nsend @hub d\n\
+    process d16\nset X 1\nset X 2\nsend @hub d\n\
+    process d17\nset X 1\nset X 2\nsend @hub d\n\
+    process d18\nset X 1\nset X 2\nsend @hub d\n\
+    process d19\nset X 1\nset X 2\nsend @hub d\n\
+    process d20\nset X 1\nset X 2\nsend @hub d\n\
+    process d21\nset X 1\nset X 2\nsend @hub d\n\
+    process d22\nset X 1\nset X 2\nsend @hub d\n\
+    process d23\nset X 1\nset X 2\nsend @hub d\n";
 
 /// Whether the events of one message are merged so, and its record is settled.
 fn one_message_is_merged(alloc: Global) -> Result<bool, ScriptError> {
     let record = record_of(alloc, ONE_MESSAGE)?;
-    let events = merged(alloc, &record)?;
-    let expected = [(0, 0), (0, 1), (1, 0), (1, 1), (1, 2)];
-    Ok(record.settled() && events.as_slice() == expected.as_slice())
+    let order = record.merge(alloc)?;
+    let events = order.as_slice().iter().map(|at| (at.pid.0, at.place));
+    Ok(record.settled() && events.eq([(0, 0), (0, 1), (1, 0), (1, 1), (1, 2)]))
 }
 
 /// The place of the first signal in the queue of process 1 that isn't the only one of the sender of
@@ -79,9 +82,7 @@ fn first_other_queued(record: &Record) -> Option<usize> {
 
 /// The same of the script of these senders.
 fn first_other_of_many(alloc: Global) -> Result<Option<usize>, ScriptError> {
-    let mut text = Vec::from_slice(alloc, FIRST_SENDERS)?;
-    push_senders(&mut text, 24)?;
-    let record = record_of(alloc, text.as_slice())?;
+    let record = record_of(alloc, SENDERS)?;
     Ok(first_other_queued(&record))
 }
 
@@ -125,16 +126,19 @@ fn records_and_no_other_texts_are_read(rt: HostRuntime) {
     let alloc = rt.alloc();
     let printed = is_printed_again(alloc, ONE_MESSAGE_RECORD);
     assert!(rt; matches!(printed, Ok(true)), "{printed:?}");
-    // the record of no process, and that of the first one
+    // the record of no process, that of the first one, and the whole one
     let whole = ONE_MESSAGE_RECORD.len();
-    assert!(rt; next_length(alloc, ONE_MESSAGE_RECORD, 0) == Some(12));
-    assert!(rt; next_length(alloc, ONE_MESSAGE_RECORD, 13) == Some(86));
-    assert!(rt; next_length(alloc, ONE_MESSAGE_RECORD, 87) == Some(whole));
-    let rows = [
-        refused_line(alloc, &ONE_MESSAGE_RECORD[..whole - 1]),
-        refused_line(alloc, PADDED_PID),
-        refused_line(alloc, LARGE_NAME),
-        refused_line(alloc, OUT_OF_ORDER),
-    ];
-    assert!(rt; rows == [Some(10), Some(3), Some(2), Some(4)], "{rows:?}");
+    for (from, length) in [(0, 12), (13, 86), (87, whole)] {
+        let next = next_length(alloc, ONE_MESSAGE_RECORD, from);
+        assert!(rt; next == Some(length), "{next:?}");
+    }
+    let unended = &ONE_MESSAGE_RECORD[..whole - 1];
+    for (text, line) in [
+        (unended, 10),
+        (PADDED_PID, 3),
+        (LARGE_NAME, 2),
+        (OUT_OF_ORDER, 4),
+    ] {
+        assert!(rt; refused_line(alloc, text) == Some(line), "{text:?}");
+    }
 }

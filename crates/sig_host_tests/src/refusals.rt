@@ -290,15 +290,15 @@ pub(crate) const OTHERS: [(&[u8], &[u8]); 9] = [
     ),
 ];
 
-/// Texts whose first line is no header.
-pub(crate) const OTHER_FIRST_LINES: [&[u8]; 9] = [
-    b"",
-    b"\nsigscript 1",
-    b"sigscript 2",
-    b"sigscript -1",
-    b"sigscript",
-    b"sigscript 1 1",
-    b"sigscript '1'",
-    b"sigscript 1 '",
-    b"sigscript 99999999999999999999",
+/// Texts whose first line is no header, and where they are refused and why.
+pub(crate) const OTHER_FIRST_LINES: [(&[u8], &[u8]); 9] = [
+    (b"", b"1: header"),
+    (b"\nsigscript 1", b"1: header"),
+    (b"sigscript 2", b"1: header"),
+    (b"sigscript -1", b"1: header"),
+    (b"sigscript", b"1: header"),
+    (b"sigscript 1 1", b"1: header"),
+    (b"sigscript '1'", b"1: header"),
+    (b"sigscript 1 '", b"1: header"),
+    (b"sigscript 99999999999999999999", b"1: header"),
 ];

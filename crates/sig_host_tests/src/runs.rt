@@ -1,10 +1,8 @@
 //! Worked examples, through the top call.
 
-ghost use Rattle.std.specs.Prelude.{◌<◌};
-
 use crate::documents::{EXAMPLES, REFUSALS};
 use crate::exits::{EXIT_SIGNALS, EXITS};
-use crate::large::{GROWTHS, Growth};
+use crate::large::{GROWTHS, ROUNDS};
 use crate::links::{LINK_CALLS, LINKED_EXITS, QUEUED, UNLINKS};
 use crate::markers::MARKERS;
 use crate::matches::MATCHES;
@@ -13,16 +11,13 @@ use crate::refusals::{
 };
 use crate::texts::TEXTS;
 use crate::watches::WATCHES;
-use itoa::Buffer;
-use sig_base::{FailingSink, FailingSource, MemorySink, MemorySource, OpenGate, Sink, Source};
-use sig_host::{Status, run};
+use crate::whole::{PLAIN, Ran, Setting};
+use sig_base::OpenGate;
+use sig_host::Status;
 use sig_script::FaultKind;
 use std::alloc::{AllocError, Global};
 use std::sync::Wait;
 use std::thread::Threads;
-
-/// More bytes than any record of these tests has.
-pub(crate) const ROOM: usize = 500000;
 
 pub(crate) const ONE_MESSAGE: &[u8] =
     b"sigscript 1\nprocess a\nsend @b hi\nprocess b\nreceive\non X\nend\n";
@@ -43,19 +38,6 @@ const OPEN_RECEIVE: Status = Status::BadScript {
 };
 
 const TOLD_OPEN_RECEIVE: &[u8] = b"sigrun: line 5: syntax\n";
-
-/// Runs with no arguments, and an `err` that never fails.
-fn run_with<R: Threads + Wait + Sync, S: Source, O: Sink>(
-    rt: &R,
-    alloc: Global,
-    script: &mut S,
-    out: &mut O,
-) -> Result<(Status, MemorySink), AllocError> {
-    let mut err = MemorySink::with_room(alloc, 100)?;
-    let none = Vec::new(alloc);
-    let status = run(rt, alloc, none.as_slice(), script, out, &mut err, &OpenGate);
-    Ok((status, err))
-}
 
 /// Texts, how many of their bytes come at a call, and what a run of them answers, writes and tells.
 const READ: [(&[u8], usize, Status, &[u8], &[u8]); 8] = [
@@ -87,132 +69,58 @@ const READ: [(&[u8], usize, Status, &[u8], &[u8]); 8] = [
     ),
 ];
 
-/// Whether a run answers, writes and tells so.
-fn ends_so<R: Threads + Wait + Sync, S: Source>(
+/// Whether a run of this text answers, writes and tells so.
+fn ends_so<R: Threads + Wait + Sync>(
     rt: &R,
     alloc: Global,
-    script: &mut S,
-    status: Status,
-    record: &[u8],
-    told: &[u8],
+    setting: &Setting,
+    text: &[u8],
+    ending: (Status, &[u8], &[u8]),
 ) -> Result<bool, AllocError> {
-    let mut out = MemorySink::with_room(alloc, 1000)?;
-    let (answer, err) = run_with(rt, alloc, script, &mut out)?;
-    Ok(answer == status && out.held() == record && err.held() == told)
-}
-
-/// The first of these texts whose run ends otherwise.
-fn first_other_end<R: Threads + Wait + Sync>(
-    rt: &R,
-    alloc: Global,
-) -> Result<Option<&'static [u8]>, AllocError> {
-    for (text, piece, status, record, told) in READ {
-        let mut source = MemorySource::new(Vec::from_slice(alloc, text)?, piece.max(1));
-        if !ends_so(rt, alloc, &mut source, status, record, told)? {
-            return Ok(Some(text));
-        }
-    }
-    Ok(None)
+    let (status, record, told) = ending;
+    let ran = Ran::of(rt, alloc, setting, &[(text, 1)], &OpenGate)?;
+    Ok(ran.status == status && ran.out.held() == record && ran.err.held() == told)
 }
 
 #[test]
 fn texts_are_read_in_pieces(rt: HostRuntime) {
-    let other = first_other_end(&rt, rt.alloc());
-    assert!(rt; matches!(other, Ok(None)), "{other:?}");
-}
-
-/// A text of these pieces, each so many times.
-pub(crate) fn text_of(alloc: Global, pieces: &[(&[u8], usize)]) -> Result<Vec<u8>, AllocError> {
-    let mut text = Vec::new(alloc);
-    for (piece, times) in pieces {
-        for _ in 0..*times {
-            text.extend_from_slice(piece)?;
-        }
+    for (text, piece, status, record, told) in READ {
+        let setting = Setting { piece, ..PLAIN };
+        let ends = ends_so(&rt, rt.alloc(), &setting, text, (status, record, told));
+        assert!(rt; ends == Ok(true), "{text:?}");
     }
-    Ok(text)
 }
 
-/// Whether a run whose second read fails is told.
-fn tells_read_fault<R: Threads + Wait + Sync>(rt: &R, alloc: Global) -> Result<bool, AllocError> {
-    let text = Vec::from_slice(alloc, ONE_MESSAGE)?;
-    let mut source = FailingSource::new(text, 10, vec![in alloc; 2]?);
-    let told = b"sigrun: read fault\n";
-    ends_so(rt, alloc, &mut source, Status::ReadFault, b"", told)
-}
-
-/// Whether a run whose second write fails is told.
-fn tells_write_fault<R: Threads + Wait + Sync>(rt: &R, alloc: Global) -> Result<bool, AllocError> {
-    let mut source = MemorySource::new(Vec::from_slice(alloc, ONE_MESSAGE)?, 100);
-    let mut out = FailingSink::with_room(alloc, 1000, 10, vec![in alloc; 2]?)?;
-    let (answer, err) = run_with(rt, alloc, &mut source, &mut out)?;
-    let told = err.held() == b"sigrun: write fault\n".as_slice();
-    let written = out.held() == b"sigrecord ".as_slice();
-    Ok(answer == Status::WriteFault && written && told)
-}
+/// The numbers of the reads and of the writes that fail in a run of one message, and what it answers,
+/// writes and tells.
+const FAULTS: [([&'static [u64]; 2], Status, &[u8], &[u8]); 2] = [
+    ([&[2], &[]], Status::ReadFault, b"", b"sigrun: read fault\n"),
+    (
+        [&[], &[2]],
+        Status::WriteFault,
+        b"sigrecord ",
+        b"sigrun: write fault\n",
+    ),
+];
 
 #[test]
 fn faults_end_a_run(rt: HostRuntime) {
-    assert!(rt; tells_read_fault(&rt, rt.alloc()) == Ok(true));
-    assert!(rt; tells_write_fault(&rt, rt.alloc()) == Ok(true));
+    for (fails, status, record, told) in FAULTS {
+        let setting = Setting {
+            piece: 10,
+            fails,
+            ..PLAIN
+        };
+        let ends = ends_so(
+            &rt,
+            rt.alloc(),
+            &setting,
+            ONE_MESSAGE,
+            (status, record, told),
+        );
+        assert!(rt; ends == Ok(true), "{status:?}");
+    }
     assert!(rt; Status::ReadFault.number() == 3 && Status::WriteFault.number() == 4);
-}
-
-/// Runs the text.
-fn run_text<R: Threads + Wait + Sync>(
-    rt: &R,
-    alloc: Global,
-    text: &[u8],
-) -> Result<(Status, MemorySink, MemorySink), AllocError> {
-    let mut source = MemorySource::new(Vec::from_slice(alloc, text)?, 100000);
-    let mut out = MemorySink::with_room(alloc, ROOM)?;
-    let (status, err) = run_with(rt, alloc, &mut source, &mut out)?;
-    Ok((status, out, err))
-}
-
-/// Runs the script of these lines behind the header line.
-fn run_lines<R: Threads + Wait + Sync>(
-    rt: &R,
-    alloc: Global,
-    lines: &[u8],
-) -> Result<(Status, MemorySink, MemorySink), AllocError> {
-    let mut text = Vec::from_slice(alloc, b"sigscript 1\n")?;
-    text.extend_from_slice(lines)?;
-    run_text(rt, alloc, text.as_slice())
-}
-
-/// Whether the record of the script of these lines is the first line of a record and these lines.
-fn gives<R: Threads + Wait + Sync>(
-    rt: &R,
-    alloc: Global,
-    lines: &[u8],
-    record: &[u8],
-) -> Result<bool, AllocError> {
-    let (status, out, err) = run_lines(rt, alloc, lines)?;
-    let told = out.held().strip_prefix(b"sigrecord 1\n".as_slice());
-    Ok(status == Status::Done && told == Some(record) && err.held().is_empty())
-}
-
-/// A line that begins with a number.
-fn push_line(text: &mut Vec<u8>, number: u64, rest: &[u8]) -> Result<(), AllocError> {
-    let mut digits = Buffer::new();
-    text.extend_from_slice(digits.format(number).as_bytes())?;
-    text.extend_from_slice(rest)?;
-    text.push(b'\n')?;
-    Ok(())
-}
-
-/// The same with a number in the middle.
-fn push_signal(
-    text: &mut Vec<u8>,
-    stamp: u64,
-    middle: &[u8],
-    number: u64,
-    rest: &[u8],
-) -> Result<(), AllocError> {
-    let mut digits = Buffer::new();
-    text.extend_from_slice(digits.format(stamp).as_bytes())?;
-    text.extend_from_slice(middle)?;
-    push_line(text, number, rest)
 }
 
 /// Which message a receive takes, and where a run is cut.
@@ -395,341 +303,152 @@ const PATTERNS: [(&[u8], &[u8]); 5] = [
     ),
 ];
 
-/// The first of these scripts that gives another record. Both stand without their first line.
-fn first_other<'a, R: Threads + Wait + Sync>(
-    rt: &R,
-    alloc: Global,
-    rows: &[(&'a [u8], &'a [u8])],
-) -> Result<Option<&'a [u8]>, AllocError> {
-    for (lines, record) in rows {
-        if !gives(rt, alloc, lines, record)? {
-            return Ok(Some(*lines));
-        }
-    }
-    Ok(None)
+/// What stands around the two texts of each row of a table: those of a script, and of its record or
+/// of what is told where it is refused.
+#[derive(Clone, Copy)]
+pub(crate) struct Around {
+    /// Before the script's text.
+    pub head: &'static [u8],
+    /// Before and behind the other text.
+    sides: [&'static [u8]; 2],
+    /// The scripts are refused.
+    refused: bool,
 }
 
-/// The first of these texts that gives another record, or of which something is told.
-fn first_unlike<'a, R: Threads + Wait + Sync>(
-    rt: &R,
-    alloc: Global,
-    rows: &[(&'a [u8], &'a [u8])],
-) -> Result<Option<&'a [u8]>, AllocError> {
-    for (text, record) in rows {
-        let (status, out, err) = run_text(rt, alloc, text)?;
-        if status != Status::Done || out.held() != *record || !err.held().is_empty() {
-            return Ok(Some(*text));
-        }
-    }
-    Ok(None)
-}
+/// Scripts without their first line, and their records without theirs.
+pub(crate) const LINES: Around = Around {
+    head: b"sigscript 1\n",
+    sides: [b"sigrecord 1\n", b""],
+    refused: false,
+};
 
-/// The same of all tables of scripts.
-fn first_other_of_all<R: Threads + Wait + Sync>(
-    rt: &R,
-    alloc: Global,
-) -> Result<Option<&'static [u8]>, AllocError> {
-    let tables: [&[(&[u8], &[u8])]; 13] = [
-        &TAKEN,
-        &VALUES,
-        &GOING,
-        &PATTERNS,
-        &MATCHES,
-        &EXITS,
-        &EXIT_SIGNALS,
-        &LINK_CALLS,
-        &LINKED_EXITS,
-        &UNLINKS,
-        &QUEUED,
-        &WATCHES,
-        &MARKERS,
-    ];
-    for rows in tables {
-        let other = first_other(rt, alloc, rows)?;
-        if other.is_some() {
-            return Ok(other);
+/// Whole scripts and records.
+const WHOLE: Around = Around {
+    head: b"",
+    sides: [b"", b""],
+    refused: false,
+};
+
+/// Scripts without their first line, and where they are refused and why.
+const REFUSED: Around = Around {
+    head: b"sigscript 1\n",
+    sides: [b"sigrun: line ", b"\n"],
+    refused: true,
+};
+
+/// Whole texts, and where they are refused and why.
+const REFUSED_TEXTS: Around = Around {
+    head: b"",
+    ..REFUSED
+};
+
+impl Around {
+    /// Whether the run wrote this record, or told this refusal, and nothing else. A text that isn't
+    /// refused anywhere has some record.
+    fn agrees(&self, ran: &Ran, text: &[u8]) -> bool {
+        let [out, err] = [ran.out.held(), ran.err.held()];
+        if self.refused && text.is_empty() {
+            return ran.status == Status::Done && !out.is_empty() && err.is_empty();
         }
+        let (said, other) = if self.refused { (err, out) } else { (out, err) };
+        let [before, behind] = self.sides;
+        let Some(said) = said.strip_prefix(before) else {
+            return false;
+        };
+        let number = u8::from(self.refused);
+        ran.status.number() == number && other.is_empty() && said.strip_suffix(behind) == Some(text)
     }
-    Ok(None)
+
+    /// Whether a run of the text of these pieces, each so many times, does.
+    pub(crate) fn holds<R: Threads + Wait + Sync>(
+        &self,
+        rt: &R,
+        alloc: Global,
+        pieces: &[(&[u8], usize)],
+        text: &[u8],
+    ) -> Result<bool, AllocError> {
+        let ran = Ran::of(rt, alloc, &PLAIN, pieces, &OpenGate)?;
+        Ok(self.agrees(&ran, text))
+    }
+
+    /// The first of these scripts whose run doesn't.
+    fn first_other<'a, R: Threads + Wait + Sync>(
+        &self,
+        rt: &R,
+        alloc: Global,
+        rows: &[(&'a [u8], &'a [u8])],
+    ) -> Result<Option<&'a [u8]>, AllocError> {
+        for (lines, text) in rows {
+            if !self.holds(rt, alloc, &[(self.head, 1), (lines, 1)], text)? {
+                return Ok(Some(*lines));
+            }
+        }
+        Ok(None)
+    }
 }
 
 #[test]
 fn scripts_give_their_records(rt: HostRuntime) {
-    let alloc = rt.alloc();
-    let other = first_other_of_all(&rt, alloc);
-    assert!(rt; matches!(other, Ok(None)), "{other:?}");
-    let unlike = first_unlike(&rt, alloc, &TEXTS);
-    assert!(rt; matches!(unlike, Ok(None)), "{unlike:?}");
-    let unlike = first_unlike(&rt, alloc, &EXAMPLES);
-    assert!(rt; matches!(unlike, Ok(None)), "{unlike:?}");
-}
-
-/// The line of `err` for a line and a kind, or nothing where there are none.
-fn refusal(alloc: Global, place: &[u8]) -> Result<Vec<u8>, AllocError> {
-    let mut told = Vec::new(alloc);
-    if !place.is_empty() {
-        told.extend_from_slice(b"sigrun: line ")?;
-        told.extend_from_slice(place)?;
-        told.push(b'\n')?;
-    }
-    Ok(told)
-}
-
-/// Whether the text is refused so: nothing is written, and this is told. A text of which nothing is
-/// told is accepted.
-fn tells<R: Threads + Wait + Sync>(
-    rt: &R,
-    alloc: Global,
-    text: &[u8],
-    told: &[u8],
-) -> Result<bool, AllocError> {
-    let (status, out, err) = run_text(rt, alloc, text)?;
-    let refused = status.number() == 1;
-    Ok(err.held() == told && refused != told.is_empty() && refused == out.held().is_empty())
-}
-
-/// The first of these lines behind the header that aren't refused so.
-fn first_unrefused<'a, R: Threads + Wait + Sync>(
-    rt: &R,
-    alloc: Global,
-    rows: &[(&'a [u8], &'a [u8])],
-) -> Result<Option<&'a [u8]>, AllocError> {
-    for (lines, place) in rows {
-        let text = text_of(alloc, &[(b"sigscript 1\n", 1), (lines, 1)])?;
-        let told = refusal(alloc, place)?;
-        if !tells(rt, alloc, text.as_slice(), told.as_slice())? {
-            return Ok(Some(*lines));
-        }
-    }
-    Ok(None)
-}
-
-/// The same of all these tables.
-fn first_unrefused_of_all<R: Threads + Wait + Sync>(
-    rt: &R,
-    alloc: Global,
-) -> Result<Option<&'static [u8]>, AllocError> {
-    let tables: [&[(&[u8], &[u8])]; 6] = [
-        &HEADS,
-        &TERMS,
-        &RECEIVES,
-        &OPERANDS,
-        &MARKER_CLAUSES,
-        &OTHERS,
+    let tables: [(Around, &[(&[u8], &[u8])]); 15] = [
+        (LINES, &TAKEN),
+        (LINES, &VALUES),
+        (LINES, &GOING),
+        (LINES, &PATTERNS),
+        (LINES, &MATCHES),
+        (LINES, &EXITS),
+        (LINES, &EXIT_SIGNALS),
+        (LINES, &LINK_CALLS),
+        (LINES, &LINKED_EXITS),
+        (LINES, &UNLINKS),
+        (LINES, &QUEUED),
+        (LINES, &WATCHES),
+        (LINES, &MARKERS),
+        (WHOLE, &TEXTS),
+        (WHOLE, &EXAMPLES),
     ];
-    for rows in tables {
-        let unrefused = first_unrefused(rt, alloc, rows)?;
-        if unrefused.is_some() {
-            return Ok(unrefused);
-        }
+    for (around, rows) in tables {
+        let other = around.first_other(&rt, rt.alloc(), rows);
+        assert!(rt; matches!(other, Ok(None)), "{other:?}");
     }
-    Ok(None)
-}
-
-/// The length of the first of the long texts that isn't refused so.
-fn first_unlimited<R: Threads + Wait + Sync>(
-    rt: &R,
-    alloc: Global,
-) -> Result<Option<usize>, AllocError> {
-    for (pieces, place) in LONG {
-        let text = text_of(alloc, pieces)?;
-        let told = refusal(alloc, place)?;
-        if !tells(rt, alloc, text.as_slice(), told.as_slice())? {
-            return Ok(Some(text.len()));
-        }
-    }
-    Ok(None)
 }
 
 #[test]
 fn texts_are_refused_at_their_line(rt: HostRuntime) {
-    let alloc = rt.alloc();
-    let unrefused = first_unrefused_of_all(&rt, alloc);
-    assert!(rt; matches!(unrefused, Ok(None)), "{unrefused:?}");
-    let unlimited = first_unlimited(&rt, alloc);
-    assert!(rt; matches!(unlimited, Ok(None)), "{unlimited:?} bytes");
-    for (text, told) in REFUSALS {
-        assert!(rt; tells(&rt, alloc, text, told) == Ok(true), "{text:?}");
+    let tables: [(Around, &[(&[u8], &[u8])]); 8] = [
+        (REFUSED, &HEADS),
+        (REFUSED, &TERMS),
+        (REFUSED, &RECEIVES),
+        (REFUSED, &OPERANDS),
+        (REFUSED, &MARKER_CLAUSES),
+        (REFUSED, &OTHERS),
+        (REFUSED_TEXTS, &OTHER_FIRST_LINES),
+        (
+            // what is told stands whole in these rows
+            Around {
+                sides: [b"", b""],
+                ..REFUSED_TEXTS
+            },
+            &REFUSALS,
+        ),
+    ];
+    for (around, rows) in tables {
+        let unrefused = around.first_other(&rt, rt.alloc(), rows);
+        assert!(rt; matches!(unrefused, Ok(None)), "{unrefused:?}");
     }
-    for text in OTHER_FIRST_LINES {
-        assert!(rt;
-            tells(&rt, alloc, text, TOLD_NO_HEADER) == Ok(true),
-            "{text:?}"
-        );
+    for (pieces, place) in LONG {
+        let limited = REFUSED_TEXTS.holds(&rt, rt.alloc(), pieces, place);
+        assert!(rt; limited == Ok(true), "{pieces:?}");
     }
-}
-
-/// The record of a process that goes to the label before it until its turns are over.
-fn record_of_turns(alloc: Global) -> Result<Vec<u8>, AllocError> {
-    let mut record = Vec::from_slice(alloc, b"process 0 a\n")?;
-    for stamp in 1..20001 {
-        push_line(&mut record, stamp, b" exec 1 done")?;
-    }
-    record.extend_from_slice(b"state cut\n")?;
-    Ok(record)
-}
-
-const TURNS: &[u8] = b"turns 20000\nprocess a\nlabel l\ngoto l\n";
-
-pub(crate) const PING_PONG: &[u8] = b"turns 1500\n\
-    process a\nlabel l\nsend @b ping\nreceive\non pong\nend\ngoto l\n\
-    process b\nlabel l\nreceive\non ping\nend\nsend @a pong\ngoto l\n";
-
-/// The events of process a in the round that begins behind this stamp, the round of this number.
-fn push_pinger(text: &mut Vec<u8>, stamp: u64, number: u64) -> Result<(), AllocError>
-    requires { stamp < 10000 }
-{
-    push_line(text, stamp + 1, b" exec 1 sent <1> ping")?;
-    push_signal(text, stamp + 5, b" from 1 ", number, b" kept pong")?;
-    push_line(text, stamp + 6, b" exec 2 took 1 1 pong")?;
-    push_line(text, stamp + 7, b" exec 3 done")
-}
-
-/// The same of process b.
-fn push_ponger(text: &mut Vec<u8>, stamp: u64, number: u64) -> Result<(), AllocError>
-    requires { stamp < 10000 }
-{
-    push_signal(text, stamp + 2, b" from 0 ", number, b" kept ping")?;
-    push_line(text, stamp + 3, b" exec 1 took 1 1 ping")?;
-    push_line(text, stamp + 4, b" exec 2 sent <0> pong")?;
-    push_line(text, stamp + 5, b" exec 3 done")
-}
-
-/// Appends the events of one of the two in all rounds, and its last line.
-fn push_rounds(text: &mut Vec<u8>, is_pinger: bool) -> Result<(), AllocError> {
-    for round in 0..500 {
-        if is_pinger {
-            push_pinger(text, 7 * round, round + 1)?;
-        } else {
-            push_ponger(text, 7 * round, round + 1)?;
-        }
-    }
-    text.extend_from_slice(b"state cut\n")?;
-    Ok(())
-}
-
-/// The record of two processes that play until both are cut.
-fn record_of_play(alloc: Global) -> Result<Vec<u8>, AllocError> {
-    let mut record = Vec::from_slice(alloc, b"process 0 a\n")?;
-    push_rounds(&mut record, true)?;
-    record.extend_from_slice(b"process 1 b\n")?;
-    push_rounds(&mut record, false)?;
-    Ok(record)
-}
-
-/// A script that makes a value grow, its record without their first lines, and what X is at the end.
-#[derive(Drop)]
-struct Grown {
-    script: Vec<u8>,
-    record: Vec<u8>,
-    value: Vec<u8>,
-    /// The number of the last event, and of its instruction.
-    number: u64,
-}
-
-/// Appends these pieces.
-fn push_all(text: &mut Vec<u8>, pieces: &[&[u8]]) -> Result<(), AllocError> {
-    for piece in pieces {
-        text.extend_from_slice(piece)?;
-    }
-    Ok(())
-}
-
-/// Appends a tuple of so many copies of the value, at least one.
-fn push_tuple(text: &mut Vec<u8>, copies: usize, value: &[u8]) -> Result<(), AllocError> {
-    text.push(b'{')?;
-    for copy in 0..copies {
-        if copy > 0 {
-            text.push(b',')?;
-        }
-        text.extend_from_slice(value)?;
-    }
-    text.push(b'}')?;
-    Ok(())
-}
-
-impl Grown {
-    /// Appends the next event.
-    fn push_event(&mut self, did: &[u8], what: &[u8]) -> Result<(), AllocError> {
-        self.number = self.number.saturating_add(1);
-        let mut digits = Buffer::new();
-        let digits = digits.format(self.number).as_bytes();
-        let pieces = [digits, b" exec ", digits, did, what, b"\n"];
-        push_all(&mut self.record, &pieces)
-    }
-
-    /// Makes X a tuple of so many copies of itself.
-    fn grow(&mut self, alloc: Global, copies: usize) -> Result<(), AllocError> {
-        self.script.extend_from_slice(b"set X ")?;
-        push_tuple(&mut self.script, copies, b"X")?;
-        self.script.push(b'\n')?;
-        let mut value = Vec::new(alloc);
-        push_tuple(&mut value, copies, self.value.as_slice())?;
-        self.push_event(b" set ", value.as_slice())?;
-        self.value = value;
-        Ok(())
-    }
-
-    /// The same so often.
-    fn grow_often(&mut self, alloc: Global, copies: usize, times: usize) -> Result<(), AllocError> {
-        for _ in 0..times {
-            self.grow(alloc, copies)?;
-        }
-        Ok(())
-    }
-
-    /// Appends what comes before the steps of this growth, the steps, and what comes after them.
-    fn fill(&mut self, alloc: Global, growth: &Growth) -> Result<(), AllocError> {
-        push_all(
-            &mut self.script,
-            &[b"process a\nset X ", growth.first, b"\n"],
-        )?;
-        push_all(&mut self.record, &[b"process 0 a\n"])?;
-        self.value.extend_from_slice(growth.first)?;
-        self.push_event(b" set ", growth.first)?;
-        for (copies, times) in growth.steps {
-            self.grow_often(alloc, *copies, *times)?;
-        }
-        self.script.extend_from_slice(growth.last)?;
-        self.push_event(b" ended ", growth.reason)?;
-        push_all(&mut self.record, &[b"state ended ", growth.reason, b"\n"])
-    }
-}
-
-/// Whether the script that makes a value grow so gives its record.
-fn grows<R: Threads + Wait + Sync>(
-    rt: &R,
-    alloc: Global,
-    growth: &Growth,
-) -> Result<bool, AllocError> {
-    let mut grown = Grown {
-        script: Vec::new(alloc),
-        record: Vec::new(alloc),
-        value: Vec::new(alloc),
-        number: 0,
-    };
-    grown.fill(alloc, growth)?;
-    gives(rt, alloc, grown.script.as_slice(), grown.record.as_slice())
-}
-
-/// Whether the process that goes on until its turns are over gives its record.
-fn turns_go<R: Threads + Wait + Sync>(rt: &R, alloc: Global) -> Result<bool, AllocError> {
-    let record = record_of_turns(alloc)?;
-    gives(rt, alloc, TURNS, record.as_slice())
-}
-
-/// Whether the two that play until both are cut give theirs.
-fn play_goes<R: Threads + Wait + Sync>(rt: &R, alloc: Global) -> Result<bool, AllocError> {
-    let record = record_of_play(alloc)?;
-    gives(rt, alloc, PING_PONG, record.as_slice())
 }
 
 #[test]
 fn long_runs_give_their_records(rt: HostRuntime) {
-    let alloc = rt.alloc();
-    assert!(rt; turns_go(&rt, alloc) == Ok(true));
-    assert!(rt; play_goes(&rt, alloc) == Ok(true));
+    for rounds in &ROUNDS {
+        let goes = rounds.give_their_record(&rt, rt.alloc());
+        assert!(rt; goes == Ok(true), "{:?}", rounds.script);
+    }
     for growth in &GROWTHS {
-        assert!(rt; grows(&rt, alloc, growth) == Ok(true), "{:?}", growth.last);
+        let grows = growth.gives_its_record(&rt, rt.alloc());
+        assert!(rt; grows == Ok(true), "{:?}", growth.last);
     }
 }

@@ -2,6 +2,8 @@
 
 ghost use Rattle.std.specs.Prelude.{◌≤◌};
 
+use crate::whole::text_of;
+use crate::workers::count;
 use sig_script::{ScriptError, generate, print_script, read_script};
 use std::alloc::{AllocError, Global};
 
@@ -192,30 +194,19 @@ fn is_printed(alloc: Global, text: &[u8], canonical: &[u8]) -> Result<bool, Scri
     Ok(printed.as_slice().starts_with(b"before\n") && &printed[7..] == canonical)
 }
 
-/// The first of these texts that isn't printed so, itself or its canonical text.
-fn first_unlike<'a>(
-    alloc: Global,
-    rows: &[(&'a [u8], &'a [u8])],
-) -> Result<Option<&'a [u8]>, ScriptError> {
-    for (text, canonical) in rows {
-        if !is_printed(alloc, text, canonical)? || !is_printed(alloc, canonical, canonical)? {
-            return Ok(Some(*text));
-        }
-    }
-    Ok(None)
-}
-
 #[test]
 fn scripts_have_their_canonical_texts(rt: HostRuntime) {
-    let unlike = first_unlike(rt.alloc(), &PRINTED);
-    assert!(rt; matches!(unlike, Ok(None)), "{unlike:?}");
+    let alloc = rt.alloc();
+    for (text, canonical) in PRINTED {
+        let printed = is_printed(alloc, text, canonical);
+        assert!(rt; matches!(printed, Ok(true)), "{text:?}");
+        let again = is_printed(alloc, canonical, canonical);
+        assert!(rt; matches!(again, Ok(true)), "{canonical:?}");
+    }
 }
 
-/// The canonical text of the generated script whose clients make one call each.
-fn one_call_each(alloc: Global) -> Result<Vec<u8>, AllocError> {
-    let mut text = Vec::from_slice(
-        alloc,
-        br"sigscript 1
+/// What the generated script has before its clients.
+const SERVER: &[u8] = br"sigscript 1
 turns 20000
 process hub
 label loop
@@ -225,13 +216,10 @@ end
 label answer
 send R {R,V}
 goto loop
-",
-    )?;
-    for digit in b"01234567" {
-        text.extend_from_slice(b"process c")?;
-        text.push(*digit)?;
-        text.extend_from_slice(
-            br"
+";
+
+/// What a client that makes one call has behind its name.
+const CALL: &[u8] = br"
 reserve
 monitor M @hub reply_demonitor
 bind M
@@ -240,11 +228,28 @@ receive using M
 on {^M,V}
 on {'DOWN',^M,process,_,V}
 end
-",
-        )?;
-    }
-    Ok(text)
-}
+";
+
+/// The canonical text of the generated script whose clients make one call each.
+const ONE_CALL_EACH: [(&[u8], usize); 17] = [
+    (SERVER, 1),
+    (b"process c0", 1),
+    (CALL, 1),
+    (b"process c1", 1),
+    (CALL, 1),
+    (b"process c2", 1),
+    (CALL, 1),
+    (b"process c3", 1),
+    (CALL, 1),
+    (b"process c4", 1),
+    (CALL, 1),
+    (b"process c5", 1),
+    (CALL, 1),
+    (b"process c6", 1),
+    (CALL, 1),
+    (b"process c7", 1),
+    (CALL, 1),
+];
 
 /// The text of the generated script whose clients make so many calls each.
 fn generated_text(alloc: Global, calls: u32) -> Result<Vec<u8>, AllocError>
@@ -259,12 +264,13 @@ fn generated_text(alloc: Global, calls: u32) -> Result<Vec<u8>, AllocError>
 
 /// How many lines the generated script has, where its text is the one above.
 fn count_generated_lines(alloc: Global) -> Result<Option<usize>, AllocError> {
-    let expected = one_call_each(alloc)?;
+    let expected = text_of(alloc, &ONE_CALL_EACH)?;
     let printed = generated_text(alloc, 1)?;
-    if printed.as_slice() != expected.as_slice() {
-        return Ok(None);
-    }
-    Ok(Some(expected.iter().filter(|b| **b == b'\n').count()))
+    Ok(if printed.as_slice() == expected.as_slice() {
+        Some(count(printed.as_slice(), b"\n"))
+    } else {
+        None
+    })
 }
 
 #[test]

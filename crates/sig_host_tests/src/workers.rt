@@ -1,11 +1,12 @@
 //! Runs with several workers, through the top call.
 
-use crate::arguments::strings;
+use crate::large::PING_PONG;
 use crate::markers::SERVER_AND_CLIENTS;
-use crate::runs::{ONE_MESSAGE, PING_PONG, ROOM, text_of};
+use crate::runs::{LINES, ONE_MESSAGE};
+use crate::whole::{PLAIN, Ran, Setting, text_of};
 use itoa::Buffer;
-use sig_base::{Gate, MemorySink, MemorySource, OpenGate, Point};
-use sig_host::{Status, run};
+use sig_base::{Gate, OpenGate, Point};
+use sig_host::Status;
 use sig_record::read_record;
 use std::alloc::{AllocError, Global};
 use std::sync::atomic::{AtomicBool, AtomicU64, Ordering};
@@ -15,46 +16,8 @@ use std::thread::Threads;
 /// How often a gate looks before it gives up.
 const LOOKS: u64 = 100_000_000;
 
-/// Runs the text with these arguments and this gate: the status, and what was written.
-fn run_gated<R: Threads + Wait + Sync, G: Gate>(
-    rt: &R,
-    alloc: Global,
-    list: &[&str],
-    text: &[u8],
-    gate: &G,
-) -> Result<(Status, MemorySink), AllocError> {
-    let arguments = strings(alloc, list)?;
-    let mut source = MemorySource::new(Vec::from_slice(alloc, text)?, 100_000);
-    let mut out = MemorySink::with_room(alloc, ROOM)?;
-    let mut err = MemorySink::with_room(alloc, 100)?;
-    let status = run(
-        rt,
-        alloc,
-        arguments.as_slice(),
-        &mut source,
-        &mut out,
-        &mut err,
-        gate,
-    );
-    Ok((status, out))
-}
-
-/// Whether such a run ends well.
-fn ends_well<R: Threads + Wait + Sync, G: Gate>(
-    rt: &R,
-    alloc: Global,
-    list: &[&str],
-    text: &[u8],
-    gate: &G,
-) -> bool {
-    matches!(
-        run_gated(rt, alloc, list, text, gate),
-        Ok((Status::Done, _))
-    )
-}
-
 /// How often the piece stands in the text.
-fn count(text: &[u8], piece: &[u8]) -> usize {
+pub(crate) fn count(text: &[u8], piece: &[u8]) -> usize {
     let mut found = 0usize;
     for at in 0..text.len() {
         if text[at..].starts_with(piece) {
@@ -121,22 +84,24 @@ fn count_ended(text: &[u8]) -> usize {
     stopped.saturating_add(count(text, b"\nstate ended killed\nprocess 6 c6\n"))
 }
 
-/// The record that four workers with buffers of this policy write of the script of these lines, where
-/// all goes well.
-fn record_of_four<R: Threads + Wait + Sync>(
+/// The run of the script of these lines by four workers with buffers of this policy.
+fn run_of_four<R: Threads + Wait + Sync>(
     rt: &R,
     alloc: Global,
     lines: &[u8],
     policy: &str,
-) -> Result<Option<MemorySink>, AllocError> {
-    let text = text_of(alloc, &[(b"sigscript 1\n", 1), (lines, 1)])?;
-    let words = ["--workers", "4", "--buffers", policy];
-    let (status, out) = run_gated(rt, alloc, words.as_slice(), text.as_slice(), &OpenGate)?;
-    Ok(if status == Status::Done {
-        Some(out)
-    } else {
-        None
-    })
+) -> Result<Ran, AllocError> {
+    let setting = Setting {
+        words: &["--workers", "4", "--buffers", policy],
+        ..PLAIN
+    };
+    Ran::of(
+        rt,
+        alloc,
+        &setting,
+        &[(LINES.head, 1), (lines, 1)],
+        &OpenGate,
+    )
 }
 
 /// Whether the bytes are the text of a settled record.
@@ -149,10 +114,9 @@ fn is_settled(alloc: Global, bytes: &[u8]) -> bool {
 
 /// Whether the two play until both are cut, and the record is settled.
 fn play_settles<R: Threads + Wait + Sync>(rt: &R, alloc: Global) -> Result<bool, AllocError> {
-    let Some(out) = record_of_four(rt, alloc, PING_PONG, "churn:1")? else {
-        return Ok(false);
-    };
-    Ok(has_all(out.held(), &PLAYED) && is_settled(alloc, out.held()))
+    let ran = run_of_four(rt, alloc, PING_PONG, "churn:1")?;
+    let record = ran.out.held();
+    Ok(ran.status == Status::Done && has_all(record, &PLAYED) && is_settled(alloc, record))
 }
 
 /// The first client that isn't served, or 0, which is the server, where the record is another
@@ -161,13 +125,12 @@ fn first_unserved_of_four<R: Threads + Wait + Sync>(
     rt: &R,
     alloc: Global,
 ) -> Result<Option<u32>, AllocError> {
-    let Some(out) = record_of_four(rt, alloc, SERVER_AND_CLIENTS, "auto")? else {
-        return Ok(Some(0));
-    };
-    if !has_all(out.held(), &SERVED) || count_ended(out.held()) != 12 {
+    let ran = run_of_four(rt, alloc, SERVER_AND_CLIENTS, "auto")?;
+    let record = ran.out.held();
+    if ran.status != Status::Done || !has_all(record, &SERVED) || count_ended(record) != 12 {
         return Ok(Some(0));
     }
-    first_unserved(alloc, out.held())
+    first_unserved(alloc, record)
 }
 
 #[test]
@@ -184,6 +147,19 @@ fn look(flag: &AtomicBool) -> bool {
         }
     }
     false
+}
+
+/// Whether a run of this text with these arguments and this gate, ends well.
+fn ends_well<R: Threads + Wait + Sync, G: Gate>(
+    rt: &R,
+    alloc: Global,
+    words: &[&str],
+    text: &[u8],
+    gate: &G,
+) -> Result<bool, AllocError> {
+    let setting = Setting { words, ..PLAIN };
+    let ran = Ran::of(rt, alloc, &setting, &[(text, 1)], gate)?;
+    Ok(ran.status == Status::Done)
 }
 
 /// A gate that holds process 1 at its first instruction until process 0 has executed one, and
@@ -242,7 +218,7 @@ const OVERLAP: &[u8] =
 fn workers_overlap(rt: HostRuntime) {
     let gate = HoldBoth::new();
     let words: &[&str] = &["--workers", "2"];
-    assert!(rt; ends_well(&rt, rt.alloc(), words, OVERLAP, &gate));
+    assert!(rt; ends_well(&rt, rt.alloc(), words, OVERLAP, &gate) == Ok(true));
     assert!(rt; gate.held_first.load(Ordering::SeqCst));
     assert!(rt; gate.held_second.load(Ordering::SeqCst));
     assert!(rt; !gate.gave_up.load(Ordering::SeqCst));
@@ -277,7 +253,7 @@ fn put_into<R: Threads + Wait + Sync>(
         count: AtomicU64::new(0),
     };
     let words = ["--workers", "2", "--buffers", policy];
-    let ended = ends_well(rt, alloc, words.as_slice(), ONE_MESSAGE, &gate);
+    let ended = ends_well(rt, alloc, words.as_slice(), ONE_MESSAGE, &gate) == Ok(true);
     let once = gate.count.load(Ordering::SeqCst) == 1;
     ended && once && gate.first.get().copied() == Some((0, buffer))
 }
