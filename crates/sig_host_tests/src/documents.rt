@@ -1,7 +1,7 @@
 //! The examples of README.md and docs/, through the top call. tools/examples compares them with the documents.
 
 /// Each script that a document shows, and the record that it shows for it, as they stand there.
-pub(crate) const EXAMPLES: [(&[u8], &[u8]); 15] = [
+pub(crate) static EXAMPLES: [(&[u8], &[u8]); 15] = [
     (
         br"sigscript 1
 process worker
@@ -563,7 +563,7 @@ state ended normal
 ];
 
 /// Each refused text that LANGUAGE.md shows, and what is told of it.
-pub(crate) const REFUSALS: [(&[u8], &[u8]); 15] = [
+pub(crate) static REFUSALS: [(&[u8], &[u8]); 15] = [
     (b"sigscript 3\n", b"sigrun: line 1: header\n"),
     (
         b"sigscript 1\nprocess a\nreceive\non _x\n",

@@ -1,7 +1,7 @@
 //! Worked examples of exits and exit signals, through the top call.
 
 /// Scripts without their first line, and their records without theirs.
-pub(crate) const EXITS: [(&[u8], &[u8]); 5] = [
+pub(crate) static EXITS: [(&[u8], &[u8]); 5] = [
     (
         b"process a\nexit {bye,1}\nset X unreached\n",
         b"process 0 a\n1 exec 1 ended {bye,1}\nstate ended {bye,1}\n",
@@ -24,7 +24,7 @@ pub(crate) const EXITS: [(&[u8], &[u8]); 5] = [
     ),
 ];
 
-pub(crate) const EXIT_SIGNALS: [(&[u8], &[u8]); 8] = [
+pub(crate) static EXIT_SIGNALS: [(&[u8], &[u8]); 8] = [
     (
         b"process a\ntrap on\nreceive\non never\nend\nprocess b\nexit_to @a kill\n",
         b"process 0 a\n1 exec 1 done\n2 from 1 1 ended killed\nstate ended killed\n\

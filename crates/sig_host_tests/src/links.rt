@@ -1,7 +1,7 @@
 //! Worked examples of links, through the top call.
 
 /// Scripts without their first line, and their records without theirs.
-pub(crate) const LINK_CALLS: [(&[u8], &[u8]); 4] = [
+pub(crate) static LINK_CALLS: [(&[u8], &[u8]); 4] = [
     (
         b"process a\nlink b\n",
         b"process 0 a\n1 exec 1 ended badarg\nstate ended badarg\n",
@@ -21,7 +21,7 @@ pub(crate) const LINK_CALLS: [(&[u8], &[u8]); 4] = [
     ),
 ];
 
-pub(crate) const LINKED_EXITS: [(&[u8], &[u8]); 3] = [
+pub(crate) static LINKED_EXITS: [(&[u8], &[u8]); 3] = [
     (
         b"process a\ntrap on\nlink @b\nreceive\non {'EXIT',P,R}\nend\n\
           process b\nreceive\non never\nafter\nend\nexit kill\n",
@@ -45,7 +45,7 @@ pub(crate) const LINKED_EXITS: [(&[u8], &[u8]); 3] = [
     ),
 ];
 
-pub(crate) const UNLINKS: [(&[u8], &[u8]); 2] = [
+pub(crate) static UNLINKS: [(&[u8], &[u8]); 2] = [
     (
         b"process a\nlink @b\nunlink @b\nreceive\non never\nend\n\
           process b\nreceive\non never\nafter\nend\nexit boom\n",
@@ -64,7 +64,7 @@ pub(crate) const UNLINKS: [(&[u8], &[u8]); 2] = [
 ];
 
 /// What comes to a process that is cut stays queued.
-pub(crate) const QUEUED: [(&[u8], &[u8]); 5] = [
+pub(crate) static QUEUED: [(&[u8], &[u8]); 5] = [
     // of three senders, in another order than they came
     (
         b"turns 3\nprocess a\nreceive\non go\nend\nsend @hub {a,1}\n\

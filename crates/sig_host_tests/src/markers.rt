@@ -24,7 +24,7 @@ pub(crate) const SERVER_AND_CLIENTS: &[u8] =
     after\nend\nreceive\nafter\nend\nreceive\nafter\nend\nexit_to @c5 kill\n";
 
 /// Scripts without their first line, and their records without theirs.
-pub(crate) const MARKERS: [(&[u8], &[u8]); 7] = [
+pub(crate) static MARKERS: [(&[u8], &[u8]); 7] = [
     // Of nine markers the oldest is gone.
     (
         b"process m\nsend @m j\nsend @m j\nsend @m j\nsend @m j\nsend @m j\nsend @m j\nsend @m j\nsend @m j\n\

@@ -1,7 +1,7 @@
 //! What matches what, what it binds, and what a receive takes, through the top call.
 
 /// Scripts without their first line, and their records without theirs.
-pub(crate) const MATCHES: [(&[u8], &[u8]); 7] = [
+pub(crate) static MATCHES: [(&[u8], &[u8]); 7] = [
     // A process for each pattern and term.
     (
         b"process p0\nset X a\nsend @p0 {a}\nreceive\non _\nafter\nend\nset Bound {X,Y,H,I,T}\nprocess p1\n\

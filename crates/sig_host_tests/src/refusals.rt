@@ -5,7 +5,7 @@ const VALUE: &[u8] = b"sigscript 1\nprocess a\nset X ";
 const CLAUSE: &[u8] = b"sigscript 1\nprocess a\nreceive\non ";
 
 /// Texts in pieces, each so many times, and the line and the kind where they are refused.
-pub(crate) const LONG: [(&[(&[u8], usize)], &[u8]); 22] = [
+pub(crate) static LONG: [(&[(&[u8], usize)], &[u8]); 22] = [
     (&[(b"sigscript 1\n%", 1), (b"x", 1048563)], b""),
     (&[(b"sigscript 1\n%", 1), (b"x", 1048564)], b"0: too_long"),
     (&[(b"sigscript 1\n", 1), (b" ", 1048564)], b""),
@@ -69,7 +69,7 @@ pub(crate) const LONG: [(&[(&[u8], usize)], &[u8]); 22] = [
 ];
 
 /// Refusals of turns, processes, labels and where they stand: the lines behind the header, and where they are refused and why.
-pub(crate) const HEADS: [(&[u8], &[u8]); 30] = [
+pub(crate) static HEADS: [(&[u8], &[u8]); 30] = [
     (b"foo", b"2: syntax"),
     (b"foo 99999999999999999999", b"2: int_range"),
     (b"turns -1", b"2: syntax"),
@@ -106,7 +106,7 @@ pub(crate) const HEADS: [(&[u8], &[u8]); 30] = [
 ];
 
 /// Refusals of expressions: the lines behind the header, and where they are refused and why.
-pub(crate) const TERMS: [(&[u8], &[u8]); 20] = [
+pub(crate) static TERMS: [(&[u8], &[u8]); 20] = [
     (b"send @a hi", b"2: syntax"),
     (b"process a\nset x 1", b"3: syntax"),
     (b"process a\nset X", b"3: syntax"),
@@ -130,7 +130,7 @@ pub(crate) const TERMS: [(&[u8], &[u8]); 20] = [
 ];
 
 /// Refusals in receives: the lines behind the header, and where they are refused and why.
-pub(crate) const RECEIVES: [(&[u8], &[u8]); 24] = [
+pub(crate) static RECEIVES: [(&[u8], &[u8]); 24] = [
     (
         b"process a\nreceive\non {@b,X} -> l\nend",
         b"4: unknown_process",
@@ -161,7 +161,7 @@ pub(crate) const RECEIVES: [(&[u8], &[u8]); 24] = [
 ];
 
 /// Refusals of what stands behind an instruction: the lines behind the header, and where they are refused and why.
-pub(crate) const OPERANDS: [(&[u8], &[u8]); 31] = [
+pub(crate) static OPERANDS: [(&[u8], &[u8]); 31] = [
     (b"make_ref X", b"2: syntax"),
     (b"process a\nmake_ref", b"3: syntax"),
     (b"process a\nmake_ref x", b"3: syntax"),
@@ -196,7 +196,7 @@ pub(crate) const OPERANDS: [(&[u8], &[u8]); 31] = [
 ];
 
 /// Refusals of markers: the lines behind the header, and where they are refused and why.
-pub(crate) const MARKER_CLAUSES: [(&[u8], &[u8]); 18] = [
+pub(crate) static MARKER_CLAUSES: [(&[u8], &[u8]); 18] = [
     (
         b"process a\nreceive using X\non ^Y\nend",
         b"4: marker_not_in_clause",
@@ -257,7 +257,7 @@ pub(crate) const MARKER_CLAUSES: [(&[u8], &[u8]); 18] = [
 ];
 
 /// More refusals: the lines behind the header, and where they are refused and why.
-pub(crate) const OTHERS: [(&[u8], &[u8]); 9] = [
+pub(crate) static OTHERS: [(&[u8], &[u8]); 9] = [
     (
         b"process p1\nprocess p2\nprocess p3\nprocess p4\nprocess p5\nprocess p6\nprocess p7\n\
           process p8\nprocess p9\nprocess p10\nprocess p11\nprocess p12\nprocess p13\nprocess p14\n\
@@ -291,7 +291,7 @@ pub(crate) const OTHERS: [(&[u8], &[u8]); 9] = [
 ];
 
 /// Texts whose first line is no header, and where they are refused and why.
-pub(crate) const OTHER_FIRST_LINES: [(&[u8], &[u8]); 9] = [
+pub(crate) static OTHER_FIRST_LINES: [(&[u8], &[u8]); 9] = [
     (b"", b"1: header"),
     (b"\nsigscript 1", b"1: header"),
     (b"sigscript 2", b"1: header"),

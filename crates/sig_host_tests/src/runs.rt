@@ -124,7 +124,7 @@ fn faults_end_a_run(rt: HostRuntime) {
 }
 
 /// Which message a receive takes, and where a run is cut.
-const TAKEN: [(&[u8], &[u8]); 4] = [
+static TAKEN: [(&[u8], &[u8]); 4] = [
     // a receive takes the oldest message that matches, wherever it stands
     (
         b"process a\nsend @b x\nsend @b {ok,1}\nsend @b y\n\
@@ -162,7 +162,7 @@ const TAKEN: [(&[u8], &[u8]); 4] = [
 ];
 
 /// What expressions build.
-const VALUES: [(&[u8], &[u8]); 4] = [
+static VALUES: [(&[u8], &[u8]); 4] = [
     // a message goes to pids alone
     (
         b"process a\nsend hi there\nset X never\n\
@@ -204,7 +204,7 @@ const VALUES: [(&[u8], &[u8]); 4] = [
 ];
 
 /// Where a process goes on.
-const GOING: [(&[u8], &[u8]); 6] = [
+static GOING: [(&[u8], &[u8]); 6] = [
     // labels, also one behind the last instruction, and of the name of a keyword
     (
         b"process a\nlabel one\ngoto two\nstop\nlabel two\nset X a\ngoto end\n\
@@ -257,7 +257,7 @@ const GOING: [(&[u8], &[u8]); 6] = [
 ];
 
 /// What patterns match and bind.
-const PATTERNS: [(&[u8], &[u8]); 5] = [
+static PATTERNS: [(&[u8], &[u8]); 5] = [
     // `^X` asks for the value of X, which is `undefined` where it has none
     (
         b"process a\nsend @a undefined\nsend @a 1\nreceive\non ^X\nend\nset X 1\n\
@@ -305,7 +305,6 @@ const PATTERNS: [(&[u8], &[u8]); 5] = [
 
 /// What stands around the two texts of each row of a table: those of a script, and of its record or
 /// of what is told where it is refused.
-#[derive(Clone, Copy)]
 pub(crate) struct Around {
     /// Before the script's text.
     pub head: &'static [u8],
@@ -316,30 +315,38 @@ pub(crate) struct Around {
 }
 
 /// Scripts without their first line, and their records without theirs.
-pub(crate) const LINES: Around = Around {
+pub(crate) static LINES: Around = Around {
     head: b"sigscript 1\n",
     sides: [b"sigrecord 1\n", b""],
     refused: false,
 };
 
 /// Whole scripts and records.
-const WHOLE: Around = Around {
+static WHOLE: Around = Around {
     head: b"",
     sides: [b"", b""],
     refused: false,
 };
 
 /// Scripts without their first line, and where they are refused and why.
-const REFUSED: Around = Around {
+static REFUSED: Around = Around {
     head: b"sigscript 1\n",
     sides: [b"sigrun: line ", b"\n"],
     refused: true,
 };
 
 /// Whole texts, and where they are refused and why.
-const REFUSED_TEXTS: Around = Around {
+static REFUSED_TEXTS: Around = Around {
     head: b"",
-    ..REFUSED
+    sides: [b"sigrun: line ", b"\n"],
+    refused: true,
+};
+
+/// Whole texts, and all that is told of them.
+static TOLD_TEXTS: Around = Around {
+    head: b"",
+    sides: [b"", b""],
+    refused: true,
 };
 
 impl Around {
@@ -389,22 +396,22 @@ impl Around {
 
 #[test]
 fn scripts_give_their_records(rt: HostRuntime) {
-    let tables: [(Around, &[(&[u8], &[u8])]); 15] = [
-        (LINES, &TAKEN),
-        (LINES, &VALUES),
-        (LINES, &GOING),
-        (LINES, &PATTERNS),
-        (LINES, &MATCHES),
-        (LINES, &EXITS),
-        (LINES, &EXIT_SIGNALS),
-        (LINES, &LINK_CALLS),
-        (LINES, &LINKED_EXITS),
-        (LINES, &UNLINKS),
-        (LINES, &QUEUED),
-        (LINES, &WATCHES),
-        (LINES, &MARKERS),
-        (WHOLE, &TEXTS),
-        (WHOLE, &EXAMPLES),
+    let tables: [(&Around, &[(&[u8], &[u8])]); 15] = [
+        (&LINES, &TAKEN),
+        (&LINES, &VALUES),
+        (&LINES, &GOING),
+        (&LINES, &PATTERNS),
+        (&LINES, &MATCHES),
+        (&LINES, &EXITS),
+        (&LINES, &EXIT_SIGNALS),
+        (&LINES, &LINK_CALLS),
+        (&LINES, &LINKED_EXITS),
+        (&LINES, &UNLINKS),
+        (&LINES, &QUEUED),
+        (&LINES, &WATCHES),
+        (&LINES, &MARKERS),
+        (&WHOLE, &TEXTS),
+        (&WHOLE, &EXAMPLES),
     ];
     for (around, rows) in tables {
         let other = around.first_other(&rt, rt.alloc(), rows);
@@ -414,28 +421,21 @@ fn scripts_give_their_records(rt: HostRuntime) {
 
 #[test]
 fn texts_are_refused_at_their_line(rt: HostRuntime) {
-    let tables: [(Around, &[(&[u8], &[u8])]); 8] = [
-        (REFUSED, &HEADS),
-        (REFUSED, &TERMS),
-        (REFUSED, &RECEIVES),
-        (REFUSED, &OPERANDS),
-        (REFUSED, &MARKER_CLAUSES),
-        (REFUSED, &OTHERS),
-        (REFUSED_TEXTS, &OTHER_FIRST_LINES),
-        (
-            // what is told stands whole in these rows
-            Around {
-                sides: [b"", b""],
-                ..REFUSED_TEXTS
-            },
-            &REFUSALS,
-        ),
+    let tables: [(&Around, &[(&[u8], &[u8])]); 8] = [
+        (&REFUSED, &HEADS),
+        (&REFUSED, &TERMS),
+        (&REFUSED, &RECEIVES),
+        (&REFUSED, &OPERANDS),
+        (&REFUSED, &MARKER_CLAUSES),
+        (&REFUSED, &OTHERS),
+        (&REFUSED_TEXTS, &OTHER_FIRST_LINES),
+        (&TOLD_TEXTS, &REFUSALS),
     ];
     for (around, rows) in tables {
         let unrefused = around.first_other(&rt, rt.alloc(), rows);
         assert!(rt; matches!(unrefused, Ok(None)), "{unrefused:?}");
     }
-    for (pieces, place) in LONG {
+    for (pieces, place) in &LONG {
         let limited = REFUSED_TEXTS.holds(&rt, rt.alloc(), pieces, place);
         assert!(rt; limited == Ok(true), "{pieces:?}");
     }

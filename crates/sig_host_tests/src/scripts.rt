@@ -8,7 +8,7 @@ use sig_script::{ScriptError, generate, print_script, read_script};
 use std::alloc::{AllocError, Global};
 
 /// Texts of scripts, and the canonical text of each.
-const PRINTED: [(&[u8], &[u8]); 6] = [
+static PRINTED: [(&[u8], &[u8]); 6] = [
     (
         br"sigscript 1
 process a
@@ -197,7 +197,7 @@ fn is_printed(alloc: Global, text: &[u8], canonical: &[u8]) -> Result<bool, Scri
 #[test]
 fn scripts_have_their_canonical_texts(rt: HostRuntime) {
     let alloc = rt.alloc();
-    for (text, canonical) in PRINTED {
+    for (text, canonical) in &PRINTED {
         let printed = is_printed(alloc, text, canonical);
         assert!(rt; matches!(printed, Ok(true)), "{text:?}");
         let again = is_printed(alloc, canonical, canonical);

@@ -1,7 +1,7 @@
 //! Texts in all their spellings, through the top call.
 
 /// Scripts and their records.
-pub(crate) const TEXTS: [(&[u8], &[u8]); 24] = [
+pub(crate) static TEXTS: [(&[u8], &[u8]); 24] = [
     (
         b"sigscript 1\nprocess a\nreceive using X\non ^X\nafter\nend\nreceive using X\non {a,^X}\nafter\nend\n\
           receive using X\non [{^X}]\nafter\nend\nreceive using X\non [^X|T]\nafter\nend\nreceive using X\n\

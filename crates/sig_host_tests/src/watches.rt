@@ -1,7 +1,7 @@
 //! Worked examples of monitors and aliases, through the top call.
 
 /// Scripts without their first line, and their records without theirs.
-pub(crate) const WATCHES: [(&[u8], &[u8]); 11] = [
+pub(crate) static WATCHES: [(&[u8], &[u8]); 11] = [
     // A reply alias is sent to twice.
     (
         b"process a\nalias A reply\nsend @b A\nreceive\non {r,N}\nend\nreceive\non {r,N}\nafter\nend\n\
