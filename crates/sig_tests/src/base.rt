@@ -56,7 +56,7 @@ impl<T: Write + Drop> Write for Device<T> {
 }
 
 /// Where the text is read from.
-enum From {
+enum Input {
     /// Memory, so many bytes a call.
     Memory(usize),
     /// Memory, ten bytes a call, the second of which fails.
@@ -106,16 +106,16 @@ fn device_gives(limits: Limits, into: &mut Vec<u8>) -> bool {
 }
 
 /// Where the text is read from, and what comes.
-struct Reading(From, Limits<'static>);
+struct Reading(Input, Limits<'static>);
 
 impl Row for Reading {
     fn holds(&self, alloc: Global) -> Result<bool, AllocError> {
         let mut into = Vec::new(alloc);
         match self.0 {
-            From::Memory(piece) => memory_gives(alloc, piece, self.1, &mut into),
-            From::Failing => failing_gives(alloc, self.1, &mut into),
-            From::Device => Ok(device_gives(self.1, &mut into)),
-            From::Slice => Ok(gives(&mut StdSource::new(TEXT), self.1, &mut into)),
+            Input::Memory(piece) => memory_gives(alloc, piece, self.1, &mut into),
+            Input::Failing => failing_gives(alloc, self.1, &mut into),
+            Input::Device => Ok(device_gives(self.1, &mut into)),
+            Input::Slice => Ok(gives(&mut StdSource::new(TEXT), self.1, &mut into)),
         }
     }
 }
@@ -127,15 +127,15 @@ const FAULT: Limits<'static> = &[
 ];
 
 const READINGS: [Reading; 9] = [
-    Reading(From::Memory(1), &[(25, ReadAll::Whole, TEXT)]),
-    Reading(From::Memory(7), &[(26, ReadAll::Whole, TEXT)]),
-    Reading(From::Memory(10), &[(25, ReadAll::Whole, TEXT)]),
-    Reading(From::Memory(10), &[(24, ReadAll::TooLong, TEXT)]),
-    Reading(From::Memory(10), &[(9, ReadAll::TooLong, FRONT)]),
-    Reading(From::Memory(10), &[(0, ReadAll::TooLong, b"a")]),
-    Reading(From::Failing, FAULT),
-    Reading(From::Device, FAULT),
-    Reading(From::Slice, &[(100, ReadAll::Whole, TEXT)]),
+    Reading(Input::Memory(1), &[(25, ReadAll::Whole, TEXT)]),
+    Reading(Input::Memory(7), &[(26, ReadAll::Whole, TEXT)]),
+    Reading(Input::Memory(10), &[(25, ReadAll::Whole, TEXT)]),
+    Reading(Input::Memory(10), &[(24, ReadAll::TooLong, TEXT)]),
+    Reading(Input::Memory(10), &[(9, ReadAll::TooLong, FRONT)]),
+    Reading(Input::Memory(10), &[(0, ReadAll::TooLong, b"a")]),
+    Reading(Input::Failing, FAULT),
+    Reading(Input::Device, FAULT),
+    Reading(Input::Slice, &[(100, ReadAll::Whole, TEXT)]),
 ];
 
 #[test]
@@ -144,7 +144,7 @@ fn reads_up_to_the_limit_and_on_after_a_fault(rt: HostRuntime) {
 }
 
 /// Where bytes are written to.
-enum To {
+enum Output {
     /// Memory with so much room.
     Memory(usize),
     /// Memory with room for 35 bytes, ten bytes a call, the second of which fails.
@@ -204,16 +204,16 @@ fn slice_takes(pieces: Pieces, held: &[u8]) -> bool {
 }
 
 /// Where bytes are written to, these, and what is held then.
-struct Writing(To, Pieces, &'static [u8]);
+struct Writing(Output, Pieces, &'static [u8]);
 
 impl Row for Writing {
     fn holds(&self, alloc: Global) -> Result<bool, AllocError> {
         match self.0 {
-            To::Memory(room) => memory_takes(alloc, room, self.1, self.2),
-            To::Failing => failing_takes(alloc, self.1, self.2),
-            To::Device => Ok(list_holds(alloc, true, self.1, self.2)),
-            To::List => Ok(list_holds(alloc, false, self.1, self.2)),
-            To::Slice => Ok(slice_takes(self.1, self.2)),
+            Output::Memory(room) => memory_takes(alloc, room, self.1, self.2),
+            Output::Failing => failing_takes(alloc, self.1, self.2),
+            Output::Device => Ok(list_holds(alloc, true, self.1, self.2)),
+            Output::List => Ok(list_holds(alloc, false, self.1, self.2)),
+            Output::Slice => Ok(slice_takes(self.1, self.2)),
         }
     }
 }
@@ -223,27 +223,27 @@ const FULL_AFTER_24: Written = Written::WriteFault { written: 24 };
 const FAULT_AFTER_10: Written = Written::WriteFault { written: 10 };
 
 const WRITINGS: [Writing; 10] = [
-    Writing(To::Memory(30), &[(TEXT, Written::Whole)], TEXT),
-    Writing(To::Memory(25), &[(TEXT, Written::Whole)], TEXT),
+    Writing(Output::Memory(30), &[(TEXT, Written::Whole)], TEXT),
+    Writing(Output::Memory(25), &[(TEXT, Written::Whole)], TEXT),
     Writing(
-        To::Memory(24),
+        Output::Memory(24),
         &[(TEXT, FULL_AFTER_24)],
         b"abcdefghijklmnopqrstuvwx",
     ),
     Writing(
-        To::Memory(0),
+        Output::Memory(0),
         &[(TEXT, Written::WriteFault { written: 0 })],
         b"",
     ),
     // ten bytes before the fault, then the rest, and ten when it gets full
-    Writing(To::Failing, &[(TEXT, FAULT_AFTER_10)], FRONT),
+    Writing(Output::Failing, &[(TEXT, FAULT_AFTER_10)], FRONT),
     Writing(
-        To::Failing,
+        Output::Failing,
         &[(TEXT, FAULT_AFTER_10), (REST, Written::Whole)],
         TEXT,
     ),
     Writing(
-        To::Failing,
+        Output::Failing,
         &[
             (TEXT, FAULT_AFTER_10),
             (REST, Written::Whole),
@@ -252,13 +252,13 @@ const WRITINGS: [Writing; 10] = [
         b"abcdefghijklmnopqrstuvwxyabcdefghij",
     ),
     Writing(
-        To::Device,
+        Output::Device,
         &[(TEXT, FAULT_AFTER_10), (REST, Written::Whole)],
         TEXT,
     ),
-    Writing(To::List, &[(TEXT, Written::Whole)], TEXT),
+    Writing(Output::List, &[(TEXT, Written::Whole)], TEXT),
     Writing(
-        To::Slice,
+        Output::Slice,
         &[(TEXT, Written::WriteFault { written: 4 })],
         b"abcd",
     ),

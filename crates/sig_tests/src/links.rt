@@ -4,8 +4,8 @@
 //! `unlink` of 1, `l1`, `u1` and `e1` are a link signal, an unlink signal and an exit signal of 1, and
 //! `31` is the acknowledgement of 1 with the id 3. `n1` asks for the next active peer after 1, and `N0`
 //! after the last peer that there can be; `*0` takes all links out. An answer is `y`, `n`, the digit of
-//! an id or of a peer, or `.` where there is none. The owner is 0. Ids that are awaited are written by
-//! the places of their peers, from 0 on, with `.` for none.
+//! an id or of a peer, or `.` where there is none. Ids that are awaited are written by the places of
+//! their peers, from 0 on, with `.` for none.
 
 ghost use Rattle.std.specs.Prelude.{◌≡◌, ◌+◌, ◌<◌, ◌≤◌, ◌^◌};
 
@@ -115,8 +115,9 @@ fn leave(links: &Links, active: &[u8], awaited: &[u8]) -> bool {
     are_active(links, active)
 }
 
-/// Calls, what they answer, the active peers after them, and the ids that are awaited.
+/// The owner, calls, what they answer, the active peers after them, and the ids that are awaited.
 struct Rule(
+    u32,
     &'static [&'static [u8; 2]],
     &'static [u8],
     &'static [u8],
@@ -126,53 +127,61 @@ struct Rule(
 impl Row for Rule {
     /// Whether the rule holds from no link on.
     fn holds(&self, alloc: Global) -> Result<bool, AllocError> {
-        let Rule(calls, answers, active, awaited) = self;
-        let mut links = Links::open(alloc, Pid(0));
+        let Rule(owner, calls, answers, active, awaited) = self;
+        let mut links = Links::open(alloc, Pid(*owner));
         Ok(are_answered(&mut links, calls, answers)? && leave(&links, active, awaited))
     }
 }
 
 const RULES: [Rule; 25] = [
     // `link`: once, again, to the owner, and while an id is awaited
-    Rule(&[b"+1"], b"y", b"1", b""),
-    Rule(&[b"+1", b"+1"], b"yn", b"1", b""),
-    Rule(&[b"+0"], b"n", b"", b""),
-    Rule(&[b"+1", b"-1", b"+1"], b"y1y", b"1", b".1"),
+    Rule(0, &[b"+1"], b"y", b"1", b""),
+    Rule(0, &[b"+1", b"+1"], b"yn", b"1", b""),
+    Rule(0, &[b"+0"], b"n", b"", b""),
+    Rule(0, &[b"+1", b"-1", b"+1"], b"y1y", b"1", b".1"),
     // `unlink`: of an inactive link, of active ones, and with an older id awaited
-    Rule(&[b"-1", b"-0"], b"nn", b"", b""),
-    Rule(&[b"+1", b"+2", b"-2", b"-1"], b"yy12", b"", b".21"),
-    Rule(&[b"+1", b"-1", b"+1", b"-1"], b"y1y2", b"", b".2"),
+    Rule(0, &[b"-1", b"-0"], b"nn", b"", b""),
+    Rule(0, &[b"+1", b"+2", b"-2", b"-1"], b"yy12", b"", b".21"),
+    Rule(0, &[b"+1", b"-1", b"+1", b"-1"], b"y1y2", b"", b".2"),
     // a link signal: once, again, while an id is awaited, and after the acknowledgement
-    Rule(&[b"l1", b"l1"], b"yn", b"1", b""),
-    Rule(&[b"+1", b"-1", b"l1"], b"y1n", b"", b".1"),
-    Rule(&[b"+1", b"-1", b"11", b"l1"], b"y1yy", b"1", b""),
+    Rule(0, &[b"l1", b"l1"], b"yn", b"1", b""),
+    Rule(0, &[b"+1", b"-1", b"l1"], b"y1n", b"", b".1"),
+    Rule(0, &[b"+1", b"-1", b"11", b"l1"], b"y1yy", b"1", b""),
     // an unlink signal: of an active and of an inactive link
-    Rule(&[b"l1", b"u1", b"u1"], b"yyn", b"", b""),
-    Rule(&[b"+1", b"-1", b"u1"], b"y1n", b"", b".1"),
+    Rule(0, &[b"l1", b"u1", b"u1"], b"yyn", b"", b""),
+    Rule(0, &[b"+1", b"-1", b"u1"], b"y1n", b"", b".1"),
     // an acknowledgement: of another id, of another peer, of no unlink, and of the awaited one
-    Rule(&[b"+1", b"-1", b"+1", b"-1", b"11"], b"y1y2n", b"", b".2"),
-    Rule(&[b"+1", b"-1", b"12"], b"y1n", b"", b".1"),
-    Rule(&[b"+1", b"11"], b"yn", b"1", b""),
-    Rule(&[b"+1", b"-1", b"+1", b"11"], b"y1yy", b"1", b""),
-    // an exit signal: of an active and of an inactive link
-    Rule(&[b"+1", b"e1", b"e1"], b"yyn", b"", b""),
-    Rule(&[b"+1", b"-1", b"e1"], b"y1n", b"", b".1"),
-    // both unlink at once and one links again: it sees the other's unlink as one of the older link
-    Rule(&[b"+1", b"-1", b"+1", b"u1", b"11"], b"y1yyy", b"", b""),
-    Rule(&[b"l1", b"-1", b"u1", b"l1", b"11"], b"y1nny", b"", b""),
-    // active peers ascend: there is none at first, and then each comes after those below it
-    Rule(&[b"n0", b"N0"], b"nn", b"", b""),
     Rule(
+        0,
+        &[b"+1", b"-1", b"+1", b"-1", b"11"],
+        b"y1y2n",
+        b"",
+        b".2",
+    ),
+    Rule(0, &[b"+1", b"-1", b"12"], b"y1n", b"", b".1"),
+    Rule(0, &[b"+1", b"11"], b"yn", b"1", b""),
+    Rule(0, &[b"+1", b"-1", b"+1", b"11"], b"y1yy", b"1", b""),
+    // an exit signal: of an active and of an inactive link
+    Rule(0, &[b"+1", b"e1", b"e1"], b"yyn", b"", b""),
+    Rule(0, &[b"+1", b"-1", b"e1"], b"y1n", b"", b".1"),
+    // both unlink at once and one links again: it sees the other's unlink as one of the older link
+    Rule(0, &[b"+1", b"-1", b"+1", b"u1", b"11"], b"y1yyy", b"", b""),
+    Rule(1, &[b"l0", b"-0", b"u0", b"l0", b"10"], b"y1nny", b"", b""),
+    // active peers ascend: there is none at first, and then each comes after those below it
+    Rule(0, &[b"n0", b"N0"], b"nn", b"", b""),
+    Rule(
+        0,
         &[b"+9", b"+2", b"l5", b"+2", b"n3", b"n5", b"n9", b"N0"],
         b"yyyn59nn",
         b"259",
         b"",
     ),
     // room is made ahead, once for a link that is there
-    Rule(&[b"r2", b"r1", b"r2"], b"yyn", b"12", b""),
+    Rule(0, &[b"r2", b"r1", b"r2"], b"yyn", b"12", b""),
     // the next id outlives the links
-    Rule(&[b"+1", b"-1", b"+2", b"*0"], b"y1y.", b"", b""),
+    Rule(0, &[b"+1", b"-1", b"+2", b"*0"], b"y1y.", b"", b""),
     Rule(
+        0,
         &[b"+1", b"-1", b"+2", b"*0", b"l1", b"+2", b"-2"],
         b"y1y.yy2",
         b"1",
