@@ -2,6 +2,7 @@ ghost use Rattle.std.specs.Prelude.{◌≡◌, ◌+◌, ◌-◌, ◌≤◌, [], 
 ghost use Rattle.sig_model.specs.ProcessState.{ProcessState};
 ghost use Rattle.sig_model.specs.Bodies.{Body, place_after, going_on, at_next};
 ghost use Rattle.sig_model.specs.Executing.{sending, setting, linking, unlinking, sending_exit, trapping, new_ref, making_ref, monitoring, aliasing, demonitor_posts, demonitoring, unaliasing, reserving, marked_by, binding, clearing, with_pid, with_target, from_mark, exec_body};
+ghost use Rattle.sig_program.specs.Parts.{exprs_of};
 ghost use Rattle.sig_process.specs.Planning.{IsPlanned, IsRow, is_receive};
 ghost use Rattle.sig_process.specs.Plans.{changed, post_of, body_of, executed_body};
 ghost use Rattle.sig_process.specs.Progressing.{state_of};
@@ -609,7 +610,30 @@ impl Progress {
         }
     }
 
-    /// What an instruction of the process does, one arm for each row of the table of instructions.
+    /// What an instruction does that has no expressions and is no receive, one arm for each row of the
+    /// table of instructions.
+    fn plan_bare(&self, proc: &Proc, instr: &Instr) -> Result<Execution, ValueFault>
+        requires within { self.now.counts.place ≤ length proc.now.instrs }
+        requires bare { exprs_of instr.now ≡ [] }
+        requires other { is_receive (Some instr.now) ≡ false }
+        requires owner { self.now.tables.inner.queue.owner ≡ self.now.tables.watch.watch.owner }
+        ensures { IsRow proc.now (state_of self.now) instr.now result }
+    {
+        match instr {
+            Instr::MakeRef { var } => in_memory(self.plan_make_ref(proc, var)),
+            Instr::Alias { var, reply } => in_memory(self.plan_alias(proc, var, *reply)),
+            Instr::Reserve => Ok(self.plan_reserve(proc)),
+            Instr::Bind { var } => Ok(self.plan_bind(proc, var)),
+            Instr::Clear { var } => Ok(self.plan_clear(proc, var)),
+            Instr::Trap { on } => Ok(self.plan_trap(proc, *on)),
+            Instr::Goto { label } => Ok(self.plan_goto(proc, *label)),
+            Instr::Stop => in_memory(self.exiting_with(b"normal")),
+            _ => unreachable!(),
+        }
+    }
+
+    /// What an instruction does that is no receive: an arm for each row of the table of instructions
+    /// that has expressions, and one for the others.
     fn plan_row(&self, proc: &Proc, instr: &Instr) -> Result<Execution, ValueFault>
         requires within { self.now.counts.place ≤ length proc.now.instrs }
         requires other { is_receive (Some instr.now) ≡ false }
@@ -619,26 +643,14 @@ impl Progress {
         match instr {
             Instr::Send { to, message } => self.send_row(proc, to, message),
             Instr::Set { var, value } => self.set_row(proc, var, value),
-            Instr::MakeRef { var } => in_memory(self.plan_make_ref(proc, var)),
-            Instr::Receive {
-                using: _,
-                clauses: _,
-                after: _,
-            } => unreachable!(),
             Instr::Link { peer } => self.link_row(proc, peer),
             Instr::Unlink { peer } => self.unlink_row(proc, peer),
             Instr::Monitor { var, target, mode } => self.monitor_row(proc, var, target, *mode),
             Instr::Demonitor { reference, flush } => self.demonitor_row(proc, reference, *flush),
-            Instr::Alias { var, reply } => in_memory(self.plan_alias(proc, var, *reply)),
             Instr::Unalias { reference } => self.unalias_row(proc, reference),
-            Instr::Reserve => Ok(self.plan_reserve(proc)),
-            Instr::Bind { var } => Ok(self.plan_bind(proc, var)),
-            Instr::Clear { var } => Ok(self.plan_clear(proc, var)),
             Instr::Exit { reason } => self.exit_row(proc, reason),
             Instr::ExitTo { target, reason } => self.exit_to_row(proc, target, reason),
-            Instr::Trap { on } => Ok(self.plan_trap(proc, *on)),
-            Instr::Goto { label } => Ok(self.plan_goto(proc, *label)),
-            Instr::Stop => in_memory(self.exiting_with(b"normal")),
+            _ => self.plan_bare(proc, instr),
         }
     }
 

@@ -251,27 +251,35 @@ impl Instr {
         ensures { IfOk result (λ i. i ≡ self.now) }
     {
         match self {
-            Instr::Send { to, message } => self.copy_with_two(alloc, to, message),
+            Instr::Send {
+                to: first,
+                message: second,
+            }
+            | Instr::ExitTo {
+                target: first,
+                reason: second,
+            } => self.copy_with_two(alloc, first, second),
+            Instr::Link { peer: expr }
+            | Instr::Unlink { peer: expr }
+            | Instr::Demonitor {
+                reference: expr, ..
+            }
+            | Instr::Unalias { reference: expr }
+            | Instr::Exit { reason: expr } => self.copy_with_one(alloc, expr),
+            Instr::MakeRef { var }
+            | Instr::Alias { var, .. }
+            | Instr::Bind { var }
+            | Instr::Clear { var } => self.copy_with_var(alloc, var),
             Instr::Set { var, value } => copy_set(alloc, var, value),
-            Instr::MakeRef { var } => self.copy_with_var(alloc, var),
             Instr::Receive {
                 using,
                 clauses,
                 after,
             } => copy_receive(alloc, using, clauses, after),
-            Instr::Link { peer } => self.copy_with_one(alloc, peer),
-            Instr::Unlink { peer } => self.copy_with_one(alloc, peer),
             Instr::Monitor { var, target, mode } => copy_monitor(alloc, var, target, *mode),
-            Instr::Demonitor { reference, .. } => self.copy_with_one(alloc, reference),
-            Instr::Alias { var, .. } => self.copy_with_var(alloc, var),
-            Instr::Unalias { reference } => self.copy_with_one(alloc, reference),
-            Instr::Exit { reason } => self.copy_with_one(alloc, reason),
-            Instr::ExitTo { target, reason } => self.copy_with_two(alloc, target, reason),
             Instr::Trap { on } => Ok(Instr::Trap { on: *on }),
-            Instr::Reserve => Ok(Instr::Reserve),
-            Instr::Bind { var } => self.copy_with_var(alloc, var),
-            Instr::Clear { var } => self.copy_with_var(alloc, var),
             Instr::Goto { label } => Ok(Instr::Goto { label: *label }),
+            Instr::Reserve => Ok(Instr::Reserve),
             Instr::Stop => Ok(Instr::Stop),
         }
     }
