@@ -27,7 +27,7 @@ pub enum Outcome {
     Done,
     /// The answer of the instruction.
     Answered {
-        value: bool,
+        yes: bool,
     },
     /// A receive took the message.
     Took {

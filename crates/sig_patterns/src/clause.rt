@@ -18,7 +18,7 @@ pub struct Clause {
 pub type Clauses = Sequence<Clause>;
 
 impl Clause {
-    /// An equal clause.
+    /// An equal clause. The error is want of memory.
     pub fn copy(&self, alloc: Global) -> Result<Clause, AllocError>
         ensures { IfOk result (λ c. c ≡ self.now) }
     {

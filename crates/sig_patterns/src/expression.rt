@@ -39,7 +39,7 @@ fn copy_all(alloc: Global, items: &[Expr]) -> Result<Exprs, AllocError>
 }
 
 impl Expr {
-    /// An equal expression.
+    /// An equal expression. The error is want of memory.
     #[cycle(copy)]
     pub fn copy(&self, alloc: Global) -> Result<Expr, AllocError>
         ensures { IfOk result (λ e. e ≡ self.now) }

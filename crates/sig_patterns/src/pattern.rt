@@ -62,7 +62,7 @@ fn copy_all(alloc: Global, items: &[Pattern]) -> Result<Patterns, AllocError>
 }
 
 impl Pattern {
-    /// An equal pattern.
+    /// An equal pattern. The error is want of memory.
     #[cycle(copy)]
     pub fn copy(&self, alloc: Global) -> Result<Pattern, AllocError>
         ensures { IfOk result (λ p. p ≡ self.now) }

@@ -8,7 +8,7 @@ use std::alloc::{AllocError, Global};
 pub struct Var(pub Name);
 
 impl Var {
-    /// An equal variable.
+    /// An equal variable. The error is want of memory.
     pub fn copy(&self, alloc: Global) -> Result<Var, AllocError>
         ensures { IfOk result (λ v. v ≡ self.now) }
     {

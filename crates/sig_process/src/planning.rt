@@ -345,8 +345,8 @@ impl Progress {
         ensures { result ≡ (demonitoring (state_of self.now) flush reference).outcome }
     {
         if flush {
-            let value = self.tables.inner.has_down(reference);
-            Outcome::Answered { value }
+            let yes = self.tables.inner.has_down(reference);
+            Outcome::Answered { yes }
         } else {
             Outcome::Done
         }
@@ -385,21 +385,21 @@ impl Progress {
         requires { self.now.counts.place ≤ length proc.now.instrs }
         ensures { unaliasing (state_of self.now) reference ≡ executed_body (state_of self.now) result }
     {
-        let value = self.tables.watch.alias_mode(reference).is_some();
+        let yes = self.tables.watch.alias_mode(reference).is_some();
         let plan = self.silent(
             Change::Watch(WatchChange::Unalias { reference }),
-            Outcome::Answered { value },
+            Outcome::Answered { yes },
         );
         self.going(proc, None, plan)
     }
 
     /// The answer of an instruction that changes nothing but messages and markers.
-    fn answering(&self, proc: &Proc, value: bool, inbox: InboxChange) -> Execution
+    fn answering(&self, proc: &Proc, yes: bool, inbox: InboxChange) -> Execution
         requires { self.now.counts.place ≤ length proc.now.instrs }
         ensures execution { result ≡ record { binding = Binding.Nothing; inbox = inbox; place = self.now.counts.place + 1; plan = result.plan } }
-        ensures body { (s : ProcessState) → body_of s result.plan ≡ record { state = s; outcome = Outcome.Answered value; posts = [] } }
+        ensures body { (s : ProcessState) → body_of s result.plan ≡ record { state = s; outcome = Outcome.Answered yes; posts = [] } }
     {
-        let plan = self.silent(Change::Nothing, Outcome::Answered { value });
+        let plan = self.silent(Change::Nothing, Outcome::Answered { yes });
         Execution {
             binding: Binding::Nothing,
             inbox,

@@ -95,7 +95,7 @@ fn beginning(alloc: Global, pid: Pid, count: u32) -> Result<Progress, AllocError
 
 impl Process {
     /// The process of this pid, as the script opens it: at its first instruction, with all else
-    /// empty.
+    /// empty. The error is want of memory.
     pub fn open(alloc: Global, script: &Script, pid: Pid) -> Result<Process, AllocError>
         requires { pid.0 < length script.now.procs }
         ensures opened { IfOk result (λ p. IfSome (slice_get script.now.procs pid.0) (λ d.

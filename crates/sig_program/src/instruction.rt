@@ -246,7 +246,7 @@ impl Instr {
         }
     }
 
-    /// An equal instruction.
+    /// An equal instruction. The error is want of memory.
     pub fn copy(&self, alloc: Global) -> Result<Instr, AllocError>
         ensures { IfOk result (λ i. i ≡ self.now) }
     {
@@ -262,7 +262,8 @@ impl Instr {
             Instr::Link { peer: expr }
             | Instr::Unlink { peer: expr }
             | Instr::Demonitor {
-                reference: expr, ..
+                reference: expr,
+                ..
             }
             | Instr::Unalias { reference: expr }
             | Instr::Exit { reason: expr } => self.copy_with_one(alloc, expr),

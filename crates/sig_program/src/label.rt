@@ -17,7 +17,7 @@ pub struct Label {
 pub type Labels = Sequence<Label>;
 
 impl Label {
-    /// An equal label.
+    /// An equal label. The error is want of memory.
     pub fn copy(&self, alloc: Global) -> Result<Label, AllocError>
         ensures { IfOk result (λ l. l ≡ self.now) }
     {

@@ -82,7 +82,7 @@ impl Proc {
         Some(label.place)
     }
 
-    /// An equal process.
+    /// An equal process. The error is want of memory.
     pub fn copy(&self, alloc: Global) -> Result<Proc, AllocError>
         ensures { IfOk result (λ p. p ≡ self.now) }
     {

@@ -67,7 +67,7 @@ fn answered(bytes: &[u8]) -> Result<(Outcome, &[u8]), ReadTerm>
     ensures { Gives (λ x. (x.0, x.1.now)) result (row_front rows.answered bytes.now) }
 {
     match choice_field(b"true", b"false", bytes) {
-        Some((value, rest)) => Ok((Outcome::Answered { value }, rest)),
+        Some((yes, rest)) => Ok((Outcome::Answered { yes }, rest)),
         None => Err(ReadTerm::BadTerm),
     }
 }

@@ -155,7 +155,7 @@ fn put_spaced_outcome(into: &mut Vec<u8>, outcome: &Outcome) -> Result<(), Alloc
         }
         Outcome::Set { value } => put_term(into, b" set ", value),
         Outcome::Done => put(into, b" done"),
-        Outcome::Answered { value } => put(into, answered_words(*value)),
+        Outcome::Answered { yes } => put(into, answered_words(*yes)),
         Outcome::Took {
             clause,
             looked,

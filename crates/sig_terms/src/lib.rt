@@ -22,4 +22,5 @@ pub use pid::Pid;
 pub use reading::{Front, READ_DEPTH, READ_NODES, read, read_front, texts_tell_terms_apart};
 pub use reference::Ref;
 pub use refusal::ReadTerm;
+pub use sig_lists::Pushed;
 pub use term::{Term, Terms, copy_terms, same_is_equality, same_terms};

@@ -25,7 +25,7 @@ impl Model for Name {
 
 impl Name {
     /// The name or variable of these bytes. `None` exactly where they are neither a name token nor
-    /// a variable token.
+    /// a variable token. The error is want of memory.
     pub fn new(alloc: Global, bytes: &[u8]) -> Result<Option<Name>, AllocError>
         ensures { IfOk result (λ name. MatchOption name (is_token bytes.now ≡ false) (λ n. n ≡ bytes.now)) }
     {
@@ -45,7 +45,7 @@ impl Name {
         self.bytes.as_slice()
     }
 
-    /// An equal name.
+    /// An equal name. The error is want of memory.
     pub fn copy(&self, alloc: Global) -> Result<Name, AllocError>
         ensures { IfOk result (λ name. name ≡ self.now) }
     {

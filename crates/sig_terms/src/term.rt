@@ -125,7 +125,7 @@ fn append_int(n: i64, into: &mut Vec<u8>) -> Result<(), AllocError>
 }
 
 impl Term {
-    /// An equal term.
+    /// An equal term. The error is want of memory.
     #[cycle(copy)]
     pub fn copy(&self, alloc: Global) -> Result<Term, AllocError>
         ensures { IfOk result (λ t. t ≡ self.now) }
@@ -165,8 +165,9 @@ impl Term {
         }
     }
 
-    /// Appends the term's text. Each term has one text, and `read` gives the term back. Where
-    /// memory is refused, `into` is as before.
+    /// Appends the term's text. Each term has one text, from which `read` gives the term back where
+    /// it has at most [`READ_NODES`](crate::READ_NODES) nodes and a depth of at most
+    /// [`READ_DEPTH`](crate::READ_DEPTH). Where memory is refused, `into` is as before.
     pub fn print(&self, into: &mut Vec<u8>) -> Result<(), AllocError>
         ensures text { OnOk result (into.new.items ≡ into.old.items ++ term_text self.now) }
         ensures err { OnErr result (into.new.items ≡ into.old.items) }

@@ -135,8 +135,8 @@ fn letter(event: &Event) -> u8 {
         Outcome::Sent { to: _, message: _ } => b's',
         Outcome::Set { value: _ } => b'=',
         Outcome::Done => b'd',
-        Outcome::Answered { value: true } => b'y',
-        Outcome::Answered { value: false } => b'x',
+        Outcome::Answered { yes: true } => b'y',
+        Outcome::Answered { yes: false } => b'x',
         Outcome::Took {
             clause: _,
             looked: _,
