@@ -1,4 +1,5 @@
 pub mod TooLong
+pub mod ReadLemmas
 pub mod TellingLemmas
 pub mod NumberLemmas
 pub mod ChurnLemmas

@@ -1,7 +1,8 @@
 -- What each answer of a run says of the bytes that were read and written.
-use Rattle.std.specs.Prelude.{◌≡◌, ℕ, Bool, List, take, true, false, Option, Some, None, IfSome, Result, Ok, Err, ⊤}
+use Rattle.std.specs.Prelude.{◌≡◌, ◌≢◌, ℕ, Bool, List, [], take, true, false, Option, Some, None, IfSome, Result, Ok, Err, ⊤}
 use Rattle.sig_base.specs.Flow.{Rose, Adds}
 use Rattle.sig_script.specs.declared.fault.FaultKind.{FaultKind}
+use Rattle.sig_script.specs.declared.fault.FaultKind.TheVariants.{TooLong}
 use Rattle.sig_program.specs.Scripts.{Program}
 use Rattle.sig_script.specs.Grammar.{script_of}
 use Rattle.sig_kinds.specs.declared.signal.Signal.{Signal}
@@ -51,14 +52,6 @@ abbrev pub AreTexts : ℕ → Program → Bool → Texts → Type 0
 AreTexts workers script asked t =
     (reports : List Report) × IsRecordOf workers script reports × (t.record.items ≡ record_text reports) × (text_in t.summary ≡ summary_for asked reports)
 
--- reading the script: what the source had left, its faults before and after, and the script or why there is none
-abbrev pub IsSourceRead : Option (List ℕ) → ℕ → ℕ → Result Program Status → Type 0
-IsSourceRead left before after (Ok script) = IfSome left (λ bytes. script_of bytes ≡ Ok script) × (after ≡ before)
-IsSourceRead left before after (Err (BadScript line kind)) = IfSome left (IsRefused line kind) × (after ≡ before)
-IsSourceRead left before after (Err ReadFault) = Rose before after
-IsSourceRead left before after (Err Memory) = after ≡ before
-IsSourceRead left before after (Err _) = ⊥
-
 -- what a source had left and has, and its faults before and after
 pub record Reading : Type 0 where
   pub left : Option (List ℕ)
@@ -86,6 +79,19 @@ IsFine r = r.after ≡ r.before
 -- the source wasn't read
 abbrev pub IsUnread : Reading → Type 0
 IsUnread r = (r.rest ≡ r.left) × IsFine r
+
+-- the source has nothing left, where it tells its bytes
+abbrev pub IsReadToEnd : Reading → Type 0
+IsReadToEnd r = IfSome r.left (λ bytes. r.rest ≡ Some [])
+
+-- Reading the script: it is what the source spells, or this is why there is none. The source was read to its end, but for a script that
+-- is too long, a failed read, and want of memory.
+abbrev pub IsSourceRead : Reading → Result Program Status → Type 0
+IsSourceRead r (Ok script) = IfSome r.left (λ bytes. script_of bytes ≡ Ok script) × IsFine r × IsReadToEnd r
+IsSourceRead r (Err (BadScript line kind)) = IfSome r.left (IsRefused line kind) × IsFine r × (kind ≢ TooLong → IsReadToEnd r)
+IsSourceRead r (Err ReadFault) = Rose r.before r.after
+IsSourceRead r (Err Memory) = IsFine r
+IsSourceRead r (Err _) = ⊥
 
 -- nothing was written
 abbrev pub IsUnwritten : Writing → Type 0
@@ -115,10 +121,10 @@ Spells r Holds = IfSome r.left (λ bytes. (script : Program) × (script_of bytes
 
 -- running the script that the source spells, with so many workers
 abbrev pub IsSourceRun : ℕ → Reading → Writing → Status → Option (List ℕ) → Type 0
-IsSourceRun workers r w Done summary = Spells r (λ script. IsPrinted workers script false w summary) × IsFine r × (summary ≡ None)
-IsSourceRun workers r w (BadScript line kind) summary = IfSome r.left (IsRefused line kind) × IsFine r × IsUnwritten w
+IsSourceRun workers r w Done summary = Spells r (λ script. IsPrinted workers script false w summary) × IsFine r × IsReadToEnd r × (summary ≡ None)
+IsSourceRun workers r w (BadScript line kind) summary = IfSome r.left (IsRefused line kind) × IsFine r × (kind ≢ TooLong → IsReadToEnd r) × IsUnwritten w
 IsSourceRun workers r w ReadFault summary = Rose r.before r.after × IsUnwritten w
-IsSourceRun workers r w WriteFault summary = Spells r (λ script. IsCutOff workers script w) × Rose w.before w.after × IsFine r
+IsSourceRun workers r w WriteFault summary = Spells r (λ script. IsCutOff workers script w) × Rose w.before w.after × IsFine r × IsReadToEnd r
 IsSourceRun workers r w Memory summary = IsFine r × IsUnwritten w
 IsSourceRun workers r w Usage summary = ⊥
 

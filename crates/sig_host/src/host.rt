@@ -1,4 +1,4 @@
-ghost use Rattle.std.specs.Prelude.{◌≡◌, ◌≢◌, ◌≤◌, ◌⊎◌, ℕ, Bool, true, List, map, string_bytes, IfOk, Option, Some};
+ghost use Rattle.std.specs.Prelude.{◌≡◌, ◌≢◌, ◌≤◌, ◌⊎◌, ℕ, Bool, true, List, [], map, string_bytes, IfOk, Option, Some};
 ghost use Rattle.sig_base.specs.Flow.{Rose, Adds};
 ghost use Rattle.sig_program.specs.Scripts.{Program, IsSound};
 ghost use Rattle.sig_script.specs.Generated.{generated};
@@ -42,7 +42,7 @@ use std::thread::Threads;
 
 /// Reads the script that these bytes spell.
 fn read_bytes(alloc: Global, bytes: &[u8]) -> Result<Script, Status>
-    ensures read { IsSourceRead (Some bytes.now) 0 0 result }
+    ensures read { IsSourceRead (reading (Some bytes.now) (Some []) 0 0) result }
     ensures no_fault { result ≢ Err Status.ReadFault }
 {
     match read_script(alloc, bytes) {
@@ -54,7 +54,7 @@ fn read_bytes(alloc: Global, bytes: &[u8]) -> Result<Script, Status>
 
 /// Reads the source to its end, and the script that it spells.
 fn read_source<S: Source>(alloc: Global, source: &mut S) -> Result<Script, Status>
-    ensures read { IsSourceRead (S.left source.old) (S.faults source.old) (S.faults source.new) result }
+    ensures read { IsSourceRead (reading (S.left source.old) (S.left source.new) (S.faults source.old) (S.faults source.new)) result }
     ensures count { S.faults source.old ≤ S.faults source.new }
 {
     let mut bytes = Vec::new(alloc);
@@ -279,9 +279,11 @@ fn run_words<R: Threads + Wait + Sync, S: Source, O: Sink, G: Gate>(
 /// `Usage` comes exactly where [`words`] answers it, never on words in the plain form, and then the
 /// source isn't read. `BadScript` comes only without `--generate`, where the bytes spell no script,
 /// with the first line that is refused and why; it is line 0 where they are more than
-/// [`MOST_BYTES`]. `ReadFault` comes only where a read failed, and each other status only where none
-/// did; `WriteFault` comes only where a write to `out` failed, which has taken the beginning of the
-/// text then. With `Done` it has taken the whole text, and with any other status nothing.
+/// [`MOST_BYTES`]. But for that, the source has nothing left then, and so it is after `Done` and
+/// `WriteFault` without `--generate`. `ReadFault` comes only where a read failed, and each other
+/// status only where none did; `WriteFault` comes only where a write to `out` failed, which has taken
+/// the beginning of the text then. With `Done` it has taken the whole text, and with any other status
+/// nothing.
 ///
 /// What a status tells is written to `err` where no write to it fails: with `Done` the summary of
 /// the record, if the script was made. A fault of `err` changes no status. Words in the plain form

@@ -11,7 +11,7 @@ use Rattle.sig_model.specs.Keeping.{IsKeeping, IsPlaced, IsToItself, IsArriving}
 use Rattle.sig_model.specs.SettledRun.{events_of}
 use Rattle.sig_record.specs.declared.report.Report.{Report}
 use Rattle.sig_record.specs.Sorting.{is_lower}
-use Rattle.sig_record.specs.RecordOf.{report_with, report_of, sorted_report, record_of, sorted_record, IsInOrder, AreInOrder}
+use Rattle.sig_record.specs.RecordOf.{report_with, report_of, sorted_report, record_of, sorted_record, IsInOrder, AreInOrder, IsByPid}
 use Rattle.sig_record.specs.Records.{IsReport, IsRecord}
 use Rattle.sig_record.specs.Merging.{events_in}
 use Rattle.sig_record.proofs.SortLemmas.{sorted_all}
@@ -32,16 +32,18 @@ report_kept pid r p keep = record {
 all_at : (P : Running → Type 0) (crew : List Running) (p : ℕ) (r : Running) → slice_get crew p ≡ Some r → All P crew → P r
 all_at P crew p r e all = subst P (get_or_from_slice_get crew p r r e) (All-get_or P crew p r (slice_get_within crew p r e) all)
 
-module _ (crew : List Running) (placed : IsPlaced crew) (keeping : All IsKeeping crew) where
+module _ (crew : List Running) (by_pid : IsByPid crew) (keeping : All IsKeeping crew) where
   report_at : (pid : ℕ) (o : Option Running) (t : Report) → slice_get crew pid ≡ o → option_map sorted_report o ≡ Some t → IsReport pid t
   report_at pid None t e f = cc
   report_at pid (Some r) t e f =
-      subst (IsReport pid) (ap (λ (x : Option Report). unwrap_or x t) f) (report_kept pid r (placed pid r e).0 (all_at IsKeeping crew pid r e keeping))
+      subst (IsReport pid) (ap (λ (x : Option Report). unwrap_or x t) f) (report_kept pid r (by_pid pid r e) (all_at IsKeeping crew pid r e keeping))
 
   -- the sorted record is a record
   pub record_kept : IsRecord (sorted_record crew)
   record_kept pid t e = report_at pid (slice_get crew pid) t refl (sym (slice_get-map sorted_report crew pid) ∙ e)
 
+-- in a crew with all processes of its script
+module _ (crew : List Running) (placed : IsPlaced crew) (keeping : All IsKeeping crew) where
   from_below : (r : Running) → r.count ≡ length crew → IsKeeping r → All (λ (x : Signal). x.from.0 < length crew) (r.own ++ r.taken_in)
   from_below r many keep =
       All-append (λ (x : Signal). x.from.0 < length crew) r.own r.taken_in

@@ -114,7 +114,7 @@ module _ (script : Program) (crew : List Running) (law : IsLawfulCrew script cre
   kept : IsRecord (record_of crew)
   kept =
       subst IsRecord (same_record crew law.placed keeping (counted_in_order crew keeping (crew_counted script crew law)))
-      (record_kept crew law.placed keeping)
+      (record_kept crew (λ p r at. (law.placed p r at).0) keeping)
 
   -- so it can be read where it lies in memory
   pub record_readable : AreNames script → IsStoredRecord (record_of crew) → IsReadableRecord (record_of crew)

@@ -1,6 +1,6 @@
 -- The record of a run (this project's own): for each process its events, what is left of its messages, the signals that it
 -- has not handled, and how it stands.
-use Rattle.std.specs.Prelude.{ℕ, zero, suc, List, [], ◌++◌, map, filter, length, All, Bool, ◌==◌}
+use Rattle.std.specs.Prelude.{◌≡◌, ℕ, zero, suc, List, [], ◌++◌, map, filter, length, All, Bool, ◌==◌, Some, slice_get}
 use Rattle.std.specs.List.Sorted.{IsNonDecreasingBy}
 use Rattle.sig_terms.specs.declared.term.Term.{Term}
 use Rattle.sig_kinds.specs.declared.signal.Signal.{Signal}
@@ -9,6 +9,10 @@ use Rattle.sig_model.specs.PrintedState.{printed_state}
 use Rattle.sig_record.specs.declared.report.Left.{Left}
 use Rattle.sig_record.specs.declared.report.Report.{Report}
 use Rattle.sig_record.specs.Sorting.{sorted_by, is_lower}
+
+-- the process at each place of the crew has this place as its pid
+abbrev pub IsByPid : List Running → Type 0
+IsByPid crew = (p : ℕ) (r : Running) → slice_get crew p ≡ Some r → r.pid ≡ p
 
 -- a message with its arrival number
 abbrev pub left_of : ℕ × Term → Left

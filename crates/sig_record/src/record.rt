@@ -5,7 +5,7 @@ ghost use Rattle.sig_model.specs.Machine.{rules_of};
 ghost use Rattle.sig_model.specs.CrewLaw.{IsLawfulCrew, whole_member};
 ghost use Rattle.sig_model.specs.Keeping.{IsPlaced};
 ghost use Rattle.sig_model.specs.OneWorker.{IsClear};
-ghost use Rattle.sig_record.specs.RecordOf.{record_of, sorted_record, AreInOrder};
+ghost use Rattle.sig_record.specs.RecordOf.{record_of, sorted_record, AreInOrder, IsByPid};
 ghost use Rattle.sig_record.specs.Records.{IsRecord};
 ghost use Rattle.sig_record.specs.Merging.{IsMerged};
 ghost use Rattle.sig_record.specs.RunRecord.{IsRecordOfRun};
@@ -52,16 +52,17 @@ impl Record {
     }
 
     /// The record of the run that this crew has made. The signals that a process has not handled are
-    /// sorted by sender and then number; where those of each sender stood by ascending number, that
-    /// only brings together those of one sender. Of a lawful crew it is the record of a run of the
-    /// script's plain machine, in the order that `merge` lists; and where the names of the script's
-    /// processes are name tokens, its text is read back as this record, as
-    /// `a_lawful_crew_tells_a_readable_record` and `print_record` say. The error is want of memory.
+    /// sorted by sender and then number; where the crew has all processes of its script, and those of
+    /// each sender stood by ascending number, that only brings together those of one sender. Of a
+    /// lawful crew it is the record of a run of the script's plain machine, in the order that `merge`
+    /// lists; and where the names of the script's processes are name tokens, its text is read back as
+    /// this record, as `a_lawful_crew_tells_a_readable_record` and `print_record` say. The error is
+    /// want of memory.
     pub fn gather(alloc: Global, crew: Crew) -> Result<Record, AllocError>
         requires clear { IsClear crew }
-        requires placed { IsPlaced crew }
+        requires by_pid { IsByPid crew }
         ensures sorted { IfOk result (λ r. r ≡ sorted_record crew) }
-        ensures in_order { AreInOrder crew → IfOk result (λ r. r ≡ record_of crew) }
+        ensures in_order { IsPlaced crew → AreInOrder crew → IfOk result (λ r. r ≡ record_of crew) }
         ensures lawful { (script : Program) → IsLawfulCrew script crew → IfOk result (λ r. r ≡ record_of crew) }
         ensures run { (script : Program) → IsLawfulCrew script crew →
             IfOk result (IsRecordOfRun script (crew_machine (rules_of script) (map whole_member crew))) }

@@ -13,6 +13,7 @@ use Rattle.sig_model.specs.declared.event.Event.{Event}
 use Rattle.sig_model.specs.Running.{Running}
 use Rattle.sig_model.specs.Accounts.{went, coming_from}
 use Rattle.sig_model.specs.CrewLaw.{IsLawfulCrew}
+use Rattle.sig_model.specs.Still.{IsStillCrew}
 use Rattle.sig_layout.specs.declared.policy.Policy.{Policy}
 use Rattle.sig_layout.specs.Sets.{has}
 use Rattle.sig_layout.specs.Sent.{putter, of, signals}
@@ -26,6 +27,10 @@ use Rattle.sig_workers.proofs.SeatLists.{items_length}
 
 pub first_round : (script : Program) (policy : Policy) (crew later : List Running) (receipts : List Account) (moved : Bool) → IsRound script policy crew later receipts moved → IsRounds script policy crew later receipts
 first_round script policy crew later receipts moved h = record { lawful = h.lawful; clear = h.clear; begin = h.begin; count = h.count; receipt = h.receipt }
+
+-- where a round has no event, no process can do anything
+pub round_still : (script : Program) (policy : Policy) (crew later : List Running) (receipts : List Account) (moved : Bool) → IsRound script policy crew later receipts moved → moved ≡ false → IsStillCrew later
+round_still script policy crew later receipts moved h none = (subst (IsFlag crew later) none h.flag).1
 
 room_cons : (x : Running) (xs : List Running) → room (x ∷ xs) ≡ room_of x + room xs
 room_cons x xs = sum_by-cons room_of x xs

@@ -3,6 +3,7 @@ ghost use Rattle.sig_program.specs.Scripts.{Program};
 ghost use Rattle.sig_model.specs.Keeping.{IsPlaced};
 ghost use Rattle.sig_model.specs.CrewLaw.{IsLawfulCrew};
 ghost use Rattle.sig_model.specs.OneWorker.{pass, RunsTo, IsClear};
+ghost use Rattle.sig_model.specs.Still.{IsStillCrew};
 ghost use Rattle.sig_process.specs.Standing.{runnings_of};
 ghost use Rattle.sig_workers.specs.Room.{room};
 
@@ -48,6 +49,7 @@ fn run_passes<L: Ledger>(blank: Blank, crew: Crew) -> Result<Crew, AllocError>
     ensures run { IfOk result (RunsTo crew) }
     ensures clear { IfOk result IsClear }
     ensures lawful { (script : Program) → IsLawfulCrew script crew → IfOk result (IsLawfulCrew script) }
+    ensures still { IfOk result IsStillCrew }
 {
     let mut steps: Steps<L> = Steps::open(blank);
     let mut procs = crew.procs;
@@ -60,14 +62,16 @@ fn run_passes<L: Ledger>(blank: Blank, crew: Crew) -> Result<Crew, AllocError>
     }
 }
 
-/// The run of one worker: passes over the processes until one has no event. It ends, since each
-/// pass but the last raises the sum of the processes' stamps, and no stamp is above 2^62.
+/// The run of one worker: passes over the processes until one has no event. No process of the crew
+/// that it gives can do anything. It ends, since each pass but the last raises the sum of the
+/// processes' stamps, and no stamp is above 2^62. The error is want of memory.
 pub fn run_one(crew: Crew) -> Result<Crew, AllocError>
     requires clear { IsClear crew }
     requires placed { IsPlaced crew }
     ensures run { IfOk result (RunsTo crew) }
     ensures clear { IfOk result IsClear }
     ensures lawful { (script : Program) → IsLawfulCrew script crew → IfOk result (IsLawfulCrew script) }
+    ensures still { IfOk result IsStillCrew }
 {
     run_passes::<Brand>(Blank::new(1), crew)
 }

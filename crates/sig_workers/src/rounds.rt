@@ -2,6 +2,7 @@ ghost use Rattle.std.specs.Prelude.{◌≤◌, IfOk};
 ghost use Rattle.sig_program.specs.Scripts.{Program, IsSound};
 ghost use Rattle.sig_model.specs.CrewLaw.{IsLawfulCrew};
 ghost use Rattle.sig_model.specs.OneWorker.{IsClear};
+ghost use Rattle.sig_model.specs.Still.{IsStillCrew};
 ghost use Rattle.sig_layout.specs.Policies.{IsPolicy};
 ghost use Rattle.sig_workers.specs.Rounds.{IsRound, IsRounds, HasSettled};
 
@@ -57,9 +58,10 @@ pub fn round<R: Threads + Wait + Sync, G: Gate>(
     Ok((Crew { procs }, receipts, moved))
 }
 
-/// Rounds until one has no event. Gives the crew, which has settled, and for each process the receipt
-/// of all that was put for it, by pid. It ends, since each round but the last raises the sum of the
-/// processes' stamps, and no stamp is above 2^62. The error is want of memory.
+/// Rounds until one has no event. Gives the crew, which has settled and of which no process can do
+/// anything, and for each process the receipt of all that was put for it, by pid. It ends, since each
+/// round but the last raises the sum of the processes' stamps, and no stamp is above 2^62. The error
+/// is want of memory.
 pub fn run_rounds<R: Threads + Wait + Sync, G: Gate>(
     rt: &R,
     alloc: Global,
@@ -76,6 +78,7 @@ pub fn run_rounds<R: Threads + Wait + Sync, G: Gate>(
     requires policy { IsPolicy policy }
     ensures rounds { (script : Program) → IsLawfulCrew script crew → IfOk result (λ r. IsRounds script policy crew r.0 r.1) }
     ensures settled { (script : Program) → IsLawfulCrew script crew → IfOk result (λ r. HasSettled script r.0) }
+    ensures still { IfOk result (λ r. IsStillCrew r.0) }
 {
     let (mut now, mut receipts, mut moved) = round(rt, alloc, crew, workers, quota, policy, gate)?;
     while moved {

@@ -1,6 +1,14 @@
+use Rattle.std.proofs.Common.{List, ℕ, [], Some, refl, subst}
+use Rattle.sig_host.specs.Answers.{IsSourceRead, reading}
+use Rattle.sig_host.proofs.ReadLemmas.{read_whole}
 use Rattle.sig_host.proofs.TooLong.{too_long}
 use Rattle.sig_host.proofs.host.read_source.Goals as goal
 
+pub returns-in-Whole-clause-read : goal.returns-in-Whole-clause-read
+returns-in-Whole-clause-read g c =
+    read_whole _ _ _ _ _ c.read_all.new.into.items c.read_bytes.result c.in-Whole.ensures.read c.read_bytes.ensures.no_fault
+    (subst (λ (bytes : List ℕ). IsSourceRead (reading (Some bytes) (Some []) 0 0) c.read_bytes.result) c.as_slice.ensures.value c.read_bytes.ensures.read)
+
 pub returns-in-TooLong-clause-read : goal.returns-in-TooLong-clause-read
 returns-in-TooLong-clause-read g c =
-    (too_long _ _ c.read_all.new.into.items c.in-TooLong.ensures.read.0 c.in-TooLong.ensures.read.1, c.in-TooLong.ensures.read.2)
+    (too_long _ _ c.read_all.new.into.items c.in-TooLong.ensures.read.0 c.in-TooLong.ensures.read.1, c.in-TooLong.ensures.read.2, λ other. absurd (other refl))

@@ -1,12 +1,15 @@
 use Rattle.std.proofs.Common.{◌<◌, sym, subst}
 use Rattle.sig_workers.specs.Rounds.{IsRounds, room_left}
-use Rattle.sig_workers.proofs.RoundsLemmas.{first_round, less_room, may_follow, one_more_round}
+use Rattle.sig_workers.proofs.RoundsLemmas.{first_round, less_room, may_follow, one_more_round, round_still}
 use Rattle.sig_workers.proofs.rounds.run_rounds.Goals as goal
 
 pub loop-moved-init : goal.loop-moved-init
 loop-moved-init g c = record {
   rounds = λ script law. first_round script c.args.policy c.args.crew c.in_ok-now.now c.in_ok-now.receipts c.in_ok-now.moved (c.in_ok-now.ensures script law);
   settled = λ script law. (c.in_ok-now.ensures script law).settled;
+  still =
+      let law = c.requires.lawful in
+      round_still law.0 c.args.policy c.args.crew c.in_ok-now.now c.in_ok-now.receipts c.in_ok-now.moved (c.in_ok-now.ensures law.0 law.2);
 }
 
 pub round-requires-in-loop-moved-clause-lawful : goal.round-requires-in-loop-moved-clause-lawful
@@ -39,6 +42,10 @@ loop-moved-preserved g c = record {
       subst (IsRounds script c.args.policy c.args.crew c.in_ok-later.later) (sym c.follow.ensures)
       (one_more_round script c.args.policy c.args.crew c.loop-moved.now c.in_ok-later.later c.loop-moved.receipts c.in_ok-later.more c.in_ok-later.again law rounds (c.in_ok-later.ensures script rounds.lawful));
   settled = λ script law. (c.in_ok-later.ensures script (c.loop-moved.invariant.rounds script law).lawful).settled;
+  still =
+      let law = c.requires.lawful in
+      let rounds = c.loop-moved.invariant.rounds law.0 law.2 in
+      round_still law.0 c.args.policy c.loop-moved.now c.in_ok-later.later c.in_ok-later.more c.in_ok-later.again (c.in_ok-later.ensures law.0 rounds.lawful);
 }
 
 pub returns-clause-rounds : goal.returns-clause-rounds
@@ -46,3 +53,6 @@ returns-clause-rounds g c = c.loop-moved.invariant.rounds
 
 pub returns-clause-settled : goal.returns-clause-settled
 returns-clause-settled g c script law = c.loop-moved.invariant.settled script law c.loop-moved-test.false
+
+pub returns-clause-still : goal.returns-clause-still
+returns-clause-still g c = c.loop-moved.invariant.still c.loop-moved-test.false

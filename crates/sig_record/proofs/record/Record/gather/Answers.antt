@@ -6,7 +6,7 @@ use Rattle.sig_model.specs.Machine.{rules_of}
 use Rattle.sig_model.specs.CrewLaw.{IsLawfulCrew, whole_member}
 use Rattle.sig_model.specs.Keeping.{IsPlaced}
 use Rattle.sig_process.specs.Standing.{runnings_of}
-use Rattle.sig_record.specs.RecordOf.{record_of, AreInOrder}
+use Rattle.sig_record.specs.RecordOf.{record_of, AreInOrder, IsByPid}
 use Rattle.sig_record.specs.RunRecord.{IsRecordOfRun}
 use Rattle.sig_record.specs.Records.{IsRecord}
 use Rattle.sig_record.proofs.CountedLemmas.{counted_in_order}
@@ -18,22 +18,22 @@ use Rattle.sig_record.proofs.record.Record.gather.Goals as goal
 pub invariant_of-result : goal.invariant_of-result
 invariant_of-result c =
     let crew : List Running = runnings_of c.crew.inside.procs.items in
-    let placed : IsPlaced crew = subst IsPlaced (sym c.crew.view_is) c.requires.placed in
-    subst IsRecord (sym c.in_ok-reports.ensures.reports) (record_kept crew placed c.in_ok-reports.ensures.keeping)
+    let by_pid : IsByPid crew = subst IsByPid (sym c.crew.view_is) c.requires.by_pid in
+    subst IsRecord (sym c.in_ok-reports.ensures.reports) (record_kept crew by_pid c.in_ok-reports.ensures.keeping)
 
 pub returns-clause-in_order : goal.returns-clause-in_order
 returns-clause-in_order c =
     let crew : List Running = runnings_of c.crew.inside.procs.items in
-    let placed : IsPlaced crew = subst IsPlaced (sym c.crew.view_is) c.requires.placed in
-    λ ordered. c.in_ok-reports.ensures.reports ∙ same_record crew placed c.in_ok-reports.ensures.keeping (subst AreInOrder (sym c.crew.view_is) ordered) ∙ ap record_of c.crew.view_is
+    λ placed ordered. c.in_ok-reports.ensures.reports
+    ∙ same_record crew (subst IsPlaced (sym c.crew.view_is) placed) c.in_ok-reports.ensures.keeping (subst AreInOrder (sym c.crew.view_is) ordered)
+    ∙ ap record_of c.crew.view_is
 
 -- of a lawful crew
 pub returns-clause-lawful : goal.returns-clause-lawful
 returns-clause-lawful c =
     let crew : List Running = runnings_of c.crew.inside.procs.items in
-    let placed : IsPlaced crew = subst IsPlaced (sym c.crew.view_is) c.requires.placed in
     λ script law. c.in_ok-reports.ensures.reports
-    ∙ same_record crew placed c.in_ok-reports.ensures.keeping (counted_in_order crew c.in_ok-reports.ensures.keeping (crew_counted script crew (subst (IsLawfulCrew script) (sym c.crew.view_is) law)))
+    ∙ same_record crew (subst IsPlaced (sym c.crew.view_is) law.placed) c.in_ok-reports.ensures.keeping (counted_in_order crew c.in_ok-reports.ensures.keeping (crew_counted script crew (subst (IsLawfulCrew script) (sym c.crew.view_is) law)))
     ∙ ap record_of c.crew.view_is
 
 pub returns-clause-run : goal.returns-clause-run
