@@ -1,6 +1,5 @@
 -- The table at the start and at the end.
-use Rattle.std.proofs.Common.{◌≡◌, ◌≢◌, ℕ, zero, suc, ◌+◌, ◌<◌, ◌≤◌, subst, Bool, true, false, if◌then◌else◌, ◌==◌, List, [], ◌∷◌, ◌++◌, All, length, map, replicate, get_or, get_or-set_other, set, sym, refl, ap, ◌∙◌, arith, append-nil, append_assoc, inl, inr, ⊎_elim, Option}
-use Rattle.std.proofs.lemmas.List.Elements.{All-nil, All-cons}
+use Rattle.std.proofs.Common.{◌≡◌, ◌≢◌, ℕ, zero, suc, ◌+◌, ◌<◌, ◌≤◌, subst, Bool, true, false, List, [], ◌∷◌, ◌++◌, All, length, map, replicate, get_or, get_or-set_other, set, sym, refl, ap, ◌∙◌, arith, append-nil, append_assoc, inl, inr, ⊎_elim, Option}
 use mathlib.Core.Logic.{dite}
 use mathlib.Core.Option.{some, some-injective, some-ne-none}
 use native.Mathlib.Decide.{ℕ_discrete}
@@ -18,7 +17,7 @@ use Rattle.sig_layout.specs.Carried.{CarriedAs, outer_count}
 use Rattle.sig_layout.specs.Rooms.{all_pieces}
 use Rattle.sig_layout.specs.Sets.{has}
 use Rattle.sig_layout.specs.Sent.{sender, putter, of, signals}
-use Rattle.sig_layout.proofs.Sending.{not_both, bool_cases, of-append, of_own, of_signals}
+use Rattle.sig_layout.proofs.Sending.{not_both, bool_cases, of-append, of_signals}
 use Rattle.sig_layout.proofs.Members.{least_has}
 use Rattle.sig_queue.specs.declared.slot.Slot.{Slot}
 use Rattle.sig_queue.specs.declared.slot.Slot.TheVariants as slot
@@ -36,8 +35,8 @@ use Rattle.sig_layout.proofs.Carrying.{all_of, all_each, all_rest, carried, ways
 use Rattle.sig_layout.proofs.Steadying.{steady}
 use Rattle.sig_layout.proofs.Wording.{lawful_of}
 use Rattle.sig_queue.specs.Tied.{apart, home, cell_home, homes_of, Tied, list_or}
-use Rattle.sig_queue.specs.Parts.{OfBuffer}
 use Rattle.sig_queue.specs.Ends.{zeros, first_words, first_outer, all_buffers, lists_in, EndsAs}
+use Rattle.sig_queue.proofs.Owning.{own_alone}
 use Rattle.sig_queue.proofs.Ways.{outer_by_sender}
 use Rattle.sig_queue.proofs.Fetches.{flag_dropped}
 use Rattle.sig_queue.proofs.Ties.{not_outer}
@@ -116,17 +115,6 @@ free_for_one q law id v at role every word holder Has (inr h) idle = let ok = la
 -- this was put by a way that the policy allows
 abbrev IsAllowed : Setup → Item → Type 0
 IsAllowed z x = AllowsWay z.policy x.via
-
-others_none : (mine : Bool) (x : Signal) (l : List Signal) → (if mine then x ∷ l else l) ≡ [] → l ≡ []
-others_none true x l e = absurd cc
-others_none false x l e = e
-
--- what has nothing of senders of other buffers has its own alone
-own_alone : (b : ℕ) (l : List Signal) → ((s : ℕ) → b ≢ buffer_of s → of sender s l ≡ []) → OfBuffer b l
-own_alone b [] none = All-nil (λ (x : Signal). buffer_of x.from.0 ≡ b)
-own_alone b (x ∷ l) none = All-cons (λ (y : Signal). buffer_of y.from.0 ≡ b) x l
-    (dite (ℕ_discrete (buffer_of x.from.0) b) (λ e. e) (λ n. let e : x ∷ of sender x.from.0 l ≡ [] = sym (of_own sender x.from.0 x l refl) ∙ none x.from.0 (λ e. n (sym e)) in absurd cc))
-    (own_alone b l (λ s n. others_none (sender x == s) x (of sender s l) (none s n)))
 
 -- the table at the end
 pub record Ended (z : Setup) (v : Knows) (xs : List Slot) : Type 0 where

@@ -11,7 +11,7 @@ use Rattle.sig_queue.specs.declared.slot.Slot.TheVariants as slot
 use Rattle.sig_layout.specs.declared.part.Part.{Part}
 use Rattle.sig_layout.specs.declared.knows.Knows.{Knows}
 use Rattle.sig_layout.specs.Core.{Idle, some_refused}
-use Rattle.sig_layout.specs.Views.{number, signals_of, holding, with_bits, after_same, after_fetch}
+use Rattle.sig_layout.specs.Views.{number, filled_at, signals_of, holding, with_bits, after_same, after_fetch}
 use Rattle.sig_queue.specs.declared.kept.Kept.{Kept}
 use Rattle.sig_queue.specs.declared.found.Found.{Found}
 use Rattle.sig_queue.specs.declared.fetch.Fetch.{Fetch}
@@ -19,10 +19,10 @@ use Rattle.sig_queue.specs.declared.fetch.Fetch.TheVariants as fetch
 use Rattle.sig_queue.specs.declared.taken.Taken.{Taken}
 use Rattle.sig_queue.specs.Tied.{Held, FreshBut, TookCarried}
 use Rattle.sig_queue.specs.Seats.{Keeps, IsSeat}
-use Rattle.sig_queue.specs.Fetching.{all_of, journal_of, numbers, skips, Finding, Standing, Emptying, Leaving}
+use Rattle.sig_queue.specs.Fetching.{all_of, journal_of, numbers, same_number, skips, EachOwn, kept_of, Finding, Standing, Emptying, Leaving}
 use Rattle.sig_queue.specs.Calls.{bare, taken_by, due_of, Finished, Settled, Left, FetchedAs, FetchedHeld, Fetched}
 use Rattle.sig_queue.proofs.Offering.{foreign_as}
-use Rattle.sig_queue.proofs.Fetches.{standing_ends}
+use Rattle.sig_queue.proofs.Fetches.{picked_same, standing_ends}
 
 -- after the outer value was put back into its slot
 module _ (me m : Held) (outer : Outer) (held n : ℕ) (st : Standing held 64 me n) (put : m ≡ (me.0, (0, slot.Outer outer) ∷ rest me.1)) where
@@ -90,7 +90,15 @@ module _ (z : Setup) (before now : List Signal) (v taking u w : Knows) (bits : �
       (λ c bit. foreign_as taking v (f.values c) (sym (ap (λ (k : Knows). k.senders) took)) (sym (ap (λ (k : Knows). k.role) took)) (f.others c bit)),
       subst (λ (n : ℕ). FreshBut n w) (ap (λ (k : Knows). k.back) same ∙ f.back) s.2.1,
       s.2.2,
-      record { outer = signals_of u.held; parts = u.parts; held = found.held; is = refl; ascending = ap (λ (k : Knows). numbers k.parts) same ∙ f.numbers_are },
+      record {
+        bits = bits;
+        outer = signals_of u.held;
+        parts = u.parts;
+        is = refl;
+        ascending = ap (λ (k : Knows). numbers k.parts) same ∙ (f.numbers_are ∙ picked_same same_number same_number (filled_at found.held) (kept_of bits found.skipped) 0 64 (λ c _. refl) (λ c h. f.parted c (omega (arith, h))));
+        own = subst EachOwn (sym (ap (λ (k : Knows). k.parts) same)) f.own;
+        had = f.had;
+      },
     )
 
     pub fetched_none : v.saw_off ≡ false → Settled z before now u None w → Left before now v w

@@ -24,7 +24,7 @@ use Rattle.sig_queue.specs.declared.taken.Taken.{Taken}
 use Rattle.sig_layout.specs.Views.{filled_at, signals_of, buffer_in}
 use Rattle.sig_layout.specs.Core.{buffer_of}
 use Rattle.sig_layout.specs.declared.part.Part.{Part}
-use Rattle.sig_queue.specs.Fetching.{skips, all_of, numbers, picked, same_number}
+use Rattle.sig_queue.specs.Fetching.{skips, all_of, numbers, picked, same_number, EachOwn, kept_of}
 use Rattle.sig_queue.specs.Tied.{Foreign, FreshBut, TookCarried}
 use Rattle.sig_queue.specs.Parts.{item, looked}
 
@@ -85,18 +85,21 @@ abbrev pub Settled : Setup → List Signal → List Signal → Knows → Option 
 Settled z before now u (Some t) w = (now ≡ before ++ taken_by u) × (t.count ≡ length (taken_by u)) × Finished z u t w
 Settled z before now u None w = (now ≡ before) × (w ≡ record (bare u) { saw_off = false })
 
--- first the outer list, and then the lists of some buffers, by ascending number
-pub record InOrder (new : List Signal) : Type 0 where
+-- first the outer list, and then the lists of the buffers whose bits were taken and that weren't skipped, by ascending number, each
+-- with signals of its own senders alone
+pub record InOrder (new : List Signal) (skipped : ℕ) : Type 0 where
+  pub bits : ℕ
   pub outer : List Signal
   pub parts : List Part
-  pub held : ℕ
   pub is : new ≡ outer ++ all_of parts
-  pub ascending : numbers parts ≡ picked same_number (filled_at held) 0 64
+  pub ascending : numbers parts ≡ picked same_number (kept_of bits skipped) 0 64
+  pub own : EachOwn parts
+  pub had : (c : ℕ) → filled_at skipped c ≡ true → filled_at bits c ≡ true
 
 abbrev pub FetchedAs : Setup → List Signal → List Signal → Knows → ℕ → Bool → ℕ → Knows → Type 0
 FetchedAs z before now v count due skipped w = (new : List Signal) × (values : ℕ → ℕ) × (now ≡ before ++ new) × (count ≡ length new)
     × (w ≡ record v { held = None; taken = v.taken ++ new; fetches = v.fetches + 1; due = due; refusals = v.refusals ++ skips values skipped 64 })
-    × ((c : ℕ) → filled_at skipped c ≡ true → Foreign v (values c)) × FreshBut skipped w × TookCarried z w × InOrder new
+    × ((c : ℕ) → filled_at skipped c ≡ true → Foreign v (values c)) × FreshBut skipped w × TookCarried z w × InOrder new skipped
 
 abbrev pub Left : List Signal → List Signal → Knows → Knows → Type 0
 Left before now v w = (now ≡ before) × ((more : List (ℕ × ℕ)) × (w ≡ record v { held = None; refusals = v.refusals ++ more }))
