@@ -331,12 +331,13 @@ emptying_next u me me' k e first is = let p : Part = first_part me.0.parts in le
     let o_is : held_or me.0.held ≡ e.outer = ap held_or e.holds in
     let all : all_of me.0.parts ≡ p.list ++ all_of ps = ap all_of first.0 in
     subst (λ (w : Knows). Emptying u (w, me'.1)) (sym is) record {
-      view = ap (λ (w : Knows). record w { parts = x.parts; mask = x.mask; held = x.held; moved = x.moved }) e.view;
+      view = ap (λ (w : Knows). record w { parts = x.parts; mask = x.mask; held = x.held; moved = x.moved; emptied = x.emptied }) e.view;
       outer = behind (held_or me.0.held) p.list;
       holds = refl;
       signals = ap (λ (o : Outer). (o.signals ++ p.list) ++ all_of ps) o_is ∙ (append_assoc e.outer.signals p.list (all_of ps) ∙ (ap (λ (l : List Signal). e.outer.signals ++ l) (sym all) ∙ e.signals));
       journal = ap (λ (o : Outer). o.journal) o_is ∙ e.journal;
       moved = let g = ap length all ∙ length-append p.list (all_of ps) in let m = e.moved in omega arith;
+      emptied = append_assoc me.0.emptied (p ∷ []) ps ∙ (ap (λ (z : List Part). me.0.emptied ++ z) (sym first.0) ∙ e.emptied);
     }
 
 pub leaving_next : (u : Knows) (me : Held) (w : Knows) (xs : List (ℕ × Slot)) (k : ℕ) → Leaving u me → w ≡ given_back (loses me.0) k → Leaving u (w, xs)

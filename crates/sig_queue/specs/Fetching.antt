@@ -85,12 +85,13 @@ pub record Standing (held k : ℕ) (me : Held) (count : ℕ) : Type 0 where
 
 -- the lists of buffers below k came behind the outer list. The seat had the view u before the first
 pub record Emptying (u : Knows) (me : Held) : Type 0 where
-  pub view : me.0 ≡ record u { parts = me.0.parts; mask = me.0.mask; held = me.0.held; moved = me.0.moved }
+  pub view : me.0 ≡ record u { parts = me.0.parts; mask = me.0.mask; held = me.0.held; moved = me.0.moved; emptied = me.0.emptied }
   pub outer : Outer
   pub holds : me.0.held ≡ Some outer
   pub signals : outer.signals ++ all_of me.0.parts ≡ signals_of u.held ++ all_of u.parts
   pub journal : outer.journal ≡ journal_of u.held
   pub moved : me.0.moved + length (all_of me.0.parts) ≡ u.moved + length (all_of u.parts)
+  pub emptied : me.0.emptied ++ me.0.parts ≡ u.emptied ++ u.parts
 
 -- the buffers below k were left as they were, and their bits are set again
 pub record Leaving (u : Knows) (me : Held) : Type 0 where

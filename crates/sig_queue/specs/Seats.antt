@@ -46,6 +46,8 @@ pub record IsNote (me : Held) : Type 0 where
   pub nothing_put : me.0.put ≡ []
   pub nothing_taken : me.0.taken ≡ []
   pub no_fetches : me.0.fetches ≡ 0
+  pub no_bits : me.0.bits ≡ 0
+  pub nothing_emptied : me.0.emptied ≡ []
   pub unrefused : me.0.refused ≡ 0
   pub no_refusals : me.0.refusals ≡ []
   pub no_loads : me.0.loads ≡ []
