@@ -91,7 +91,7 @@ abbrev pub after_same : Knows → Knows
 after_same v = record v { held = None; fetching = false; saw_off = false; mask = []; back = 0; moved = 0 }
 
 abbrev pub with_bits : Knows → ℕ → Knows
-with_bits v n = record v { fetching = true; mask = flags_of n; back = 0; moved = 0 }
+with_bits v n = record v { fetching = true; mask = flags_of n; back = 0; moved = 0; bits = n; emptied = [] }
 
 abbrev pub after_fetch : Knows → Bool → Knows
 after_fetch v due = record v {
@@ -155,6 +155,7 @@ took_part v o p = record v {
   mask = slice_set v.mask p.number false;
   held = Some (behind o p.list);
   moved = v.moved + length p.list;
+  emptied = v.emptied ++ p ∷ [];
 }
 
 abbrev pub passed : Knows → Outer → Part → Knows
@@ -169,6 +170,8 @@ left_of v set role = record v {
   put = keep putter (λ s. not (has set s)) v.put;
   taken = (if role then [] else v.taken);
   fetches = (if role then 0 else v.fetches);
+  bits = (if role then 0 else v.bits);
+  emptied = (if role then [] else v.emptied);
 }
 
 abbrev pub right_of : Knows → List ℕ → Bool → Knows
@@ -190,6 +193,8 @@ right_of v set role = record {
   told = v.told;
   taken = (if role then v.taken else []);
   fetches = (if role then v.fetches else 0);
+  bits = (if role then v.bits else 0);
+  emptied = (if role then v.emptied else []);
   refused = 0;
   refusals = [];
   loads = [];
@@ -215,6 +220,8 @@ spent = record {
   told = [];
   taken = [];
   fetches = 0;
+  bits = 0;
+  emptied = [];
   refused = 0;
   refusals = [];
   loads = [];
@@ -238,6 +245,8 @@ joined v w = record v {
   told = v.told ++ w.told;
   taken = v.taken ++ w.taken;
   fetches = v.fetches + w.fetches;
+  bits = v.bits + w.bits;
+  emptied = v.emptied ++ w.emptied;
   refused = v.refused + w.refused;
   refusals = v.refusals ++ w.refusals;
   loads = v.loads ++ w.loads;

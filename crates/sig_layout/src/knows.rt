@@ -42,6 +42,11 @@ pub struct Knows {
     pub taken: Sequence<Signal>,
     /// How often, where it has the role.
     pub fetches: u64,
+    /// The bits that the last fetch took, where it has the role.
+    pub bits: u64,
+    /// The buffers that the last fetch emptied, each with what lay there, the one that it emptied
+    /// first in front, where it has the role.
+    pub emptied: Sequence<Part>,
     /// How many tries of the outer turn were refused since its last put into the outer list.
     pub refused: u64,
     /// Each refused exchange, with the word's number and the value found there.

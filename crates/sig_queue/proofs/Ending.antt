@@ -23,7 +23,7 @@ use Rattle.sig_queue.specs.declared.slot.Slot.{Slot}
 use Rattle.sig_queue.specs.declared.slot.Slot.TheVariants as slot
 use Rattle.sig_layout.specs.declared.knows.Knows.{Knows}
 use Rattle.sig_layout.specs.Views.{number, table_from, mode_word, first_seat}
-use Rattle.sig_layout.specs.Core.{QState, opened_with, opened, Idle, buffer_of}
+use Rattle.sig_layout.specs.Core.{QState, Reached, opened_with, opened, Idle, buffer_of}
 use Rattle.sig_layout.specs.Agree.{Among, Turn, HasOuter, HasBuffer}
 use Rattle.sig_layout.specs.Lists.{Lists}
 use Rattle.sig_layout.proofs.Putting.{at_table}
@@ -36,6 +36,7 @@ use Rattle.sig_layout.proofs.Steadying.{steady}
 use Rattle.sig_layout.proofs.Wording.{lawful_of}
 use Rattle.sig_queue.specs.Tied.{apart, home, cell_home, homes_of, Tied, list_or}
 use Rattle.sig_queue.specs.Ends.{zeros, first_words, first_outer, all_buffers, lists_in, EndsAs}
+use Rattle.sig_queue.proofs.Owning.{own_alone}
 use Rattle.sig_queue.proofs.Ways.{outer_by_sender}
 use Rattle.sig_queue.proofs.Fetches.{flag_dropped}
 use Rattle.sig_queue.proofs.Ties.{not_outer}
@@ -117,8 +118,14 @@ IsAllowed z x = AllowsWay z.policy x.via
 
 -- the table at the end
 pub record Ended (z : Setup) (v : Knows) (xs : List Slot) : Type 0 where
+  pub core : QState
+  pub reached : Reached z core
+  pub seat : ℕ
+  pub seen : get_elem? core.seats seat ≡ some v
   pub outer : Outer
   pub list : ℕ → List Signal
+  pub outer_is : outer ≡ core.outer
+  pub list_is : (c : ℕ) → list c ≡ (core.cells c).list
   pub at_outer : get_elem? xs 0 ≡ some (slot.Outer outer)
   pub at_buffer : (c : ℕ) → c < 64 → get_elem? xs (c + 1) ≡ some (slot.List (list c))
   pub flows : (s : ℕ) → of sender s (signals v.put) ≡ of sender s (v.taken ++ outer.signals) ++ of sender s (list (buffer_of s))
@@ -142,8 +149,14 @@ ends z id v ws xs final idle role every = let tied = final.1.0 in let q : QState
     (λ (h : has v.senders s ≡ false). ok.only s h ∙ sym (ls.strange s (⊎_elim (λ (k : has q.setup.senders s ≡ true). not_both (has v.senders s) (whole s k) h) (λ (k : has q.setup.senders s ≡ false). k) (bool_cases (has q.setup.senders s))))) (bool_cases (has v.senders s))) in
     let sent_is : (s : ℕ) → of sender s (signals v.put) ≡ of sender s (signals q.log) = (λ s. of_signals s v.put ∙ (ap signals (put_is s) ∙ sym (of_signals s q.log))) in
     let c : CarriedAs z q.log = subst (λ (y : Setup). CarriedAs y q.log) same (carried z q r) in record {
+      core = q;
+      reached = r;
+      seat = id;
+      seen = at;
       outer = q.outer;
       list = λ c. (q.cells c).list;
+      outer_is = refl;
+      list_is = λ c. refl;
       at_outer = final.4 0 (slot.Outer q.outer) (ap (λ (y : State Slot Knows). get_elem? y.homes 0) tied.is ∙ ap (λ (n : ℕ). some (home n (slot.Outer q.outer))) free);
       at_buffer = λ c low. let e : c + 1 ≡ suc c = omega arith in final.4 (c + 1) (slot.List (q.cells c).list) (ap (λ (y : State Slot Knows). get_elem? y.homes (c + 1)) tied.is ∙ (ap (λ (n : ℕ). get_elem? (homes_of q) n) e
           ∙ (at_table 0 64 c (λ d. cell_home (q.cells d)) low ∙ (ap (λ (d : ℕ). some (cell_home (q.cells d))) (omega arith) ∙ ap (λ (n : ℕ). some (home n (slot.List (q.cells c).list))) (cell_free c)))));
@@ -157,10 +170,14 @@ ends z id v ws xs final idle role every = let tied = final.1.0 in let q : QState
       fetches = sym (((journals z tied.proper q r).owes id v at).made role);
     }
 
+-- the lists of the slots are those of the buffers
+ended_lists : (z : Setup) (v : Knows) (xs : List Slot) (e : Ended z v xs) (ls : List (List Signal)) → ls ≡ lists_in xs 1 64 → ls ≡ table_from 0 64 e.list
+ended_lists z v xs e ls lists_are = lists_are ∙ (table_shift 0 64 (λ c. list_or (get_or xs c slot.Out)) ∙ table_below 0 64 (λ c. list_or (get_or xs (suc c) slot.Out)) e.list
+    (λ c h. let j : c + 1 ≡ suc c = omega arith in ap list_or (at_or xs (suc c) (slot.List (e.list c)) (ap (get_elem? xs) (sym j) ∙ e.at_buffer c (omega arith)))))
+
 pub ended_rest : (z : Setup) (v : Knows) (xs : List Slot) (e : Ended z v xs) (outer : List Signal) (ls : List (List Signal)) → outer ≡ e.outer.signals → ls ≡ lists_in xs 1 64 → (s : ℕ) → of sender s (signals v.put) ≡ of sender s (v.taken ++ (outer ++ all_pieces ls))
 ended_rest z v xs e outer ls is lists_are s = let o : List Signal = e.outer.signals in
-    let table : ls ≡ table_from 0 64 e.list = lists_are ∙ (table_shift 0 64 (λ c. list_or (get_or xs c slot.Out)) ∙ table_below 0 64 (λ c. list_or (get_or xs (suc c) slot.Out)) e.list
-    (λ c h. let j : c + 1 ≡ suc c = omega arith in ap list_or (at_or xs (suc c) (slot.List (e.list c)) (ap (get_elem? xs) (sym j) ∙ e.at_buffer c (omega arith))))) in
+    let table : ls ≡ table_from 0 64 e.list = ended_lists z v xs e ls lists_are in
     e.flows s ∙ (ap (λ (l : List Signal). of sender s (v.taken ++ o) ++ l) (sym (ap (λ (z : List (List Signal)). of sender s (all_pieces z)) table ∙ joined_one s (buffer_of s) 0 64 e.list (e.near s) (omega arith) (let h = mod_small s in omega arith)))
     ∙ (sym (of-append sender s (v.taken ++ o) (all_pieces ls)) ∙ (ap (of sender s) (append_assoc v.taken o (all_pieces ls)) ∙ ap (λ (l : List Signal). of sender s (v.taken ++ (l ++ all_pieces ls))) (sym is))))
 
@@ -176,6 +193,13 @@ ended_as z v xs e outer ls rest is lists_are rest_is = let order : (s : ℕ) →
       lawful = subst (IsLawful z.policy) journal e.lawful;
       directs = ap direct_count (sym journal) ∙ e.directs;
       fetches = ap fetch_count (sym journal) ∙ e.fetches;
+      core = e.core;
+      reached = e.reached;
+      seat = e.seat;
+      seen = e.seen;
+      rest_is = rest_is ∙ (λ k. ((is ∙ e.outer_is) k).signals ++ all_pieces ((ended_lists z v xs e ls lists_are ∙ table_below 0 64 e.list (λ c. (e.core.cells c).list) (λ c _. e.list_is c)) k));
+      journal_is = ap (λ (o : Outer). o.journal) (is ∙ e.outer_is);
+      near = λ b. own_alone b (e.core.cells b).list (λ s n. ap (of sender s) (sym (e.list_is b)) ∙ e.near s b n);
     }
 
 pub words_counted : (p : Policy) → length (first_words p) ≡ 536

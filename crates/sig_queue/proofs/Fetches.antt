@@ -1,7 +1,8 @@
 -- Lists of held buffers, their slots and their bits.
-use Rattle.std.proofs.Common.{◌≡◌, ◌⊎◌, ℕ, zero, suc, ◌+◌, ◌-◌, ◌<◌, ◌≤◌, subst, Bool, true, false, if◌then◌else◌, List, [], ◌∷◌, ◌++◌, length, take, drop, get_or, set, get_or-set_other, sym, refl, ap, ◌∙◌, arith, append-nil, append_assoc, inl, inr, ⊎_elim, Option, Some, None}
+use Rattle.std.proofs.Common.{◌≡◌, ◌⊎◌, ℕ, zero, suc, ◌+◌, ◌-◌, ◌<◌, ◌≤◌, ◌&&◌, subst, Bool, true, false, not, if◌then◌else◌, List, [], ◌∷◌, ◌++◌, length, take, drop, get_or, set, get_or-set_other, sym, refl, ap, ◌∙◌, arith, append-nil, append_assoc, inl, inr, ⊎_elim, Option, Some, None}
 use Rattle.std.proofs.Math.Seq.{drop-cons}
 use Rattle.std.proofs.lemmas.List.{length-append, take_more}
+use Rattle.std.proofs.lemmas.List.Elements.{All-nil, All-cons, All-append}
 use Rattle.std.specs.Prelude.{IfSome}
 use mathlib.Core.Logic.{dite}
 use native.Mathlib.Decide.{ℕ_discrete}
@@ -21,8 +22,8 @@ use Rattle.sig_layout.proofs.Sending.{not_both}
 use Rattle.sig_layout.proofs.Lawful.{bit_now, bit_else, no_bit}
 use Rattle.sig_queue.specs.declared.found.Found.{Found}
 use Rattle.sig_queue.specs.Tied.{Held, Foreign}
-use Rattle.sig_queue.specs.Parts.{first_part, held_or, IsFirst}
-use Rattle.sig_queue.specs.Fetching.{picked, same_number, numbers, all_of, slots_of, outer_out, skips, Finding, Standing, Emptying, Leaving}
+use Rattle.sig_queue.specs.Parts.{first_part, held_or, IsFirst, OfBuffer}
+use Rattle.sig_queue.specs.Fetching.{picked, same_number, numbers, all_of, slots_of, outer_out, skips, EachOwn, kept_of, Finding, Standing, Emptying, Leaving}
 use Rattle.sig_queue.proofs.Offering.{foreign_as}
 
 module _ {X : Type 0} where
@@ -135,6 +136,9 @@ finding_starts v n me z is no_parts none_held none_skipped none_counted no_total
   none_held = λ c _. ap (λ (k : ℕ). filled_at k c) none_held ∙ no_bit c;
   none_skipped = λ c _. ap (λ (k : ℕ). filled_at k c) none_skipped ∙ no_bit c;
   total = subst (λ (t : Option ℕ). IfSome t (λ t. t ≡ length (all_of v.parts))) (sym no_total) (ap (λ (ps : List Part). length (all_of ps)) (sym no_parts));
+  own = subst EachOwn (sym no_parts) (All-nil (λ (p : Part). OfBuffer p.number p.list));
+  parted = λ c h. absurd (omega arith);
+  had = λ c h. not_both (filled_at z.skipped c) h (ap (λ (k : ℕ). filled_at k c) none_skipped ∙ no_bit c);
 }
 
 module _ (v : Knows) (n k : ℕ) (me : Held) (z : Found) (f : Finding v n k me z) (low : k < 64) where
@@ -169,6 +173,10 @@ module _ (v : Knows) (n k : ℕ) (me : Held) (z : Found) (f : Finding v n k me z
     none_held = λ c h. f.none_held c (omega arith);
     none_skipped = λ c h. f.none_skipped c (omega arith);
     total = f.total;
+    own = f.own;
+    parted = λ c h. ⊎_elim (λ (l : c < k). f.parted c l)
+        (λ (e : c ≡ k). subst (λ (d : ℕ). filled_at z.held d ≡ kept_of n z.skipped d) (sym e) (f.none_held k (omega arith) ∙ ap (λ (b : Bool). b && not (filled_at z.skipped k)) (sym none))) (below_next c h);
+    had = f.had;
   }
 
   bit_on : (m : ℕ) → (c : ℕ) → c < k → filled_at (with_bit m k) c ≡ filled_at m c
@@ -176,8 +184,8 @@ module _ (v : Knows) (n k : ℕ) (me : Held) (z : Found) (f : Finding v n k me z
 
   -- its turn was free, and is held now
   pub finding_held : (l : List Signal) (me' : Held) (z' : Found) → filled_at n k ≡ true → me' ≡ (gains me.0 k l, (k + 1, slot.List l) ∷ me.1) → z'.held ≡ with_bit z.held k → z'.skipped ≡ z.skipped → z'.count ≡ z.count + 1
-      → IfSome z'.total (λ t. t ≡ length (all_of me.0.parts) + length l) → Finding v n (k + 1) me' z'
-  finding_held l me' z' bit is held skipped count total = let ps : List Part = me.0.parts ++ part k l ∷ [] in let held' : ℕ = with_bit z.held k in
+      → IfSome z'.total (λ t. t ≡ length (all_of me.0.parts) + length l) → OfBuffer k l → Finding v n (k + 1) me' z'
+  finding_held l me' z' bit is held skipped count total mine = let ps : List Part = me.0.parts ++ part k l ∷ [] in let held' : ℕ = with_bit z.held k in
       subst (λ (m : Held). Finding v n (k + 1) m z') (sym is) record {
         view = ap (λ (w : Knows). record w { parts = ps }) f.view;
         slots = ap (λ (s : List (ℕ × Slot)). (k + 1, slot.List l) ∷ s) f.slots ∙ ap (λ (s : List (ℕ × Slot)). s ++ outer_out ∷ []) (sym (slots_more me.0.parts (part k l)));
@@ -195,11 +203,16 @@ module _ (v : Knows) (n k : ℕ) (me : Held) (z : Found) (f : Finding v n k me z
         none_held = λ c h. ap (λ (m : ℕ). filled_at m c) held ∙ (bit_else z.held k c low (λ e. omega arith) ∙ f.none_held c (omega arith));
         none_skipped = λ c h. ap (λ (m : ℕ). filled_at m c) skipped ∙ f.none_skipped c (omega arith);
         total = subst (λ (t : ℕ). IfSome z'.total (λ s. s ≡ t)) (sym (all_more me.0.parts (part k l))) total;
+        own = All-append (λ (p : Part). OfBuffer p.number p.list) me.0.parts (part k l ∷ []) f.own (All-cons (λ (p : Part). OfBuffer p.number p.list) (part k l) [] mine (All-nil (λ (p : Part). OfBuffer p.number p.list)));
+        parted = λ c h. ⊎_elim (λ (b : c < k). ap (λ (m : ℕ). filled_at m c) held ∙ (bit_on z.held c b ∙ (f.parted c b ∙ ap (λ (m : ℕ). kept_of n m c) (sym skipped))))
+            (λ (e : c ≡ k). subst (λ (d : ℕ). filled_at z'.held d ≡ kept_of n z'.skipped d) (sym e)
+            (ap (λ (m : ℕ). filled_at m k) held ∙ (bit_now z.held k low ∙ sym (λ i. bit i && not ((ap (λ (m : ℕ). filled_at m k) skipped ∙ f.none_skipped k (omega arith)) i))))) (below_next c h);
+        had = λ c h. f.had c (ap (λ (m : ℕ). filled_at m c) (sym skipped) ∙ h);
       }
 
   -- its turn is another's, and its bit is set again
-  pub finding_skipped : (x : ℕ) (me' : Held) (z' : Found) → me' ≡ (given_back (turned_away_at me.0 (k + 3) x) k, me.1) → Foreign me.0 x → v.saw_off ≡ false → z'.held ≡ z.held → z'.skipped ≡ with_bit z.skipped k → z'.count ≡ z.count → z'.total ≡ z.total → Finding v n (k + 1) me' z'
-  finding_skipped x me' z' is other blind held skipped count total = let skipped' : ℕ = with_bit z.skipped k in let values' : ℕ → ℕ = put f.values k x in
+  pub finding_skipped : (x : ℕ) (me' : Held) (z' : Found) → me' ≡ (given_back (turned_away_at me.0 (k + 3) x) k, me.1) → Foreign me.0 x → v.saw_off ≡ false → z'.held ≡ z.held → z'.skipped ≡ with_bit z.skipped k → z'.count ≡ z.count → z'.total ≡ z.total → filled_at n k ≡ true → Finding v n (k + 1) me' z'
+  finding_skipped x me' z' is other blind held skipped count total bit = let skipped' : ℕ = with_bit z.skipped k in let values' : ℕ → ℕ = put f.values k x in
       subst (λ (m : Held). Finding v n (k + 1) m z') (sym is) record {
         view = ap (λ (w : Knows). given_back (turned_away_at w (k + 3) x) k) f.view ∙ (λ j. record v { parts = me.0.parts; mask = set me.0.mask k false; back = with_bit me.0.back k; refusals = me.0.refusals ++ (k + 3, x) ∷ []; saw_off = sym blind j });
         slots = f.slots;
@@ -221,6 +234,11 @@ module _ (v : Knows) (n k : ℕ) (me : Held) (z : Found) (f : Finding v n k me z
         none_held = λ c h. ap (λ (m : ℕ). filled_at m c) held ∙ f.none_held c (omega arith);
         none_skipped = λ c h. ap (λ (m : ℕ). filled_at m c) skipped ∙ (bit_else z.skipped k c low (λ e. omega arith) ∙ f.none_skipped c (omega arith));
         total = subst (λ (t : Option ℕ). IfSome t (λ s. s ≡ length (all_of me.0.parts))) (sym total) f.total;
+        own = f.own;
+        parted = λ c h. ⊎_elim (λ (b : c < k). ap (λ (m : ℕ). filled_at m c) held ∙ (f.parted c b ∙ ap (λ (d : Bool). filled_at n c && not d) (sym (bit_on z.skipped c b) ∙ ap (λ (m : ℕ). filled_at m c) (sym skipped))))
+            (λ (e : c ≡ k). subst (λ (d : ℕ). filled_at z'.held d ≡ kept_of n z'.skipped d) (sym e)
+            (ap (λ (m : ℕ). filled_at m k) held ∙ (f.none_held k (omega arith) ∙ sym (λ i. bit i && not ((ap (λ (m : ℕ). filled_at m k) skipped ∙ bit_now z.skipped k low) i))))) (below_next c h);
+        had = λ c h. dite (ℕ_discrete c k) (λ e. ap (filled_at n) e ∙ bit) (λ e. f.had c (sym (bit_else z.skipped k c low e) ∙ (ap (λ (m : ℕ). filled_at m c) (sym skipped) ∙ h)));
       }
 
 -- one turn further round
@@ -313,12 +331,13 @@ emptying_next u me me' k e first is = let p : Part = first_part me.0.parts in le
     let o_is : held_or me.0.held ≡ e.outer = ap held_or e.holds in
     let all : all_of me.0.parts ≡ p.list ++ all_of ps = ap all_of first.0 in
     subst (λ (w : Knows). Emptying u (w, me'.1)) (sym is) record {
-      view = ap (λ (w : Knows). record w { parts = x.parts; mask = x.mask; held = x.held; moved = x.moved }) e.view;
+      view = ap (λ (w : Knows). record w { parts = x.parts; mask = x.mask; held = x.held; moved = x.moved; emptied = x.emptied }) e.view;
       outer = behind (held_or me.0.held) p.list;
       holds = refl;
       signals = ap (λ (o : Outer). (o.signals ++ p.list) ++ all_of ps) o_is ∙ (append_assoc e.outer.signals p.list (all_of ps) ∙ (ap (λ (l : List Signal). e.outer.signals ++ l) (sym all) ∙ e.signals));
       journal = ap (λ (o : Outer). o.journal) o_is ∙ e.journal;
       moved = let g = ap length all ∙ length-append p.list (all_of ps) in let m = e.moved in omega arith;
+      emptied = append_assoc me.0.emptied (p ∷ []) ps ∙ (ap (λ (z : List Part). me.0.emptied ++ z) (sym first.0) ∙ e.emptied);
     }
 
 pub leaving_next : (u : Knows) (me : Held) (w : Knows) (xs : List (ℕ × Slot)) (k : ℕ) → Leaving u me → w ≡ given_back (loses me.0) k → Leaving u (w, xs)

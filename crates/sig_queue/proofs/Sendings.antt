@@ -1,5 +1,5 @@
 -- Offers one after another.
-use Rattle.std.proofs.Common.{◌≡◌, ℕ, ◌+◌, Bool, true, false, List, [], ◌∷◌, ◌++◌, sym, refl, ap, ◌∙◌, subst, append_assoc, append-nil, ⊎_elim}
+use Rattle.std.proofs.Common.{◌≡◌, ◌≢◌, ℕ, ◌+◌, ◌≤◌, Bool, true, false, List, [], ◌∷◌, ◌++◌, sym, refl, ap, ◌∙◌, subst, append_assoc, append-nil, ⊎_elim, arith}
 use Rattle.sig_kinds.specs.declared.signal.Signal.{Signal}
 use Rattle.sig_layout.specs.declared.item.Item.{Item}
 use Rattle.sig_layout.specs.declared.setup.Setup.{Setup}
@@ -9,6 +9,8 @@ use Rattle.sig_layout.specs.Views.{mode_word}
 use Rattle.sig_layout.specs.Core.{buffer_of}
 use Rattle.sig_layout.specs.declared.via.Via.{Via}
 use Rattle.sig_layout.specs.declared.via.Via.TheVariants as via
+use Rattle.sig_layout.specs.Sent.{Prefix}
+use Rattle.sig_queue.specs.declared.sent.Sent.TheVariants as sent
 use Rattle.sig_queue.specs.Parts.{item, mode_loads, looked}
 use Rattle.sig_queue.specs.Calls.{PutBy, RefusedOne, Tried, SentBy}
 
@@ -64,3 +66,23 @@ module _ (x : Signal) (v u w : Knows) (t : Tried v u) where
 -- a signal that may come next may still come next after refused offers
 pub same_next : (z : Setup) (x y : Signal) (v u : Knows) → Tried v u → y ≡ x → IsNext z v.put x → IsNext z u.put y
 same_next z x y v u t same next = subst (λ (p : List Item × Signal). IsNext z p.0 p.1) (λ i. (sym (ap (λ (k : Knows). k.put) t.is) i, sym same i)) next
+
+-- what an offer that was refused, or was answered, does to the refusals
+module _ (x : Signal) (u w : Knows) where
+  pub refused_list : (n : ℕ) → RefusedOne x u n w → Prefix u.refusals w.refusals
+  refused_list n k = ⊎_elim
+      (λ e. ((0, n) ∷ [], sym (ap (λ (z : Knows). z.refusals) e)))
+      (λ e. ((buffer_of x.from.0 + 3, n) ∷ [], sym (ap (λ (z : Knows). z.refusals) e))) k.1
+
+  pub refused_count : (n : ℕ) → RefusedOne x u n w → u.refused ≤ w.refused
+  refused_count n k = ⊎_elim
+      (λ e. let is : w.refused ≡ u.refused + 1 = ap (λ (z : Knows). z.refused) e in omega (arith, is))
+      (λ e. let is : w.refused ≡ u.refused = ap (λ (z : Knows). z.refused) e in omega (arith, is)) k.1
+
+  pub put_list : (way : Via) → PutBy x u way w → w.refusals ≡ u.refusals
+  put_list via.Outer k = ap (λ (z : Knows). z.refusals) k.1
+  put_list (via.Buffer b) k = ap (λ (z : Knows). z.refusals) k.1.1
+
+  pub put_count : (way : Via) → sent.Put way ≢ sent.Put via.Outer → PutBy x u way w → w.refused ≡ u.refused
+  put_count via.Outer aside k = absurd (aside refl)
+  put_count (via.Buffer b) aside k = ap (λ (z : Knows). z.refused) k.1.1

@@ -11,7 +11,7 @@ use Rattle.sig_queue.specs.declared.slot.Slot.TheVariants as slot
 use Rattle.sig_layout.specs.declared.part.Part.{Part}
 use Rattle.sig_layout.specs.declared.knows.Knows.{Knows}
 use Rattle.sig_layout.specs.Core.{Idle, some_refused}
-use Rattle.sig_layout.specs.Views.{number, signals_of, holding, with_bits, after_same, after_fetch}
+use Rattle.sig_layout.specs.Views.{number, filled_at, signals_of, holding, with_bits, after_same, after_fetch}
 use Rattle.sig_queue.specs.declared.kept.Kept.{Kept}
 use Rattle.sig_queue.specs.declared.found.Found.{Found}
 use Rattle.sig_queue.specs.declared.fetch.Fetch.{Fetch}
@@ -19,10 +19,10 @@ use Rattle.sig_queue.specs.declared.fetch.Fetch.TheVariants as fetch
 use Rattle.sig_queue.specs.declared.taken.Taken.{Taken}
 use Rattle.sig_queue.specs.Tied.{Held, FreshBut, TookCarried}
 use Rattle.sig_queue.specs.Seats.{Keeps, IsSeat}
-use Rattle.sig_queue.specs.Fetching.{all_of, journal_of, numbers, skips, Finding, Standing, Emptying, Leaving}
+use Rattle.sig_queue.specs.Fetching.{all_of, journal_of, numbers, picked, same_number, skips, EachOwn, kept_of, Finding, Standing, Emptying, Leaving}
 use Rattle.sig_queue.specs.Calls.{bare, taken_by, due_of, Finished, Settled, Left, FetchedAs, FetchedHeld, Fetched}
 use Rattle.sig_queue.proofs.Offering.{foreign_as}
-use Rattle.sig_queue.proofs.Fetches.{standing_ends}
+use Rattle.sig_queue.proofs.Fetches.{picked_same, standing_ends}
 
 -- after the outer value was put back into its slot
 module _ (me m : Held) (outer : Outer) (held n : ℕ) (st : Standing held 64 me n) (put : m ≡ (me.0, (0, slot.Outer outer) ∷ rest me.1)) where
@@ -57,8 +57,11 @@ module _ (me m : Held) (outer : Outer) (held n : ℕ) (st : Standing held 64 me 
     signals_are : signals_of me.0.held ≡ taken_by u
     signals_are = ap signals_of em.holds ∙ (sym (append-nil em.outer.signals) ∙ (ap (λ (z : List Part). em.outer.signals ++ all_of z) (sym none_left) ∙ em.signals))
 
-    pub finished_view : (w : Knows) (due : Bool) → w ≡ after_fetch m.0 due → w ≡ record (bare u) { taken = u.taken ++ taken_by u; fetches = u.fetches + 1; due = due }
-    finished_view w due e = e ∙ (ap (λ (x : Knows). after_fetch x due) (seat_is ∙ em.view) ∙ (λ i. record (bare u) { parts = none_left i; taken = u.taken ++ signals_are i; fetches = u.fetches + 1; due = due }))
+    emptied_is : me.0.emptied ≡ u.emptied ++ u.parts
+    emptied_is = sym (append-nil me.0.emptied) ∙ (ap (λ (z : List Part). me.0.emptied ++ z) (sym none_left) ∙ em.emptied)
+
+    pub finished_view : (w : Knows) (due : Bool) → w ≡ after_fetch m.0 due → w ≡ record (bare u) { taken = u.taken ++ taken_by u; fetches = u.fetches + 1; due = due; emptied = u.emptied ++ u.parts }
+    finished_view w due e = e ∙ (ap (λ (x : Knows). after_fetch x due) (seat_is ∙ em.view) ∙ (λ i. record (bare u) { parts = none_left i; taken = u.taken ++ signals_are i; fetches = u.fetches + 1; due = due; emptied = emptied_is i }))
 
     pub finished : (z : Setup) (w : Knows) (t : Taken) → w ≡ after_fetch m.0 t.due → FreshBut m.0.back (after_fetch m.0 t.due) → TookCarried z (after_fetch m.0 t.due) → Finished z u t w
     finished z w t e fresh carried = (finished_view w t.due e, subst (λ (n : ℕ). FreshBut n w) (ap (λ (x : Knows). x.back) (seat_is ∙ em.view)) (subst (FreshBut m.0.back) (sym e) fresh), subst (TookCarried z) (sym e) carried)
@@ -78,20 +81,31 @@ module _ (z : Setup) (before now : List Signal) (v taking u w : Knows) (bits : �
   found_as : u ≡ record (with_bits v bits) { parts = me.0.parts; mask = me.0.mask; back = me.0.back; refusals = v.refusals ++ passed_over }
   found_as = same ∙ (f.view ∙ (λ i. record (took i) { parts = me.0.parts; mask = me.0.mask; back = me.0.back; refusals = (f.refusals ∙ ap (λ (k : Knows). k.refusals ++ passed_over) took) i }))
 
+  bits_taken : w.bits ≡ u.bits → w.bits ≡ bits
+  bits_taken e = e ∙ ap (λ (k : Knows). k.bits) found_as
+
   module _ (still : v.fetching ≡ false) (free : v.parts ≡ []) (mask : v.mask ≡ []) (back : v.back ≡ 0) (moved : v.moved ≡ 0) where
     pub fetched_all : (t : Taken) → Settled z before now u (Some t) w → FetchedAs z before now v t.count t.due found.skipped w
-    fetched_all t s = (
-      taken_by u,
-      f.values,
-      s.0,
-      s.1,
-      s.2.0 ∙ ((λ i. record (bare (found_as i)) { taken = (found_as i).taken ++ taken_by u; fetches = (found_as i).fetches + 1; due = t.due })
-          ∙ (λ i. record v { held = None; fetching = sym still i; mask = sym mask i; back = sym back i; moved = sym moved i; parts = sym free i; taken = v.taken ++ taken_by u; fetches = v.fetches + 1; due = t.due; refusals = v.refusals ++ passed_over })),
-      (λ c bit. foreign_as taking v (f.values c) (sym (ap (λ (k : Knows). k.senders) took)) (sym (ap (λ (k : Knows). k.role) took)) (f.others c bit)),
-      subst (λ (n : ℕ). FreshBut n w) (ap (λ (k : Knows). k.back) same ∙ f.back) s.2.1,
-      s.2.2,
-      record { outer = signals_of u.held; parts = u.parts; held = found.held; is = refl; ascending = ap (λ (k : Knows). numbers k.parts) same ∙ f.numbers_are },
-    )
+    fetched_all t s =
+        let bits_are : w.bits ≡ bits = bits_taken (ap (λ (k : Knows). k.bits) s.2.0) in
+        let parts_are : w.emptied ≡ u.parts = ap (λ (k : Knows). k.emptied) s.2.0 ∙ ap (λ (k : Knows). k.emptied ++ u.parts) found_as in (
+          taken_by u,
+          f.values,
+          s.0,
+          s.1,
+          s.2.0 ∙ ((λ i. record (bare (found_as i)) { taken = (found_as i).taken ++ taken_by u; fetches = (found_as i).fetches + 1; due = t.due; emptied = u.emptied ++ u.parts })
+              ∙ (λ i. record v { held = None; fetching = sym still i; mask = sym mask i; back = sym back i; moved = sym moved i; parts = sym free i; taken = v.taken ++ taken_by u; fetches = v.fetches + 1; due = t.due; refusals = v.refusals ++ passed_over; bits = sym bits_are i; emptied = sym (ap (λ (k : Knows). k.emptied) s.2.0) i })),
+          (λ c bit. foreign_as taking v (f.values c) (sym (ap (λ (k : Knows). k.senders) took)) (sym (ap (λ (k : Knows). k.role) took)) (f.others c bit)),
+          subst (λ (n : ℕ). FreshBut n w) (ap (λ (k : Knows). k.back) same ∙ f.back) s.2.1,
+          s.2.2,
+          record {
+            outer = signals_of u.held;
+            is = ap (λ (ps : List Part). signals_of u.held ++ all_of ps) (sym parts_are);
+            ascending = ap numbers (parts_are ∙ ap (λ (k : Knows). k.parts) same) ∙ (f.numbers_are ∙ (picked_same same_number same_number (filled_at found.held) (kept_of bits found.skipped) 0 64 (λ c _. refl) (λ c h. f.parted c (omega (arith, h))) ∙ ap (λ (n : ℕ). picked same_number (kept_of n found.skipped) 0 64) (sym bits_are)));
+            own = subst EachOwn (sym (parts_are ∙ ap (λ (k : Knows). k.parts) same)) f.own;
+            had = λ c bit. ap (λ (n : ℕ). filled_at n c) bits_are ∙ f.had c bit;
+          },
+        )
 
     pub fetched_none : v.saw_off ≡ false → Settled z before now u None w → Left before now v w
     fetched_none saw s = (
@@ -99,7 +113,7 @@ module _ (z : Setup) (before now : List Signal) (v taking u w : Knows) (bits : �
       (
         passed_over,
         s.1 ∙ ((λ i. record (bare (found_as i)) { saw_off = false })
-            ∙ (λ i. record v { held = None; fetching = sym still i; mask = sym mask i; back = sym back i; moved = sym moved i; parts = sym free i; saw_off = sym saw i; refusals = v.refusals ++ passed_over })),
+            ∙ (λ i. record v { held = None; fetching = sym still i; mask = sym mask i; back = sym back i; moved = sym moved i; parts = sym free i; saw_off = sym saw i; refusals = v.refusals ++ passed_over; bits = sym (bits_taken (ap (λ (k : Knows). k.bits) s.1)) i; emptied = [] })),
       ),
     )
 
@@ -111,8 +125,8 @@ module _ (z : Setup) (before now : List Signal) (v w : Knows) (o : Outer) where
   fetched_by fetch.Memory h = h
 
   module _ (i : Idle v) (kept : Kept) (h : Keeps v kept) (xs : List (ℕ × Slot)) (free : xs ≡ []) where
-    seat_after : (taken : List Signal) (fetches : ℕ) (due : Bool) (refusals : List (ℕ × ℕ)) → w ≡ record v { held = None; taken = taken; fetches = fetches; due = due; refusals = refusals } → IsSeat (w, xs) (record kept { due = due })
-    seat_after taken fetches due refusals e = record {
+    seat_after : (taken : List Signal) (fetches : ℕ) (due : Bool) (refusals : List (ℕ × ℕ)) (emptied : List Part) → w ≡ record v { held = None; taken = taken; fetches = fetches; due = due; refusals = refusals; bits = w.bits; emptied = emptied } → IsSeat (w, xs) (record kept { due = due })
+    seat_after taken fetches due refusals emptied e = record {
       idle = subst Idle (sym e) (record { held = refl; parts = i.parts; saw = i.saw; fetching = i.fetching; removing = i.removing; switched = i.switched; mask = i.mask; back = i.back; moved = i.moved; progress = i.progress });
       bare = free;
       keeps = record {
@@ -126,6 +140,6 @@ module _ (z : Setup) (before now : List Signal) (v w : Knows) (o : Outer) where
     }
 
     pub seat_fetched : v.due ≡ false → (r : Fetch) → FetchedHeld z before now (holding v o) r w → IsSeat (w, xs) (record kept { due = due_of r })
-    seat_fetched not_due (fetch.Took count due bits) f = seat_after (v.taken ++ f.0) (v.fetches + 1) due (v.refusals ++ skips f.1 bits 64) f.4
+    seat_fetched not_due (fetch.Took count due bits) f = seat_after (v.taken ++ f.0) (v.fetches + 1) due (v.refusals ++ skips f.1 bits 64) w.emptied f.4
     seat_fetched not_due (fetch.Busy n) f = absurd f
-    seat_fetched not_due fetch.Memory f = seat_after v.taken v.fetches false (v.refusals ++ f.1.0) (f.1.1 ∙ (λ k. record v { held = None; due = not_due k; refusals = v.refusals ++ f.1.0 }))
+    seat_fetched not_due fetch.Memory f = seat_after v.taken v.fetches false (v.refusals ++ f.1.0) [] (f.1.1 ∙ (λ k. record v { held = None; due = not_due k; refusals = v.refusals ++ f.1.0; bits = w.bits; emptied = [] }))

@@ -38,6 +38,8 @@ use Rattle.sig_layout.proofs.Putting.{put_here, put_else, get_table, at_table, s
 use Rattle.sig_layout.proofs.Agreeing.{same_view, agrees}
 use Rattle.sig_layout.proofs.Listing.{lists}
 use Rattle.sig_layout.proofs.Lawful.{lawful, fetched_all, mod_small}
+use Rattle.sig_queue.specs.Parts.{OfBuffer}
+use Rattle.sig_queue.proofs.Owning.{own_alone}
 use Rattle.sig_queue.proofs.Taking.{took_carried}
 use Rattle.sig_layout.proofs.Carrying.{carried}
 use Rattle.sig_layout.proofs.Journaling.{same_setup}
@@ -391,7 +393,7 @@ module _ (z : Setup) where
           };
           proper = st.proper;
         },
-        (λ c e. let same : b ≡ c = omega arith in ((λ _. (x.list, ap (λ (r : ℕ). let m : Held = (gains v r x.list, (r + 1, slot.List x.list) ∷ me.1) in m) same)), (λ n. absurd (n free)))),
+        (λ c e. let same : b ≡ c = omega arith in ((λ _. (x.list, ap (λ (r : ℕ). let m : Held = (gains v r x.list, (r + 1, slot.List x.list) ∷ me.1) in m) same, subst (λ (r : ℕ). OfBuffer r x.list) same (own_alone b x.list (λ s other. (st.law.each b).near s (λ e. other (sym e)))))), (λ n. absurd (n free)))),
       ))
       (λ n. let new : either (word == 0) mine word ≡ word = ap (λ (c : Bool). either c mine word) (ne_eqb word 0 n) in let q' : QState = core.refuse_buffer q id v b in (
         turned_away_at v (b + 3) x.word,

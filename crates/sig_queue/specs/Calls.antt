@@ -24,7 +24,7 @@ use Rattle.sig_queue.specs.declared.taken.Taken.{Taken}
 use Rattle.sig_layout.specs.Views.{filled_at, signals_of, buffer_in}
 use Rattle.sig_layout.specs.Core.{buffer_of}
 use Rattle.sig_layout.specs.declared.part.Part.{Part}
-use Rattle.sig_queue.specs.Fetching.{skips, all_of, numbers, picked, same_number}
+use Rattle.sig_queue.specs.Fetching.{skips, all_of, numbers, picked, same_number, EachOwn, kept_of}
 use Rattle.sig_queue.specs.Tied.{Foreign, FreshBut, TookCarried}
 use Rattle.sig_queue.specs.Parts.{item, looked}
 
@@ -78,28 +78,29 @@ abbrev pub bare : Knows → Knows
 bare u = record u { held = None; fetching = false; mask = []; back = 0; moved = 0; parts = [] }
 
 abbrev pub Finished : Setup → Knows → Taken → Knows → Type 0
-Finished z u t w = (w ≡ record (bare u) { taken = u.taken ++ taken_by u; fetches = u.fetches + 1; due = t.due }) × FreshBut u.back w × TookCarried z w
+Finished z u t w = (w ≡ record (bare u) { taken = u.taken ++ taken_by u; fetches = u.fetches + 1; due = t.due; emptied = u.emptied ++ u.parts }) × FreshBut u.back w × TookCarried z w
 
 -- a fetch that found its buffers takes all, or leaves all as it was
 abbrev pub Settled : Setup → List Signal → List Signal → Knows → Option Taken → Knows → Type 0
 Settled z before now u (Some t) w = (now ≡ before ++ taken_by u) × (t.count ≡ length (taken_by u)) × Finished z u t w
 Settled z before now u None w = (now ≡ before) × (w ≡ record (bare u) { saw_off = false })
 
--- first the outer list, and then the lists of some buffers, by ascending number
-pub record InOrder (new : List Signal) : Type 0 where
+-- first the outer list, and then what lay in the buffers that were emptied, by ascending number: those whose bits were taken, but
+-- for the skipped ones. In each lay signals of its own senders alone
+pub record InOrder (new : List Signal) (skipped : ℕ) (w : Knows) : Type 0 where
   pub outer : List Signal
-  pub parts : List Part
-  pub held : ℕ
-  pub is : new ≡ outer ++ all_of parts
-  pub ascending : numbers parts ≡ picked same_number (filled_at held) 0 64
+  pub is : new ≡ outer ++ all_of w.emptied
+  pub ascending : numbers w.emptied ≡ picked same_number (kept_of w.bits skipped) 0 64
+  pub own : EachOwn w.emptied
+  pub had : (c : ℕ) → filled_at skipped c ≡ true → filled_at w.bits c ≡ true
 
 abbrev pub FetchedAs : Setup → List Signal → List Signal → Knows → ℕ → Bool → ℕ → Knows → Type 0
 FetchedAs z before now v count due skipped w = (new : List Signal) × (values : ℕ → ℕ) × (now ≡ before ++ new) × (count ≡ length new)
-    × (w ≡ record v { held = None; taken = v.taken ++ new; fetches = v.fetches + 1; due = due; refusals = v.refusals ++ skips values skipped 64 })
-    × ((c : ℕ) → filled_at skipped c ≡ true → Foreign v (values c)) × FreshBut skipped w × TookCarried z w × InOrder new
+    × (w ≡ record v { held = None; taken = v.taken ++ new; fetches = v.fetches + 1; due = due; refusals = v.refusals ++ skips values skipped 64; bits = w.bits; emptied = w.emptied })
+    × ((c : ℕ) → filled_at skipped c ≡ true → Foreign v (values c)) × FreshBut skipped w × TookCarried z w × InOrder new skipped w
 
 abbrev pub Left : List Signal → List Signal → Knows → Knows → Type 0
-Left before now v w = (now ≡ before) × ((more : List (ℕ × ℕ)) × (w ≡ record v { held = None; refusals = v.refusals ++ more }))
+Left before now v w = (now ≡ before) × ((more : List (ℕ × ℕ)) × (w ≡ record v { held = None; refusals = v.refusals ++ more; bits = w.bits; emptied = [] }))
 
 -- under the outer turn
 abbrev pub FetchedHeld : Setup → List Signal → List Signal → Knows → Fetch → Knows → Type 0

@@ -1,5 +1,7 @@
 -- The table at the start and at the end.
 use Rattle.std.specs.Prelude.{◌≡◌, ℕ, true, All, List, [], ◌∷◌, ◌++◌, replicate, slice_index_or}
+use mathlib.Core.Option.{some}
+use lib.ListN.{get_elem?}
 use Rattle.sig_kinds.specs.declared.signal.Signal.{Signal}
 use Rattle.sig_layout.specs.declared.policy.Policy.{Policy}
 use Rattle.sig_layout.specs.declared.item.Item.{Item}
@@ -13,11 +15,13 @@ use Rattle.sig_layout.specs.Openings.{IsCarried, IsCounted}
 use Rattle.sig_layout.specs.Carried.{outer_count}
 use Rattle.sig_layout.specs.Sets.{has}
 use Rattle.sig_layout.specs.Sent.{sender, of, signals}
-use Rattle.sig_layout.specs.Core.{Idle}
+use Rattle.sig_layout.specs.Core.{QState, Reached, Idle}
+use Rattle.sig_layout.specs.Rooms.{all_pieces}
 use Rattle.sig_queue.specs.declared.slot.Slot.{Slot}
 use Rattle.sig_queue.specs.declared.slot.Slot.TheVariants as slot
 use Rattle.sig_layout.specs.Views.{mode_word, table_from}
 use Rattle.sig_queue.specs.Tied.{Held, apart, list_or}
+use Rattle.sig_queue.specs.Parts.{OfBuffer}
 
 -- what a queue is opened with
 abbrev pub setup_of : Policy → List ℕ → Opening → Setup
@@ -50,6 +54,10 @@ pub record IsEnding (z : Setup) (me : Held) : Type 0 where
   pub role : me.0.role ≡ true
   pub every : (s : ℕ) → has z.senders s ≡ true → has me.0.senders s ≡ true
 
+-- what lies in a state of the core: the outer list, and then buffers 0 to 63
+abbrev pub left_in : QState → List Signal
+left_in q = q.outer.signals ++ all_pieces (table_from 0 64 (λ c. (q.cells c).list))
+
 -- The end of a queue that was opened with z, by a seat that had the view v
 pub record EndsAs (z : Setup) (v : Knows) (rest : List Signal) (journal : List Entry) : Type 0 where
   -- what each sender put is what was taken of it, and then what is left of it
@@ -64,3 +72,11 @@ pub record EndsAs (z : Setup) (v : Knows) (rest : List Signal) (journal : List E
   pub lawful : IsLawful z.policy journal
   pub directs : direct_count journal ≡ outer_count v.put
   pub fetches : fetch_count journal ≡ v.fetches
+  -- the core ended in this state, in which the seat had the view v. What lies there is left, each buffer with its own signals
+  pub core : QState
+  pub reached : Reached z core
+  pub seat : ℕ
+  pub seen : get_elem? core.seats seat ≡ some v
+  pub rest_is : rest ≡ left_in core
+  pub journal_is : journal ≡ core.outer.journal
+  pub near : (b : ℕ) → OfBuffer b (core.cells b).list

@@ -1,5 +1,5 @@
 -- What a seat has while it fetches many buffers at once.
-use Rattle.std.specs.Prelude.{◌≡◌, ℕ, zero, suc, ◌+◌, ◌<◌, ◌≤◌, Bool, true, false, if◌then◌else◌, List, [], ◌∷◌, ◌++◌, length, Option, Some, None, IfSome}
+use Rattle.std.specs.Prelude.{◌≡◌, ℕ, zero, suc, ◌+◌, ◌<◌, ◌≤◌, ◌&&◌, Bool, true, false, not, if◌then◌else◌, All, List, [], ◌∷◌, ◌++◌, length, Option, Some, None, IfSome}
 use Rattle.sig_kinds.specs.declared.signal.Signal.{Signal}
 use Rattle.sig_layout.specs.declared.entry.Entry.{Entry}
 use Rattle.sig_layout.specs.declared.outer.Outer.{Outer}
@@ -10,6 +10,7 @@ use Rattle.sig_layout.specs.declared.knows.Knows.{Knows}
 use Rattle.sig_layout.specs.Views.{filled_at, flag, signals_of}
 use Rattle.sig_queue.specs.declared.found.Found.{Found}
 use Rattle.sig_queue.specs.Tied.{Held, Foreign}
+use Rattle.sig_queue.specs.Parts.{OfBuffer}
 
 -- f c for each c from k on, n of them, that p holds of
 unfoldable pub picked : {X : Type 0} → (ℕ → X) → (ℕ → Bool) → ℕ → ℕ → List X
@@ -26,6 +27,14 @@ numbers (p ∷ ps) = p.number ∷ numbers ps
 abbrev pub all_of : List Part → List Signal
 all_of [] = []
 all_of (p ∷ ps) = p.list ++ all_of ps
+
+-- each has signals of its own senders alone
+abbrev pub EachOwn : List Part → Type 0
+EachOwn = All (λ (p : Part). OfBuffer p.number p.list)
+
+-- of the bits n, the buffer c has one, and wasn't skipped
+abbrev pub kept_of : ℕ → ℕ → ℕ → Bool
+kept_of n skipped c = filled_at n c && not (filled_at skipped c)
 
 -- the slots that are out with the seat: the one that it took last stands first
 abbrev pub slots_of : List Part → List (ℕ × Slot)
@@ -62,6 +71,9 @@ pub record Finding (v : Knows) (n k : ℕ) (me : Held) (z : Found) : Type 0 wher
   pub none_held : (c : ℕ) → k ≤ c → filled_at z.held c ≡ false
   pub none_skipped : (c : ℕ) → k ≤ c → filled_at z.skipped c ≡ false
   pub total : IfSome z.total (λ t. t ≡ length (all_of me.0.parts))
+  pub own : EachOwn me.0.parts
+  pub parted : (c : ℕ) → c < k → filled_at z.held c ≡ kept_of n z.skipped c
+  pub had : (c : ℕ) → filled_at z.skipped c ≡ true → filled_at n c ≡ true
 
 -- the buffers of `held` from k on are still held, with their slots, and are in the mask. No other buffer is
 pub record Standing (held k : ℕ) (me : Held) (count : ℕ) : Type 0 where
@@ -73,12 +85,13 @@ pub record Standing (held k : ℕ) (me : Held) (count : ℕ) : Type 0 where
 
 -- the lists of buffers below k came behind the outer list. The seat had the view u before the first
 pub record Emptying (u : Knows) (me : Held) : Type 0 where
-  pub view : me.0 ≡ record u { parts = me.0.parts; mask = me.0.mask; held = me.0.held; moved = me.0.moved }
+  pub view : me.0 ≡ record u { parts = me.0.parts; mask = me.0.mask; held = me.0.held; moved = me.0.moved; emptied = me.0.emptied }
   pub outer : Outer
   pub holds : me.0.held ≡ Some outer
   pub signals : outer.signals ++ all_of me.0.parts ≡ signals_of u.held ++ all_of u.parts
   pub journal : outer.journal ≡ journal_of u.held
   pub moved : me.0.moved + length (all_of me.0.parts) ≡ u.moved + length (all_of u.parts)
+  pub emptied : me.0.emptied ++ me.0.parts ≡ u.emptied ++ u.parts
 
 -- the buffers below k were left as they were, and their bits are set again
 pub record Leaving (u : Knows) (me : Held) : Type 0 where

@@ -1,5 +1,5 @@
 -- The buffer that a seat took first, and the outer value that it holds.
-use Rattle.std.specs.Prelude.{◌≡◌, ℕ, Bool, List, [], ◌∷◌, ◌++◌, Option, Some, None}
+use Rattle.std.specs.Prelude.{◌≡◌, ℕ, Bool, All, List, [], ◌∷◌, ◌++◌, Option, Some, None}
 use Rattle.sig_kinds.specs.declared.signal.Signal.{Signal}
 use Rattle.sig_layout.specs.declared.via.Via.{Via}
 use Rattle.sig_layout.specs.declared.item.Item.{Item}
@@ -7,6 +7,7 @@ use Rattle.sig_layout.specs.declared.outer.Outer.{Outer}
 use Rattle.sig_layout.specs.declared.part.Part.{Part}
 use Rattle.sig_layout.specs.declared.knows.Knows.{Knows}
 use Rattle.sig_layout.specs.Views.{part, tail, mode_word}
+use Rattle.sig_layout.specs.Core.{buffer_of}
 
 abbrev pub first_part : List Part → Part
 first_part [] = part 0 []
@@ -22,6 +23,10 @@ IsOne ps b = (ps ≡ first_part ps ∷ []) × ((first_part ps).number ≡ b)
 
 abbrev pub IsFirst : List Part → ℕ → Type 0
 IsFirst ps b = (ps ≡ first_part ps ∷ tail ps) × ((first_part ps).number ≡ b)
+
+-- the signals of buffer b alone: of senders whose pid is b modulo 64
+abbrev pub OfBuffer : ℕ → List Signal → Type 0
+OfBuffer b = All (λ (x : Signal). buffer_of x.from.0 ≡ b)
 
 -- a signal with the way by which it was put
 abbrev pub item : Via → Signal → Item

@@ -3,6 +3,7 @@ use Rattle.std.specs.Prelude.{◌≡◌, ℕ, ◌+◌, ◌≤◌, List, [], ◌�
 use Rattle.sig_kinds.specs.declared.signal.Signal.{Signal}
 use Rattle.sig_layout.specs.Rooms.{Roomy}
 use Rattle.sig_layout.specs.declared.knows.Knows.{Knows}
+use Rattle.sig_layout.specs.Sent.{Prefix}
 use Rattle.sig_queue.specs.Tied.{Held}
 use Rattle.sig_queue.specs.Parts.{held_or}
 use Rattle.sig_queue.specs.Fetching.{outer_out}
@@ -17,6 +18,7 @@ waits v w = record v { refusals = w.refusals }
 -- The removal of a seat that had the view u has passed the buffers below k. What came behind the outer list is in `out`
 pub record Passing (u : Knows) (k : ℕ) (me : Held) (out : List Signal) : Type 0 where
   pub view : me.0 ≡ record u { held = me.0.held; progress = k; refusals = me.0.refusals }
+  pub refusals : Prefix u.refusals me.0.refusals
   pub slots : me.1 ≡ outer_out ∷ []
   pub holds : me.0.held ≡ Some (held_or me.0.held)
   pub signals : (held_or me.0.held).signals ≡ out

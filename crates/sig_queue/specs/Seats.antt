@@ -36,14 +36,21 @@ pub record IsSeat (me : Held) (k : Kept) : Type 0 where
   pub bare : me.1 ≡ []
   pub keeps : Keeps me.0 k
 
--- a note: it has no sender and no role
+-- a note: it has no sender and no role, and knows only what it was told
 pub record IsNote (me : Held) : Type 0 where
   pub idle : Idle me.0
   pub bare : me.1 ≡ []
   pub nobody : me.0.senders ≡ no_senders
   pub no_role : me.0.role ≡ false
   pub not_due : me.0.due ≡ false
+  pub nothing_put : me.0.put ≡ []
+  pub nothing_taken : me.0.taken ≡ []
+  pub no_fetches : me.0.fetches ≡ 0
+  pub no_bits : me.0.bits ≡ 0
+  pub nothing_emptied : me.0.emptied ≡ []
   pub unrefused : me.0.refused ≡ 0
+  pub no_refusals : me.0.refusals ≡ []
+  pub no_loads : me.0.loads ≡ []
 
 -- a seat that holds the outer turn between two calls, for tests
 pub record IsHolder (me : Held) (k : Kept) : Type 0 where

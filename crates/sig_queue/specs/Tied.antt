@@ -19,6 +19,7 @@ use Rattle.sig_layout.specs.declared.part.Part.{Part}
 use Rattle.sig_layout.specs.declared.knows.Knows.{Knows}
 use Rattle.sig_layout.specs.Views.{table_from, filled_at, mode_word, holding, turned_away, after_put, after_same, with_bits, after_fetch, switched_on, switched_off, after_remove, saw, counted, gains, turned_away_at, saw_under, marked, given_back, loses, put_aside, took_part, passed}
 use Rattle.sig_layout.specs.Core.{Cell, QState, Reached, buffer_of}
+use Rattle.sig_queue.specs.Parts.{OfBuffer}
 
 -- a value is at home where its turn is free
 abbrev pub home : ℕ → Slot → maybe.Option Slot
@@ -103,7 +104,7 @@ abbrev pub tried_outer : Tells
 tried_outer st m n m' = (n ≡ 0 → (o : Outer) × (m' ≡ (holding m.0 o, (0, slot.Outer o) ∷ m.1))) × (n ≢ 0 → (m' ≡ (turned_away m.0 n, m.1)) × Foreign m.0 n)
 
 abbrev pub tried_buffer : Tells
-tried_buffer st m n m' = (b : ℕ) → st.word ≡ 8 * (b + 3) → (n ≡ 0 → (l : List Signal) × (m' ≡ (gains m.0 b l, (b + 1, slot.List l) ∷ m.1))) × (n ≢ 0 → (m' ≡ (turned_away_at m.0 (b + 3) n, m.1)) × Foreign m.0 n)
+tried_buffer st m n m' = (b : ℕ) → st.word ≡ 8 * (b + 3) → (n ≡ 0 → (l : List Signal) × (m' ≡ (gains m.0 b l, (b + 1, slot.List l) ∷ m.1)) × OfBuffer b l) × (n ≢ 0 → (m' ≡ (turned_away_at m.0 (b + 3) n, m.1)) × Foreign m.0 n)
 
 abbrev pub loaded_mode : Policy → Tells
 loaded_mode policy st m n m' = (on : Bool) × (n ≡ mode_word on) × (m' ≡ (saw m.0 on, m.1)) × AllowsMode policy on

@@ -1,6 +1,6 @@
 //! Calls that put and take nothing: seats are cut in two and joined, notes go from seat to seat, and
 //! the word of bits is read.
-ghost use Rattle.std.specs.Prelude.{◌≡◌, ℕ, true};
+ghost use Rattle.std.specs.Prelude.{◌≡◌, ℕ, ◌++◌, true};
 ghost use Rattle.sig_layout.specs.Sets.{has};
 ghost use Rattle.sig_layout.specs.Views.{left_of, right_of, note_of, joined, counted};
 
@@ -70,7 +70,7 @@ impl SigQueue {
     pub fn learn(&self, seat: &mut QSeat, note: Note)
         requires own { (seat.old.queue ≡ self.now.id) × (note.queue ≡ self.now.id) }
         ensures own { seat.new.queue ≡ seat.old.queue }
-        ensures both { seat.new.knows ≡ joined seat.old.knows note.knows }
+        ensures told { seat.new.knows ≡ record seat.old.knows { told = seat.old.knows.told ++ note.knows.told } }
     {
         let Note { place } = note;
         let words = &self.table.shared;

@@ -75,8 +75,8 @@ impl SigQueue {
     }
 
     /// Ends the queue. The seat has all senders and the role, so that nothing can be put any more.
-    /// What each sender put is what was taken of it, and then what is left of it: first in the outer
-    /// list, and then in the buffers.
+    /// What is left is the outer list, and then the lists of buffers 0 to 63. What each sender put is
+    /// what was taken of it, and then what is left of it.
     pub fn close(self, mut seat: QSeat) -> Closed
         requires own { seat.queue ≡ self.id }
         requires role { seat.knows.role ≡ true }

@@ -8,7 +8,7 @@ ghost use Rattle.sig_layout.specs.Core.{buffer_of};
 ghost use Rattle.sig_layout.specs.Agree.{Apart};
 ghost use Rattle.sig_layout.specs.Views.{number, IsSomebody, flag, gains, turned_away_at, loses, put_aside, took_part, passed};
 ghost use Rattle.sig_queue.specs.Tied.{Foreign, list_in};
-ghost use Rattle.sig_queue.specs.Parts.{first_part, held_or, IsOne, IsFirst};
+ghost use Rattle.sig_queue.specs.Parts.{first_part, held_or, IsOne, IsFirst, OfBuffer};
 
 use crate::plays::{LeaveAside, LeaveBuffer, LeavePart, LeavePassed, TryBuffer};
 use crate::rule::{Place, Words};
@@ -21,7 +21,7 @@ pub(crate) fn try_buffer(words: &Words, place: &mut Place, buffer: usize, mine: 
     requires apart { Apart buffer place.old.me.0.parts }
     requires somebody { IsSomebody place.old.me.0 × (mine ≡ number place.old.me.0 + 1) }
     ensures same { (place.new.table_id ≡ place.old.table_id) × (place.new.id ≡ place.old.id) }
-    ensures took { result ≡ 0 → (l : List Signal) × (place.new.me ≡ (gains place.old.me.0 buffer l, (buffer + 1, Slot.List l) ∷ place.old.me.1)) }
+    ensures took { result ≡ 0 → (l : List Signal) × (place.new.me ≡ (gains place.old.me.0 buffer l, (buffer + 1, Slot.List l) ∷ place.old.me.1)) × OfBuffer buffer l }
     ensures refused { result ≢ 0 → (place.new.me ≡ (turned_away_at place.old.me.0 (buffer + 3) result, place.old.me.1)) × Foreign place.old.me.0 result }
 {
     words.compare_exchange::<TryBuffer>(place, (buffer + 3) * 8, 0, mine)

@@ -1,4 +1,5 @@
 use Rattle.std.proofs.Common.{◌≡◌}
+use Rattle.sig_layout.specs.Sent.{Prefix}
 use Rattle.sig_queue.specs.Removing.{waits}
 use Rattle.sig_queue.proofs.remove.wait_buffer.Given as goal
 
@@ -7,4 +8,5 @@ invariant-loop g l = record {
   table : l.place.table_id ≡ l.initial.place.table_id;
   id : l.place.id ≡ l.initial.place.id;
   me : l.place.me ≡ (waits l.initial.place.me.0 l.place.me.0, l.initial.place.me.1);
+  refusals : Prefix l.initial.place.me.0.refusals l.place.me.0.refusals;
 }

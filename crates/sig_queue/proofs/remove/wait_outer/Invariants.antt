@@ -1,5 +1,6 @@
-use Rattle.std.proofs.Common.{◌≡◌}
+use Rattle.std.proofs.Common.{◌≡◌, ◌≤◌}
 use Rattle.sig_layout.specs.Core.{some_refused}
+use Rattle.sig_layout.specs.Sent.{Prefix}
 use Rattle.sig_queue.specs.Removing.{waited}
 use Rattle.sig_queue.proofs.remove.wait_outer.Given as goal
 
@@ -9,4 +10,6 @@ invariant-loop g l = record {
   id : l.place.id ≡ l.initial.place.id;
   me : l.place.me ≡ (waited l.initial.place.me.0 l.place.me.0, l.initial.place.me.1);
   refused : l.refused ≡ some_refused l.place.me.0.refused;
+  count : l.initial.place.me.0.refused ≤ l.place.me.0.refused;
+  refusals : Prefix l.initial.place.me.0.refusals l.place.me.0.refusals;
 }

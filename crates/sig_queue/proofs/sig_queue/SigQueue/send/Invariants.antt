@@ -1,4 +1,5 @@
-use Rattle.std.proofs.Common.{◌≡◌}
+use Rattle.std.proofs.Common.{◌≡◌, ◌≤◌}
+use Rattle.sig_layout.specs.Sent.{Prefix}
 use Rattle.sig_queue.specs.Calls.{Tried}
 use Rattle.sig_queue.proofs.sig_queue.SigQueue.send.Given as goal
 
@@ -7,4 +8,6 @@ invariant-loop g l = record {
   own : l.seat.queue ≡ l.initial.seat.queue;
   signal : l.signal ≡ l.initial.signal;
   tried : Tried l.initial.seat.knows l.seat.knows;
+  refusals : Prefix l.initial.seat.knows.refusals l.seat.knows.refusals;
+  refused : l.initial.seat.knows.refused ≤ l.seat.knows.refused;
 }
