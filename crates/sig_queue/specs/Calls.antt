@@ -23,7 +23,6 @@ use Rattle.sig_queue.specs.declared.fetch.Fetch.TheVariants as fetch
 use Rattle.sig_queue.specs.declared.taken.Taken.{Taken}
 use Rattle.sig_layout.specs.Views.{filled_at, signals_of, buffer_in}
 use Rattle.sig_layout.specs.Core.{buffer_of}
-use Rattle.sig_layout.specs.declared.part.Part.{Part}
 use Rattle.sig_queue.specs.Fetching.{skips, all_of, numbers, picked, same_number, EachOwn, kept_of}
 use Rattle.sig_queue.specs.Tied.{Foreign, FreshBut, TookCarried}
 use Rattle.sig_queue.specs.Parts.{item, looked}
