@@ -62,8 +62,9 @@ fn offer_at(
 impl SigQueue {
     /// Offers a signal: to the sender's buffer where the mode is on, and else to the outer list. It
     /// tries each turn once, and never waits. The signal is of a sender of the seat, goes to the
-    /// queue's receiver, and continues the numbers of its sender. Under `Never` it is put into no
-    /// buffer, and under `Always` never into the outer list.
+    /// queue's receiver, continues the numbers of its sender, has a stamp of at most 2^62, and names
+    /// only processes below the queue's count. Under `Never` it is put into no buffer, and under
+    /// `Always` never into the outer list.
     pub fn offer(&self, seat: &mut QSeat, signal: Signal) -> Offer
         requires own { seat.old.queue ≡ self.now.id }
         requires from { has seat.old.knows.senders signal.from.0 ≡ true }

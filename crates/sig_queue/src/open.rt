@@ -112,9 +112,9 @@ fn first_table(
 }
 
 impl SigQueue {
-    /// An empty queue, and the seat that has all senders and the receiver's role. Each sender is below
-    /// the opening's count, and the opening has a first number for each pid below it. Fails only for
-    /// want of memory.
+    /// An empty queue, and the seat that has all senders and the receiver's role. The number of
+    /// `Churn` is at least 1, each sender is below the opening's count, and the opening has a first
+    /// number, from 1 and below 2^63, for each pid below it. The error is want of memory.
     pub fn open(
         alloc: Global,
         policy: Policy,

@@ -24,9 +24,8 @@ pub enum Sent {
 
 impl SigQueue {
     /// Offers a signal until it was put, or memory is wanting. It may wait for other seats. The
-    /// signal is of a sender of the seat, goes to the queue's receiver, and continues the numbers of
-    /// its sender. Under `Never` it is put into no buffer, and under `Always` never into the outer
-    /// list.
+    /// signal is one that [`offer`](SigQueue::offer) takes. Under `Never` it is put into no buffer, and
+    /// under `Always` never into the outer list.
     pub fn send<R: Wait>(&self, rt: &R, seat: &mut QSeat, mut signal: Signal) -> Sent
         requires own { seat.old.queue ≡ self.now.id }
         requires from { has seat.old.knows.senders signal.from.0 ≡ true }

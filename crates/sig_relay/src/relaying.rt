@@ -153,7 +153,7 @@ fn send_and_receive<R: Threads + Wait + Sync>(
 }
 
 /// One thread sends a message for each serial while another fetches, until it has enough. What was
-/// fetched, and then what is left, is what was sent, in order.
+/// fetched, and then what is left, is what was sent, in order. The error is want of memory.
 pub fn relay<R: Threads + Wait + Sync>(
     rt: &R,
     alloc: Global,
