@@ -24,6 +24,7 @@ pub use Rattle.sig_terms.proofs.atom.Atom.TheSendSync as atom_sent
 pub use Rattle.sig_lists.proofs.sequence.Sequence.TheSendSync as list_sent
 pub use Rattle.sig_queue.specs.contracts.slot.Slot as slot
 pub use Rattle.sig_queue.specs.contracts.qseat.QSeat as qseat
+pub use Rattle.sig_queue.specs.contracts.note.Note as note
 pub use Rattle.sig_queue.specs.contracts.sig_queue.SigQueue as queue
 pub use Rattle.atomic_table.proofs.owned.Table.TheSendSync as table_sent
 pub use Rattle.sig_layout.proofs.policy.Policy.TheSendSync as policy_sent
@@ -63,6 +64,9 @@ place_send = seat_sent.the_send slot.the_row knows.the_row slot_send
 pub seat_send : IsSend qseat.the_row
 seat_send = view_send _ _ _ _ _ (declared_send qseat.TheInside.the_type (as_row_send (seat.the_field slot.the_row knows.the_row) place_send, search parts depth 20))
 
+pub note_send : IsSend note.the_row
+note_send = view_send _ _ _ _ _ (declared_send note.TheInside.the_type (as_row_send (seat.the_field slot.the_row knows.the_row) place_send, tt))
+
 pub ruleset shared_parts = (sendable, crosses, knot.crosses, entry_sent.the_field_sync, entry_sent.the_sync, journal_sent.the_sync, summary_sent.the_field_sync, summary_sent.the_sync, senders_sent.the_sync, list_sent.the_sync, atom_sent.the_sync, pid_sent.the_field_sync, pid_sent.the_sync, ref_sent.the_field_sync, ref_sent.the_sync)
 
 term_sync : IsSync (term.the_field).row
@@ -84,4 +88,4 @@ pub queue_sync : IsSync queue.the_row
 queue_sync = view_sync _ _ _ _ _ (declared_sync queue.TheInside.the_type (search (parts, shared_parts, as_row_sync, table_sent.the_sync, policy_sent.the_sync, slot_send, batch_sync) depth 12))
 
 -- both for `search`
-pub ruleset crossing = (parts, shared_parts, seat_send, queue_sync)
+pub ruleset crossing = (parts, shared_parts, seat_send, note_send, queue_sync)
