@@ -2,6 +2,7 @@
 
 use crate::runs::ONE_MESSAGE;
 use crate::whole::{PLAIN, Ran, Setting, push_words};
+use crate::workers::{count, is_settled};
 use sig_base::{OpenGate, read_all};
 use sig_host::{Settings, WordsError, words};
 use sig_layout::Policy;
@@ -137,20 +138,28 @@ fn is_unread(alloc: Global, ran: &mut Ran) -> bool {
     left.as_slice() == ONE_MESSAGE
 }
 
+/// Whether the bytes are a settled record that keeps so many messages. Where that is none, whether
+/// there are no bytes.
+fn keeps(alloc: Global, bytes: &[u8], kept: usize) -> bool {
+    if kept == 0 {
+        return bytes.is_empty();
+    }
+    count(bytes, b" kept ") == kept && is_settled(alloc, bytes)
+}
+
 /// Whether a run with these arguments, and a script that is there to be read, ends with this status
-/// and tells this, as far as there is room for it. It reads no script, and writes where it isn't
-/// refused.
+/// and tells this, as far as there is room for it. It reads no script, and its record keeps so many
+/// messages, where it isn't refused.
 fn ends_so<R: Threads + Wait + Sync>(
     rt: &R,
     alloc: Global,
     setting: &Setting,
-    number: u8,
-    told: &[u8],
+    ending: (u8, &[u8], usize),
 ) -> Result<bool, AllocError> {
+    let (number, told, kept) = ending;
     let mut ran = Ran::of(rt, alloc, setting, &[(ONE_MESSAGE, 1)], &OpenGate)?;
-    let written = !ran.out.held().is_empty();
     let tells = ran.status.number() == number && ran.err.held() == told;
-    Ok(is_unread(alloc, &mut ran) && tells && written == (number != 2))
+    Ok(is_unread(alloc, &mut ran) && tells && keeps(alloc, ran.out.held(), kept))
 }
 
 const TOLD_USAGE: &[u8] =
@@ -158,52 +167,64 @@ const TOLD_USAGE: &[u8] =
 
 const SUMMARY_OF_2: &[u8] = b"processes 9\nevents 200\nkept 32\nended 8\nwaiting 1\ncut 0\n";
 
-/// Arguments, how much `err` holds, the number of the status, and what is told.
-const ARGUMENTS: [(&[&str], usize, u8, &[u8]); 12] = [
-    (&["--workers", "0"], 100, 2, TOLD_USAGE),
-    (&["--buffers", "churn:0"], 100, 2, TOLD_USAGE),
-    (&["--generate", "0"], 100, 2, TOLD_USAGE),
-    (&["--generate", "801"], 100, 2, TOLD_USAGE),
-    (&["--help"], 100, 2, TOLD_USAGE),
-    (&["--help"], 5, 2, b"usage"),
-    (&["--generate", "100"], 100, 0, SUMMARY_OF_100),
-    (&["--generate", "1"], 12, 0, b"processes 9\n"),
+/// Arguments, how much `err` holds, the number of the status, what is told, and how many messages the
+/// record keeps.
+const ARGUMENTS: [(&[&str], usize, u8, &[u8], usize); 13] = [
+    (&["--workers", "0"], 100, 2, TOLD_USAGE, 0),
+    (&["--buffers", "churn:0"], 100, 2, TOLD_USAGE, 0),
+    (&["--generate", "0"], 100, 2, TOLD_USAGE, 0),
+    (&["--generate", "801"], 100, 2, TOLD_USAGE, 0),
+    (&["--help"], 100, 2, TOLD_USAGE, 0),
+    (&["--help"], 5, 2, b"usage", 0),
+    (&["--generate", "100"], 100, 0, SUMMARY_OF_100, 1600),
+    (
+        &["--generate", "100", "--workers", "4"],
+        100,
+        0,
+        SUMMARY_OF_100,
+        1600,
+    ),
+    (&["--generate", "1"], 12, 0, b"processes 9\n", 16),
     (
         &["--generate", "2", "--workers", "4", "--buffers", "never"],
         100,
         0,
         SUMMARY_OF_2,
+        32,
     ),
     (
         &["--generate", "2", "--workers", "4", "--buffers", "always"],
         100,
         0,
         SUMMARY_OF_2,
+        32,
     ),
     (
         &["--generate", "2", "--workers", "4", "--buffers", "churn:1"],
         100,
         0,
         SUMMARY_OF_2,
+        32,
     ),
     (
         &["--generate", "2", "--workers", "4", "--quota", "1"],
         100,
         0,
         SUMMARY_OF_2,
+        32,
     ),
 ];
 
 #[test]
 fn arguments_are_told(rt: HostRuntime) {
     let alloc = rt.alloc();
-    for (list, room, number, told) in ARGUMENTS {
+    for (list, room, number, told, kept) in ARGUMENTS {
         let setting = Setting {
             words: list,
             room,
             ..PLAIN
         };
-        let ends = ends_so(&rt, alloc, &setting, number, told);
+        let ends = ends_so(&rt, alloc, &setting, (number, told, kept));
         assert!(rt; ends == Ok(true), "{list:?}");
     }
 }

@@ -1,14 +1,17 @@
 //! Records: merged, sorted, and read back.
 
-use crate::runs::{ONE_MESSAGE, ONE_MESSAGE_RECORD};
+use crate::markers::MARKERS;
+use crate::runs::{LINES, ONE_MESSAGE, ONE_MESSAGE_RECORD};
+use crate::whole::text_of;
 use sig_process::Crew;
-use sig_record::{Record, RecordError, print_record, read_record};
+use sig_record::{MergedAt, Record, RecordError, print_record, read_record, reread};
 use sig_script::{ScriptError, read_script};
 use sig_workers::run_one;
 use std::alloc::{AllocError, Global};
 
 /// `01` where `1` has to stand.
-const PADDED_PID: &[u8] = b"sigrecord 1\nprocess 0 a\n1 exec 1 sent <01> hi\nstate waiting\n";
+const PADDED_PID: &[u8] =
+    b"sigrecord 1\nprocess 0 a\n1 exec 1 sent <01> hi\n2 exec 2 ended normal\nstate ended normal\nprocess 1 b\n2 from 0 1 kept hi\n3 exec 1 took 1 1 hi\n4 exec 2 ended normal\nstate ended normal\n";
 
 /// A process's name begins with a small letter.
 const LARGE_NAME: &[u8] = b"sigrecord 1\nprocess 0 A\nstate waiting\n";
@@ -55,12 +58,48 @@ const SENDERS: &[u8] = b"sigscript 1\nturns 3\n\
     process d22\nset X 1\nset X 2\nsend @hub d\n\
     process d23\nset X 1\nset X 2\nsend @hub d\n";
 
-/// Whether the events of one message are merged so, and its record is settled.
+/// The pid, the place and the stamp of the events of one message, in their merged order.
+const ONE_MESSAGE_EVENTS: [(u32, u64, Option<u64>); 5] = [
+    (0, 0, Some(1)),
+    (0, 1, Some(2)),
+    (1, 0, Some(2)),
+    (1, 1, Some(3)),
+    (1, 2, Some(4)),
+];
+
+/// The stamp of an event of the record.
+fn stamp_of(record: &Record, at: &MergedAt) -> Option<u64> {
+    let report = record.reports().get(at.pid.0 as usize)?;
+    let event = report.events.as_slice().get(at.place as usize)?;
+    Some(event.stamp)
+}
+
+/// The text of the record.
+fn printed(alloc: Global, record: &Record) -> Result<Vec<u8>, AllocError> {
+    let mut text = Vec::new(alloc);
+    print_record(record, &mut text)?;
+    Ok(text)
+}
+
+/// Whether the events of one message are merged so, and its record is settled and printed so.
 fn one_message_is_merged(alloc: Global) -> Result<bool, ScriptError> {
     let record = record_of(alloc, ONE_MESSAGE)?;
     let order = record.merge(alloc)?;
-    let events = order.as_slice().iter().map(|at| (at.pid.0, at.place));
-    Ok(record.settled() && events.eq([(0, 0), (0, 1), (1, 0), (1, 1), (1, 2)]))
+    let events = order
+        .as_slice()
+        .iter()
+        .map(|at| (at.pid.0, at.place, stamp_of(&record, at)));
+    let merged = events.eq(ONE_MESSAGE_EVENTS);
+    let text = printed(alloc, &record)?;
+    Ok(merged && record.settled() && text.as_slice() == ONE_MESSAGE_RECORD)
+}
+
+/// Whether the script of these lines has this record, each without its first line.
+fn has_record(alloc: Global, lines: &[u8], expected: &[u8]) -> Result<bool, ScriptError> {
+    let script = text_of(alloc, &[(LINES.head, 1), (lines, 1)])?;
+    let record = record_of(alloc, script.as_slice())?;
+    let text = printed(alloc, &record)?;
+    Ok(text.as_slice().strip_prefix(b"sigrecord 1\n") == Some(expected))
 }
 
 /// The place of the first signal in the queue of process 1 that isn't the only one of the sender of
@@ -90,6 +129,10 @@ fn first_other_of_many(alloc: Global) -> Result<Option<usize>, ScriptError> {
 fn records_are_merged_and_sorted(rt: HostRuntime) {
     let merges = one_message_is_merged(rt.alloc());
     assert!(rt; matches!(merges, Ok(true)), "{merges:?}");
+    for (lines, record) in &MARKERS {
+        let has = has_record(rt.alloc(), lines, record);
+        assert!(rt; matches!(has, Ok(true)), "{lines:?}");
+    }
     let place = first_other_of_many(rt.alloc());
     assert!(rt; matches!(place, Ok(Some(27))), "{place:?}");
 }
@@ -102,12 +145,12 @@ fn refused_line(alloc: Global, bytes: &[u8]) -> Option<u64> {
     }
 }
 
-/// Whether the record is printed as it was read.
+/// Whether the record is printed as it was read, and so is the one that is read of its text.
 fn is_printed_again(alloc: Global, bytes: &[u8]) -> Result<bool, RecordError> {
     let record = read_record(alloc, bytes)?;
-    let mut text = Vec::new(alloc);
-    print_record(&record, &mut text)?;
-    Ok(text.as_slice() == bytes)
+    let text = printed(alloc, &record)?;
+    let again = printed(alloc, &reread(alloc, &record)?)?;
+    Ok(text.as_slice() == bytes && again.as_slice() == bytes)
 }
 
 /// The first length from this one on of which the front of the bytes is a record's text.

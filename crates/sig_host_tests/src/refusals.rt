@@ -4,11 +4,15 @@ const VALUE: &[u8] = b"sigscript 1\nprocess a\nset X ";
 
 const CLAUSE: &[u8] = b"sigscript 1\nprocess a\nreceive\non ";
 
+/// Texts in pieces, each so many times, that have as many bytes as a text may have, and their records.
+pub(crate) static LONGEST: [(&[(&[u8], usize)], &[u8]); 2] = [
+    (&[(b"sigscript 1\n%", 1), (b"x", 1048563)], b"sigrecord 1\n"),
+    (&[(b"sigscript 1\n", 1), (b" ", 1048564)], b"sigrecord 1\n"),
+];
+
 /// Texts in pieces, each so many times, and the line and the kind where they are refused.
-pub(crate) static LONG: [(&[(&[u8], usize)], &[u8]); 22] = [
-    (&[(b"sigscript 1\n%", 1), (b"x", 1048563)], b""),
+pub(crate) static LONG: [(&[(&[u8], usize)], &[u8]); 20] = [
     (&[(b"sigscript 1\n%", 1), (b"x", 1048564)], b"0: too_long"),
-    (&[(b"sigscript 1\n", 1), (b" ", 1048564)], b""),
     (&[(b" ", 1048576)], b"1: header"),
     (&[(b" ", 1048577)], b"0: too_long"),
     (&[(b"sigscript 1\nprocess ", 1), (b"a", 255)], b""),

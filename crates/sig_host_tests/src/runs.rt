@@ -7,7 +7,7 @@ use crate::links::{LINK_CALLS, LINKED_EXITS, QUEUED, UNLINKS};
 use crate::markers::MARKERS;
 use crate::matches::MATCHES;
 use crate::refusals::{
-    HEADS, LONG, MARKER_CLAUSES, OPERANDS, OTHER_FIRST_LINES, OTHERS, RECEIVES, TERMS,
+    HEADS, LONG, LONGEST, MARKER_CLAUSES, OPERANDS, OTHER_FIRST_LINES, OTHERS, RECEIVES, TERMS,
 };
 use crate::texts::TEXTS;
 use crate::watches::WATCHES;
@@ -121,6 +121,7 @@ fn faults_end_a_run(rt: HostRuntime) {
         assert!(rt; ends == Ok(true), "{status:?}");
     }
     assert!(rt; Status::ReadFault.number() == 3 && Status::WriteFault.number() == 4);
+    assert_eq!(rt; Status::Memory.number(), 5);
 }
 
 /// Which message a receive takes, and where a run is cut.
@@ -416,6 +417,10 @@ fn scripts_give_their_records(rt: HostRuntime) {
     for (around, rows) in tables {
         let other = around.first_other(&rt, rt.alloc(), rows);
         assert!(rt; matches!(other, Ok(None)), "{other:?}");
+    }
+    for (pieces, record) in &LONGEST {
+        let limited = WHOLE.holds(&rt, rt.alloc(), pieces, record);
+        assert!(rt; limited == Ok(true), "{pieces:?}");
     }
 }
 

@@ -1,7 +1,7 @@
 //! Worked examples of monitors and aliases, through the top call.
 
 /// Scripts without their first line, and their records without theirs.
-pub(crate) static WATCHES: [(&[u8], &[u8]); 11] = [
+pub(crate) static WATCHES: [(&[u8], &[u8]); 12] = [
     // A reply alias is sent to twice.
     (
         b"process a\nalias A reply\nsend @b A\nreceive\non {r,N}\nend\nreceive\non {r,N}\nafter\nend\n\
@@ -10,6 +10,15 @@ pub(crate) static WATCHES: [(&[u8], &[u8]); 11] = [
           7 exec 3 took 1 1 {r,1}\n8 from 1 2 dropped\n9 exec 4 after 0\n10 exec 5 ended normal\nstate ended normal\n\
           process 1 b\n3 from 0 1 kept #Ref<0.1>\n4 exec 1 took 1 1 #Ref<0.1>\n5 exec 2 sent #Ref<0.1> {r,1}\n\
           6 exec 3 sent #Ref<0.1> {r,2}\n7 exec 4 ended normal\nstate ended normal\n",
+    ),
+    // A message through an alias that was given up.
+    (
+        b"process a\nalias A\nsend @b A\nunalias A\nunalias A\nreceive\non X\nend\n\
+          process b\nreceive\non X\nend\nsend X late\n",
+        b"process 0 a\n1 exec 1 set #Ref<0.1>\n2 exec 2 sent <1> #Ref<0.1>\n3 exec 3 answered true\n\
+          6 from 1 1 dropped\n7 exec 4 answered false\nstate waiting\n\
+          process 1 b\n3 from 0 1 kept #Ref<0.1>\n4 exec 1 took 1 1 #Ref<0.1>\n5 exec 2 sent #Ref<0.1> late\n\
+          6 exec 3 ended normal\nstate ended normal\n",
     ),
     // No down comes after the reply.
     (

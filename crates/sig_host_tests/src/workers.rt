@@ -27,6 +27,12 @@ pub(crate) fn count(text: &[u8], piece: &[u8]) -> usize {
     found
 }
 
+/// The arguments with which ping-pong is played.
+const PLAYS: [&[&str]; 2] = [
+    &["--workers", "1"],
+    &["--workers", "4", "--buffers", "churn:1"],
+];
+
 /// What stands in the record of ping-pong, and how often.
 const PLAYED: [(&[u8], usize); 6] = [
     (b" took 1 1 pong\n", 500),
@@ -84,17 +90,14 @@ fn count_ended(text: &[u8]) -> usize {
     stopped.saturating_add(count(text, b"\nstate ended killed\nprocess 6 c6\n"))
 }
 
-/// The run of the script of these lines by four workers with buffers of this policy.
-fn run_of_four<R: Threads + Wait + Sync>(
+/// The run of the script of these lines with these arguments.
+fn run_of<R: Threads + Wait + Sync>(
     rt: &R,
     alloc: Global,
     lines: &[u8],
-    policy: &str,
+    words: &[&str],
 ) -> Result<Ran, AllocError> {
-    let setting = Setting {
-        words: &["--workers", "4", "--buffers", policy],
-        ..PLAIN
-    };
+    let setting = Setting { words, ..PLAIN };
     Ran::of(
         rt,
         alloc,
@@ -105,7 +108,7 @@ fn run_of_four<R: Threads + Wait + Sync>(
 }
 
 /// Whether the bytes are the text of a settled record.
-fn is_settled(alloc: Global, bytes: &[u8]) -> bool {
+pub(crate) fn is_settled(alloc: Global, bytes: &[u8]) -> bool {
     match read_record(alloc, bytes) {
         Ok(record) => record.settled(),
         Err(_) => false,
@@ -113,8 +116,12 @@ fn is_settled(alloc: Global, bytes: &[u8]) -> bool {
 }
 
 /// Whether the two play until both are cut, and the record is settled.
-fn play_settles<R: Threads + Wait + Sync>(rt: &R, alloc: Global) -> Result<bool, AllocError> {
-    let ran = run_of_four(rt, alloc, PING_PONG, "churn:1")?;
+fn play_settles<R: Threads + Wait + Sync>(
+    rt: &R,
+    alloc: Global,
+    words: &[&str],
+) -> Result<bool, AllocError> {
+    let ran = run_of(rt, alloc, PING_PONG, words)?;
     let record = ran.out.held();
     Ok(ran.status == Status::Done && has_all(record, &PLAYED) && is_settled(alloc, record))
 }
@@ -125,7 +132,8 @@ fn first_unserved_of_four<R: Threads + Wait + Sync>(
     rt: &R,
     alloc: Global,
 ) -> Result<Option<u32>, AllocError> {
-    let ran = run_of_four(rt, alloc, SERVER_AND_CLIENTS, "auto")?;
+    let words: &[&str] = &["--workers", "4", "--buffers", "auto"];
+    let ran = run_of(rt, alloc, SERVER_AND_CLIENTS, words)?;
     let record = ran.out.held();
     if ran.status != Status::Done || !has_all(record, &SERVED) || count_ended(record) != 12 {
         return Ok(Some(0));
@@ -135,7 +143,10 @@ fn first_unserved_of_four<R: Threads + Wait + Sync>(
 
 #[test]
 fn workers_settle(rt: HostRuntime) {
-    assert!(rt; play_settles(&rt, rt.alloc()) == Ok(true));
+    for words in PLAYS {
+        let settles = play_settles(&rt, rt.alloc(), words);
+        assert!(rt; settles == Ok(true), "{words:?}");
+    }
     assert_eq!(rt; first_unserved_of_four(&rt, rt.alloc()), Ok(None));
 }
 
