@@ -1,2 +1,3 @@
 mod PidSets
 mod Offers
+mod Comings

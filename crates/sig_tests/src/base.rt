@@ -1,6 +1,6 @@
-//! What is read and written up to a limit and past a fault, and the size of a counter.
+//! What is read and written up to a limit and past a fault, and a counter.
 
-ghost use Rattle.std.specs.Prelude.{◌≡◌, ◌<◌};
+ghost use Rattle.std.specs.Prelude.{◌≡◌, ◌+◌, ◌<◌};
 
 use crate::shared::{Row, each_row_holds};
 use sig_base::*;
@@ -269,20 +269,27 @@ fn writes_until_full_and_on_after_a_fault(rt: HostRuntime) {
     each_row_holds(&rt, rt.alloc(), &WRITINGS);
 }
 
-// The bytes that a counter of its own takes after two steps, with an open gate between them.
+// Counts two steps, with an open gate between them.
+fn count_two<L: Ledger>(steps: &mut Steps<L>)
+    ensures { steps.new ≡ steps.old + 2 }
+{
+    steps.tick();
+    OpenGate.at(0, 1, Point::Put { buffer: Some(63) });
+    steps.tick();
+}
+
+// The bytes that a counter of its own takes after two steps.
 fn bytes_of_two_steps<L: Ledger>(blank: Blank) -> usize
     requires name { blank.name ≡ L.name }
     requires parts { blank.parts ≡ L.parts }
     requires some { 0 < blank.parts }
 {
     let mut steps: Steps<L> = Steps::open(blank);
-    steps.tick();
-    OpenGate.at(0, 1, Point::Put { buffer: Some(63) });
-    steps.tick();
+    count_two(&mut steps);
     size_of_val(&steps)
 }
 
 #[test]
-fn counts_steps_past_an_open_gate(rt: HostRuntime) {
+fn steps_past_an_open_gate_take_no_bytes(rt: HostRuntime) {
     assert!(rt; bytes_of_two_steps::<Brand>(Blank::new(1)) == 0);
 }

@@ -3,16 +3,22 @@
 use sig_kinds::{Kind, Push, Signal, Signals};
 use sig_layout::{Entry, Journal};
 use sig_queue::Rest;
-use sig_terms::Term;
+use sig_terms::{Pid, Term};
 
-// The serial of this signal, where it is a message that is a reference.
+// The serial of this signal, where it is a message that is a reference of its sender.
 fn serial_of(signal: &Signal) -> Option<u64> {
     match &signal.kind {
         Kind::Message {
             term: Term::Ref(reference),
-        } => Some(reference.serial),
+        } if reference.owner == signal.from => Some(reference.serial),
         _other => None,
     }
+}
+
+/// Whether the signal is the message from one to the other with this number and this serial.
+pub(crate) fn is_message(signal: &Signal, from: Pid, to: Pid, number: u64, serial: u64) -> bool {
+    let is_between = signal.from == from && signal.to == to;
+    is_between && signal.number == number && serial_of(signal) == Some(serial)
 }
 
 /// Whether the signals have these serials.

@@ -27,28 +27,32 @@ fn row(alloc: Global, count: u16) -> Result<Expr, AllocError> {
     Ok(Expr::List(items))
 }
 
-/// An integer in so many tuples.
-fn nest(alloc: Global, depth: u8) -> Result<Expr, AllocError> {
+/// An integer in so many tuples. The innermost of them, as many as are doubled, hold two of what
+/// they hold, and the others one.
+fn nest(alloc: Global, doubled: u8, depth: u8) -> Result<Expr, AllocError> {
     let mut nested = Expr::Int(0);
-    for _ in 0..depth {
+    for level in 0..depth {
         let mut items = Sequence::new(alloc);
+        if level < doubled {
+            items.add(nested.copy(alloc)?)?;
+        }
         items.add(nested)?;
         nested = Expr::Tuple(items);
     }
     Ok(nested)
 }
 
-/// The nodes and the depth of what was built, or is too large to be.
-fn extent(built: &Result<Term, BuildFault>) -> Option<(u64, u64)> {
+/// Whether a term was built, and its nodes and its depth, or those that it would have.
+fn extent(built: &Result<Term, BuildFault>) -> Option<(bool, u64, u64)> {
     match built {
-        Ok(term) => Some((term.size(), term.depth())),
-        Err(BuildFault::TooLarge { nodes, depth }) => Some((*nodes, *depth)),
+        Ok(term) => Some((true, term.size(), term.depth())),
+        Err(BuildFault::TooLarge { nodes, depth }) => Some((false, *nodes, *depth)),
         Err(BuildFault::Memory) => None,
     }
 }
 
 /// The extent of what a copy of the expression builds.
-fn extent_of(alloc: Global, expression: Expr) -> Result<Option<(u64, u64)>, AllocError> {
+fn extent_of(alloc: Global, expression: Expr) -> Result<Option<(bool, u64, u64)>, AllocError> {
     let copied = expression.copy(alloc);
     drop(expression);
     let copy = copied?;
@@ -61,30 +65,38 @@ fn extent_of(alloc: Global, expression: Expr) -> Result<Option<(u64, u64)>, Allo
     Ok(extent)
 }
 
-/// How many integers a list has, or none for an integer in tuples; how many tuples; the nodes and the
-/// depth of its value.
-struct Size(Option<u16>, u8, u64, u64);
+enum Shape {
+    /// A list of so many integers.
+    List(u16),
+    /// An integer in tuples, so many of which hold two, and how many there are.
+    Tuples(u8, u8),
+}
+
+/// An expression, whether its value is built, and the nodes and the depth of the value.
+struct Size(Shape, bool, u64, u64);
 
 impl Row for Size {
-    /// Whether the value is of this size.
+    /// Whether the value is of this size, and is built or not.
     fn holds(&self, alloc: Global) -> Result<bool, AllocError> {
         let expression = match self.0 {
-            Some(count) => row(alloc, count)?,
-            None => nest(alloc, self.1)?,
+            Shape::List(count) => row(alloc, count)?,
+            Shape::Tuples(doubled, depth) => nest(alloc, doubled, depth)?,
         };
-        Ok(extent_of(alloc, expression)? == Some((self.2, self.3)))
+        Ok(extent_of(alloc, expression)? == Some((self.1, self.2, self.3)))
     }
 }
 
-const SIZES: [Size; 4] = [
-    Size(Some(1023), 0, 1024, 2),
-    Size(Some(1024), 0, 1025, 2),
-    Size(None, 63, 64, 64),
-    Size(None, 64, 65, 65),
+const SIZES: [Size; 6] = [
+    Size(Shape::List(1023), true, 1024, 2),
+    Size(Shape::List(1024), false, 1025, 2),
+    Size(Shape::Tuples(0, 63), true, 64, 64),
+    Size(Shape::Tuples(0, 64), false, 65, 65),
+    Size(Shape::Tuples(9, 10), true, 1024, 11),
+    Size(Shape::Tuples(9, 11), false, 1025, 12),
 ];
 
 #[test]
-fn sizes_are_measured(rt: HostRuntime) {
+fn values_are_built_up_to_their_limits(rt: HostRuntime) {
     each_row_holds(&rt, rt.alloc(), &SIZES);
 }
 

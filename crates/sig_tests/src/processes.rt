@@ -1,22 +1,26 @@
 //! Plays of two processes step by step, with their signals on the way as long as the play says; the
-//! processes of a crew; and a signal that is taken in.
+//! processes of a crew; and a message that comes too late.
 //!
 //! A move is written as a sign: `a` and `b` execute the next instruction of process 0 and of process
 //! 1, `A` and `B` handle the next signal there, `>` delivers what 0 has sent, and `<` what 1 has
 //! sent. The letter of each outcome stands in `letter`.
 
-ghost use Rattle.std.specs.Prelude.{◌≡◌, ◌<◌, [], length, IfSome, slice_get};
+ghost use Rattle.std.specs.Prelude.{◌≡◌, ◌<◌, ℕ, [], length, All, IfSome, OnOk, slice_get};
+ghost use Rattle.sig_kinds.specs.Counting.{IsCounting};
+ghost use Rattle.sig_model.specs.Accounts.{coming_from};
 ghost use Rattle.sig_model.specs.Keeping.{IsArriving};
 ghost use Rattle.sig_model.specs.Running.{opened as beginning};
+ghost use Rattle.sig_tests.specs.Plays.{SameCome};
 
+use crate::orders::is_message;
 use crate::shared::{Row, each_row_holds};
 use sig_base::Steps;
 use sig_kinds::{Kind, Signal, Signals};
-use sig_model::{Event, Outcome};
-use sig_process::{Crew, Process};
+use sig_model::{Did, Event, Outcome};
+use sig_process::{Crew, Exec, Process};
 use sig_program::Script;
 use sig_script::{ScriptError, read_script};
-use sig_terms::Pid;
+use sig_terms::{Pid, Ref, Term};
 use std::alloc::{AllocError, Global};
 use std::marker::Brand;
 use std::sync::ledger::{Blank, Ledger};
@@ -31,7 +35,7 @@ struct Play {
     number: u64,
 }
 
-const PLAYS: [Play; 12] = [
+const PLAYS: [Play; 11] = [
     // A link signal is dropped while an id is awaited.
     Play {
         lines: b"process a\nlink @b\nunlink @b\nprocess b\nunlink @a\nlink @a\n",
@@ -80,15 +84,8 @@ const PLAYS: [Play; 12] = [
         second: b"en-",
         number: 3,
     },
-    // A message through an alias counts by the moment at which it is handled.
-    Play {
-        lines: b"process a\nalias A\nsend @b A\nunalias A\nunalias A\n\
-          process b\nreceive\non X\nend\nsend X late\n",
-        moves: b"aa>Bbba<Aa",
-        first: b"=sy-x",
-        second: b"mts",
-        number: 2,
-    },
+    // A message through an alias counts by the moment at which it is handled: here it comes before
+    // the alias ends.
     Play {
         lines: b"process a\nalias A\nsend @b A\nunalias A\nunalias A\n\
           process b\nreceive\non X\nend\nsend X early\n",
@@ -169,13 +166,15 @@ fn tells(process: &Process, letters: &[u8]) -> bool {
     true
 }
 
-/// Executes the next instruction. False where none can be executed.
-fn execute<L: Ledger>(process: &mut Process, steps: &mut Steps<L>) -> Result<bool, AllocError> {
+/// Executes the next instruction. False where none can be executed, and where it waits.
+fn execute<L: Ledger>(process: &mut Process, steps: &mut Steps<L>) -> Result<bool, AllocError>
+    ensures { OnOk result (SameCome process.old.running process.new.running) }
+{
     if !process.can_exec() {
         return Ok(false);
     }
-    process.exec(steps)?;
-    Ok(true)
+    let answer = process.exec(steps)?;
+    Ok(answer == Exec::Stepped)
 }
 
 /// Handles the next signal. False where none can be handled.
@@ -319,52 +318,181 @@ fn plays_go_by_the_rules(rt: HostRuntime) {
     each_row_holds(&rt, rt.alloc(), &PLAYS);
 }
 
-/// How many signals wait for process 1, as the script opens it, after a first one of process 0 was
-/// taken in from the empty list.
-fn waiting_after_one(
+/// Process 0 ends its alias twice, and then waits.
+const ALIAS_ENDS: &[u8] = b"process a\nalias A\nsend @b A\nunalias A\nunalias A\n\
+  receive\non X\nend\n\
+  process b\nreceive\non X\nend\nsend X late\n";
+
+/// The alias.
+const ALIAS: Ref = Ref {
+    owner: Pid(0),
+    serial: 1,
+};
+
+/// The events of process 0 where a message comes through the alias that ended before.
+const LATE: [Event; 5] = [
+    Event {
+        stamp: 1,
+        did: Did::Exec { place: 1 },
+        outcome: Outcome::Set {
+            value: Term::Ref(ALIAS),
+        },
+    },
+    Event {
+        stamp: 2,
+        did: Did::Exec { place: 2 },
+        outcome: Outcome::Sent {
+            to: Term::Pid(Pid(1)),
+            message: Term::Ref(ALIAS),
+        },
+    },
+    Event {
+        stamp: 3,
+        did: Did::Exec { place: 3 },
+        outcome: Outcome::Answered { yes: true },
+    },
+    Event {
+        stamp: 6,
+        did: Did::From {
+            from: Pid(1),
+            number: 1,
+        },
+        outcome: Outcome::Dropped,
+    },
+    Event {
+        stamp: 7,
+        did: Did::Exec { place: 4 },
+        outcome: Outcome::Answered { yes: false },
+    },
+];
+
+/// Whether the process did the same at both.
+fn same_did(did: &Did, expected: &Did) -> bool {
+    match (did, expected) {
+        (Did::Exec { place }, Did::Exec { place: other }) => place == other,
+        (
+            Did::From { from, number },
+            Did::From {
+                from: other,
+                number: expected,
+            },
+        ) => from == other && number == expected,
+        _ => false,
+    }
+}
+
+/// Whether both went the same way, one of those that `LATE` has.
+fn same_outcome(outcome: &Outcome, expected: &Outcome) -> bool {
+    match (outcome, expected) {
+        (Outcome::Set { value }, Outcome::Set { value: other }) => value.same(other),
+        (
+            Outcome::Sent { to, message },
+            Outcome::Sent {
+                to: other,
+                message: expected,
+            },
+        ) => to.same(other) && message.same(expected),
+        (Outcome::Answered { yes }, Outcome::Answered { yes: other }) => yes == other,
+        (Outcome::Dropped, Outcome::Dropped) => true,
+        _ => false,
+    }
+}
+
+/// Whether the events are these.
+fn same_events(events: &[Event], expected: &[Event]) -> bool {
+    if events.len() != expected.len() {
+        return false;
+    }
+    for (event, other) in events.iter().zip(expected.iter()) {
+        let is_same = event.stamp == other.stamp && same_did(&event.did, &other.did);
+        if !is_same || !same_outcome(&event.outcome, &other.outcome) {
+            return false;
+        }
+    }
+    true
+}
+
+/// Adds the message through the alias to the empty list.
+fn add_late(alloc: Global, signals: &mut Signals) -> Result<(), AllocError>
+    requires { signals.old.items ≡ [] }
+    ensures arriving { OnOk result ((count : ℕ) → 1 < count → All (IsArriving 0 count) signals.new.items) }
+    ensures first { OnOk result ((s : ℕ) → IsCounting 1 (coming_from s signals.new.items)) }
+{
+    signals.room(1)?;
+    let term = Term::plain_atom(alloc, b"late")?;
+    signals.add(Signal {
+        from: Pid(1),
+        to: Pid(0),
+        number: 1,
+        stamp: 5,
+        kind: Kind::AliasMessage {
+            reference: ALIAS,
+            term,
+        },
+    });
+    Ok(())
+}
+
+/// Whether process 0, as the script opens it, ends its alias, drops what comes through it then, and
+/// waits.
+fn drops_late<L: Ledger>(
     process: &mut Process,
     script: &Script,
     signals: &mut Signals,
-) -> Result<usize, AllocError>
-    requires empty { signals.old.items ≡ [] }
+    steps: &mut Steps<L>,
+) -> Result<bool, AllocError>
     requires many { 1 < length script.now.procs }
-    requires opened { IfSome (slice_get script.now.procs 1) (λ d.
-        process.old.running ≡ beginning 1 (length script.now.procs) script.now.turns d) }
+    requires opened { IfSome (slice_get script.now.procs 0) (λ d.
+        process.old.running ≡ beginning 0 (length script.now.procs) script.now.turns d) }
+    requires arriving { (count : ℕ) → 1 < count → All (IsArriving 0 count) signals.old.items }
+    requires first { (s : ℕ) → IsCounting 1 (coming_from s signals.old.items) }
 {
-    signals.room(1)?;
-    signals.add(Signal {
-        from: Pid(0),
-        to: Pid(1),
-        number: 1,
-        stamp: 1,
-        kind: Kind::Link,
-    });
+    let begun = execute(process, steps)? & execute(process, steps)? & execute(process, steps)?;
+    let Some(sent) = process.next_out() else {
+        return Ok(false);
+    };
+    let is_sent = is_message(&sent, Pid(0), Pid(1), 1, 1) & (sent.stamp == 2);
+    drop(sent);
     process.take_in(signals)?;
-    Ok(process.taken_in_count())
+    let is_one = process.taken_in_count() == 1;
+    let goes_on = handle(process)? && execute(process, steps)?;
+    let waits = process.can_exec() && process.exec(steps)? == Exec::Waiting;
+    let told = same_events(process.events().as_slice(), &LATE);
+    Ok(begun & is_sent & is_one & goes_on & waits & told)
 }
 
-/// The same of a process that is opened for it. It is 0 where the script has no process 1.
-fn waiting_in(alloc: Global, script: &Script) -> Result<usize, AllocError> {
+/// The same of a process that is opened for it, and of a script with two processes.
+fn late_is_dropped<L: Ledger>(
+    alloc: Global,
+    blank: Blank,
+    script: &Script,
+) -> Result<bool, AllocError>
+    requires name { blank.name ≡ L.name }
+    requires parts { blank.parts ≡ L.parts }
+    requires some { 0 < blank.parts }
+{
     if script.count() < 2 {
-        return Ok(0);
+        return Ok(false);
     }
-    let mut process = Process::open(alloc, script, Pid(1))?;
     let mut signals = Signals::new(alloc);
-    let waiting = waiting_after_one(&mut process, script, &mut signals);
-    drop(signals);
+    add_late(alloc, &mut signals)?;
+    let mut steps: Steps<L> = Steps::open(blank);
+    let mut process = Process::open(alloc, script, Pid(0))?;
+    let dropped = drops_late(&mut process, script, &mut signals, &mut steps);
     drop(process);
-    waiting
+    drop(signals);
+    dropped
 }
 
-/// The same of a script of two processes.
-fn waiting_of_two(alloc: Global) -> Result<usize, ScriptError> {
-    let script = script_of(alloc, b"process a\nprocess b")?;
-    let waiting = waiting_in(alloc, &script);
+/// The same of the script of `ALIAS_ENDS`.
+fn late_goes(alloc: Global) -> Result<bool, ScriptError> {
+    let script = script_of(alloc, ALIAS_ENDS)?;
+    let dropped = late_is_dropped::<Brand>(alloc, Blank::new(1), &script);
     drop(script);
-    Ok(waiting?)
+    Ok(dropped?)
 }
 
 #[test]
-fn a_signal_that_is_taken_in_waits(rt: HostRuntime) {
-    assert!(rt; waiting_of_two(rt.alloc()) == Ok(1));
+fn a_message_through_an_ended_alias_is_dropped(rt: HostRuntime) {
+    assert!(rt; late_goes(rt.alloc()) == Ok(true));
 }

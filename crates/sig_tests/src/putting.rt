@@ -5,6 +5,7 @@ ghost use Rattle.sig_layout.specs.Sent.{putter, of};
 ghost use Rattle.sig_relay.specs.Relays.{Sender, Receives, message as said};
 ghost use Rattle.sig_tests.specs.Queues.{Puts, Keeps, SameHand, via_by, is_put, put_after};
 
+use crate::orders::is_message;
 use sig_kinds::Signals;
 use sig_layout::Via;
 use sig_queue::{Offer, QSeat, SigQueue};
@@ -24,15 +25,19 @@ fn way_of(offer: &Offer) -> Option<Via>
     }
 }
 
-// The turn of the seat that held it, where one did.
-fn found_by(offer: &Offer) -> Option<u64> {
+// The turn of the seat that held it, where one did and the message came back as it was offered.
+fn found_by(offer: &Offer, line: Line, number: u64, serial: u64) -> Option<u64> {
     match offer {
-        Offer::Busy { found, .. } => Some(*found),
+        Offer::Busy { signal, found } => {
+            let is_back = is_message(signal, line.from, line.to, number, serial);
+            is_back.then_some(*found)
+        }
         _other => None,
     }
 }
 
-/// Offers the message with this number. It tells by which way it was put, and which seat held the turn.
+/// Offers the message with this number. It tells by which way it was put, and which seat held the turn
+/// where the message came back.
 pub(crate) fn offered(
     queue: &SigQueue,
     seat: &mut QSeat,
@@ -49,7 +54,7 @@ pub(crate) fn offered(
     ensures put { seat.new.knows.put ≡ put_after seat.old.knows.put (said line.from line.to number serial) result.0 }
 {
     let offer = offer_message(queue, seat, line, number, serial);
-    let told = (way_of(&offer), found_by(&offer));
+    let told = (way_of(&offer), found_by(&offer, line, number, serial));
     drop(offer);
     told
 }

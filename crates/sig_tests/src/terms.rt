@@ -50,10 +50,11 @@ fn makes_name(alloc: Global, bytes: &[u8]) -> Result<bool, AllocError> {
 }
 
 /// How many bytes the longest front that is a text has, if there is one.
-fn front_length(alloc: Global, bytes: &[u8]) -> Option<usize> {
+fn front_length(alloc: Global, bytes: &[u8]) -> Result<Option<usize>, AllocError> {
     match read_front(alloc, bytes) {
-        Ok(front) => Some(front.used),
-        Err(_) => None,
+        Ok(front) => Ok(Some(front.used)),
+        Err(ReadTerm::BadTerm) => Ok(None),
+        Err(ReadTerm::Memory) => Err(AllocError),
     }
 }
 
@@ -127,7 +128,7 @@ fn is_so(alloc: Global, text: &[u8], said: &Said) -> Result<bool, AllocError> {
         Said::Word(atom, name) => {
             Ok(makes_atom(alloc, text)? == *atom && makes_name(alloc, text)? == *name)
         }
-        Said::Front(length) => Ok(front_length(alloc, text) == *length),
+        Said::Front(length) => Ok(front_length(alloc, text)? == *length),
         _ => is_read(alloc, text, said),
     }
 }
