@@ -8,7 +8,7 @@ ghost use Rattle.sig_tests.specs.Queues.{Puts, Keeps, SameHand, via_by, is_put, 
 use crate::orders::is_message;
 use sig_kinds::Signals;
 use sig_layout::Via;
-use sig_queue::{Offer, QSeat, SigQueue};
+use sig_queue::{Note, Offer, QSeat, SigQueue};
 use sig_relay::{Line, offer_message, receive};
 use sig_terms::Pid;
 use std::sync::Wait;
@@ -103,7 +103,7 @@ fn put_next(
 
 // Puts so many messages with the serials from 0 on, or as many as memory allows. It tells whether
 // all were put, and each in the sender's buffer.
-pub(crate) fn put_each(queue: &SigQueue, mut seat: QSeat, line: Line, count: u64) -> (QSeat, bool)
+fn put_each(queue: &SigQueue, mut seat: QSeat, line: Line, count: u64) -> (QSeat, bool)
     requires puts { Puts queue.now line seat }
     ensures keeps { Keeps queue.now seat.knows.senders result.0 }
 {
@@ -151,7 +151,7 @@ fn put_two<R: Threads>(
 }
 
 // One thread puts so many messages while another fetches, until it has enough.
-pub(crate) fn put_and_receive<R: Threads + Wait + Sync>(
+fn put_and_receive<R: Threads + Wait + Sync>(
     rt: &R,
     queue: &SigQueue,
     sender: QSeat,
@@ -174,6 +174,50 @@ pub(crate) fn put_and_receive<R: Threads + Wait + Sync>(
             requires { Puts queue.now line sender }
             ensures { Keeps queue.entry.now sender.knows.senders result.0 }
         { put_each(queue, sender, line, count) },
+        move || -> (QSeat, Signals)
+            requires { (receiver.queue ≡ queue.now.id) × Receives taken.items receiver.knows }
+            ensures { (result.0.queue ≡ queue.entry.now.id) × Receives result.1.items result.0.knows }
+        { receive(rt, queue, receiver, taken, enough) },
+    )
+}
+
+// Puts so many messages, and makes a note of them. It tells whether all were put, and each in the
+// sender's buffer.
+fn put_and_note(queue: &SigQueue, seat: QSeat, line: Line, count: u64) -> (Note, bool)
+    requires puts { Puts queue.now line seat }
+    ensures note { result.0.queue ≡ queue.now.id }
+{
+    let (mut seat, aside) = put_each(queue, seat, line, count);
+    let note = queue.note(&mut seat);
+    drop(seat);
+    (note, aside)
+}
+
+// One thread puts so many messages and hands over a note of them, while another fetches, until it has
+// enough.
+pub(crate) fn note_and_receive<R: Threads + Wait + Sync>(
+    rt: &R,
+    queue: &SigQueue,
+    sender: QSeat,
+    receiver: QSeat,
+    line: Line,
+    count: u64,
+    taken: Signals,
+    enough: usize,
+) -> ((Note, bool), (QSeat, Signals))
+    requires puts { Puts queue.now line sender }
+    requires own { receiver.queue ≡ queue.now.id }
+    requires receives { Receives taken.items receiver.knows }
+    ensures note { result.0.0.queue ≡ queue.now.id }
+    ensures own { result.1.0.queue ≡ queue.now.id }
+    ensures receives { Receives result.1.1.items result.1.0.knows }
+{
+    thread::join(
+        rt,
+        move || -> (Note, bool)
+            requires { Puts queue.now line sender }
+            ensures { result.0.queue ≡ queue.entry.now.id }
+        { put_and_note(queue, sender, line, count) },
         move || -> (QSeat, Signals)
             requires { (receiver.queue ≡ queue.now.id) × Receives taken.items receiver.knows }
             ensures { (result.0.queue ≡ queue.entry.now.id) × Receives result.1.items result.0.knows }

@@ -7,7 +7,7 @@ ghost use Rattle.sig_tests.specs.Queues.{IsOfFour, IsFresh, HasAll};
 use crate::held::hold_and_offer;
 use crate::orders::{are, are_in_order, gather, has};
 use crate::pids::{only, pair, trio};
-use crate::putting::{put_and_receive, put_three};
+use crate::putting::{note_and_receive, put_three};
 use crate::shared::{none_is_other, passes};
 use crate::switching::switch;
 use sig_kinds::Signals;
@@ -198,8 +198,8 @@ fn fetch_all(queue: &SigQueue, seat: &mut QSeat, into: &mut Signals) -> bool
     false
 }
 
-// One thread puts a hundred messages of the sender 3 into its buffer while another fetches. Once the
-// receiver has learned what was put, a fetch that passes no buffer by has taken all of it.
+// One thread puts a hundred messages of the sender 3 into its buffer while this one fetches, and hands
+// over a note. Once this one has learned it, a fetch that passes no buffer by has taken all of them.
 fn learns<R: Threads + Wait + Sync>(
     rt: &R,
     alloc: Global,
@@ -212,7 +212,7 @@ fn learns<R: Threads + Wait + Sync>(
 {
     let sender = queue.split(&mut seat, senders, false);
     let taken = Signals::new(alloc);
-    let ((mut sender, aside), (mut seat, mut taken)) = put_and_receive(
+    let ((note, aside), (mut seat, mut taken)) = note_and_receive(
         rt,
         &queue,
         sender,
@@ -222,11 +222,9 @@ fn learns<R: Threads + Wait + Sync>(
         taken,
         30,
     );
-    let note = queue.note(&mut sender);
     queue.learn(&mut seat, note);
     let all = fetch_all(&queue, &mut seat, &mut taken);
     let come = are_in_order(&taken, HUNDRED);
-    drop(sender);
     drop(seat);
     drop(taken);
     drop(queue);
