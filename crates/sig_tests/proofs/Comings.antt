@@ -1,14 +1,12 @@
 -- The signals that come to a process in a play.
-use Rattle.std.proofs.Common.{◌≡◌, ℕ, ◌<◌, List, [], ◌∷◌, ◌++◌, Bool, true, false, cond, refl, sym, ap, ◌∙◌, subst, arith}
+use Rattle.std.proofs.Common.{◌≡◌, ℕ, ◌<◌, List, [], ◌∷◌, ◌++◌, Bool, true, false, cond, refl, sym, subst, arith}
 use Rattle.std.specs.Prelude.{All, ◌==◌}
-use Rattle.std.proofs.lemmas.List.Elements.{All-nil, All-cons}
+use Rattle.std.proofs.lemmas.List.Elements.{All-nil, All-cons, All-append}
 use Rattle.sig_terms.specs.declared.reference.Ref.{Ref}
 use Rattle.sig_terms.specs.declared.term.Term.{Term}
 use Rattle.sig_terms.specs.declared.term.Term.TheVariants as term
-use Rattle.sig_terms.specs.declared.term.Term.TheOpen as layer
-use Rattle.sig_terms.specs.declared.term.Term.TheFolds.{fold-roll-Term}
-use Rattle.sig_terms.specs.Names.{Named, names_of, names_of_ref, names_step, IsNameBelow}
-use Rattle.sig_terms.proofs.NameLemmas.{ref_below}
+use Rattle.sig_terms.specs.Names.{names_of, names_of_ref, IsNameBelow}
+use Rattle.sig_terms.proofs.NameLemmas.{ref_below, atom_names}
 use Rattle.sig_kinds.specs.declared.signal.Signal.{Signal}
 use Rattle.sig_kinds.specs.declared.signal.Kind.TheVariants.{AliasMessage}
 use Rattle.sig_kinds.specs.Counting.{IsCounting}
@@ -37,14 +35,11 @@ alias = record { owner = record { 0 = 0 }; serial = 1 }
 abbrev pub late : Term → Signal
 late t = record { from = record { 0 = 1 }; to = record { 0 = 0 }; number = 1; stamp = 5; kind = AliasMessage alias t }
 
-names_of_atom : (word : List ℕ) → names_of (term.Atom word) ≡ []
-names_of_atom word = ap names_of (sym (term.rolls-Atom word)) ∙ fold-roll-Term (List Named) names_step (layer.Atom word)
-
 alias_below : (count : ℕ) → 1 < count → All (IsNameBelow count) (names_of_ref alias)
 alias_below count lt = ref_below count alias (omega (arith, lt))
 
 late_names : (count : ℕ) (word : List ℕ) (t : Term) → 1 < count → t ≡ term.Atom word → All (IsNameBelow count) (names_of_ref alias ++ names_of t)
-late_names count word t lt is = subst (λ (ns : List Named). All (IsNameBelow count) (names_of_ref alias ++ ns)) (sym (ap names_of is ∙ names_of_atom word)) (alias_below count lt)
+late_names count word t lt is = All-append (IsNameBelow count) (names_of_ref alias) (names_of t) (alias_below count lt) (subst (λ (u : Term). All (IsNameBelow count) (names_of u)) (sym is) (atom_names (IsNameBelow count) word))
 
 late_arrives : (count : ℕ) (word : List ℕ) (t : Term) → 1 < count → t ≡ term.Atom word → IsArriving 0 count (late t)
 late_arrives count word t lt is = record {
