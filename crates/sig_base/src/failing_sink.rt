@@ -24,7 +24,7 @@ pub struct FailingSink {
 }
 
 impl Model for FailingSink {
-    ghost use Rattle.std.specs.Prelude.{ℕ, ◌<◌};
+    ghost use Rattle.std.specs.Prelude.{◌<◌};
     ghost use Rattle.sig_base.specs.Stored.{FailingStored};
 
     ghost Value = { FailingStored };

@@ -20,7 +20,7 @@ pub struct MemorySink {
 }
 
 impl Model for MemorySink {
-    ghost use Rattle.std.specs.Prelude.{ℕ, ◌<◌, ◌≤◌, vec_len, vec_capacity};
+    ghost use Rattle.std.specs.Prelude.{◌<◌, ◌≤◌, vec_len, vec_capacity};
     ghost use Rattle.sig_base.specs.Stored.{Stored};
 
     ghost Value = { Stored };

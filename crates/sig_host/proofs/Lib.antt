@@ -2,7 +2,6 @@ pub mod TooLong
 pub mod ReadLemmas
 pub mod TellingLemmas
 pub mod NumberLemmas
-pub mod ChurnLemmas
 pub mod PairLemmas
 pub mod OptionLemmas
 pub mod GivenLemmas

@@ -116,8 +116,7 @@ fn run_record<R: Threads + Wait + Sync, G: Gate>(
     let crew = Crew::start(alloc, script)?;
     let crew = run_crew(rt, alloc, settings, crew, gate)?;
     a_lawful_crew_tells_a_run();
-    let given = Record::gather(alloc, crew)?;
-    Ok(given)
+    Record::gather(alloc, crew)
 }
 
 /// The text of the record's summary, where one is asked for.
@@ -127,8 +126,7 @@ fn summary_of(alloc: Global, given: &Record, asked: bool) -> Result<Option<Vec<u
     if !asked {
         return Ok(None);
     }
-    let text = summary_text(alloc, &summarize(given))?;
-    Ok(Some(text))
+    summary_text(alloc, &summarize(given)).map(Some)
 }
 
 /// Runs the script. The texts of its record, and of the summary where one is asked for.

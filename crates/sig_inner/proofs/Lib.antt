@@ -2,6 +2,5 @@ pub mod ScanLemmas
 pub mod Numbering
 pub mod Marking
 pub mod Resuming
-pub mod Asking
 pub mod Starting
 pub mod Answering

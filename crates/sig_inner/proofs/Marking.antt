@@ -1,8 +1,7 @@
 -- What the marks of a queue keep, and how many messages are older than an arrival number.
-use Rattle.std.proofs.Common.{◌≡◌, ℕ, zero, suc, ◌+◌, ◌-◌, ◌<◌, ◌≤◌, Bool, true, false, cond, nat_lt, List, [], ◌∷◌, ◌++◌, All, AllPairs, length, drop, get_or, count_by, remove, ap, subst, ◌∙◌, ⊎_elim, Option, Some, None, arith, ltb-true, lt-ltb}
+use Rattle.std.proofs.Common.{◌≡◌, ℕ, zero, suc, ◌+◌, ◌-◌, ◌<◌, ◌≤◌, Bool, true, false, cond, nat_lt, List, [], ◌∷◌, ◌++◌, All, AllPairs, length, get_or, count_by, ap, subst, ◌∙◌, ⊎_elim, Option, Some, None, arith, ltb-true, lt-ltb}
 use Rattle.std.specs.List.Sorted.{IsPartitionPoint, IsPartitionedBy}
 use Rattle.std.proofs.lemmas.Bool.{cases_lt}
-use Rattle.std.proofs.lemmas.List.{length-append, drop-append-le}
 use Rattle.std.proofs.lemmas.List.Elements.{All-weaker}
 use Rattle.std.proofs.lemmas.List.Sums.{sum_by-cons}
 use Rattle.std.proofs.lemmas.Option.{IfSome_then}
@@ -10,8 +9,7 @@ use Rattle.sig_terms.specs.declared.reference.Ref.{Ref}
 use Rattle.sig_terms.specs.declared.term.Term.{Term}
 use Rattle.sig_patterns.specs.declared.mark.Reserve.{Reserve}
 use Rattle.sig_patterns.specs.declared.mark.Mark.{Mark}
-use Rattle.sig_patterns.specs.declared.mark.TheConstants.{MOST_MARKS}
-use Rattle.sig_patterns.specs.Inbox.{Inbox, start_of, without_mark, with_mark, newest}
+use Rattle.sig_patterns.specs.Inbox.{Inbox, start_of, without_mark, with_mark}
 use Rattle.sig_patterns.proofs.MarkLemmas.{start_arrived, few_newest, few_without, without_mark_has, with_mark_has}
 use Rattle.sig_inner.specs.InnerQueue.{AreMarks}
 
@@ -50,17 +48,6 @@ pub start_appended : (inbox : Inbox) (messages : List (ℕ × Term)) (message : 
 start_appended inbox messages message next using e early =
     ap (λ (ms : List (ℕ × Term)). start_of (record { messages = ms; next_arrival = next; reserve = inbox.reserve; marks = inbox.marks }) using) e
     ∙ start_arrived inbox message using early
-
--- one more mark, where there are as many as are kept, and where there are fewer
-pub newest_full : (marks : List Mark) (mark : Mark) → length marks ≡ MOST_MARKS → newest (marks ++ mark ∷ []) ≡ remove marks 0 ++ mark ∷ []
-newest_full marks mark full =
-    let one : length (marks ++ mark ∷ []) - MOST_MARKS ≡ 1 = omega (arith, length-append marks (mark ∷ [])) in
-    ap (λ (n : ℕ). drop n (marks ++ mark ∷ [])) one ∙ drop-append-le 1 marks (mark ∷ []) (omega arith)
-
-pub newest_few : (marks : List Mark) (mark : Mark) → length marks < MOST_MARKS → newest (marks ++ mark ∷ []) ≡ marks ++ mark ∷ []
-newest_few marks mark few =
-    let none : length (marks ++ mark ∷ []) - MOST_MARKS ≡ 0 = omega (arith, length-append marks (mark ∷ [])) in
-    ap (λ (n : ℕ). drop n (marks ++ mark ∷ [])) none
 
 -- where the first elements pass a test and no later one does, as many pass
 abbrev counted : Bool → ℕ

@@ -9,7 +9,7 @@ use Rattle.std.specs.FinMap.{FinMap, empty, get, contains_key, insert, remove, k
 use Rattle.std.proofs.lemmas.Bool.{both_ways, eqb-true, or_left, or_right}
 use Rattle.std.proofs.lemmas.List.Elements.{All-nil, All-cons}
 use Rattle.sig_terms.specs.Names.{Named, process}
-use Rattle.sig_kinds.specs.LinkRules.{LinkState, unlinked, is_active, awaited_from, activated, deactivated, link, unlink, on_link, on_unlink, on_ack, on_exit, ending, active_after}
+use Rattle.sig_kinds.specs.LinkRules.{LinkState, unlinked, is_active, awaited_from, activated, deactivated, link, unlink, on_link, on_unlink, on_ack, ending, active_after}
 use Rattle.sig_kinds.specs.SignalNames.{LinkNames}
 
 -- an empty map has no key
@@ -107,6 +107,3 @@ module _ (P : Named → Type 0) where
 
     pub on_ack_names : (peer id : ℕ) → LinkNames P (on_ack links peer id).1
     on_ack_names peer id = either_names (option_eq nat_eq (awaited_from links peer) (Some id)) (true, acked peer) (false, links) (acked_names peer) k
-
-    pub on_exit_names : (peer : ℕ) → LinkNames P (on_exit links peer).1
-    on_exit_names peer = deactivated_names peer

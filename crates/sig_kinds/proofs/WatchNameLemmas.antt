@@ -12,7 +12,7 @@ use Rattle.sig_terms.specs.Names.{Named, process, names_of_ref}
 use Rattle.sig_terms.proofs.ReferenceLemmas.{ref_cmp_total, ref_ties, same_ref-is}
 use Rattle.sig_kinds.specs.declared.alias_mode.AliasMode.{AliasMode}
 use Rattle.sig_kinds.specs.declared.alias_mode.AliasMode.TheVariants.{Explicit, Reply, Demonitor, ReplyDemonitor}
-use Rattle.sig_kinds.specs.WatchRules.{WatchState, unwatched, target_of, mode_of, is_held, bears, aliased, unaliased, ends_with_monitor, unmonitored, other_process, told_of, monitor, demonitor, alias, unalias, by_mode, on_alias_message, on_monitor, on_demonitor, on_down, watch_ending}
+use Rattle.sig_kinds.specs.WatchRules.{WatchState, unwatched, target_of, mode_of, is_held, bears, aliased, unaliased, ends_with_monitor, unmonitored, other_process, told_of, monitor, alias, by_mode, on_alias_message, on_monitor, on_demonitor, watch_ending}
 use Rattle.sig_kinds.specs.SignalNames.{WatchNames}
 use Rattle.sig_kinds.proofs.LinkNameLemmas.{no_key}
 
@@ -109,14 +109,8 @@ module _ (P : Named → Type 0) where
     monitor_names r target (Some mode) named told =
         record { owner = k.owner; held = more_targets watch.held r target named told k.held; borne = k.borne; aliases = more_aliases watch.aliases r mode named k.aliases }
 
-    pub demonitor_names : (r : Ref) → WatchNames P (demonitor watch r).1
-    demonitor_names r = unmonitored_names r
-
     pub alias_names : (r : Ref) (reply : Bool) → OfRef r → WatchNames P (alias watch r reply)
     alias_names r reply named = aliased_names r _ named
-
-    pub unalias_names : (r : Ref) → WatchNames P (unalias watch r).1
-    unalias_names r = unaliased_names r
 
     -- the signals
     pub on_monitor_names : (r : Ref) (from : ℕ) → OfRef r → P (process from) → WatchNames P (on_monitor watch r from)
@@ -133,9 +127,6 @@ module _ (P : Named → Type 0) where
       borne = All-filter (λ b. not (same_ref r b.0)) OfWatcher watch.borne k.borne;
       aliases = k.aliases;
     }
-
-    pub on_down_names : (r : Ref) → WatchNames P (on_down watch r).1
-    on_down_names r = unmonitored_names r
 
   -- a message through an alias
   pub on_alias_message_names : (watch : WatchState) → WatchNames P watch → (r : Ref) → WatchNames P (on_alias_message watch r).1

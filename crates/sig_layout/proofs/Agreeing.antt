@@ -311,13 +311,15 @@ module _ (m : QState) (ok : Agrees m) (i : ℕ) (v : Knows) (at : get_elem? m.se
 
   pub agrees_fetch : (o : Outer) → CanFetch m i v o → Agrees (leave_fetch m i v o)
   agrees_fetch o can = let out = own.outer o can.held in let w : Knows = after_fetch v (makes_due m i v o) in
-      outer_changes (leave_fetch m i v o) w o can.held untouched (λ j n. refl) own.saw (record { senders = refl; role = refl }) refl
+      outer_changes (leave_fetch m i v o) w o can.held untouched (λ j n. put_else m.saw_off i j false n) (put_here m.saw_off i false)
+      (record { senders = refl; role = refl }) refl
       (λ o' e. none_some o' e) (λ _. (refl, can.removing, can.switched)) (open_turn (With w) HasOuter)
       (λ _. (refl, out.remove ∙ can.removing, out.switch ∙ can.switched))
 
   pub agrees_remove : (o : Outer) → CanRemove m i v o → Agrees (leave_remove m i v o)
   agrees_remove o can = let out = own.outer o can.held in let w : Knows = after_remove v in
-      outer_changes (leave_remove m i v o) w o can.held untouched (λ j n. refl) own.saw (record { senders = refl; role = refl }) refl
+      outer_changes (leave_remove m i v o) w o can.held untouched (λ j n. put_else m.saw_off i j false n) (put_here m.saw_off i false)
+      (record { senders = refl; role = refl }) refl
       (λ o' e. none_some o' e) (λ _. (can.fetching, refl, can.switched)) (open_turn (With w) HasOuter)
       (λ _. (out.fetch ∙ can.fetching, refl, out.switch ∙ can.switched))
 

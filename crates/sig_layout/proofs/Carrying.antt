@@ -1,5 +1,5 @@
 -- Each step keeps what the queue carries, how it is numbered, and the count of direct puts.
-use Rattle.std.proofs.Common.{◌≡◌, ℕ, suc, ◌+◌, subst, Bool, true, false, List, [], ◌∷◌, ◌++◌, length, sym, refl, ap, ◌∙◌, arith, append-nil, append_assoc, Some}
+use Rattle.std.proofs.Common.{◌≡◌, ℕ, suc, ◌+◌, subst, Bool, true, false, List, [], ◌∷◌, ◌++◌, length, sym, refl, ap, ◌∙◌, arith, append-nil, Some}
 use Rattle.std.specs.List.{All}
 use Rattle.std.proofs.lemmas.List.Elements.{All-append, All-nil, All-cons, All-head, All-tail}
 use mathlib.Core.Logic.{dite}
@@ -21,13 +21,12 @@ use Rattle.sig_layout.specs.declared.knows.Knows.{Knows}
 use Rattle.sig_layout.specs.Sent.{sender, putter, of, signals}
 use Rattle.sig_layout.specs.Policies.{first_journal, direct_count}
 use Rattle.sig_layout.specs.Outers.{put_entries}
-use Rattle.sig_layout.specs.Openings.{first_of, IsCarried, IsCounted, IsNext}
-use Rattle.sig_layout.specs.Core.{QState, Reached, opened, by_take_outer, by_refuse_outer, by_put, by_leave, by_take_bits, by_fetch, by_mode_on, by_mode_off, by_remove, by_load_mode, by_load_filled, by_take_buffer, by_refuse_buffer, by_set_back, by_load_under, by_set_bit, by_put_aside, by_leave_buffer, by_take_part, by_pass, by_split, by_note, by_join, buffer_of, refused}
+use Rattle.sig_layout.specs.Openings.{first_of, IsCarried, IsNext}
+use Rattle.sig_layout.specs.Core.{QState, Reached, opened, by_take_outer, by_refuse_outer, by_put, by_leave, by_take_bits, by_fetch, by_mode_on, by_mode_off, by_remove, by_load_mode, by_load_filled, by_take_buffer, by_refuse_buffer, by_set_back, by_load_under, by_set_bit, by_put_aside, by_leave_buffer, by_take_part, by_pass, by_split, by_note, by_join, refused}
 use Rattle.sig_layout.specs.Carried.{CarriedAs, Carried, one_outer, outer_count, Ways}
 use Rattle.sig_layout.proofs.Sending.{of-append, of_own, of_other, of_signals, signals-append}
 use Rattle.sig_layout.proofs.Agreeing.{agrees}
 use Rattle.sig_layout.proofs.Listing.{lists}
-use Rattle.sig_layout.proofs.Lawful.{lawful}
 
 -- what holds of all
 module _ {X : Type 0} (P : X → Type 0) where
@@ -189,21 +188,3 @@ module _ (z : Setup) where
   ways _ (by_split q i v given role can r) = ways q r
   ways _ (by_note q i v at r) = ways q r
   ways _ (by_join q i v j w can r) = ways q r
-
-  -- what was taken is carried and counted too
-  front_of : (q : QState) (r : Reached z q) (s : ℕ)
-      → of sender s (signals q.log) ≡ of sender s q.taken ++ (of sender s q.outer.signals ++ of sender s (q.cells (buffer_of s)).list)
-  front_of q r s = (lawful z q r).flows s ∙ (ap (λ (l : List Signal). l ++ of sender s (q.cells (buffer_of s)).list)
-      (of-append sender s q.taken q.outer.signals)
-      ∙ append_assoc (of sender s q.taken) (of sender s q.outer.signals) (of sender s (q.cells (buffer_of s)).list))
-
-  pub taken_carried : (q : QState) → Reached z q → All (IsCarried q.setup) q.taken
-  taken_carried q r = let P : Signal → Type 0 = IsCarried q.setup in
-      all_each sender P q.taken (λ s. all_front P (of sender s q.taken)
-      (of sender s q.outer.signals ++ of sender s (q.cells (buffer_of s)).list)
-      (subst (All P) (front_of q r s) (all_of sender P s (signals q.log) (carried q r).all)))
-
-  pub taken_counted : (q : QState) → Reached z q → IsCounted q.setup q.taken
-  taken_counted q r s h = counting_front (first_of q.setup s) (of sender s q.taken)
-      (of sender s q.outer.signals ++ of sender s (q.cells (buffer_of s)).list)
-      (subst (IsCounting (first_of q.setup s)) (front_of q r s) ((carried q r).counted s h))

@@ -163,7 +163,7 @@ module _ (small : (s : ℕ) → buffer_of s < 64) (q : QState) (law : Law q) whe
     each = λ c. no_mask c no_removal (λ _. empty);
     flows = λ s. law.flows s ∙ ap (λ (l : List Signal). of sender s l ++ of sender s (q.cells (buffer_of s)).list)
         (sym (append-nil out));
-    knows_off = law.knows_off;
+    knows_off = forgets i;
     off = law.off;
     one = λ _. refl;
     quiet = λ j r _. not_both q.removing r no_removal;
@@ -263,7 +263,7 @@ module _ (small : (s : ℕ) → buffer_of s < 64) (q : QState) (law : Law q) whe
     };
     flows = law.flows;
     knows_off = λ s h. ⊎_elim (λ (n : of sender s (q.cells (buffer_of s)).list ≡ []). inl n)
-        (λ (a : Far (buffer_of s)). let k = a.1 in let t = small s in absurd (omega arith)) (law.knows_off s h);
+        (λ (a : Far (buffer_of s)). let k = a.1 in let t = small s in absurd (omega arith)) (forgets i s h);
     off = λ h. not_both false h refl;
     one = λ h. not_both false h refl;
     quiet = λ j h _. not_both false h refl;

@@ -2,7 +2,6 @@
 use Rattle.std.proofs.Common.{◌≡◌, ◌⊎◌, ◌↔◌, ℕ, subst, Bool, true, List, [], ◌∷◌, sym, ap, ◌∙◌, inl, inr, ⊎_elim, Some, None}
 use Rattle.std.specs.List.{All}
 use Rattle.std.proofs.lemmas.List.Elements.{All-nil, All-cons}
-use Rattle.sig_layout.specs.declared.decision.Due.{Due}
 use Rattle.sig_layout.specs.declared.decision.Due.TheVariants as due
 use Rattle.sig_layout.specs.declared.entry.Entry.{Entry}
 use Rattle.sig_layout.specs.declared.item.Item.{Item}
@@ -57,9 +56,6 @@ module _ (q : QState) (a : Agrees q) (l : Lists q) (w : Law q) where
       (λ (ahead : Unpassed q (buffer_of s)). not_both (q.saw_off i) ((a.each i v at).saw ∙ saw)
       (w.quiet i ahead.0 ((a.each i v at).outer o held).mine))
       (saw_off_of i v s at saw h)
-
-remove_is : (d : Due) → d ≡ due.Remove → is_remove d ≡ true
-remove_is d e = ap is_remove e
 
 module _ (z : Setup) (proper : IsPolicy z.policy) (q : QState) (r : Reached z q) where
   due_of_seat : (i : ℕ) (v : Knows) → At q i v → v.role ≡ true → (v.due ≡ true) ↔ RemoveDue q.setup.policy q.outer.journal

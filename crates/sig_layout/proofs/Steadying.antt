@@ -99,13 +99,13 @@ module _ (z : Setup) (proper : IsPolicy z.policy) where
       forgets _ _ _ q.cells _ (more _ _ _ q.cells _ s record { signal = x; via = via.Outer } (s.off i (saw ∙ can.off))) i
   steady _ (by_leave q i v o can r) = forgets _ _ _ q.cells _ (steady q r) i
   steady _ (by_take_bits q i v o can r) = steady q r
-  steady _ (by_fetch q i v o can r) = steady q r
+  steady _ (by_fetch q i v o can r) = forgets _ _ _ q.cells _ (steady q r) i
   steady _ (by_mode_on q i v o can r) = let s = steady q r in
       record { allowed = on_where_due q.setup.policy _ can.is_due; off = s.off; on = s.on; ways = s.ways }
   steady _ (by_mode_off q i v o can r) = let s = steady q r in
       let knows = ((journals z proper q r).owes i v can.at).reader can.role in
       record { allowed = off_where_due q.setup.policy _ (sym knows ∙ can.is_due); off = s.off; on = s.on; ways = s.ways }
-  steady _ (by_remove q i v o can r) = steady q r
+  steady _ (by_remove q i v o can r) = forgets _ _ _ q.cells _ (steady q r) i
   steady _ (by_load_mode q i v can r) = let s = steady q r in
       seen _ _ _ q.cells _ s i (not q.mode) (seen_off q.setup.policy q.mode s.allowed)
   steady _ (by_load_filled q i v at r) = steady q r

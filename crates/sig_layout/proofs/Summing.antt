@@ -149,9 +149,6 @@ neither due.Nothing a b = refl
 neither due.Install a b = absurd (a refl)
 neither due.Remove a b = absurd (b refl)
 
-apart_due : (d : Due) → d ≡ due.Remove → d ≢ due.Install
-apart_due d h k = let e : due.Remove ≡ due.Install = sym h ∙ k in absurd cc
-
 pub record Keeps (p : Policy) (j : List Entry) : Type 0 where
   -- a put, which installs where it makes that due
   pub put : (r : Bool) → due_at p (j ++ Direct r ∷ []) ≢ due.Install → IsAllowed p (j ++ Direct r ∷ [])

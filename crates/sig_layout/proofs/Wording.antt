@@ -90,11 +90,6 @@ one_period : (j : Entries) (b c : Bool) (p q : Entries) → IsPeriod j b p → I
 one_period j b c p q h k = let e : (b, p) ≡ (c, q) = sym (period_is j b p h) ∙ period_is j c q k in
     (ap (λ (z : Bool × Entries). z.0) e, ap (λ (z : Bool × Entries). z.1) e)
 
-still_of : (j : Entries) (b : Bool) (p : Entries) → IsPeriod j b p → All IsStill p
-still_of _ _ _ (whole p h) = h
-still_of _ _ _ (installed before p h) = h
-still_of _ _ _ (removed before p h) = h
-
 period_more : (j : Entries) (b : Bool) (p : Entries) (e : Entry) → IsStill e → IsPeriod j b p → IsPeriod (j ++ e ∷ []) b (p ++ e ∷ [])
 period_more _ _ _ e s (whole p h) = whole (p ++ e ∷ []) (all_more IsStill p e h s)
 period_more _ _ _ e s (installed before p h) = subst (λ (z : Entries). IsPeriod z true (p ++ e ∷ []))

@@ -242,6 +242,7 @@ module _ (q : QState) (i : ℕ) (v : Knows) where
     turn = 0;
     holder = None;
     fetching = false;
+    saw_off = put q.saw_off i false;
     seats = seats_with (after_fetch v (makes_due o));
   }
 
@@ -268,7 +269,14 @@ module _ (q : QState) (i : ℕ) (v : Knows) where
     pub whole : v.progress ≡ 64
 
   abbrev pub leave_remove : Outer → QState
-  leave_remove o = record q { outer = removed o; turn = 0; holder = None; removing = false; seats = seats_with (after_remove v) }
+  leave_remove o = record q {
+    outer = removed o;
+    turn = 0;
+    holder = None;
+    removing = false;
+    saw_off = put q.saw_off i false;
+    seats = seats_with (after_remove v);
+  }
 
   -- loads of the mode and of the bits
   pub record CanLoad : Type 0 where

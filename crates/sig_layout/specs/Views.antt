@@ -97,6 +97,7 @@ abbrev pub after_fetch : Knows → Bool → Knows
 after_fetch v due = record v {
   held = None;
   fetching = false;
+  saw_off = false;
   mask = [];
   back = 0;
   moved = 0;
@@ -112,7 +113,7 @@ abbrev pub switched_off : Knows → Knows
 switched_off v = record v { removing = true; progress = 0 }
 
 abbrev pub after_remove : Knows → Knows
-after_remove v = record v { held = None; removing = false; progress = 0; due = false }
+after_remove v = record v { held = None; removing = false; progress = 0; saw_off = false; due = false }
 
 -- a load of the mode, and one of the bits
 abbrev pub saw : Knows → Bool → Knows

@@ -12,7 +12,6 @@ impl Var {
     pub fn copy(&self, alloc: Global) -> Result<Var, AllocError>
         ensures { IfOk result (λ v. v ≡ self.now) }
     {
-        let name = self.0.copy(alloc)?;
-        Ok(Var(name))
+        self.0.copy(alloc).map(Var)
     }
 }

@@ -16,7 +16,7 @@ use Rattle.sig_patterns.specs.Scanning.{Hit, places_of}
 use Rattle.sig_patterns.proofs.HitLemmas.{IsByClause, hit_message, hit_clause}
 use Rattle.sig_inner.specs.declared.last_scan.LastScan.TheVariants as last
 use Rattle.sig_inner.specs.InnerQueue.{InnerQueue, InnerTable, found_message}
-use Rattle.sig_inner.specs.Receiving.{scanned, left_by, after_scan, is_saved, HasPassed, IsAsked}
+use Rattle.sig_inner.specs.Receiving.{scanned, left_by, after_scan, is_saved, IsAsked}
 use Rattle.sig_program.specs.declared.instruction.Instr.TheVariants as instr
 use Rattle.sig_program.specs.declared.instruction.After.{After}
 use Rattle.sig_program.specs.Scripts.{Declared, AreMarked}
@@ -27,14 +27,12 @@ use Rattle.sig_model.specs.declared.event.Event.{Event}
 use Rattle.sig_model.specs.declared.event.Outcome.TheVariants as outcome
 use Rattle.sig_model.specs.ProcessState.{ProcessState}
 use Rattle.sig_model.specs.Bodies.{Body, place_after, going_on}
-use Rattle.sig_model.specs.Bounds.{IsBounded}
 use Rattle.sig_model.specs.Executing.{using_ref, from_mark, marked_start, hit_from, taking, receiving, exec_body}
 use Rattle.sig_model.specs.Finishing.{finished_exec}
 use Rattle.sig_model.specs.Machine.{execution}
 use Rattle.sig_process.specs.declared.progress.Progress.{Progress}
 use Rattle.sig_process.specs.Progressing.{state_of, IsSame, HasAdvanced}
 use Rattle.sig_process.specs.Committing.{HasTaken, env_found}
-use Rattle.sig_process.specs.Soundness.{IsSaved}
 use Rattle.sig_process.specs.Executions.{IsHit, IsUnmoved, HasExecuted}
 use Rattle.sig_process.proofs.Lists.{slice_get-drop}
 use Rattle.sig_process.proofs.DueLemmas.{execution_here}
@@ -164,9 +162,6 @@ module _ (proc : Declared) (using : Option Var) (clauses : List Clause) (after :
     pub inside : 1 ≤ p.counts.place → p.counts.place ≤ length proc.instrs
     inside first = let lt : p.counts.place - 1 < length proc.instrs = slice_get_within proc.instrs (p.counts.place - 1) (instr.Receive using clauses after) here in omega (arith, lt, first)
 
-    pub bounds_kept : IsBounded proc (state_of p) → IsBounded proc (state_of mid)
-    bounds_kept k = subst (IsBounded proc) (sym unmoved.state) k
-
     -- what the scan finds is what the row says
     abbrev row : ProcessState → ℕ → Option Body
     row s n = receiving proc s after n n (hit_from n clauses s)
@@ -182,12 +177,6 @@ module _ (proc : Declared) (using : Option Var) (clauses : List Clause) (after :
       advanced = moved_on pid p mid next (finished_exec pid (state_of mid) body) unmoved advanced;
       unsaved = unsaved;
     }
-
-    -- the place that the scan has saved
-    pub scan_saved : p.tables.end ≡ None → HasPassed inner.queue (start_of inner.queue.inbox r) clauses p.tables.env → IsSaved (slice_get proc.instrs (p.counts.place - 1)) mid
-    scan_saved alive passed = record { none = rw here (subst (λ o. HasPassed inner.queue (start_of inner.queue.inbox o) clauses p.tables.env) named passed); ended = λ some. absurd (dead (subst IsSome alive some)) } where
-      dead : IsSome {T = Term} None → ⊥
-      dead e = cc
 
     hit_same : hit_from start clauses (state_of mid) ≡ hit_from start clauses (state_of p)
     hit_same = ap (hit_from start clauses) unmoved.state

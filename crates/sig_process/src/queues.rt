@@ -49,7 +49,8 @@ impl Process {
         }
     }
 
-    /// A signal of another process joins those that wait for this one. The error is want of memory;
+    /// A signal of another process joins those that wait for this one. It goes to this process, names
+    /// only processes that there are, and has a stamp of at most 2^62. The error is want of memory;
     /// then the process is as before.
     pub fn arrive(&mut self, signal: Signal) -> Result<(), AllocError>
         requires { IsArriving self.old.running.pid self.old.running.count signal }
@@ -58,8 +59,9 @@ impl Process {
         push_signal(&mut self.progress.taken_in, signal)
     }
 
-    /// Signals of other processes join those that wait for this one. They go on with the numbers of
-    /// those of their senders that came before. The error is want of memory; then the process and
+    /// Signals of other processes join those that wait for this one. Each goes to this process, names
+    /// only processes that there are, and has a stamp of at most 2^62, and those of each sender go on
+    /// with the numbers of those that came before. The error is want of memory; then the process and
     /// the signals are as before.
     pub fn take_in(&mut self, signals: &mut Signals) -> Result<(), AllocError>
         requires arriving { All (IsArriving self.old.running.pid self.old.running.count) signals.old.items }

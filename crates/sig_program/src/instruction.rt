@@ -128,10 +128,7 @@ fn copy_marker(alloc: Global, marker: &Option<Var>) -> Result<Option<Var>, Alloc
     ensures { IfOk result (λ x. x ≡ marker.now) }
 {
     match marker {
-        Some(var) => {
-            let var = var.copy(alloc)?;
-            Ok(Some(var))
-        }
+        Some(var) => var.copy(alloc).map(Some),
         None => Ok(None),
     }
 }

@@ -1,5 +1,5 @@
 -- Offers one after another.
-use Rattle.std.proofs.Common.{◌≡◌, ◌≢◌, ℕ, ◌+◌, ◌≤◌, Bool, true, false, List, [], ◌∷◌, ◌++◌, sym, refl, ap, ◌∙◌, subst, append_assoc, append-nil, ⊎_elim, arith}
+use Rattle.std.proofs.Common.{◌≡◌, ◌≢◌, ℕ, ◌+◌, ◌≤◌, Bool, true, false, List, [], ◌∷◌, ◌++◌, sym, refl, ap, ◌∙◌, subst, append_assoc, ⊎_elim, arith}
 use Rattle.sig_kinds.specs.declared.signal.Signal.{Signal}
 use Rattle.sig_layout.specs.declared.item.Item.{Item}
 use Rattle.sig_layout.specs.declared.setup.Setup.{Setup}
@@ -21,9 +21,6 @@ loads-append (b ∷ bs) cs = ap (λ (l : List (ℕ × ℕ)). (1, mode_word b) �
 -- loads of one call come behind those of the calls before
 more_loads : (l : List (ℕ × ℕ)) (bs cs : List Bool) → (l ++ mode_loads bs) ++ mode_loads cs ≡ l ++ mode_loads (bs ++ cs)
 more_loads l bs cs = append_assoc l (mode_loads bs) (mode_loads cs) ∙ ap (λ (z : List (ℕ × ℕ)). l ++ z) (sym (loads-append bs cs))
-
-pub tried_none : (v : Knows) → Tried v v
-tried_none v = record { loads = []; is = λ i. record v { loads = sym (append-nil v.loads) i } }
 
 module _ (x : Signal) (v u w : Knows) (t : Tried v u) where
   pub tried_more : (n : ℕ) → RefusedOne x u n w → Tried v w

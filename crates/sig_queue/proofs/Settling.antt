@@ -38,8 +38,8 @@ module _ (me m : Held) (outer : Outer) (held n : ℕ) (st : Standing held 64 me 
   pub rest_is : rest m.1 ≡ []
   rest_is = ap (λ (x : Held). rest x.1) put ∙ ap rest (standing_ends held me n st).1
 
-  pub left_view : (u w : Knows) → Leaving u me → w ≡ after_same m.0 → w ≡ record (bare u) { saw_off = false }
-  left_view u w l is = is ∙ (ap after_same (seat_is ∙ l.view) ∙ (λ i. record (bare u) { saw_off = false; parts = none_left i }))
+  pub left_view : (u w : Knows) → Leaving u me → w ≡ after_same m.0 → w ≡ bare u
+  left_view u w l is = is ∙ (ap after_same (seat_is ∙ l.view) ∙ (λ i. record (bare u) { parts = none_left i }))
 
   module _ (u : Knows) (o : Outer) (em : Emptying u me) (at : u.held ≡ Some o) (is : outer ≡ emptied o (length (all_of u.parts))) (none : u.moved ≡ 0) where
     moved_is : length (all_of u.parts) ≡ m.0.moved
@@ -84,7 +84,7 @@ module _ (z : Setup) (before now : List Signal) (v taking u w : Knows) (bits : �
   bits_taken : w.bits ≡ u.bits → w.bits ≡ bits
   bits_taken e = e ∙ ap (λ (k : Knows). k.bits) found_as
 
-  module _ (still : v.fetching ≡ false) (free : v.parts ≡ []) (mask : v.mask ≡ []) (back : v.back ≡ 0) (moved : v.moved ≡ 0) where
+  module _ (still : v.fetching ≡ false) (free : v.parts ≡ []) (mask : v.mask ≡ []) (back : v.back ≡ 0) (moved : v.moved ≡ 0) (saw : v.saw_off ≡ false) where
     pub fetched_all : (t : Taken) → Settled z before now u (Some t) w → FetchedAs z before now v t.count t.due found.skipped w
     fetched_all t s =
         let bits_are : w.bits ≡ bits = bits_taken (ap (λ (k : Knows). k.bits) s.2.0) in
@@ -94,7 +94,7 @@ module _ (z : Setup) (before now : List Signal) (v taking u w : Knows) (bits : �
           s.0,
           s.1,
           s.2.0 ∙ ((λ i. record (bare (found_as i)) { taken = (found_as i).taken ++ taken_by u; fetches = (found_as i).fetches + 1; due = t.due; emptied = u.emptied ++ u.parts })
-              ∙ (λ i. record v { held = None; fetching = sym still i; mask = sym mask i; back = sym back i; moved = sym moved i; parts = sym free i; taken = v.taken ++ taken_by u; fetches = v.fetches + 1; due = t.due; refusals = v.refusals ++ passed_over; bits = sym bits_are i; emptied = sym (ap (λ (k : Knows). k.emptied) s.2.0) i })),
+              ∙ (λ i. record v { held = None; fetching = sym still i; mask = sym mask i; back = sym back i; moved = sym moved i; saw_off = sym saw i; parts = sym free i; taken = v.taken ++ taken_by u; fetches = v.fetches + 1; due = t.due; refusals = v.refusals ++ passed_over; bits = sym bits_are i; emptied = sym (ap (λ (k : Knows). k.emptied) s.2.0) i })),
           (λ c bit. foreign_as taking v (f.values c) (sym (ap (λ (k : Knows). k.senders) took)) (sym (ap (λ (k : Knows). k.role) took)) (f.others c bit)),
           subst (λ (n : ℕ). FreshBut n w) (ap (λ (k : Knows). k.back) same ∙ f.back) s.2.1,
           s.2.2,
@@ -107,12 +107,12 @@ module _ (z : Setup) (before now : List Signal) (v taking u w : Knows) (bits : �
           },
         )
 
-    pub fetched_none : v.saw_off ≡ false → Settled z before now u None w → Left before now v w
-    fetched_none saw s = (
+    pub fetched_none : Settled z before now u None w → Left before now v w
+    fetched_none s = (
       s.0,
       (
         passed_over,
-        s.1 ∙ ((λ i. record (bare (found_as i)) { saw_off = false })
+        s.1 ∙ ((λ i. bare (found_as i))
             ∙ (λ i. record v { held = None; fetching = sym still i; mask = sym mask i; back = sym back i; moved = sym moved i; parts = sym free i; saw_off = sym saw i; refusals = v.refusals ++ passed_over; bits = sym (bits_taken (ap (λ (k : Knows). k.bits) s.1)) i; emptied = [] })),
       ),
     )

@@ -74,7 +74,7 @@ abbrev pub taken_by : Knows → List Signal
 taken_by u = signals_of u.held ++ all_of u.parts
 
 abbrev pub bare : Knows → Knows
-bare u = record u { held = None; fetching = false; mask = []; back = 0; moved = 0; parts = [] }
+bare u = record u { held = None; fetching = false; saw_off = false; mask = []; back = 0; moved = 0; parts = [] }
 
 abbrev pub Finished : Setup → Knows → Taken → Knows → Type 0
 Finished z u t w = (w ≡ record (bare u) { taken = u.taken ++ taken_by u; fetches = u.fetches + 1; due = t.due; emptied = u.emptied ++ u.parts }) × FreshBut u.back w × TookCarried z w
@@ -82,7 +82,7 @@ Finished z u t w = (w ≡ record (bare u) { taken = u.taken ++ taken_by u; fetch
 -- a fetch that found its buffers takes all, or leaves all as it was
 abbrev pub Settled : Setup → List Signal → List Signal → Knows → Option Taken → Knows → Type 0
 Settled z before now u (Some t) w = (now ≡ before ++ taken_by u) × (t.count ≡ length (taken_by u)) × Finished z u t w
-Settled z before now u None w = (now ≡ before) × (w ≡ record (bare u) { saw_off = false })
+Settled z before now u None w = (now ≡ before) × (w ≡ bare u)
 
 -- first the outer list, and then what lay in the buffers that were emptied, by ascending number: those whose bits were taken, but
 -- for the skipped ones. In each lay signals of its own senders alone

@@ -1,6 +1,6 @@
 //! A removal: the mode goes off, and all buffers are emptied into the outer list, under one outer turn.
 ghost use Rattle.std.specs.Prelude.{◌≡◌, ◌+◌, ◌<◌, ◌≤◌, [], ◌∷◌, List, true, false, Some, None, OnOk, OnErr};
-ghost use Rattle.sig_layout.specs.Outers.{behind, removed};
+ghost use Rattle.sig_layout.specs.Outers.{removed};
 ghost use Rattle.sig_kinds.specs.declared.signal.Signal.{Signal};
 ghost use Rattle.sig_layout.specs.declared.outer.Outer.{Outer};
 ghost use Rattle.sig_layout.specs.Core.{Begins, some_refused};

@@ -150,7 +150,7 @@ fn give_up(words: &Words, place: &mut Place, held: u64, parts: usize, outer: Out
     requires held { place.old.me.0.held ≡ Some outer }
     requires fetching { (place.old.me.0.fetching ≡ true) × (place.old.me.0.removing ≡ false) × (place.old.me.0.switched ≡ false) }
     ensures same { (place.new.table_id ≡ place.old.table_id) × (place.new.id ≡ place.old.id) × (place.new.me.1 ≡ []) }
-    ensures left { place.new.me.0 ≡ record (bare place.old.me.0) { saw_off = false } }
+    ensures left { place.new.me.0 ≡ bare place.old.me.0 }
 {
     leave_all(words, place, held, parts);
     put_value(words, place, outer);

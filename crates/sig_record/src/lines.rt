@@ -1,6 +1,6 @@
 //! Readers of a record's lines.
 
-ghost use Rattle.std.specs.Prelude.{◌≡◌, ℕ, List, Option, Some, None, if◌then◌else◌, codes, length};
+ghost use Rattle.std.specs.Prelude.{◌≡◌, ℕ, List, Option, Some, None, if◌then◌else◌, codes};
 ghost use Rattle.std.specs.Option.{option_map};
 ghost use Rattle.sig_terms.specs.Fronts.{Gives};
 ghost use Rattle.sig_record.specs.Readers.{spaced, closed};

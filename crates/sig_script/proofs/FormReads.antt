@@ -70,10 +70,6 @@ rest_on read next a bytes x y c r step = record {
       ∙ step line (at + 1) end there refl (r.again line end (behind_text line a bytes (at + 1) end there refl));
 }
 
--- the same rest, by other names
-pub rest_as : {X : Type 0} {read : List ℕ → List Token → Result X FaultKind} {a b : List ℕ} {x y : X} → IsRest read a x → a ≡ b → x ≡ y → IsRest read b y
-rest_as {X} {read} {a} {b} {x} {y} r p q = subst (λ (z : List ℕ). IsRest read z y) p (subst (IsRest read a) q r)
-
 -- the same rest, for a reader that makes more of it
 pub rest_made : {X Y : Type 0} {read : List ℕ → List Token → Result X FaultKind} {bytes : List ℕ} {x : X} → IsRest read bytes x → (more : List ℕ → List Token → Result Y FaultKind) (y : Y) →
     ((line : List ℕ) (ts : List Token) → read line ts ≡ Ok x → more line ts ≡ Ok y) → IsRest more bytes y

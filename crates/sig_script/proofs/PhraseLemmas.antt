@@ -1,8 +1,7 @@
 -- Elements, one after another.
-use Rattle.std.proofs.Common.{◌≡◌, ℕ, zero, suc, ◌+◌, ◌-◌, ◌<◌, ◌≤◌, List, [], ◌∷◌, ◌++◌, length, get_or, take, drop, Bool, Ok, Err, true, false, refl, sym, ap, subst, ◌∙◌, arith}
+use Rattle.std.proofs.Common.{◌≡◌, ℕ, zero, suc, ◌+◌, ◌-◌, ◌<◌, ◌≤◌, List, [], ◌∷◌, ◌++◌, length, get_or, take, drop, Ok, Err, true, false, refl, sym, ap, subst, ◌∙◌, arith}
 use Rattle.std.proofs.lemmas.List.{take_all}
 use Rattle.std.specs.Prelude.{Result, IsErrAnd}
-use Rattle.sig_script.specs.declared.token.TokenKind.{TokenKind}
 use Rattle.sig_script.specs.declared.token.TokenKind.TheVariants.{Name}
 use Rattle.sig_script.specs.declared.token.Sign as signs
 use Rattle.sig_script.specs.declared.token.Token.{Token}
@@ -56,16 +55,6 @@ pub bracketed_some : {A : Type 0} (s : Spelling A) (close : signs.Sign) (read : 
 unfolding bracketed
 bracketed_some s close read nodes [] d long h = absurd (omega arith)
 bracketed_some s close read nodes (t ∷ ts) d long h = rw h refl
-
--- what is read ends with the first token, or it doesn't
-pub closed_here : {A : Type 0} (test : TokenKind → Bool) (x y : A) (nodes : ℕ) (ts : List Token) (d : Token) → 1 ≤ length ts → test (get_or ts 0 d).kind ≡ true → y ≡ x → closed test x nodes ts ≡ Ok (y, nodes, take (length ts - 1) (drop 1 ts))
-closed_here test x y nodes [] d long h e = absurd (omega arith)
-closed_here {A} test x y nodes (t ∷ ts) d long h e =
-    rw h (ap (λ (z : A). Ok (z, nodes, ts)) (sym e) ∙ ap (λ (us : List Token). Ok (y, nodes, us)) (sym (take_all (suc (length ts) - 1) ts (omega arith))))
-
-pub closed_not : {A : Type 0} (test : TokenKind → Bool) (x : A) (nodes : ℕ) (ts : List Token) (d : Token) → (1 ≤ length ts → test (get_or ts 0 d).kind ≡ false) → closed test x nodes ts ≡ Err Syntax
-closed_not test x nodes [] d h = refl
-closed_not test x nodes (t ∷ ts) d h = rw (h (omega arith)) refl
 
 -- behind elements: a tail, or none
 pub ending_tail : {A : Type 0} (s : Spelling A) (close : signs.Sign) (read : ℕ → List Token → Read A) (items : List A) (nodes : ℕ) (ts : List Token) (d : Token) → 1 ≤ length ts → is_before_tail s close (get_or ts 0 d).kind ≡ true →

@@ -327,8 +327,7 @@ fn outside(section: Section) -> Result<Section, Stop>
                 clauses,
                 after,
             };
-            let proc = longer(proc, receive)?;
-            Ok(Section::Outside(proc))
+            longer(proc, receive).map(Section::Outside)
         }
         other => Ok(other),
     }

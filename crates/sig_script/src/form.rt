@@ -503,14 +503,8 @@ fn read_form(
 {
     match word {
         Keyword::Turns => read_turns(line, tokens),
-        Keyword::Process => {
-            let name = read_name(alloc, line, tokens)?;
-            Ok(Form::Process(name))
-        }
-        Keyword::Label => {
-            let name = read_name(alloc, line, tokens)?;
-            Ok(Form::Label(name))
-        }
+        Keyword::Process => read_name(alloc, line, tokens).map(Form::Process),
+        Keyword::Label => read_name(alloc, line, tokens).map(Form::Label),
         Keyword::Receive => {
             let using = read_marker(alloc, line, tokens)?;
             Ok(Form::Receive { using })
@@ -521,10 +515,7 @@ fn read_form(
             Ok(Form::After(After { target }))
         }
         Keyword::End => alone(Form::End, tokens),
-        Keyword::Do(verb) => {
-            let instr = read_instr(alloc, known, here, verb, line, tokens)?;
-            Ok(Form::Do(instr))
-        }
+        Keyword::Do(verb) => read_instr(alloc, known, here, verb, line, tokens).map(Form::Do),
     }
 }
 
@@ -575,8 +566,7 @@ fn read_said(
         [] => Ok(None),
         [token, rest @ ..] => {
             let word = read_keyword(text_of(line, *token));
-            let form = read_behind(alloc, known, draft, word, line, rest)?;
-            Ok(Some(form))
+            read_behind(alloc, known, draft, word, line, rest).map(Some)
         }
     }
 }

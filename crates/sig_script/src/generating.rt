@@ -41,8 +41,7 @@ fn var_of(alloc: Global, word: &[u8]) -> Result<Var, AllocError>
     requires { is_token word.now ≡ true }
     ensures { IfOk result (λ v. v.0 ≡ word.now) }
 {
-    let name = name_of(alloc, word)?;
-    Ok(Var(name))
+    name_of(alloc, word).map(Var)
 }
 
 /// Adds the atom as a pattern.

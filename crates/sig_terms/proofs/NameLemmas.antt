@@ -104,6 +104,3 @@ module _ (P : Named → Type 0) where
 -- a reference whose owner is one of so many
 pub ref_below : (count : ℕ) (r : Ref) → IsRefBelow count r → All (IsNameBelow count) (names_of_ref r)
 ref_below count r h = all_of_ref (IsNameBelow count) r tt h
-
-pub ref_below_tells : (count : ℕ) (r : Ref) → All (IsNameBelow count) (names_of_ref r) → IsRefBelow count r
-ref_below_tells count r h = (ref_of_all (IsNameBelow count) r h).1

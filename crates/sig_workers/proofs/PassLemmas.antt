@@ -55,9 +55,6 @@ module _ (start procs later : List Running) (at : ℕ) (here : Bool) (v : HasVis
   visit_rest rest i le = at_other i (λ e. (let f : ⊥ = omega (arith, le, e) in f)) ∙ rest i (omega (arith, le))
 
   -- the first at + 1
-  StartOf : Type 0
-  StartOf = slice_get start at ≡ Some v.old
-
   more_now : slice_get start at ≡ Some v.old → length v.old.events < length v.new.events → AnyMore start later
   more_now s m = record { at = at; old = v.old; there = s; new = v.new; here = at_new; more = m }
 

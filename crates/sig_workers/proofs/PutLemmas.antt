@@ -41,9 +41,6 @@ module _ (queues : List Queue) (pid : ℕ) (r t : Running) (x : Signal) (seats :
   apart : x.to.0 ≢ pid
   apart e = leaving.to (e ∙ sym h.pid_is)
 
-  pub put_within : x.to.0 < length seats
-  put_within = let b : x.to.0 < r.count = below.to in omega (arith, b, h.count, h.many)
-
   mine_first : bound_for x.to.0 r.outbox ≡ x ∷ bound_for x.to.0 t.outbox
   mine_first = ap (λ z. bound_for x.to.0 z) box ∙ ap (λ c. cond c (x ∷ bound_for x.to.0 t.outbox) (bound_for x.to.0 t.outbox)) (eq-eqb x.to.0 x.to.0 refl)
 
