@@ -116,7 +116,8 @@ fn run_record<R: Threads + Wait + Sync, G: Gate>(
     let crew = Crew::start(alloc, script)?;
     let crew = run_crew(rt, alloc, settings, crew, gate)?;
     a_lawful_crew_tells_a_run();
-    Record::gather(alloc, crew)
+    let given = Record::gather(alloc, crew)?;
+    Ok(given)
 }
 
 /// The text of the record's summary, where one is asked for.
