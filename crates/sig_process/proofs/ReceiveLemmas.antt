@@ -1,26 +1,24 @@
 -- What the execution of an instruction, and of a receive, leads to.
-use Rattle.std.proofs.Common.{◌≡◌, ℕ, ◌+◌, ◌-◌, ◌<◌, ◌≤◌, List, length, drop, false, Option, Some, None, refl, sym, ap, ◌∙◌, subst, arith}
+use Rattle.std.proofs.Common.{◌≡◌, ℕ, ◌+◌, ◌-◌, ◌≤◌, List, length, drop, false, Option, Some, None, refl, sym, ap, ◌∙◌, subst, arith}
 use Rattle.std.specs.Prelude.{IsSome, MatchResult, OnOk, Result, Ok, Err, slice_get}
 use Rattle.std.specs.Option.{option_map, option_and_then}
 use Rattle.std.proofs.lemmas.List.{append-nil}
-use Rattle.std.proofs.lemmas.Option.{slice_get-map, slice_get_within}
+use Rattle.std.proofs.lemmas.Option.{slice_get-map}
 use Rattle.sig_terms.specs.declared.reference.Ref.{Ref}
 use Rattle.sig_terms.specs.declared.term.Term.{Term}
 use Rattle.sig_patterns.specs.declared.clause.Clause.{Clause}
 use Rattle.sig_patterns.specs.declared.found.Found.{Found}
 use Rattle.sig_patterns.specs.declared.var.Var.{Var}
-use Rattle.sig_patterns.specs.Environment.{Environment}
 use Rattle.sig_patterns.specs.Inbox.{terms_of, start_of}
 use Rattle.sig_patterns.specs.Matching.{match_of}
 use Rattle.sig_patterns.specs.Scanning.{Hit, places_of}
 use Rattle.sig_patterns.proofs.HitLemmas.{IsByClause, hit_message, hit_clause}
 use Rattle.sig_inner.specs.declared.last_scan.LastScan.TheVariants as last
 use Rattle.sig_inner.specs.InnerQueue.{InnerQueue, InnerTable, found_message}
-use Rattle.sig_inner.specs.Receiving.{scanned, left_by, after_scan, is_saved, IsAsked}
+use Rattle.sig_inner.specs.Receiving.{scanned, left_by, after_scan, is_saved}
 use Rattle.sig_program.specs.declared.instruction.Instr.TheVariants as instr
 use Rattle.sig_program.specs.declared.instruction.After.{After}
-use Rattle.sig_program.specs.Scripts.{Declared, AreMarked}
-use Rattle.sig_model.proofs.SkipLemmas.{asks}
+use Rattle.sig_program.specs.Scripts.{Declared}
 use Rattle.sig_runs.specs.Rules.{Effect}
 use Rattle.sig_kinds.specs.declared.signal.Signal.{Signal}
 use Rattle.sig_model.specs.declared.event.Event.{Event}
@@ -134,13 +132,6 @@ moved_on pid before mid after e u a = record {
   outbox = rw (a.outbox, u.outbox) refl;
 }
 
--- each clause of a receive with a marker asks for its reference
-pub asked : (using : Option Var) (clauses : List Clause) (q : InnerQueue) (env : Environment) → AreMarked using clauses → IsAsked q (using_ref env using) clauses env
-asked using clauses q env marked = by (using_ref env using) refl where
-  by : (o : Option Ref) → using_ref env using ≡ o → IsAsked q o clauses env
-  by None e = tt
-  by (Some r) e = λ some. asks env using clauses r marked e
-
 -- a receive
 module _ (proc : Declared) (using : Option Var) (clauses : List Clause) (after : Option After) (p : Progress) (inner : InnerTable) (r : Option Ref) (named : r ≡ using_ref p.tables.env using) where
   abbrev queue : InnerQueue
@@ -158,9 +149,6 @@ module _ (proc : Declared) (using : Option Var) (clauses : List Clause) (after :
 
     pub unmoved : IsUnmoved p mid
     unmoved = scan_unmoved p inner start found left
-
-    pub inside : 1 ≤ p.counts.place → p.counts.place ≤ length proc.instrs
-    inside first = let lt : p.counts.place - 1 < length proc.instrs = slice_get_within proc.instrs (p.counts.place - 1) (instr.Receive using clauses after) here in omega (arith, lt, first)
 
     -- what the scan finds is what the row says
     abbrev row : ProcessState → ℕ → Option Body

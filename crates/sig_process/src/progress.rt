@@ -187,7 +187,6 @@ impl Progress {
         ensures { IfOk result (λ posts. map post_of posts.items ≡ told_at_end (after_obeying (state_of self.now) obeyed).tables reason.now) }
     {
         let exits = self.exits(obeyed, reason)?;
-        let posts = self.downs(exits, reason)?;
-        Ok(posts)
+        self.downs(exits, reason)
     }
 }

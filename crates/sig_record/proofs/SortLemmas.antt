@@ -52,9 +52,6 @@ rises_append lower [] zs left right between = right
 rises_append lower (y ∷ ys) zs left right between = (ahead_append lower y ys zs left.0 between.0, rises_append lower ys zs left.1 right between.1)
 
 module _ {X : Type 0} (lower : X → X → Bool) (o : IsStrictWeakOrder lower) where
-  Same : X → X → Bool
-  Same = ties lower
-
   same_parts : (x y : X) → ties lower x y ≡ true → (lower x y ≡ false) × (lower y x ≡ false)
   same_parts x y h = let parts = and_parts (not (lower x y)) (not (lower y x)) h in (not-true _ parts.0, not-true _ parts.1)
 

@@ -91,9 +91,6 @@ module _ (queues : List Queue) (pid : ℕ) (r t : Running) (x : Signal) (seats :
       let same : record r { outbox = t.outbox } ≡ t = ap (λ (z : Running). record z { outbox = t.outbox }) first in
       sym same ∙ ap (λ (z : Running). record z { outbox = t.outbox }) e
 
-  pub shorter : length t.outbox < length r.outbox
-  shorter = let e : length r.outbox ≡ length (x ∷ t.outbox) = ap (λ (z : List Signal). length z) box in omega (arith, e)
-
 -- an element that was read stands at its place
 pub at_place : {X : Type 0} (xs : List X) (i : ℕ) (x : X) → i < length xs → x ≡ get_or xs i x → slice_get xs i ≡ Some x
 at_place xs i x lt is = slice_get-get_or xs i x lt ∙ ap (λ z. Some z) (sym is)
