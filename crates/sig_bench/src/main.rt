@@ -32,17 +32,17 @@ fn arguments(rt: &HostRuntime) -> io::Result<Vec<String>> {
     Ok(arguments)
 }
 
-/// Does what the words ask for, and tells the status.
+/// Does what the arguments ask for, and tells the status.
 fn obey<R: Threads + Wait + Clock + Print + Eprint + Sync>(
     rt: &R,
     alloc: Global,
-    words: &[String],
+    arguments: &[String],
 ) -> io::Result<u8> {
-    if words.len() == 1 && words[0].as_str() == "check" {
+    if arguments.len() == 1 && arguments[0].as_str() == "check" {
         check(rt, alloc)?;
         return Ok(0);
     }
-    let Some(work) = work_of(words) else {
+    let Some(work) = work_of(arguments) else {
         eprintln!(rt; "{USAGE}")?;
         return Ok(2);
     };
@@ -57,11 +57,11 @@ fn fail(rt: &HostRuntime, error: io::Error) -> ExitCode {
 }
 
 fn main(rt: HostRuntime) -> ExitCode {
-    let words = match arguments(&rt) {
-        Ok(words) => words,
+    let given = match arguments(&rt) {
+        Ok(given) => given,
         Err(error) => return fail(&rt, error),
     };
-    match obey(&rt, rt.alloc(), &words) {
+    match obey(&rt, rt.alloc(), &given) {
         Ok(status) => ExitCode::from(status),
         Err(error) => fail(&rt, error),
     }

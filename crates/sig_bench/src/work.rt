@@ -76,16 +76,16 @@ fn apart_of(text: &str) -> Option<bool> {
     }
 }
 
-/// What these words ask for: the way, the count of senders, the signals of each, and whether the pids
-/// are apart. `None` where there are other words, or more or fewer.
-pub fn work_of(words: &[String]) -> Option<Work> {
-    if words.len() != 4 {
+/// What these arguments ask for: the way, the count of senders, the signals of each, and whether the
+/// pids are apart. `None` where there are other arguments, or more or fewer.
+pub fn work_of(arguments: &[String]) -> Option<Work> {
+    if arguments.len() != 4 {
         return None;
     }
-    let way = Way::of(words[0].as_str())?;
-    let senders = number_of(words[1].as_str(), MOST_SENDERS)?;
-    let each = number_of(words[2].as_str(), MOST_SIGNALS)?;
-    let apart = apart_of(words[3].as_str())?;
+    let way = Way::of(arguments[0].as_str())?;
+    let senders = number_of(arguments[1].as_str(), MOST_SENDERS)?;
+    let each = number_of(arguments[2].as_str(), MOST_SIGNALS)?;
+    let apart = apart_of(arguments[3].as_str())?;
     Some(Work {
         way,
         senders,

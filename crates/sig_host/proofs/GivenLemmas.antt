@@ -123,7 +123,7 @@ generate_option : IsOption (codes "generate")
 generate_option = record { by_long = refl; by_id = refl; same = refl }
 
 -- the two words are an option that is new, and its value; more is given by them
-pub record IsNext (ps : Pairs) (next : Given) (word value : Text) : Type 0 where
+pub record IsNextGiven (ps : Pairs) (next : Given) (word value : Text) : Type 0 where
   pub name : Text
   pub opt : IsOption name
   pub is : IsNameOf name word
@@ -144,7 +144,7 @@ module _ (g : Given) (ps : Pairs) (a : Agrees g ps) (next : Given) (word value :
   -- the option of this name is the next one: its value is read so, and what is given with it agrees
   next_of : {X : Type 0} (name : Text) → IsOption name → IsNameOf name word → (read : Text → Option X) (o : Option X) (given : X → Given) → Tells read o (value_of name ps)
       → ((x : X) → read value ≡ Some x → IsPlainWord value) → ((x : X) → value_of name ps ≡ None → read value ≡ Some x → Agrees (given x) (with_pair ps name value))
-      → (found : Option X) → once read o value ≡ found → option_map given found ≡ Some next → IsNext ps next word value
+      → (found : Option X) → once read o value ≡ found → option_map given found ≡ Some next → IsNextGiven ps next word value
   next_of name opt is read o given told plain agrees None once e = cc
   next_of name opt is read o given told plain agrees (Some x) once e =
       let new = once_is read o value x once in
@@ -159,7 +159,7 @@ module _ (g : Given) (ps : Pairs) (a : Agrees g ps) (next : Given) (word value :
         agrees = subst (λ (h : Given). Agrees h (with_pair ps name value)) same (agrees x none new.1);
       }
 
-  next_workers : word ≡ codes "--workers" → (o : Option ℕ) → once workers_of g.workers value ≡ o → option_map (λ n. record g { workers = Some n }) o ≡ Some next → IsNext ps next word value
+  next_workers : word ≡ codes "--workers" → (o : Option ℕ) → once workers_of g.workers value ≡ o → option_map (λ n. record g { workers = Some n }) o ≡ Some next → IsNextGiven ps next word value
   next_workers is =
       next_of (codes "workers") workers_option (subst (IsNameOf (codes "workers")) (sym is) (record { long = refl; other = refl })) workers_of g.workers (λ n. record g { workers = Some n }) a.workers
       (λ n told. number_word _ _ value n told) (λ n none told. record {
@@ -169,7 +169,7 @@ module _ (g : Given) (ps : Pairs) (a : Agrees g ps) (next : Given) (word value :
         generate = kept calls_of g.generate (codes "generate") (codes "workers") refl a.generate;
       })
 
-  next_quota : word ≡ codes "--quota" → (o : Option ℕ) → once quota_of g.quota value ≡ o → option_map (λ n. record g { quota = Some n }) o ≡ Some next → IsNext ps next word value
+  next_quota : word ≡ codes "--quota" → (o : Option ℕ) → once quota_of g.quota value ≡ o → option_map (λ n. record g { quota = Some n }) o ≡ Some next → IsNextGiven ps next word value
   next_quota is =
       next_of (codes "quota") quota_option (subst (IsNameOf (codes "quota")) (sym is) (record { long = refl; other = refl })) quota_of g.quota (λ n. record g { quota = Some n }) a.quota
       (λ n told. number_word _ _ value n told) (λ n none told. record {
@@ -179,7 +179,7 @@ module _ (g : Given) (ps : Pairs) (a : Agrees g ps) (next : Given) (word value :
         generate = kept calls_of g.generate (codes "generate") (codes "quota") refl a.generate;
       })
 
-  next_buffers : word ≡ codes "--buffers" → (o : Option Policy) → once policy_of g.policy value ≡ o → option_map (λ p. record g { policy = Some p }) o ≡ Some next → IsNext ps next word value
+  next_buffers : word ≡ codes "--buffers" → (o : Option Policy) → once policy_of g.policy value ≡ o → option_map (λ p. record g { policy = Some p }) o ≡ Some next → IsNextGiven ps next word value
   next_buffers is =
       next_of (codes "buffers") buffers_option (subst (IsNameOf (codes "buffers")) (sym is) (record { long = refl; other = refl })) policy_of g.policy (λ p. record g { policy = Some p }) a.policy
       (λ p told. policy_word value p told) (λ p none told. record {
@@ -189,7 +189,7 @@ module _ (g : Given) (ps : Pairs) (a : Agrees g ps) (next : Given) (word value :
         generate = kept calls_of g.generate (codes "generate") (codes "buffers") refl a.generate;
       })
 
-  next_generate : word ≡ codes "--generate" → (o : Option ℕ) → once calls_of g.generate value ≡ o → option_map (λ n. record g { generate = Some n }) o ≡ Some next → IsNext ps next word value
+  next_generate : word ≡ codes "--generate" → (o : Option ℕ) → once calls_of g.generate value ≡ o → option_map (λ n. record g { generate = Some n }) o ≡ Some next → IsNextGiven ps next word value
   next_generate is =
       next_of (codes "generate") generate_option (subst (IsNameOf (codes "generate")) (sym is) (record { long = refl; other = refl })) calls_of g.generate (λ n. record g { generate = Some n }) a.generate
       (λ n told. number_word _ _ value n told) (λ n none told. record {
@@ -199,22 +199,22 @@ module _ (g : Given) (ps : Pairs) (a : Agrees g ps) (next : Given) (word value :
         generate = added calls_of n (codes "generate") refl none told;
       })
 
-  pub next_option : with_option g word value ≡ Some next → IsNext ps next word value
+  pub next_option : with_option g word value ≡ Some next → IsNextGiven ps next word value
   next_option e = first (bytes_eq word (codes "--workers")) refl
     where
       fourth : (b : Bool) → bytes_eq word (codes "--generate") ≡ b → bytes_eq word (codes "--workers") ≡ false → bytes_eq word (codes "--quota") ≡ false
-          → bytes_eq word (codes "--buffers") ≡ false → IsNext ps next word value
+          → bytes_eq word (codes "--buffers") ≡ false → IsNextGiven ps next word value
       fourth true t x y z = next_generate ((bytes_eq-Decides _ _).0 t) _ refl (rw (x, y, z, t) at e)
       fourth false t x y z = let bad : None ≡ Some next = rw (x, y, z, t) at e in cc
 
-      third : (b : Bool) → bytes_eq word (codes "--buffers") ≡ b → bytes_eq word (codes "--workers") ≡ false → bytes_eq word (codes "--quota") ≡ false → IsNext ps next word value
+      third : (b : Bool) → bytes_eq word (codes "--buffers") ≡ b → bytes_eq word (codes "--workers") ≡ false → bytes_eq word (codes "--quota") ≡ false → IsNextGiven ps next word value
       third true t x y = next_buffers ((bytes_eq-Decides _ _).0 t) _ refl (rw (x, y, t) at e)
       third false t x y = fourth _ refl x y t
 
-      second : (b : Bool) → bytes_eq word (codes "--quota") ≡ b → bytes_eq word (codes "--workers") ≡ false → IsNext ps next word value
+      second : (b : Bool) → bytes_eq word (codes "--quota") ≡ b → bytes_eq word (codes "--workers") ≡ false → IsNextGiven ps next word value
       second true t x = next_quota ((bytes_eq-Decides _ _).0 t) _ refl (rw (x, t) at e)
       second false t x = third _ refl x t
 
-      first : (b : Bool) → bytes_eq word (codes "--workers") ≡ b → IsNext ps next word value
+      first : (b : Bool) → bytes_eq word (codes "--workers") ≡ b → IsNextGiven ps next word value
       first true t = next_workers ((bytes_eq-Decides _ _).0 t) _ refl (rw t at e)
       first false t = second _ refl t

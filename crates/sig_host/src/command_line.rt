@@ -85,7 +85,7 @@ fn refusal(error: &Error) -> WordsError
 /// its matches.
 ///
 /// - [`WordsError::Usage`]: clap doesn't take the arguments, or a value isn't in its range. It never
-///   comes where each option stands at most once, as two words, with a value in its range.
+///   comes where each option stands at most once, as two arguments, with a value in its range.
 /// - [`WordsError::Memory`]: there was no memory.
 pub fn words(alloc: Global, list: &[String]) -> Result<Settings, WordsError>
     ensures range { IfOk result IsInRange }

@@ -275,8 +275,8 @@ fn run_words<R: Threads + Wait + Sync, S: Source, O: Sink, G: Gate>(
 /// `--generate` the source isn't read. With one worker the gate is told of nothing, and no thread is
 /// started.
 ///
-/// `Usage` comes exactly where [`words`] answers it, never on words in the plain form, and then the
-/// source isn't read. `BadScript` comes only without `--generate`, where the bytes spell no script,
+/// `Usage` comes exactly where [`words`] answers it, never on arguments in the plain form, and then
+/// the source isn't read. `BadScript` comes only without `--generate`, where the bytes spell no script,
 /// with the first line that is refused and why; it is line 0 where they are more than
 /// [`MOST_BYTES`]. But for that, the source has nothing left then, and so it is after `Done` and
 /// `WriteFault` without `--generate`. `ReadFault` comes only where a read failed, and each other
@@ -285,8 +285,8 @@ fn run_words<R: Threads + Wait + Sync, S: Source, O: Sink, G: Gate>(
 /// nothing.
 ///
 /// What a status tells is written to `err` where no write to it fails: with `Done` the summary of
-/// the record, if the script was made. A fault of `err` changes no status. Words in the plain form
-/// with a script, and no fault of the source and of `out`, give `Done` or `Memory`, if the call
+/// the record, if the script was made. A fault of `err` changes no status. Arguments in the plain
+/// form with a script, and no fault of the source and of `out`, give `Done` or `Memory`, if the call
 /// returns: with more than one worker it waits for threads.
 pub fn run<R: Threads + Wait + Sync, S: Source, O: Sink, E: Sink, G: Gate>(
     rt: &R,

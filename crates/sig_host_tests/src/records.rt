@@ -173,7 +173,7 @@ fn records_and_no_other_texts_are_read(rt: HostRuntime) {
     let whole = ONE_MESSAGE_RECORD.len();
     for (from, length) in [(0, 12), (13, 86), (87, whole)] {
         let next = next_length(alloc, ONE_MESSAGE_RECORD, from);
-        assert!(rt; next == Some(length), "{next:?}");
+        assert!(rt; next == Some(length), "{from}: {next:?}");
     }
     let unended = &ONE_MESSAGE_RECORD[..whole - 1];
     for (text, line) in [

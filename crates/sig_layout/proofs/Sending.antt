@@ -1,11 +1,10 @@
 -- Lists of signals and of items, seen sender by sender.
-use Rattle.std.proofs.lemmas.Bool.{ltb-true, ltb-false, lt-ltb, le-ltb}
-use Rattle.std.proofs.Common.{ltb, ◌≡◌, ◌≢◌, ℕ, ◌==◌, ◌&&◌, ◌||◌, Bool, true, false, not, if◌then◌else◌, List, [], ◌∷◌, ◌++◌, length, drop, sym, refl, ap, ◌∙◌, arith, eq-eqb, ne_eqb, append_assoc, append-nil, inl, inr, ◌⊎◌, Some, None}
+use Rattle.std.proofs.Common.{◌≡◌, ◌≢◌, ℕ, ◌==◌, ◌&&◌, ◌||◌, Bool, true, false, not, if◌then◌else◌, List, [], ◌∷◌, ◌++◌, length, drop, sym, refl, ap, ◌∙◌, eq-eqb, ne_eqb, append_assoc, append-nil, inl, inr, ◌⊎◌, Some, None}
 use mathlib.Core.Logic.{dite}
 use native.Mathlib.Decide.{ℕ_discrete}
 use Rattle.sig_kinds.specs.declared.signal.Signal.{Signal}
 use Rattle.sig_layout.specs.declared.item.Item.{Item}
-use Rattle.sig_layout.specs.Sent.{sender, putter, signals, of, keep, Prefix, AllWithin, longer, longest}
+use Rattle.sig_layout.specs.Sent.{sender, putter, signals, of, keep, Prefix, AllWithin}
 
 pub bool_cases : (b : Bool) → (b ≡ true) ⊎ (b ≡ false)
 bool_cases true = inl refl
@@ -123,36 +122,3 @@ prefix_signals s xs ys p = (
   ap (λ (l : List Signal). l ++ signals p.0) (of_signals s xs)
       ∙ (sym (signals-append (of putter s xs) p.0) ∙ (ap signals p.1 ∙ sym (of_signals s ys))),
 )
-
--- of parts together, the longer
-abbrev longer_by : Bool → List Item → List Item → List Item
-longer_by c a b = if c then b else a
-
-longer_assoc_by : (a b c : List Item) (x y : Bool) → ltb (length a) (length b) ≡ x → ltb (length b) (length c) ≡ y
-    → longer (longer a b) c ≡ longer a (longer b c)
-longer_assoc_by a b c true true p q = ap (λ (z : Bool). longer (longer_by z a b) c) p
-    ∙ (ap (λ (z : Bool). longer_by z b c) q ∙ (sym (ap (λ (z : Bool). longer_by z a c)
-    (lt-ltb (length a) (length c) (let h = ltb-true (length a) (length b) p in let k = ltb-true (length b) (length c) q in
-    omega arith))) ∙ sym (ap (λ (z : Bool). longer a (longer_by z b c)) q)))
-longer_assoc_by a b c true false p q = ap (λ (z : Bool). longer (longer_by z a b) c) p
-    ∙ (ap (λ (z : Bool). longer_by z b c) q ∙ (sym (ap (λ (z : Bool). longer_by z a b) p)
-    ∙ sym (ap (λ (z : Bool). longer a (longer_by z b c)) q)))
-longer_assoc_by a b c false true p q = ap (λ (z : Bool). longer (longer_by z a b) c) p
-    ∙ sym (ap (λ (z : Bool). longer a (longer_by z b c)) q)
-longer_assoc_by a b c false false p q = ap (λ (z : Bool). longer (longer_by z a b) c) p
-    ∙ (ap (λ (z : Bool). longer_by z a c) (le-ltb (length a) (length c) (let h = ltb-false (length a) (length b) p in
-    let k = ltb-false (length b) (length c) q in omega arith))
-    ∙ (sym (ap (λ (z : Bool). longer_by z a b) p) ∙ sym (ap (λ (z : Bool). longer a (longer_by z b c)) q)))
-
-longer_assoc : (a b c : List Item) → longer (longer a b) c ≡ longer a (longer b c)
-longer_assoc a b c = longer_assoc_by a b c (ltb (length a) (length b)) (ltb (length b) (length c)) refl refl
-
-none_longer : (a : List Item) → longer [] a ≡ a
-none_longer [] = refl
-none_longer (x ∷ xs) = ap (λ (z : Bool). longer_by z [] (x ∷ xs)) (lt-ltb 0 (length (x ∷ xs)) (omega arith))
-
--- of what two seats were told, the longer for each sender
-pub longest-append : (s : ℕ) (a b : List (List Item)) → longest s (a ++ b) ≡ longer (longest s a) (longest s b)
-longest-append s [] b = sym (none_longer (longest s b))
-longest-append s (x ∷ xs) b = ap (λ (z : List Item). longer (of putter s x) z) (longest-append s xs b)
-    ∙ sym (longer_assoc (of putter s x) (longest s xs) (longest s b))

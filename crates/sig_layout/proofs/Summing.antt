@@ -56,11 +56,6 @@ small s j is short = let b = bounded (fresh false) 0 j (record {
     subst (λ (z : Summary). (z.directs < 2 ^ 63) × (z.score < 2 ^ 63) × (z.fetches < 2 ^ 63) × (z.run < 2 ^ 63)) (sym is)
     (omega arith, omega arith, omega arith, omega arith)
 
-pub not_install : (d : Due) → d ≢ due.Install → is_install d ≡ false
-not_install due.Nothing h = refl
-not_install due.Install h = absurd (h refl)
-not_install due.Remove h = refl
-
 -- one more entry, summed
 pub goes_on : (s s' : Summary) (j : List Entry) (e : Entry) → s ≡ summed j → s' ≡ after s e → s' ≡ summed (j ++ e ∷ [])
 goes_on s s' j e is now = now ∙ (ap (λ (z : Summary). after z e) is ∙ sym (summed_more j e))

@@ -12,7 +12,7 @@ use Rattle.sig_layout.specs.declared.decision.Due.TheVariants as due
 use Rattle.sig_layout.specs.declared.policy.Policy.{Policy}
 use Rattle.sig_layout.specs.declared.policy.Policy.TheVariants.{Never, Always, Churn, Auto}
 use Rattle.sig_layout.specs.Summaries.{fresh, scored, run_on, after, summary, summed, due_of, due_at, Allowed, IsAllowed, May}
-use Rattle.sig_layout.specs.Policies.{IsStill, IsDirect, IsLittle, direct_count, fetch_count, IsPeriod, whole, installed, removed, score_from, HasReached, HasIdled, InstallDue, RemoveDue, IsDue, RemovesNext, IsLawful}
+use Rattle.sig_layout.specs.Policies.{IsNoSwitch, IsDirect, IsLittle, direct_count, fetch_count, IsPeriod, whole, installed, removed, score_from, HasReached, HasIdled, InstallDue, RemoveDue, IsDue, RemovesNext, IsLawfulJournal}
 use Rattle.sig_layout.proofs.Sending.{or_cases, or_neither}
 use Rattle.sig_layout.proofs.Summing.{put_keeps, neither, summed_more}
 
@@ -70,16 +70,16 @@ walk-append : (s : Bool × Entries) (xs ys : Entries) → walk s (xs ++ ys) ≡ 
 walk-append s [] ys = refl
 walk-append s (x ∷ xs) ys = walk-append (step s x) xs ys
 
-step_still : (b : Bool) (q : Entries) (e : Entry) → IsStill e → step (b, q) e ≡ (b, q ++ e ∷ [])
+step_still : (b : Bool) (q : Entries) (e : Entry) → IsNoSwitch e → step (b, q) e ≡ (b, q ++ e ∷ [])
 step_still b q (Direct r) h = refl
 step_still b q (Fetch m) h = refl
 step_still b q Install h = absurd h
 step_still b q Remove h = absurd h
 
-walk_still : (b : Bool) (q p : Entries) → All IsStill p → walk (b, q) p ≡ (b, q ++ p)
+walk_still : (b : Bool) (q p : Entries) → All IsNoSwitch p → walk (b, q) p ≡ (b, q ++ p)
 walk_still b q [] h = ap (λ (z : Entries). (b, z)) (sym (append-nil q))
-walk_still b q (e ∷ es) h = ap (λ (s : Bool × Entries). walk s es) (step_still b q e (All-head IsStill e es h))
-    ∙ (walk_still b (q ++ e ∷ []) es (All-tail IsStill e es h) ∙ ap (λ (z : Entries). (b, z)) (append_assoc q (e ∷ []) es))
+walk_still b q (e ∷ es) h = ap (λ (s : Bool × Entries). walk s es) (step_still b q e (All-head IsNoSwitch e es h))
+    ∙ (walk_still b (q ++ e ∷ []) es (All-tail IsNoSwitch e es h) ∙ ap (λ (z : Entries). (b, z)) (append_assoc q (e ∷ []) es))
 
 period_is : (j : Entries) (b : Bool) (p : Entries) → IsPeriod j b p → walk (false, []) j ≡ (b, p)
 period_is _ _ _ (whole p h) = walk_still false [] p h
@@ -90,12 +90,12 @@ one_period : (j : Entries) (b c : Bool) (p q : Entries) → IsPeriod j b p → I
 one_period j b c p q h k = let e : (b, p) ≡ (c, q) = sym (period_is j b p h) ∙ period_is j c q k in
     (ap (λ (z : Bool × Entries). z.0) e, ap (λ (z : Bool × Entries). z.1) e)
 
-period_more : (j : Entries) (b : Bool) (p : Entries) (e : Entry) → IsStill e → IsPeriod j b p → IsPeriod (j ++ e ∷ []) b (p ++ e ∷ [])
-period_more _ _ _ e s (whole p h) = whole (p ++ e ∷ []) (all_more IsStill p e h s)
+period_more : (j : Entries) (b : Bool) (p : Entries) (e : Entry) → IsNoSwitch e → IsPeriod j b p → IsPeriod (j ++ e ∷ []) b (p ++ e ∷ [])
+period_more _ _ _ e s (whole p h) = whole (p ++ e ∷ []) (all_more IsNoSwitch p e h s)
 period_more _ _ _ e s (installed before p h) = subst (λ (z : Entries). IsPeriod z true (p ++ e ∷ []))
-    (sym (append_assoc before (Install ∷ p) (e ∷ []))) (installed before (p ++ e ∷ []) (all_more IsStill p e h s))
+    (sym (append_assoc before (Install ∷ p) (e ∷ []))) (installed before (p ++ e ∷ []) (all_more IsNoSwitch p e h s))
 period_more _ _ _ e s (removed before p h) = subst (λ (z : Entries). IsPeriod z false (p ++ e ∷ []))
-    (sym (append_assoc before (Remove ∷ p) (e ∷ []))) (removed before (p ++ e ∷ []) (all_more IsStill p e h s))
+    (sym (append_assoc before (Remove ∷ p) (e ∷ []))) (removed before (p ++ e ∷ []) (all_more IsNoSwitch p e h s))
 
 -- counts and the score of a list with more behind it
 directs-append : (a b : Entries) → direct_count (a ++ b) ≡ direct_count a + direct_count b
@@ -353,8 +353,8 @@ tells_fetch j s m t = let row = row_fetch t.p s.run m t.row in let n : ℕ = run
 tells_after : (j : Entries) (s : Summary) (e : Entry) → Tells j s → Tells (j ++ e ∷ []) (after s e)
 tells_after j s (Direct r) t = tells_direct j s r t
 tells_after j s (Fetch m) t = tells_fetch j s m t
-tells_after j s Install t = tells_fresh (j ++ Install ∷ []) true (installed j [] (All-nil IsStill))
-tells_after j s Remove t = tells_fresh (j ++ Remove ∷ []) false (removed j [] (All-nil IsStill))
+tells_after j s Install t = tells_fresh (j ++ Install ∷ []) true (installed j [] (All-nil IsNoSwitch))
+tells_after j s Remove t = tells_fresh (j ++ Remove ∷ []) false (removed j [] (All-nil IsNoSwitch))
 
 tells_from : (before : Entries) (s : Summary) (es : Entries) → Tells before s → Tells (before ++ es) (summary s es)
 tells_from before s [] t = subst (λ (z : Entries). Tells z s) (sym (append-nil before)) t
@@ -362,7 +362,7 @@ tells_from before s (e ∷ es) t = subst (λ (z : Entries). Tells z (summary (af
     (tells_from (before ++ e ∷ []) (after s e) es (tells_after before s e t))
 
 pub tells : (j : List Entry) → Tells j (summed j)
-tells j = tells_from [] (fresh false) j (tells_fresh [] false (whole [] (All-nil IsStill)))
+tells j = tells_from [] (fresh false) j (tells_fresh [] false (whole [] (All-nil IsNoSwitch)))
 
 -- the table, by the summary
 module _ (j : Entries) (s : Summary) (t : Tells j s) where
@@ -479,7 +479,7 @@ removes_next policy s (Remove ∷ es) d h = record {
   next = inr (es, refl);
 }
 
-pub lawful_of : (policy : Policy) (j : List Entry) → IsAllowed policy j → IsLawful policy j
+pub lawful_of : (policy : Policy) (j : List Entry) → IsAllowed policy j → IsLawfulJournal policy j
 lawful_of policy j h = let behind : (front rest : Entries) → j ≡ front ++ rest
     → Allowed policy (summed front) rest = (λ front rest is. allowed_rest policy (fresh false) front rest
     (subst (IsAllowed policy) is h)) in record {
@@ -498,7 +498,7 @@ fetch_first m es [] rest is all (inr t) = let k : Fetch m ≡ Remove = ap (head_
 fetch_first m es (x ∷ xs) rest is all next = let same : Fetch m ≡ x = ap (head_or Install) is in
     absurd (subst IsDirect (sym same) (All-head IsDirect x xs all))
 
-module _ (policy : Policy) (j : Entries) (law : IsLawful policy j) where
+module _ (policy : Policy) (j : Entries) (law : IsLawfulJournal policy j) where
   not_install : (front rest : Entries) (e : Entry) → j ≡ front ++ e ∷ rest → (e ≡ Install → ⊥) → due_at policy front ≢ due.Install
   not_install front rest e is never d = let m = law.installs front (e ∷ rest) is (due_so policy front due.Install d) in
       never (ap (head_or Install) m.1)
@@ -520,5 +520,5 @@ module _ (policy : Policy) (j : Entries) (law : IsLawful policy j) where
         (allowed_from (front ++ e ∷ []) es (is ∙ sym (append_assoc front (e ∷ []) es))),
   )
 
-pub allowed_of : (policy : Policy) (j : List Entry) → IsLawful policy j → IsAllowed policy j
+pub allowed_of : (policy : Policy) (j : List Entry) → IsLawfulJournal policy j → IsAllowed policy j
 allowed_of policy j law = allowed_from policy j law [] j refl

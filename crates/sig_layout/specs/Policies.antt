@@ -42,11 +42,11 @@ AllowsWay p via.Outer = AllowsMode p false
 AllowsWay p (via.Buffer b) = AllowsMode p true
 
 -- no switch
-abbrev pub IsStill : Entry → Type 0
-IsStill (Direct r) = Unit {0}
-IsStill (Fetch m) = Unit {0}
-IsStill Install = ⊥
-IsStill Remove = ⊥
+abbrev pub IsNoSwitch : Entry → Type 0
+IsNoSwitch (Direct r) = Unit {0}
+IsNoSwitch (Fetch m) = Unit {0}
+IsNoSwitch Install = ⊥
+IsNoSwitch Remove = ⊥
 
 abbrev pub IsDirect : Entry → Type 0
 IsDirect (Direct r) = Unit {0}
@@ -78,9 +78,9 @@ fetch_count (Remove ∷ es) = fetch_count es
 -- The part behind the last switch, which is the whole journal where there is none. The journal is in the installed state where
 -- that switch is an Install.
 pub data IsPeriod : List Entry → Bool → List Entry → Type 0 where
-  whole : (p : List Entry) → All IsStill p → IsPeriod p false p
-  installed : (before p : List Entry) → All IsStill p → IsPeriod (before ++ Install ∷ p) true p
-  removed : (before p : List Entry) → All IsStill p → IsPeriod (before ++ Remove ∷ p) false p
+  whole : (p : List Entry) → All IsNoSwitch p → IsPeriod p false p
+  installed : (before p : List Entry) → All IsNoSwitch p → IsPeriod (before ++ Install ∷ p) true p
+  removed : (before p : List Entry) → All IsNoSwitch p → IsPeriod (before ++ Remove ∷ p) false p
 
 -- a refused put adds 1 to the score, and any other takes 1 away, not below 0
 abbrev pub score_from : ℕ → List Entry → ℕ
@@ -142,7 +142,7 @@ pub record RemovesNext (j : List Entry) : Type 0 where
   pub next : (rest ≡ []) ⊎ ((more : List Entry) × (rest ≡ Remove ∷ more))
 
 -- a lawful journal: the switches stand where they are due, and there alone
-pub record IsLawful (policy : Policy) (j : List Entry) : Type 0 where
+pub record IsLawfulJournal (policy : Policy) (j : List Entry) : Type 0 where
   -- an Install stands directly behind each part after which it is due
   pub installs : (front rest : List Entry) → j ≡ front ++ rest → InstallDue policy front
       → (more : List Entry) × (rest ≡ Install ∷ more)

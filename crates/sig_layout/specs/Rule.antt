@@ -7,7 +7,7 @@ use Rattle.sig_layout.specs.declared.knows.Knows.{Knows}
 use Rattle.sig_layout.specs.declared.item.Item.{Item}
 use Rattle.sig_layout.specs.Sets.{has}
 use Rattle.sig_layout.specs.Sent.{sender, putter, of, signals, Prefix, Within, AllWithin}
-use Rattle.sig_layout.specs.Policies.{AllowsMode, AllowsWay, IsPeriod, RemoveDue, IsLawful, direct_count, fetch_count}
+use Rattle.sig_layout.specs.Policies.{AllowsMode, AllowsWay, IsPeriod, RemoveDue, IsLawfulJournal, direct_count, fetch_count}
 use Rattle.sig_layout.specs.Openings.{IsCarried, IsCounted}
 use Rattle.sig_layout.specs.Views.{filled_at}
 use Rattle.sig_layout.specs.Core.{QState, buffer_of, At}
@@ -68,7 +68,7 @@ pub record Rule (q : QState) : Type 0 where
   -- The journal. It is lawful, and while the outer turn is free the mode is on exactly where the journal is in the installed state.
   -- It has a Direct entry for each put into the outer list and a Fetch entry for each fetch of the seat with the role, which knows
   -- a removal to be due exactly where one is.
-  pub lawful : IsLawful q.setup.policy q.outer.journal
+  pub lawful : IsLawfulJournal q.setup.policy q.outer.journal
   pub mode : q.holder ≡ None → (p : List Entry) × IsPeriod q.outer.journal q.mode p
   pub directs : direct_count q.outer.journal ≡ outer_count q.log
   pub fetches : (i : ℕ) (v : Knows) → At q i v → v.role ≡ true → v.fetches ≡ fetch_count q.outer.journal

@@ -1,6 +1,6 @@
 -- Lists of signals and of items, seen sender by sender. The order of the signals of one sender to one receiver is what is kept;
 -- between senders there is none (Erlang Reference Manual, Processes, Delivery of Signals).
-use Rattle.std.specs.Prelude.{◌≡◌, ℕ, ltb, Bool, if◌then◌else◌, ◌==◌, List, [], ◌∷◌, ◌++◌, length, map}
+use Rattle.std.specs.Prelude.{◌≡◌, ℕ, Bool, if◌then◌else◌, ◌==◌, List, [], ◌∷◌, ◌++◌, map}
 use Rattle.sig_kinds.specs.declared.signal.Signal.{Signal}
 use Rattle.sig_layout.specs.declared.item.Item.{Item}
 
@@ -34,11 +34,3 @@ Within xs ys = (s : ℕ) → Prefix (of putter s xs) (of putter s ys)
 abbrev pub AllWithin : List (List Item) → List Item → Type 0
 AllWithin [] ys = Unit {0}
 AllWithin (xs ∷ rest) ys = Within xs ys × AllWithin rest ys
-
-abbrev pub longer : List Item → List Item → List Item
-longer a b = if ltb (length a) (length b) then b else a
-
--- the most that was told of the sender s
-abbrev pub longest : ℕ → List (List Item) → List Item
-longest s [] = []
-longest s (xs ∷ rest) = longer (of putter s xs) (longest s rest)

@@ -4,7 +4,7 @@ ghost use Rattle.sig_layout.specs.declared.policy.Policy.{Policy};
 ghost use Rattle.sig_layout.specs.declared.entry.Entry.{Entry};
 ghost use Rattle.sig_layout.specs.declared.decision.Due.{Due};
 ghost use Rattle.sig_layout.specs.Core.{QState, Reached};
-ghost use Rattle.sig_layout.specs.Policies.{IsPolicy, IsDue, IsLawful};
+ghost use Rattle.sig_layout.specs.Policies.{IsPolicy, IsDue, IsLawfulJournal};
 ghost use Rattle.sig_layout.specs.Summaries.{IsAllowed};
 ghost use Rattle.sig_layout.specs.Rule.{Rule};
 
@@ -21,5 +21,5 @@ pub fn due_is_one()
 /// A journal is lawful exactly where each of its entries might come when it was added, and no
 /// install is due at the end.
 pub fn lawful_is_allowed()
-    ensures { (p : Policy) (j : List Entry) → IsLawful p j ↔ IsAllowed p j }
+    ensures { (p : Policy) (j : List Entry) → IsLawfulJournal p j ↔ IsAllowed p j }
 {}

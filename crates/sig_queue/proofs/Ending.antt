@@ -11,7 +11,7 @@ use Rattle.sig_layout.specs.declared.item.Item.{Item}
 use Rattle.sig_layout.specs.declared.outer.Outer.{Outer}
 use Rattle.sig_layout.specs.declared.policy.Policy.{Policy}
 use Rattle.sig_kinds.specs.Counting.{IsCounting}
-use Rattle.sig_layout.specs.Policies.{begins_on, IsPolicy, AllowsWay, IsLawful, direct_count, fetch_count}
+use Rattle.sig_layout.specs.Policies.{begins_on, IsPolicy, AllowsWay, IsLawfulJournal, direct_count, fetch_count}
 use Rattle.sig_layout.specs.Openings.{first_of, IsCarried, IsCounted}
 use Rattle.sig_layout.specs.Carried.{CarriedAs, outer_count}
 use Rattle.sig_layout.specs.Rooms.{all_pieces}
@@ -133,7 +133,7 @@ pub record Ended (z : Setup) (v : Knows) (xs : List Slot) : Type 0 where
   pub carried : All (IsCarried z) (signals v.put)
   pub counted : IsCounted z (signals v.put)
   pub ways : All (IsAllowed z) v.put
-  pub lawful : IsLawful z.policy outer.journal
+  pub lawful : IsLawfulJournal z.policy outer.journal
   pub directs : direct_count outer.journal ≡ outer_count v.put
   pub fetches : fetch_count outer.journal ≡ v.fetches
 
@@ -165,7 +165,7 @@ ends z id v ws xs final idle role every = let tied = final.1.0 in let q : QState
       carried = all_each sender (IsCarried z) (signals v.put) (λ s. subst (All (IsCarried z)) (sym (sent_is s)) (all_of sender (IsCarried z) s (signals q.log) c.all));
       counted = λ s h. subst (IsCounting (first_of z s)) (sym (sent_is s)) (c.counted s h);
       ways = all_each putter (IsAllowed z) v.put (λ s. subst (All (IsAllowed z)) (sym (put_is s)) (all_of putter (IsAllowed z) s q.log (subst (λ (y : Setup). All (IsAllowed y) q.log) same (steady z tied.proper q r).ways)));
-      lawful = subst (λ (y : Setup). IsLawful y.policy q.outer.journal) same (lawful_of q.setup.policy q.outer.journal (journals z tied.proper q r).allowed);
+      lawful = subst (λ (y : Setup). IsLawfulJournal y.policy q.outer.journal) same (lawful_of q.setup.policy q.outer.journal (journals z tied.proper q r).allowed);
       directs = ways z q r ∙ outer_by_sender q.log v.put (λ s. sym (put_is s));
       fetches = sym (((journals z tied.proper q r).owes id v at).made role);
     }
@@ -190,7 +190,7 @@ ended_as z v xs e outer ls rest is lists_are rest_is = let order : (s : ℕ) →
       counted = e.counted;
       left = all_each sender (IsCarried z) rest (λ s. all_rest (IsCarried z) (of sender s v.taken) (of sender s rest) (subst (All (IsCarried z)) (order s ∙ of-append sender s v.taken rest) (all_of sender (IsCarried z) s (signals v.put) e.carried)));
       ways = e.ways;
-      lawful = subst (IsLawful z.policy) journal e.lawful;
+      lawful = subst (IsLawfulJournal z.policy) journal e.lawful;
       directs = ap direct_count (sym journal) ∙ e.directs;
       fetches = ap fetch_count (sym journal) ∙ e.fetches;
       core = e.core;

@@ -10,7 +10,7 @@ use Rattle.sig_layout.specs.declared.entry.Entry.{Entry}
 use Rattle.sig_layout.specs.declared.opening.Opening.{Opening}
 use Rattle.sig_layout.specs.declared.setup.Setup.{Setup}
 use Rattle.sig_layout.specs.declared.knows.Knows.{Knows}
-use Rattle.sig_layout.specs.Policies.{begins_on, first_journal, AllowsWay, IsLawful, direct_count, fetch_count}
+use Rattle.sig_layout.specs.Policies.{begins_on, first_journal, AllowsWay, IsLawfulJournal, direct_count, fetch_count}
 use Rattle.sig_layout.specs.Openings.{IsCarried, IsCounted}
 use Rattle.sig_layout.specs.Carried.{outer_count}
 use Rattle.sig_layout.specs.Sets.{has}
@@ -69,7 +69,7 @@ pub record EndsAs (z : Setup) (v : Knows) (rest : List Signal) (journal : List E
   -- under Never none of it was put into a buffer, and under Always none into the outer list
   pub ways : All (λ (x : Item). AllowsWay z.policy x.via) v.put
   -- the journal has an Install and a Remove where one was due, a Direct for each put into the outer list, and a Fetch for each fetch
-  pub lawful : IsLawful z.policy journal
+  pub lawful : IsLawfulJournal z.policy journal
   pub directs : direct_count journal ≡ outer_count v.put
   pub fetches : fetch_count journal ≡ v.fetches
   -- the core ended in this state, in which the seat had the view v. What lies there is left, each buffer with its own signals

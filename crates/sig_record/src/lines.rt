@@ -26,7 +26,7 @@ use crate::pieces::{after, name, narrow, past, term, term_field, wide, wide_fiel
 use crate::refusal::Refusal;
 use crate::report::Left;
 use sig_kinds::Signal;
-use sig_model::{Did, Event, Outcome, State};
+use sig_model::{Did, Event, State};
 use sig_terms::bytes::is_digit_byte;
 use sig_terms::{Name, Pid, ReadTerm};
 use std::alloc::Global;

@@ -17,8 +17,8 @@ abbrev pub tokens_at : ℕ → List ℕ → List Token
 tokens_at at bytes = (cut_of at 0 bytes).tokens
 
 -- the tokens are those of the whole line, and each integer is in range
-abbrev pub IsWhole : List ℕ → Cut → Type 0
-IsWhole line cut = (list_all (λ t. is_token_in_range (text line t) t.kind) cut.tokens ≡ true) × (cut.stop ≡ None)
+abbrev pub IsWellCut : List ℕ → Cut → Type 0
+IsWellCut line cut = (list_all (λ t. is_token_in_range (text line t) t.kind) cut.tokens ≡ true) × (cut.stop ≡ None)
 
 -- behind a text
 pub behind_text : (line a rest : List ℕ) (at end : ℕ) → drop at line ≡ a ++ rest → end ≡ at + length a → drop end line ≡ rest
@@ -61,7 +61,7 @@ word_tokens word rest at end w ends e = ap (λ (c : Cut). c.tokens) (word_cut wo
 
 -- The text is cut whole, into one token or more, and ends no line.
 pub record IsCut (Ends : List ℕ → Type 0) (a : List ℕ) : Type 0 where
-  pub whole : (line rest : List ℕ) (at end : ℕ) → drop at line ≡ a ++ rest → end ≡ at + length a → Ends rest → IsWhole line (cut_of end 0 rest) → IsWhole line (cut_of at 0 (a ++ rest))
+  pub whole : (line rest : List ℕ) (at end : ℕ) → drop at line ≡ a ++ rest → end ≡ at + length a → Ends rest → IsWellCut line (cut_of end 0 rest) → IsWellCut line (cut_of at 0 (a ++ rest))
   pub fewer : (rest : List ℕ) (at end : ℕ) → end ≡ at + length a → Ends rest → length (tokens_at end rest) < length (tokens_at at (a ++ rest))
   pub clean : list_all is_inline a ≡ true
 
@@ -69,7 +69,7 @@ pub word_is_cut : {Ends : List ℕ → Type 0} {kind : TokenKind} (word : List �
 word_is_cut {Ends} {kind} word w = record {
   whole = λ line rest at end here e ends behind.
       let range : is_token_in_range (text line (token_at kind at word)) kind ≡ true = ap (λ (bytes : List ℕ). is_token_in_range bytes kind) (token_text line word rest kind at here) ∙ w.range in
-      subst (IsWhole line) (sym (word_cut word rest at end w ends e)) (rw range behind.0, behind.1);
+      subst (IsWellCut line) (sym (word_cut word rest at end w ends e)) (rw range behind.0, behind.1);
   fewer = λ rest at end e ends. omega (arith, ap length (word_tokens word rest at end w ends e));
   clean = w.clean;
 }
@@ -81,7 +81,7 @@ cut_on a b p q ends = record {
       let split : (a ++ b) ++ rest ≡ a ++ (b ++ rest) = append_assoc a b rest in
       let there : drop at line ≡ a ++ (b ++ rest) = here ∙ split in
       let place : end ≡ at + length a + length b = omega (arith, length-append a b) in
-      subst (λ (xs : List ℕ). IsWhole line (cut_of at 0 xs)) (sym split) (p.whole line (b ++ rest) at (at + length a) there refl (ends rest f)
+      subst (λ (xs : List ℕ). IsWellCut line (cut_of at 0 xs)) (sym split) (p.whole line (b ++ rest) at (at + length a) there refl (ends rest f)
       (q.whole line rest (at + length a) end (behind_text line a (b ++ rest) at (at + length a) there refl) place f behind));
   fewer = λ rest at end e f.
       let place : end ≡ at + length a + length b = omega (arith, length-append a b) in
@@ -102,8 +102,8 @@ word_opens word rest at w ends none = subst Opens (sym (word_tokens word rest at
 pub blank_tokens : (rest : List ℕ) (at end : ℕ) → end ≡ at + 1 → cut_of at 0 (32 ∷ rest) ≡ cut_of end 0 rest
 blank_tokens rest at end e = cut-blank at 32 rest refl ∙ ap (λ (n : ℕ). cut_of n 0 rest) (sym e)
 
-pub nothing_is_whole : (line : List ℕ) (at : ℕ) → IsWhole line (cut_of at 0 [])
-nothing_is_whole line at = subst (IsWhole line) (sym (cut-nil at)) (refl, refl)
+pub nothing_is_whole : (line : List ℕ) (at : ℕ) → IsWellCut line (cut_of at 0 [])
+nothing_is_whole line at = subst (IsWellCut line) (sym (cut-nil at)) (refl, refl)
 
 pub no_tokens : (at : ℕ) → tokens_at at [] ≡ []
 no_tokens at = ap (λ (c : Cut). c.tokens) (cut-nil at)

@@ -33,13 +33,13 @@ use Rattle.sig_script.specs.ScriptText.{name_of_place, expr_text, after_blank, f
 use Rattle.sig_script.specs.ReadableScript.{IsNameToken, IsVariableToken, IsReadableExpr, IsReadablePattern}
 use Rattle.sig_script.proofs.Seen.{Reads, expr_seen, pattern_seen}
 use Rattle.sig_script.proofs.WordTexts.{is_inline, when_true, name_word, variable_word, count_word, count_again, arrow}
-use Rattle.sig_script.proofs.CutTexts.{tokens_at, token_at, token_text, word_tokens, IsWhole, IsCut, word_is_cut, behind_text, blank_tokens, nothing_is_whole, no_tokens}
+use Rattle.sig_script.proofs.CutTexts.{tokens_at, token_at, token_text, word_tokens, IsWellCut, IsCut, word_is_cut, behind_text, blank_tokens, nothing_is_whole, no_tokens}
 use Rattle.sig_script.proofs.PhraseReads.{ends_sooner}
 use Rattle.sig_script.proofs.PhraseTexts.{name_found, variable_found, expr_read, pattern_read, phrase_found}
 
 -- The rest of a line is this text, which is cut whole, and the reader makes x of it.
 pub record IsRest {X : Type 0} (read : List ℕ → List Token → Result X FaultKind) (bytes : List ℕ) (x : X) : Type 0 where
-  pub whole : (line : List ℕ) (at : ℕ) → drop at line ≡ bytes → IsWhole line (cut_of at 0 bytes)
+  pub whole : (line : List ℕ) (at : ℕ) → drop at line ≡ bytes → IsWellCut line (cut_of at 0 bytes)
   pub clean : list_all is_inline bytes ≡ true
   pub stops : Stops bytes
   pub again : (line : List ℕ) (at : ℕ) → drop at line ≡ bytes → read line (tokens_at at bytes) ≡ Ok x
@@ -60,7 +60,7 @@ rest_on read next a bytes x y c r step = record {
   whole = λ line at here.
       let there : drop (at + 1) line ≡ a ++ bytes = behind_text line (32 ∷ []) (a ++ bytes) at (at + 1) here refl in
       let end : ℕ = at + 1 + length a in
-      subst (IsWhole line) (sym (blank_tokens (a ++ bytes) at (at + 1) refl)) (c.whole line bytes (at + 1) end there refl r.stops (r.whole line end (behind_text line a bytes (at + 1) end there refl)));
+      subst (IsWellCut line) (sym (blank_tokens (a ++ bytes) at (at + 1) refl)) (c.whole line bytes (at + 1) end there refl r.stops (r.whole line end (behind_text line a bytes (at + 1) end there refl)));
   clean = list_all-append is_inline a bytes ∙ rw c.clean r.clean;
   stops = refl;
   again = λ line at here.
@@ -255,7 +255,7 @@ pub record IsFormLine (known : Known) (here : ℕ) (line : List ℕ) (word : Key
   pub means : keyword_of front ≡ Some word
   pub rest : IsRest (form_of known here word) bytes f
 
-checked_whole : (line : List ℕ) (cut : Cut) → IsWhole line cut → checked line cut ≡ Ok cut.tokens
+checked_whole : (line : List ℕ) (cut : Cut) → IsWellCut line cut → checked line cut ≡ Ok cut.tokens
 checked_whole line cut w =
     when_true (list_all (λ t. is_token_in_range (text line t) t.kind) cut.tokens) _ _ w.0 ∙ ap (λ (o : Option ℕ). if is_some o then Err Syntax else Ok cut.tokens) w.1
 
@@ -269,7 +269,7 @@ front_said known d front bytes word f named means rest here =
     let place : end ≡ 0 + length front = omega arith in
     let w = name_word front named in
     let there : drop end line ≡ bytes = behind_text line front bytes 0 end refl place in
-    let whole : IsWhole line (cut_of 0 0 line) = (word_is_cut front w).whole line bytes 0 end refl place rest.stops (rest.whole line end there) in
+    let whole : IsWellCut line (cut_of 0 0 line) = (word_is_cut front w).whole line bytes 0 end refl place rest.stops (rest.whole line end there) in
     let tokens : tokens_of line ≡ Ok (token_at Name 0 front ∷ tokens_at end bytes) = checked_whole line (cut_of 0 0 line) whole ∙ ap (λ (ts : List Token). Ok ts) (word_tokens front bytes 0 end w rest.stops place) in
     ap (λ (r : Result (List Token) FaultKind). r >>= said_by known d line) tokens
     ∙ ap (λ (b : List ℕ). on_ok Some (form_behind known d (keyword_of b) line (tokens_at end bytes))) (token_text line front bytes Name 0 refl)

@@ -23,9 +23,6 @@ passed place n e = grind (arith, nat_tests)
 fails : (place n : ℕ) → n < place → nat_le place n ≡ false
 fails place n lt = grind (arith, nat_tests)
 
-there : (place n : ℕ) → n ≡ place → (n == place) ≡ true
-there place n e = grind (arith, nat_tests)
-
 not_there : (place n : ℕ) → place < n → (n == place) ≡ false
 not_there place n lt = grind (arith, nat_tests)
 

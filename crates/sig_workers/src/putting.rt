@@ -11,7 +11,7 @@ use sig_kinds::Signal;
 use sig_layout::Via;
 use sig_process::Process;
 use sig_queue::{QSeat, Sent, SigQueue};
-use std::alloc::{AllocError, Global};
+use std::alloc::AllocError;
 use std::mem::drop;
 use std::sync::Wait;
 

@@ -44,7 +44,7 @@ fn visit_process<L: Ledger>(process: &mut Process, steps: &mut Steps<L>) -> Resu
     exec_once(process, steps)
 }
 
-/// The signal joins those that wait for its receiver.
+/// The signal is delivered: it waits behind the others for its receiver.
 fn deliver_one(procs: &mut Vec<Process>, signal: Signal) -> Result<(), AllocError>
     requires placed { IsPlaced (runnings_of procs.old.items) }
     requires arriving { IsArriving signal.to.0 (length procs.old.items) signal }
@@ -56,7 +56,7 @@ fn deliver_one(procs: &mut Vec<Process>, signal: Signal) -> Result<(), AllocErro
     procs[signal.to.0 as usize].arrive(signal)
 }
 
-/// Each of the signals joins those that wait for its receiver.
+/// Each of the signals is delivered.
 #[tactic(auto, unfolding(sig_model::specs::OneWorker::deliver_all))]
 fn deliver_each(procs: &mut Vec<Process>, signals: &mut Signals) -> Result<(), AllocError>
     requires placed { IsPlaced (runnings_of procs.old.items) }
