@@ -43,8 +43,10 @@ impl Model for FailingSink {
 
 impl FailingSink {
     /// An empty sink with room for `room` bytes, all of which it allocates now. It takes at most
-    /// `piece` bytes a write. It fails at the calls whose numbers, from 1, are in `fails`, and where
-    /// its room is used up. `piece` must not be 0.
+    /// `piece` bytes a write. It fails at the calls whose numbers, from 1, are in `fails`, and
+    /// where its room is used up.
+    ///
+    /// Asks that `piece` isn't 0.
     ///
     /// # Errors
     ///

@@ -35,7 +35,9 @@ impl Model for FailingSource {
 
 impl FailingSource {
     /// A source of these bytes, at most `piece` of them a read, that fails at the calls whose
-    /// numbers, from 1, are in `fails`. `piece` must not be 0.
+    /// numbers, from 1, are in `fails`.
+    ///
+    /// Asks that `piece` isn't 0.
     pub fn new(bytes: Vec<u8>, piece: usize, fails: Vec<u64>) -> FailingSource
         requires { 0 < piece }
         ensures { result ≡ record {

@@ -29,7 +29,9 @@ impl Model for MemorySource {
 }
 
 impl MemorySource {
-    /// A source of these bytes, at most `piece` of them a read. `piece` must not be 0.
+    /// A source of these bytes, at most `piece` of them a read.
+    ///
+    /// Asks that `piece` isn't 0.
     pub fn new(bytes: Vec<u8>, piece: usize) -> MemorySource
         requires { 0 < piece }
         ensures { result ≡ record { left = bytes.items; piece = piece } }

@@ -19,8 +19,10 @@ pub enum ReadAll {
 /// The most bytes that one read asks for.
 const PIECE: usize = 4096;
 
-/// Reads the source to its end into `into`, which must be empty. `limit` must be below the greatest
-/// usize. Whatever the answer, at most `limit` bytes and one more are taken from the source.
+/// Reads the source to its end into `into`. Whatever the answer, at most `limit` bytes and one more
+/// are taken from the source.
+///
+/// Asks that `into` is empty, and that `limit` is below [`usize::MAX`].
 ///
 /// - [`ReadAll::Whole`]: `into` holds all bytes that the source had, at most `limit`.
 /// - [`ReadAll::TooLong`]: `into` holds the first `limit + 1` bytes.

@@ -11,8 +11,9 @@ pub trait Sink {
     // How many writes failed. It never falls.
     ghost faults: { Self → ℕ };
 
-    /// Takes bytes from the front of `piece`, which must not be empty, and answers how many. It is
-    /// at least one.
+    /// Takes bytes from the front of `piece`, and answers how many. It is at least one.
+    ///
+    /// Asks that `piece` isn't empty.
     ///
     /// # Errors
     ///

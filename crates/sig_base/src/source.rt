@@ -13,8 +13,9 @@ pub trait Source {
     // How many reads failed. It never falls.
     ghost faults: { Self → ℕ };
 
-    /// Places bytes at the front of `into`, which must not be empty, and answers how many.
-    /// 0 is the end of the input.
+    /// Places bytes at the front of `into`, and answers how many. 0 is the end of the input.
+    ///
+    /// Asks that `into` isn't empty.
     ///
     /// # Errors
     ///
