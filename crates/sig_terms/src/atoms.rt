@@ -9,7 +9,10 @@ use crate::term::Term;
 use std::alloc::{AllocError, Global};
 
 impl Term {
-    /// The atom of these bytes, which are those of an atom. The error is want of memory.
+    /// The atom of these bytes. The error is want of memory.
+    ///
+    /// Asks that the bytes are those of an atom, as [`spells_atom`](crate::bytes::spells_atom)
+    /// tells.
     pub fn plain_atom(alloc: Global, bytes: &[u8]) -> Result<Term, AllocError>
         requires { is_atom bytes.now ≡ true }
         ensures { IfOk result (λ term. term ≡ Term.Atom bytes.now) }

@@ -29,6 +29,8 @@ fn digits(most: u64, first: u64, bytes: &[u8]) -> (u64, &[u8])
 
 /// The number at the front of the bytes: as many digits as leave it at most `most`, where a `0` is a
 /// number by itself. There is none where no digit stands there. It comes with the bytes behind it.
+///
+/// Asks that `most` is at least 9.
 pub fn number(most: u64, bytes: &[u8]) -> Option<(u64, &[u8])>
     requires { 9 ≤ most }
     ensures number { option_map (λ x. (x.0, x.1.now)) result ≡ number_at most bytes.now }
