@@ -20,6 +20,8 @@ fn place_of_peer(peers: &[u32], peer: u32) -> Result<usize, usize>
 }
 
 /// Whether this peer is in the table.
+///
+/// Asks that the peers stand in ascending order, each once.
 pub fn has_peer(peers: &[u32], peer: u32) -> bool
     requires { IsInOrder (marked peers.now) }
     ensures { result ≡ map.contains_key (peers_of peers.now) peer }
@@ -29,6 +31,8 @@ pub fn has_peer(peers: &[u32], peer: u32) -> bool
 
 /// Puts this peer into the table. True exactly where it wasn't there. An error says that the
 /// vector was full and that memory was refused: the peers are as before.
+///
+/// Asks that the peers stand in ascending order, each once.
 pub fn add_peer(peers: &mut Vec<u32>, peer: u32) -> Result<bool, AllocError>
     requires { IsInOrder (marked peers.old.items) }
     ensures order { IsInOrder (marked peers.new.items) }
@@ -44,6 +48,8 @@ pub fn add_peer(peers: &mut Vec<u32>, peer: u32) -> Result<bool, AllocError>
 }
 
 /// Takes this peer out of the table. True exactly where it was there.
+///
+/// Asks that the peers stand in ascending order, each once.
 pub fn remove_peer(peers: &mut Vec<u32>, peer: u32) -> bool
     requires { IsInOrder (marked peers.old.items) }
     ensures order { IsInOrder (marked peers.new.items) }
@@ -59,6 +65,8 @@ pub fn remove_peer(peers: &mut Vec<u32>, peer: u32) -> bool
 }
 
 /// The place from which on the peers are above this one. Every peer is above none.
+///
+/// Asks that the peers stand in ascending order, each once.
 pub fn place_above(peers: &[u32], after: Option<Pid>) -> usize
     requires { IsInOrder (marked peers.now) }
     ensures { drop result peers.now ≡ peers_above after peers.now }
@@ -82,6 +90,8 @@ fn place_of_id(awaited: &[(u32, u64)], peer: u32) -> Result<usize, usize>
 }
 
 /// The id of this peer. `None` exactly where there is none.
+///
+/// Asks that the ids stand by ascending peer, each peer once.
 pub fn id_of(awaited: &[(u32, u64)], peer: u32) -> Option<u64>
     requires { IsInOrder awaited.now }
     ensures { result ≡ map.get (ids_of awaited.now) peer }
@@ -94,6 +104,8 @@ pub fn id_of(awaited: &[(u32, u64)], peer: u32) -> Option<u64>
 
 /// Puts the id of this peer into the table, in place of an older one. An error says that there was
 /// none, that the vector was full and that memory was refused: the ids are as before.
+///
+/// Asks that the ids stand by ascending peer, each peer once.
 pub fn set_id(awaited: &mut Vec<(u32, u64)>, peer: u32, id: u64) -> Result<(), AllocError>
     requires { IsInOrder awaited.old.items }
     ensures order { IsInOrder awaited.new.items }
@@ -108,6 +120,8 @@ pub fn set_id(awaited: &mut Vec<(u32, u64)>, peer: u32, id: u64) -> Result<(), A
 }
 
 /// Takes the id of this peer out of the table.
+///
+/// Asks that the ids stand by ascending peer, each peer once.
 pub fn remove_id(awaited: &mut Vec<(u32, u64)>, peer: u32)
     requires { IsInOrder awaited.old.items }
     ensures order { IsInOrder awaited.new.items }
