@@ -107,6 +107,9 @@ fn put_in(bindings: &mut Vec<Binding<'_>>, env: &mut Env) -> Result<(), AllocErr
 ///
 /// `AllocError` comes only where memory is refused, and then the environment is as before. Takes
 /// time and memory in the size of what is bound, and no copy of the environment.
+///
+/// Asks that the pattern matches the term in this environment, as [`matches`](crate::matches)
+/// tells.
 pub fn bind_match(
     alloc: Global,
     pattern: &Pattern,
