@@ -63,6 +63,8 @@ impl Proc {
     }
 
     /// The instruction at this place, from 1. `None` exactly where the place is past the last.
+    ///
+    /// Asks that the place isn't 0.
     pub fn instr(&self, place: u32) -> Option<&Instr>
         requires { 1 ≤ place }
         ensures value { option_copied result ≡ slice_get self.now.instrs (place - 1) }

@@ -4,22 +4,39 @@ ghost use Rattle.sig_program.specs.Instructions.{word_of};
 /// The word of an instruction that is no receive.
 #[derive(Clone, Copy)]
 pub enum Verb {
+    /// `send`: sends a message.
     Send,
+    /// `set`: makes a value that of a variable.
     Set,
+    /// `make_ref`: makes a new reference.
     MakeRef,
+    /// `link`: sets up a link.
     Link,
+    /// `unlink`: ends a link.
     Unlink,
+    /// `monitor`: monitors a process.
     Monitor,
+    /// `demonitor`: ends a monitor.
     Demonitor,
+    /// `alias`: makes a new alias.
     Alias,
+    /// `unalias`: ends an alias.
     Unalias,
+    /// `exit`: ends the process with a reason.
     Exit,
+    /// `exit_to`: sends an exit signal.
     ExitTo,
+    /// `trap`: makes the process trap exits, or trap them no more.
     Trap,
+    /// `reserve`: sets a marker behind the messages that are there.
     Reserve,
+    /// `bind`: binds the marker to a reference.
     Bind,
+    /// `clear`: takes the marker of a reference away.
     Clear,
+    /// `goto`: goes on at a label.
     Goto,
+    /// `stop`: ends the process.
     Stop,
 }
 
