@@ -68,7 +68,9 @@ impl Batch {
         self.signals.pop_front()
     }
 
-    /// Moves all signals to the end of `into`, where room was made for them.
+    /// Moves all signals to the end of `into`.
+    ///
+    /// Asks that `into` has room for all of them, as [`Signals::room`] makes it.
     pub fn pour_into(&mut self, into: &mut Signals)
         requires { length self.old ≤ into.old.spare }
         ensures list { into.new.items ≡ into.old.items ++ self.old }

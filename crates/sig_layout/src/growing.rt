@@ -9,7 +9,9 @@ use std::mem;
 /// takes without memory.
 #[derive(Debug, Drop)]
 pub struct Growing {
+    /// The older pieces, with room for more.
     pub(crate) first: Vec<Batch>,
+    /// The newest piece.
     pub(crate) last: Batch,
 }
 
@@ -31,6 +33,8 @@ impl Model for Growing {
 
 impl Growing {
     /// A whole batch comes behind what there is. It takes no memory.
+    ///
+    /// Asks that there is room for one more batch. [`Pieces::grow`] has made room for so many.
     pub fn take(&mut self, batch: Batch)
         requires { 0 < self.old.spare }
         ensures list { self.new.list ≡ self.old.list ++ batch }

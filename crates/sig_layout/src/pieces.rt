@@ -16,7 +16,9 @@ use std::marker::Model;
 /// Contracts see one list.
 #[derive(Debug, Drop)]
 pub struct Pieces {
+    /// The older pieces, the oldest first.
     pub(crate) first: Vec<Batch>,
+    /// The newest piece, to which single signals are added.
     pub(crate) last: Batch,
 }
 

@@ -28,6 +28,8 @@ impl Senders {
     }
 
     /// The set with this pid too.
+    ///
+    /// Asks that the pid is below 256.
     pub fn with(self, pid: Pid) -> Senders
         requires { pid.0 < 256 }
         ensures { (s : ℕ) → has result s ≡ (has self s || (s == pid.0)) }

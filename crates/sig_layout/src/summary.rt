@@ -7,18 +7,23 @@ use crate::decision::Due;
 use crate::entry::Entry;
 use crate::policy::Policy;
 
-// What the policies read of the part of a journal behind the last switch.
+/// What the policies read of the part of a journal behind the last switch.
 #[derive(Clone, Copy, Debug)]
 pub(crate) struct Summary {
+    /// Whether buffers are in use.
     pub(crate) installed: bool,
+    /// How many signals were put into the outer list.
     pub(crate) directs: u64,
+    /// How many fetches there were.
     pub(crate) fetches: u64,
+    /// One more for each such put after a refused try, and one less, but never below 0, for each
+    /// other.
     pub(crate) score: u64,
-    // The score has been 64 or more.
+    /// The score has been 64 or more.
     pub(crate) reached: bool,
-    // The fetches in a row that moved less than 4, up to here.
+    /// The fetches in a row that moved less than 4, up to here.
     pub(crate) run: u64,
-    // There were 16 of them in a row.
+    /// There were 16 of them in a row.
     pub(crate) sixteen: bool,
 }
 
