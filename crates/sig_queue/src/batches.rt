@@ -10,7 +10,9 @@ use std::vec::IntoIter;
 /// Batches, one behind the other. Contracts see the signals that are left.
 #[derive(Drop)]
 pub(crate) struct Batches {
+    /// The batch whose signals come next.
     current: Batch,
+    /// The batches behind it.
     later: IntoIter<Batch>,
 }
 

@@ -17,6 +17,9 @@ impl SigQueue {
     /// Gives away some of the seat's senders, and maybe its role. What was put for them goes along,
     /// and with the role what was taken, the fetches and a removal that is due. Both seats have what
     /// was told.
+    ///
+    /// Asks that the seat is of this queue and has all of these senders, and the receiver's role
+    /// where that is to be given away.
     pub fn split(&self, seat: &mut QSeat, senders: Senders, receiver: bool) -> QSeat
         requires own { seat.old.queue ≡ self.now.id }
         requires some { (s : ℕ) → has senders s ≡ true → has seat.old.knows.senders s ≡ true }
@@ -41,6 +44,8 @@ impl SigQueue {
     }
 
     /// Gives all that the other seat has to this one.
+    ///
+    /// Asks that both seats are of this queue.
     pub fn join(&self, seat: &mut QSeat, other: QSeat)
         requires own { (seat.old.queue ≡ self.now.id) × (other.queue ≡ self.now.id) }
         ensures own { seat.new.queue ≡ seat.old.queue }
@@ -56,6 +61,8 @@ impl SigQueue {
     }
 
     /// Tells what this seat knows to have been put.
+    ///
+    /// Asks that the seat is of this queue.
     pub fn note(&self, seat: &mut QSeat) -> Note
         requires own { seat.old.queue ≡ self.now.id }
         ensures own { (seat.new.queue ≡ seat.old.queue) × (result.queue ≡ seat.old.queue) }
@@ -67,6 +74,8 @@ impl SigQueue {
     }
 
     /// Adds what the note tells to what this seat was told.
+    ///
+    /// Asks that the seat and the note are of this queue.
     pub fn learn(&self, seat: &mut QSeat, note: Note)
         requires own { (seat.old.queue ≡ self.now.id) × (note.queue ≡ self.now.id) }
         ensures own { seat.new.queue ≡ seat.old.queue }
@@ -81,6 +90,8 @@ impl SigQueue {
     }
 
     /// What one load of the word of bits gives.
+    ///
+    /// Asks that the seat is of this queue.
     pub fn filled(&self, seat: &mut QSeat) -> u64
         requires own { seat.old.queue ≡ self.now.id }
         ensures own { seat.new.queue ≡ seat.old.queue }

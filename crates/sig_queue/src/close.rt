@@ -74,9 +74,11 @@ impl SigQueue {
         (Rest::new(alloc, signals, lists), journal)
     }
 
-    /// Ends the queue. The seat has all senders and the role, so that nothing can be put any more.
-    /// What is left is the outer list, and then the lists of buffers 0 to 63. What each sender put is
-    /// what was taken of it, and then what is left of it.
+    /// Ends the queue. What is left is the outer list, and then the lists of buffers 0 to 63. What
+    /// each sender put is what was taken of it, and then what is left of it.
+    ///
+    /// Asks that the seat is of this queue and has all of the queue's senders and the receiver's
+    /// role, so that nothing can be put any more.
     pub fn close(self, mut seat: QSeat) -> Closed
         requires own { seat.queue ≡ self.id }
         requires role { seat.knows.role ≡ true }

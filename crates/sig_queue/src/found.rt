@@ -13,12 +13,16 @@ use crate::steps::set_back;
 use crate::turns::{put_list, take_list, try_buffer};
 use std::marker::Brand;
 
-/// What a fetch found: the buffers whose turns it holds, as bits and as a count, those that it skipped, and how many signals it holds, where that can be counted.
+/// What a fetch found.
 #[derive(Drop)]
 pub(crate) struct Found {
+    /// The buffers whose turns it holds, as bits.
     pub(crate) held: u64,
+    /// The buffers that it skipped, since another seat held their turns, as bits.
     pub(crate) skipped: u64,
+    /// How many turns it holds.
     pub(crate) count: usize,
+    /// How many signals lie there, where that can be counted.
     pub(crate) total: Option<usize>,
 }
 

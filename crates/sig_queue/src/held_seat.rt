@@ -5,7 +5,9 @@ use std::marker::Model;
 /// A seat that holds the outer turn, for tests. Contracts see of which queue it is, and what it knows.
 #[derive(Drop)]
 pub struct HeldSeat {
+    /// The seat at the table of the queue.
     pub(crate) place: Place,
+    /// What the running code has of what it knows.
     pub(crate) kept: Kept,
 }
 

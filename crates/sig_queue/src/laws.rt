@@ -9,7 +9,9 @@ use crate::qseat::QSeat;
 use crate::sig_queue::SigQueue;
 use crate::steps::{leave_same, try_outer};
 
-/// Takes the outer turn, at one try. The seat has a sender or the role.
+/// Takes the outer turn, at one try.
+///
+/// Asks that the seat is of this queue and has a sender or the receiver's role.
 pub fn hold(queue: &SigQueue, seat: QSeat) -> Hold
     requires own { seat.queue ≡ queue.now.id }
     requires somebody { IsSomebody seat.knows }
@@ -29,6 +31,8 @@ pub fn hold(queue: &SigQueue, seat: QSeat) -> Hold
 }
 
 /// Leaves the outer turn, with all as it was.
+///
+/// Asks that the seat is of this queue.
 pub fn release(queue: &SigQueue, held: HeldSeat) -> QSeat
     requires own { held.queue ≡ queue.now.id }
     ensures own { result.queue ≡ queue.now.id }

@@ -112,9 +112,12 @@ fn first_table(
 }
 
 impl SigQueue {
-    /// An empty queue, and the seat that has all senders and the receiver's role. The number of
-    /// `Churn` is at least 1, each sender is below the opening's count, and the opening has a first
-    /// number, from 1 and below 2^63, for each pid below it. The error is want of memory.
+    /// An empty queue, and the seat that has all senders and the receiver's role. The error is want
+    /// of memory.
+    ///
+    /// Asks that the opening has one first number for each pid below its count, and no more, that
+    /// each of them is at least 1 and below 2^63, that each sender is below that count, and that
+    /// the number of `Churn` is at least 1.
     pub fn open(
         alloc: Global,
         policy: Policy,

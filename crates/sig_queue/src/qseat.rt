@@ -5,7 +5,9 @@ use std::marker::Model;
 /// A caller's token of one queue, which holds no turn. Contracts see of which queue it is, and what it knows.
 #[derive(Drop)]
 pub struct QSeat {
+    /// The seat at the table of the queue.
     pub(crate) place: Place,
+    /// What the running code has of what it knows.
     pub(crate) kept: Kept,
 }
 

@@ -32,7 +32,9 @@ impl<G: Says> PerchRule<Account> for Stated<G> {
 /// see it: it has no bytes. `close` alone makes one, and it can't be copied.
 #[derive(Drop)]
 pub struct Receipt {
+    /// A seat at the table of the queue, from which a further mark is made.
     like: Place,
+    /// What the receipt says.
     mark: Mark<Account>,
 }
 
@@ -81,8 +83,11 @@ impl Receipt {
         Receipt { like, mark }
     }
 
-    /// What the later receipt has comes behind what this one has. It is of the same receiver, senders
-    /// and policy, and the numbers of each sender go on.
+    /// What the later receipt has comes behind what this one has.
+    ///
+    /// Asks that the later one is of the same receiver, senders and policy, and that the numbers of
+    /// each sender go on in it: the sender's first number there is its first number here and as
+    /// many more as it has put here.
     pub fn follow(&mut self, later: Receipt)
         requires { MayFollow self.old later }
         ensures { self.new ≡ followed self.old later }

@@ -62,7 +62,10 @@ impl Receipts {
         }
     }
 
-    /// Each receipt of `later` follows the one at the same place. Both lists have the same length.
+    /// Each receipt of `later` follows the one at the same place.
+    ///
+    /// Asks that both lists have the same length, and of each two receipts what [`Receipt::follow`]
+    /// asks.
     pub fn follow(&mut self, later: Receipts)
         requires { EachMayFollow self.old later }
         ensures { self.new ≡ all_followed self.old later }

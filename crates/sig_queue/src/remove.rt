@@ -183,8 +183,11 @@ impl SigQueue {
     }
 
     /// Takes the mode off and moves what lies in the buffers behind the outer list. It may wait for
-    /// other seats. The seat has the receiver's role, and a removal is due. Fails only for want of
-    /// memory; all is as before then, and the removal still due.
+    /// other seats. Fails only for want of memory; all is as before then, and the removal still
+    /// due.
+    ///
+    /// Asks that the seat is of this queue and has the receiver's role, and that a removal is due,
+    /// as [`SigQueue::removal_due`] tells.
     pub fn remove<R: Wait>(&self, rt: &R, seat: &mut QSeat) -> Result<(), AllocError>
         requires own { seat.old.queue ≡ self.now.id }
         requires due { (seat.old.knows.role ≡ true) × (seat.old.knows.due ≡ true) }

@@ -11,8 +11,11 @@ use std::marker::Model;
 /// the signals that are left, in this order.
 #[derive(Drop)]
 pub struct Rest {
+    /// The outer list, but for its newest piece.
     first: Batches,
+    /// The newest piece of the outer list.
     last: Batch,
+    /// The lists of the buffers.
     lists: Batches,
 }
 

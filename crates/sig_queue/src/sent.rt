@@ -23,9 +23,10 @@ pub enum Sent {
 }
 
 impl SigQueue {
-    /// Offers a signal until it was put, or memory is wanting. It may wait for other seats. The
-    /// signal is one that [`offer`](SigQueue::offer) takes. Under `Never` it is put into no buffer, and
-    /// under `Always` never into the outer list.
+    /// Offers a signal until it was put, or memory is wanting. It may wait for other seats. Under
+    /// `Never` it is put into no buffer, and under `Always` never into the outer list.
+    ///
+    /// Asks of the seat and the signal what [`offer`](SigQueue::offer) asks.
     pub fn send<R: Wait>(&self, rt: &R, seat: &mut QSeat, mut signal: Signal) -> Sent
         requires own { seat.old.queue ≡ self.now.id }
         requires from { has seat.old.knows.senders signal.from.0 ≡ true }

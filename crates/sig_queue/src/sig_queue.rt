@@ -8,10 +8,13 @@ use std::marker::Model;
 /// One queue, which threads share. Contracts see which queue it is, and what it was opened with.
 #[derive(Drop)]
 pub struct SigQueue {
+    /// The words of the turns, the mode and the bits, and the lists in slots.
     pub(crate) table: Table<Slot, Knows, Setup, QueueRule, Global>,
+    /// When buffers are installed and removed.
     pub(crate) policy: Policy,
+    /// Where a removal gets the memory for new lists.
     pub(crate) alloc: Global,
-    // Room for the lists that `close` hands out, so that it wants no memory.
+    /// Room for the lists that `close` hands out, so that it wants no memory.
     pub(crate) lists: Vec<Batch>,
 }
 

@@ -101,7 +101,9 @@ fn leave_all(words: &Words, place: &mut Place, held: u64, count: usize)
 /// What a fetch took.
 #[derive(Drop)]
 pub(crate) struct Taken {
+    /// How many signals it took.
     pub(crate) count: u64,
+    /// Whether a removal is due now.
     pub(crate) due: bool,
 }
 
