@@ -8,7 +8,12 @@ use crate::messages::message;
 use crate::relaying::Line;
 use sig_queue::{Offer, QSeat, SigQueue};
 
-/// Offers the message with this number, which is the next of its sender.
+/// Offers the message with this number.
+///
+/// Asks that the seat is of this queue and has the sender of the line; that this is a sender of the
+/// queue and below its count, that the line's receiver is the queue's and below its count, and that
+/// the line's first number is the one with which the queue was opened for the sender; and that the
+/// number is the next of the sender: the first number and as many more as it has put.
 pub fn offer_message(
     queue: &SigQueue,
     seat: &mut QSeat,
@@ -38,6 +43,8 @@ fn was_put(offer: &Offer) -> Option<bool>
 }
 
 /// Offers the message with this number. Whether it was put, and `None` where memory is wanting.
+///
+/// Asks what [`offer_message`] asks.
 pub fn put_message(
     queue: &SigQueue,
     seat: &mut QSeat,

@@ -18,8 +18,11 @@ use std::thread::Threads;
 /// Who sends to whom, and with which number first.
 #[derive(Clone, Copy)]
 pub struct Line {
+    /// The sender.
     pub from: Pid,
+    /// The receiver.
     pub to: Pid,
+    /// The number of the first message.
     pub first: u64,
 }
 
@@ -96,6 +99,9 @@ fn take_some<R: Wait>(rt: &R, queue: &SigQueue, seat: &mut QSeat, into: &mut Sig
 }
 
 /// Fetches until there are so many signals, or memory is wanting.
+///
+/// Asks that the seat is of this queue and has the receiver's role, that nothing was put for its
+/// senders, and that `into` holds what it has taken so far.
 pub fn receive<R: Wait>(
     rt: &R,
     queue: &SigQueue,
@@ -154,6 +160,9 @@ fn send_and_receive<R: Threads + Wait + Sync>(
 
 /// One thread sends a message for each serial while another fetches, until it has enough. What was
 /// fetched, and then what is left, is what was sent, in order. The error is want of memory.
+///
+/// Asks of the policy, the senders and the opening what [`SigQueue::open`] asks, that `from` is one
+/// of the senders, and that the receiver is below the opening's count.
 pub fn relay<R: Threads + Wait + Sync>(
     rt: &R,
     alloc: Global,
