@@ -67,6 +67,9 @@ impl Process {
     }
 
     /// The process's part of a record. The process kept what every running process keeps.
+    ///
+    /// Asks that nothing is left of what it has sent to others: its outbox is empty, as
+    /// [`Process::take_outbox`] leaves it.
     pub fn into_parts(self) -> Parts
         requires { self.running.outbox ≡ [] }
         ensures parts { IsPartsOf self.running result }

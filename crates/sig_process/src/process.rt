@@ -35,7 +35,9 @@ pub struct Process {
     pub(crate) count: u32,
     /// How many instructions the process may execute.
     pub(crate) turns: u32,
+    /// Its part of the script.
     pub(crate) proc: Proc,
+    /// What its events change.
     pub(crate) progress: Progress,
 }
 
@@ -96,6 +98,8 @@ fn beginning(alloc: Global, pid: Pid, count: u32) -> Result<Progress, AllocError
 impl Process {
     /// The process of this pid, as the script opens it: at its first instruction, with all else
     /// empty. The error is want of memory.
+    ///
+    /// Asks that the pid is one of the script's: that it is below [`Script::count`].
     pub fn open(alloc: Global, script: &Script, pid: Pid) -> Result<Process, AllocError>
         requires { pid.0 < length script.now.procs }
         ensures opened { IfOk result (λ p. IfSome (slice_get script.now.procs pid.0) (λ d.
@@ -188,6 +192,8 @@ impl Process {
     /// all of them. A receive makes at most as many tests of a message as it has clauses, for each
     /// message that it looks at. The error is want of memory; then the process is as before, but for
     /// the saved place. (Erlang Reference Manual, Expressions.)
+    ///
+    /// Asks that the process can execute, as [`Process::can_exec`] tells.
     pub fn exec<L: Ledger>(&mut self, steps: &mut Steps<L>) -> Result<Exec, AllocError>
         requires { can_exec self.old.running ≡ true }
         ensures exec { MatchResult result (IsExec self.old self.new) (λ _. self.new.running ≡ self.old.running) }
@@ -219,6 +225,8 @@ impl Process {
     /// Handles the next signal: the oldest own one, or where there is none the oldest of another.
     /// The error is want of memory; then the process is as before. (Erlang Reference Manual,
     /// Processes, Receiving Signals.)
+    ///
+    /// Asks that the process can handle a signal, as [`Process::can_handle`] tells.
     pub fn handle(&mut self) -> Result<(), AllocError>
         requires { can_handle self.old.running ≡ true }
         ensures { MatchResult result (λ _. IsHandled self.old self.new) (λ _. self.new ≡ self.old) }

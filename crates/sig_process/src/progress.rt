@@ -104,9 +104,11 @@ pub(crate) struct Counts {
 pub(crate) struct Progress {
     /// Where its memory comes from.
     pub alloc: Global,
+    /// What it holds.
     pub tables: Tables,
     /// Whether it traps exits.
     pub traps: bool,
+    /// Its place, its stamp, and the numbers that it gives next.
     pub counts: Counts,
     /// Its events, in their order.
     pub events: Events,
