@@ -367,6 +367,10 @@ fn take_form(alloc: Global, draft: &mut Draft, n: u64, form: Form) -> Result<(),
 
 /// Line `n` behind what was read so far, or what is wrong with it. What was read is of no use
 /// behind a line that is wrong. The room of the list of tokens is used again.
+///
+/// Asks that `known` has at most [`MOST_PROCESSES`](crate::MOST_PROCESSES) processes, each with at
+/// most 2^31 instructions and 2^31 labels; that `n` is below 2^31; and that what was read so far
+/// has at most as many processes, each with at most `n` instructions and `n` labels.
 pub fn take_line(
     alloc: Global,
     known: &Known,

@@ -39,6 +39,7 @@ pub type DraftProcs = Sequence<DraftProc>;
 /// A script as it was read.
 #[derive(Drop)]
 pub struct DraftScript {
+    /// How many instructions each process may execute.
     pub turns: u32,
     pub procs: DraftProcs,
 }
@@ -78,6 +79,8 @@ fn label_among(procs: &[DraftProc], here: usize, name: &[u8]) -> Option<u32>
 
 impl DraftScript {
     /// The pid of the process of this name. `None` exactly where no process has it.
+    ///
+    /// Asks that there are at most [`MOST_PROCESSES`](crate::MOST_PROCESSES) processes.
     pub fn pid_of(&self, name: &[u8]) -> Option<u32>
         requires { length self.now.procs ≤ MOST_PROCESSES }
         ensures { result ≡ position (λ (p : Declared). bytes_eq p.name name.now) self.now.procs }

@@ -573,6 +573,9 @@ fn read_said(
 
 /// What a line says behind what was read so far, or what is wrong with it. A line without tokens
 /// says nothing. The room of the list of tokens is used again.
+///
+/// Asks that `known` has at most [`MOST_PROCESSES`](crate::MOST_PROCESSES) processes, each with at
+/// most 2^31 instructions and 2^31 labels.
 #[tactic(auto, unfolding(crate::specs::Forms::said))]
 pub fn read_line(
     alloc: Global,

@@ -347,9 +347,11 @@ fn add_procs(alloc: Global, procs: &mut Procs, n: u32) -> Result<(), AllocError>
 }
 
 /// The generated script: a hub that answers calls, and eight clients, each of which makes `n` calls
-/// over a monitor that is an alias too, with a marker before the answer. `n` is at least 1 and at
-/// most [`MOST_CALLS`]: three instructions of the hub for each of `8 * n` calls are within its
-/// turns. The error is want of memory. (The language of scripts is this project's own.)
+/// over a monitor that is an alias too, with a marker before the answer. The error is want of
+/// memory. (The language of scripts is this project's own.)
+///
+/// Asks that `n` is at least 1 and at most [`MOST_CALLS`]: three instructions of the hub for each
+/// of `8 * n` calls are within its turns.
 #[tactic(auto, unfolding(crate::specs::Generated::generated), using(crate::proofs::GeneratedLemmas::generated_sound))]
 pub fn generate(alloc: Global, n: u32) -> Result<Script, AllocError>
     requires some { 1 ≤ n }

@@ -87,6 +87,8 @@ fn no_names(stop: Stop) -> Result<Known, AllocError>
 
 /// The names of processes and labels in the text, for a reader that asks whether they are right. It
 /// passes over the lines that can name none, and knows no names where one of the others is refused.
+///
+/// Asks that there are fewer than 2^30 bytes.
 pub fn guess_names(alloc: Global, bytes: &[u8]) -> Result<Known, AllocError>
     requires { length bytes.now < 2 ^ 30 }
     ensures { IfOk result IsFewKnown }

@@ -13,13 +13,21 @@ use sig_terms::bytes::equal_bytes;
 /// The word with which a line begins.
 #[derive(Clone, Copy)]
 pub enum Keyword {
+    /// `turns`: how many instructions each process may execute.
     Turns,
+    /// `process`: a process begins.
     Process,
+    /// `label`: names the place of the next instruction.
     Label,
+    /// An instruction that is no receive.
     Do(Verb),
+    /// `receive`: a receive begins.
     Receive,
+    /// `on`: a clause of the receive.
     On,
+    /// `after`: where the receive goes on that finds no message.
     After,
+    /// `end`: the receive ends.
     End,
 }
 

@@ -15,6 +15,9 @@ pub enum Known {
 }
 
 /// The pid of the process of this name.
+///
+/// Asks that `known` has at most [`MOST_PROCESSES`](crate::MOST_PROCESSES) processes, each with at
+/// most 2^31 instructions and 2^31 labels.
 pub fn find_pid(known: &Known, name: &[u8]) -> Result<u32, Stop>
     requires { IsFewKnown known.now }
     ensures { Gives (λ n. n) result (pid_of known.now name.now) }
@@ -29,6 +32,9 @@ pub fn find_pid(known: &Known, name: &[u8]) -> Result<u32, Stop>
 }
 
 /// The place of the label among those of the process with this place among the processes.
+///
+/// Asks that `known` has at most [`MOST_PROCESSES`](crate::MOST_PROCESSES) processes, each with at
+/// most 2^31 instructions and 2^31 labels.
 pub fn find_label(known: &Known, here: usize, name: &[u8]) -> Result<u32, Stop>
     requires { IsFewKnown known.now }
     ensures { Gives (λ n. n) result (label_of known.now here name.now) }

@@ -15,8 +15,11 @@ use std::mem::{drop, replace};
 /// time in the logarithm of their count. Contracts see the labels alone.
 #[derive(Drop)]
 pub struct LabelTable {
+    /// Where the copies of names get their memory.
     alloc: Global,
+    /// The labels, in the order of their lines.
     labels: Labels,
+    /// The place of each label, from 0, under its name.
     places: BTreeMap<Vec<u8>, u32>,
 }
 
@@ -83,6 +86,9 @@ impl LabelTable {
     }
 
     /// Adds a label at the end. Without memory for it the labels are of no use.
+    ///
+    /// Asks that no label of this name is there, as [`LabelTable::has`] tells, and that there are
+    /// fewer than 2^32 labels.
     pub fn add(&mut self, alloc: Global, label: Label) -> Result<(), AllocError>
         requires new { position (λ (l : Label). bytes_eq l.name label.name) self.old ≡ None }
         requires few { length self.old < 2 ^ 32 }

@@ -71,6 +71,8 @@ fn cut_line(room: Tokens, line: &[u8]) -> Result<Cut, AllocError>
 }
 
 /// The bytes of a token.
+///
+/// Asks that the token lies in the line and is spelled as its kind says.
 pub fn text_of(line: &[u8], token: Token) -> &[u8]
     requires { IsToken line.now token }
     ensures { result.now ≡ text line.now token }

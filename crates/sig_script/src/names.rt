@@ -17,6 +17,9 @@ use sig_terms::Name;
 use std::alloc::{AllocError, Global};
 
 /// The bytes of a name.
+///
+/// Asks that each token lies in the line and is spelled as its kind says, and each integer has 64
+/// bits, as [`read_tokens`](crate::line::read_tokens) gives them.
 pub fn take_word<'l, 't>(
     line: &'l [u8],
     tokens: &'t [Token],
@@ -36,6 +39,9 @@ pub fn take_word<'l, 't>(
 }
 
 /// The name of these bytes.
+///
+/// Asks that the bytes are a name token or a variable token, as
+/// [`spells_token`](sig_terms::bytes::spells_token) tells.
 pub fn name_of(alloc: Global, word: &[u8]) -> Result<Name, AllocError>
     requires { is_token word.now ≡ true }
     ensures { IfOk result (λ n. n ≡ word.now) }
@@ -47,6 +53,9 @@ pub fn name_of(alloc: Global, word: &[u8]) -> Result<Name, AllocError>
 }
 
 /// A variable.
+///
+/// Asks that each token lies in the line and is spelled as its kind says, and each integer has 64
+/// bits, as [`read_tokens`](crate::line::read_tokens) gives them.
 pub fn take_variable<'t>(
     alloc: Global,
     line: &[u8],
@@ -66,6 +75,11 @@ pub fn take_variable<'t>(
 }
 
 /// A label of the process with this place among the processes: its place among its labels.
+///
+/// Asks that `known` has at most [`MOST_PROCESSES`](crate::MOST_PROCESSES) processes, each with at
+/// most 2^31 instructions and 2^31 labels; and that each token lies in the line and is spelled as
+/// its kind says, and each integer has 64 bits, as [`read_tokens`](crate::line::read_tokens) gives
+/// them.
 pub fn take_target<'t>(
     known: &Known,
     here: usize,

@@ -46,6 +46,8 @@ fn negated(n: u64) -> i64
 }
 
 /// The integer.
+///
+/// Asks that the integer has 64 bits signed, as [`fits_in_range`] tells.
 pub fn read_int(text: &[u8]) -> i64
     requires { is_in_range text.now ≡ true }
     ensures { result ≡ int_of text.now }
@@ -64,6 +66,8 @@ pub fn read_int(text: &[u8]) -> i64
 }
 
 /// The integer, where it isn't below 0.
+///
+/// Asks that the integer has 64 bits signed, as [`fits_in_range`] tells.
 pub fn read_count(text: &[u8]) -> Option<u64>
     requires { is_in_range text.now ≡ true }
     ensures { result ≡ count_of text.now }

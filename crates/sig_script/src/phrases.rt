@@ -56,6 +56,9 @@ pub trait Phrase: Drop + Sized {
         ensures { result ≡ spelling.begins kind };
 
     /// What the sign begins, which opens no bracket; and the tokens behind it.
+    ///
+    /// Asks that each token lies in the line and is spelled as its kind says, and each integer has
+    /// 64 bits, as [`read_tokens`](crate::line::read_tokens) gives them.
     fn signed<'t>(
         alloc: Global,
         line: &[u8],
@@ -97,6 +100,9 @@ fn refusal<T: Phrase>(tokens: &[Token]) -> FaultKind
 }
 
 /// The atom of these bytes.
+///
+/// Asks that the bytes are those of an atom, as [`spells_atom`](sig_terms::bytes::spells_atom)
+/// tells.
 pub fn atom_of(alloc: Global, bytes: &[u8]) -> Result<Atom, AllocError>
     requires { is_atom bytes.now ≡ true }
     ensures { IfOk result (λ a. a ≡ bytes.now) }
@@ -306,6 +312,11 @@ fn front<'t, T: Phrase>(
 }
 
 /// A phrase of at most [`MOST_NODES`] nodes and depth [`MOST_DEPTH`], and the tokens behind it.
+///
+/// Asks that `known` has at most [`MOST_PROCESSES`](crate::MOST_PROCESSES) processes, each with at
+/// most 2^31 instructions and 2^31 labels; and that each token lies in the line and is spelled as
+/// its kind says, and each integer has 64 bits, as [`read_tokens`](crate::line::read_tokens) gives
+/// them.
 pub fn take_phrase<'t, T: Phrase>(
     alloc: Global,
     known: &Known,

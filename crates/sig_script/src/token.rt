@@ -32,25 +32,42 @@ use sig_terms::bytes::{
 /// A token that stands for itself.
 #[derive(Clone, Copy)]
 pub enum Sign {
+    /// `{`
     OpenBrace,
+    /// `}`
     CloseBrace,
+    /// `[`
     OpenBracket,
+    /// `]`
     CloseBracket,
+    /// `,`
     Comma,
+    /// `|`
     Bar,
+    /// `^`
     Caret,
+    /// `=`
     Equals,
+    /// `->`
     Arrow,
+    /// `_`
     Underscore,
 }
 
+/// What a token is.
 #[derive(Clone, Copy)]
 pub enum TokenKind {
+    /// A lower-case letter and what may follow it in a name.
     Name,
+    /// An upper-case letter and what may follow it in a variable.
     Variable,
+    /// Digits, with or without `-` before them.
     Integer,
+    /// An atom between two `'`.
     Quoted,
+    /// `@` and the name of a process.
     Process,
+    /// Any other token.
     Sign(Sign),
 }
 
@@ -62,42 +79,49 @@ impl TokenKind {
         !matches!(self, TokenKind::Sign(_))
     }
 
+    /// Whether it is `{`.
     pub fn is_open_brace(self) -> bool
         ensures { result ≡ signs.is_open_brace self }
     {
         matches!(self, TokenKind::Sign(Sign::OpenBrace))
     }
 
+    /// Whether it is `[`.
     pub fn is_open_bracket(self) -> bool
         ensures { result ≡ signs.is_open_bracket self }
     {
         matches!(self, TokenKind::Sign(Sign::OpenBracket))
     }
 
+    /// Whether it is `,`.
     pub fn is_comma(self) -> bool
         ensures { result ≡ signs.is_comma self }
     {
         matches!(self, TokenKind::Sign(Sign::Comma))
     }
 
+    /// Whether it is `|`.
     pub fn is_bar(self) -> bool
         ensures { result ≡ signs.is_bar self }
     {
         matches!(self, TokenKind::Sign(Sign::Bar))
     }
 
+    /// Whether it is `^`.
     pub fn is_caret(self) -> bool
         ensures { result ≡ signs.is_caret self }
     {
         matches!(self, TokenKind::Sign(Sign::Caret))
     }
 
+    /// Whether it is `->`.
     pub fn is_arrow(self) -> bool
         ensures { result ≡ signs.is_arrow self }
     {
         matches!(self, TokenKind::Sign(Sign::Arrow))
     }
 
+    /// Whether it is `_`.
     pub fn is_underscore(self) -> bool
         ensures { result ≡ signs.is_underscore self }
     {
@@ -120,7 +144,9 @@ impl TokenKind {
 #[derive(Clone, Copy)]
 pub struct Token {
     pub kind: TokenKind,
+    /// The place of its first byte in the line, from 0.
     pub start: usize,
+    /// The place behind its last byte.
     pub end: usize,
 }
 
@@ -131,9 +157,11 @@ pub type Tokens = Sequence<Token>;
 #[derive(Drop)]
 pub struct Cut {
     pub tokens: Tokens,
+    /// The place at which none stands. `None` where they reach a comment or the end of the line.
     pub stop: Option<usize>,
 }
 
+/// Whether the byte is a space, a tab or a carriage return.
 pub fn is_blank_byte(b: u8) -> bool
     ensures { result ≡ is_blank b }
 {
