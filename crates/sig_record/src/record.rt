@@ -58,6 +58,9 @@ impl Record {
     /// lists; and where the names of the script's processes are name tokens, its text is read back as
     /// this record, as `a_lawful_crew_tells_a_readable_record` and `print_record` say. The error is
     /// want of memory.
+    ///
+    /// Asks that nothing is left of what a process of the crew has sent to others (its outbox is
+    /// empty), and that the process at place p of the crew, from 0, has the pid p.
     pub fn gather(alloc: Global, crew: Crew) -> Result<Record, AllocError>
         requires clear { IsClear crew }
         requires by_pid { IsByPid crew }
