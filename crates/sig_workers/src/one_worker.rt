@@ -65,6 +65,10 @@ fn run_passes<L: Ledger>(blank: Blank, crew: Crew) -> Result<Crew, AllocError>
 /// The run of one worker: passes over the processes until one has no event. No process of the crew
 /// that it gives can do anything. It ends, since each pass but the last raises the sum of the
 /// processes' stamps, and no stamp is above 2^62. The error is want of memory.
+///
+/// Asks that nothing is left of what a process of the crew has sent to others (its outbox is
+/// empty), that the process at place p of the crew, from 0, has the pid p, and that each is one of
+/// as many as the crew has, as [`Process::count`] tells.
 pub fn run_one(crew: Crew) -> Result<Crew, AllocError>
     requires clear { IsClear crew }
     requires placed { IsPlaced crew }
