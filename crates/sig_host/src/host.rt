@@ -275,14 +275,17 @@ fn run_words<R: Threads + Wait + Sync, S: Source, O: Sink, G: Gate>(
 /// `--generate` the source isn't read. With one worker the gate is told of nothing, and no thread is
 /// started.
 ///
-/// `Usage` comes exactly where [`words`] answers it, never on arguments in the plain form, and then
-/// the source isn't read. `BadScript` comes only without `--generate`, where the bytes spell no script,
-/// with the first line that is refused and why; it is line 0 where they are more than
-/// [`MOST_BYTES`]. But for that, the source has nothing left then, and so it is after `Done` and
-/// `WriteFault` without `--generate`. `ReadFault` comes only where a read failed, and each other
-/// status only where none did; `WriteFault` comes only where a write to `out` failed, which has taken
-/// the beginning of the text then. With `Done` it has taken the whole text, and with any other status
-/// nothing.
+/// - `Done`: `out` has taken the whole text. No read failed, and without `--generate` the source
+///   has nothing left.
+/// - `BadScript`: only without `--generate`, where the bytes spell no script; with the first line
+///   that is refused and why, or line 0 where they are more than [`MOST_BYTES`]. No read failed,
+///   and the source has nothing left, but where they are more. Nothing was written to `out`.
+/// - `Usage`: exactly where [`words`] answers it, and so never on arguments in the plain form. The
+///   source wasn't read, and nothing was written to `out`.
+/// - `ReadFault`: only without `--generate`, where a read failed. Nothing was written to `out`.
+/// - `WriteFault`: only where a write to `out` failed, which has taken the beginning of the text.
+///   No read failed, and without `--generate` the source has nothing left.
+/// - `Memory`: memory was wanting. No read failed, and nothing was written to `out`.
 ///
 /// What a status tells is written to `err` where no write to it fails: with `Done` the summary of
 /// the record, if the script was made. A fault of `err` changes no status. Arguments in the plain
