@@ -16,8 +16,8 @@ pub(crate) struct Summary {
     pub(crate) directs: u64,
     /// How many fetches there were.
     pub(crate) fetches: u64,
-    /// One more for each such put after a refused try, and one less, but never below 0, for each
-    /// other.
+    /// One more for each put into the outer list after a refused try, and one less, but never below
+    /// 0, for each other one.
     pub(crate) score: u64,
     /// The score has been 64 or more.
     pub(crate) reached: bool,
