@@ -1,5 +1,5 @@
-//! Signals between processes, and the lists in which they wait. In `specs/` also the rules of links, of
-//! monitors and of aliases, by which the tables of other crates go.
+//! Signals between processes, and the lists in which they wait. In `specs/` also the rules of
+//! links, of monitors and of aliases, by which the tables of other crates go.
 #![tactic(auto)]
 
 mod alias_answer;
