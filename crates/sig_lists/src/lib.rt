@@ -2,7 +2,9 @@
 #![tactic(auto)]
 
 mod pushed;
+mod same;
 mod sequence;
 
 pub use pushed::Pushed;
+pub use same::{Same, same_items};
 pub use sequence::Sequence;

@@ -3,6 +3,7 @@ ghost use Rattle.std.specs.Option.{option_copied};
 ghost use Rattle.sig_lists.specs.Pushing.{IsPushed};
 
 use crate::pushed::Pushed;
+use crate::same::{Same, same_items};
 use std::alloc::{AllocError, Global};
 use std::marker::Model;
 
@@ -107,5 +108,14 @@ impl<T> Sequence<T> {
             (λ last. self.old ≡ self.new ++ last ∷ []) }
     {
         self.items.pop()
+    }
+}
+
+impl<T: Same> Same for Sequence<T> {
+    /// Whether the two have equal items in the same order.
+    fn same(&self, other: &Sequence<T>) -> bool
+        ensures { IsTrue result ↔ (self.now ≡ other.now) }
+    {
+        same_items(self.as_slice(), other.as_slice())
     }
 }

@@ -1,4 +1,6 @@
-use sig_lists::Sequence;
+ghost use Rattle.std.specs.Prelude.{◌≡◌, IsTrue, ◌↔◌};
+
+use sig_lists::{Same, Sequence};
 use sig_terms::{Pid, Term};
 
 /// What a process did at an event.
@@ -80,3 +82,87 @@ pub struct Event {
 
 /// A list of events.
 pub type Events = Sequence<Event>;
+
+impl Same for Did {
+    fn same(&self, other: &Did) -> bool
+        ensures { IsTrue result ↔ (self.now ≡ other.now) }
+    {
+        match self {
+            Did::Exec { place } => match other {
+                Did::Exec { place: another } => place == another,
+                Did::From { from: _, number: _ } => false,
+            },
+            Did::From { from, number } => match other {
+                Did::Exec { place: _ } => false,
+                Did::From {
+                    from: another,
+                    number: its,
+                } => from.0 == another.0 && number == its,
+            },
+        }
+    }
+}
+
+impl Same for Outcome {
+    fn same(&self, other: &Outcome) -> bool
+        ensures { IsTrue result ↔ (self.now ≡ other.now) }
+    {
+        match self {
+            Outcome::Sent { to, message } => match other {
+                Outcome::Sent {
+                    to: another,
+                    message: its,
+                } => to.same(another) && message.same(its),
+                _ => false,
+            },
+            Outcome::Set { value } => match other {
+                Outcome::Set { value: another } => value.same(another),
+                _ => false,
+            },
+            Outcome::Done => matches!(other, Outcome::Done),
+            Outcome::Answered { yes } => match other {
+                Outcome::Answered { yes: another } => yes == another,
+                _ => false,
+            },
+            Outcome::Took {
+                clause,
+                looked,
+                message,
+            } => match other {
+                Outcome::Took {
+                    clause: another,
+                    looked: count,
+                    message: its,
+                } => clause == another && looked == count && message.same(its),
+                _ => false,
+            },
+            Outcome::After { looked } => match other {
+                Outcome::After { looked: another } => looked == another,
+                _ => false,
+            },
+            Outcome::Ended { reason } => match other {
+                Outcome::Ended { reason: another } => reason.same(another),
+                _ => false,
+            },
+            Outcome::Kept { message } => match other {
+                Outcome::Kept { message: another } => message.same(another),
+                _ => false,
+            },
+            Outcome::Dropped => matches!(other, Outcome::Dropped),
+            Outcome::Linked => matches!(other, Outcome::Linked),
+            Outcome::Unlinked => matches!(other, Outcome::Unlinked),
+            Outcome::Acked => matches!(other, Outcome::Acked),
+            Outcome::Watched => matches!(other, Outcome::Watched),
+            Outcome::Unwatched => matches!(other, Outcome::Unwatched),
+            Outcome::NoProc => matches!(other, Outcome::NoProc),
+        }
+    }
+}
+
+impl Same for Event {
+    fn same(&self, other: &Event) -> bool
+        ensures { IsTrue result ↔ (self.now ≡ other.now) }
+    {
+        self.stamp == other.stamp && self.did.same(&other.did) && self.outcome.same(&other.outcome)
+    }
+}

@@ -1,4 +1,4 @@
-ghost use Rattle.std.specs.Prelude.{◌≡◌, IfOk, map};
+ghost use Rattle.std.specs.Prelude.{◌≡◌, IfOk, map, IsTrue, ◌↔◌};
 ghost use Rattle.sig_program.specs.Scripts.{Program};
 ghost use Rattle.sig_runs.specs.Crew.{crew_machine};
 ghost use Rattle.sig_model.specs.Machine.{rules_of};
@@ -15,6 +15,7 @@ use crate::gathering::gather_all;
 use crate::merging::{Merged, events_of, keys_of, sort_keys};
 use crate::report::Report;
 use crate::settling::are_settled;
+use sig_lists::{Same, same_items};
 use sig_process::Crew;
 use std::alloc::{AllocError, Global};
 use std::marker::Model;
@@ -91,5 +92,13 @@ impl Record {
         ensures { result ≡ is_settled self.now }
     {
         are_settled(self.reports.as_slice())
+    }
+}
+
+impl Same for Record {
+    fn same(&self, other: &Record) -> bool
+        ensures { IsTrue result ↔ (self.now ≡ other.now) }
+    {
+        same_items(self.reports(), other.reports())
     }
 }

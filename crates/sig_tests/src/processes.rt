@@ -16,6 +16,7 @@ use crate::orders::is_message;
 use crate::shared::{Row, each_row_holds};
 use sig_base::Steps;
 use sig_kinds::{Kind, Signal, Signals};
+use sig_lists::same_items;
 use sig_model::{Did, Event, Outcome};
 use sig_process::{Crew, Exec, Process};
 use sig_program::Script;
@@ -366,52 +367,6 @@ const LATE: [Event; 5] = [
     },
 ];
 
-/// Whether the process did the same at both.
-fn same_did(did: &Did, expected: &Did) -> bool {
-    match (did, expected) {
-        (Did::Exec { place }, Did::Exec { place: other }) => place == other,
-        (
-            Did::From { from, number },
-            Did::From {
-                from: other,
-                number: expected,
-            },
-        ) => from == other && number == expected,
-        _ => false,
-    }
-}
-
-/// Whether both went the same way, one of those that `LATE` has.
-fn same_outcome(outcome: &Outcome, expected: &Outcome) -> bool {
-    match (outcome, expected) {
-        (Outcome::Set { value }, Outcome::Set { value: other }) => value.same(other),
-        (
-            Outcome::Sent { to, message },
-            Outcome::Sent {
-                to: other,
-                message: expected,
-            },
-        ) => to.same(other) && message.same(expected),
-        (Outcome::Answered { yes }, Outcome::Answered { yes: other }) => yes == other,
-        (Outcome::Dropped, Outcome::Dropped) => true,
-        _ => false,
-    }
-}
-
-/// Whether the events are these.
-fn same_events(events: &[Event], expected: &[Event]) -> bool {
-    if events.len() != expected.len() {
-        return false;
-    }
-    for (event, other) in events.iter().zip(expected.iter()) {
-        let is_same = event.stamp == other.stamp && same_did(&event.did, &other.did);
-        if !is_same || !same_outcome(&event.outcome, &other.outcome) {
-            return false;
-        }
-    }
-    true
-}
-
 /// Adds the message through the alias to the empty list.
 fn add_late(alloc: Global, signals: &mut Signals) -> Result<(), AllocError>
     requires { signals.old.items ≡ [] }
@@ -457,7 +412,7 @@ fn drops_late<L: Ledger>(
     let is_one = process.taken_in_count() == 1;
     let goes_on = handle(process)? && execute(process, steps)?;
     let waits = process.can_exec() && process.exec(steps)? == Exec::Waiting;
-    let told = same_events(process.events().as_slice(), &LATE);
+    let told = same_items(process.events().as_slice(), &LATE);
     Ok(begun & is_sent & is_one & goes_on & waits & told)
 }
 
