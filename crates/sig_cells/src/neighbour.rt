@@ -3,7 +3,7 @@ ghost use Rattle.sig_cells.specs.declared.neighbour.TheConstants.{MOST_CELLS};
 
 use std::marker::Model;
 
-/// How many cells a list has at most: each has a number of its own in 32 bits, beside that for none.
+/// How many cells a list has at most: each has a number of its own in 32 bits, new_end that for none.
 pub const MOST_CELLS: usize = 4_294_967_295;
 
 /// The key of a neighbouring cell, or none, in 32 bits: 0 for none, and else the key and one.
@@ -29,14 +29,14 @@ impl Model for Neighbour {
 
 impl Neighbour {
     /// No cell.
-    pub fn none() -> Neighbour
+    pub(crate) fn none() -> Neighbour
         ensures { result ≡ None }
     {
         Neighbour(0)
     }
 
     /// The cell of the key.
-    pub fn at(key: usize) -> Neighbour
+    pub(crate) fn at(key: usize) -> Neighbour
         requires { key < MOST_CELLS }
         ensures { result ≡ Some key }
     {

@@ -1,4 +1,4 @@
-//! What changes in the cells of a slab when one comes or goes.
+//! What changes among the cells of a slab when one comes or goes.
 
 ghost use Rattle.std.specs.Prelude.{◌≡◌, ◌≤◌, OnOk, OnErr};
 ghost use Rattle.std.specs.Option.{option_map_or};
@@ -12,7 +12,8 @@ use crate::neighbour::{MOST_CELLS, Neighbour};
 use slab::Slab;
 use std::alloc::AllocError;
 
-/// Makes room for one more cell, whose key is below the greatest.
+/// Makes room for one more cell, whose key fits 32 bits. The error is want of memory, or that such keys may
+/// be used up.
 pub fn make_room<T>(slab: &mut Slab<Cell<T>>) -> Result<(), AllocError>
     ensures ok { OnOk result (HasRoomFor slab.new 1 × (slab.new.capacity ≤ MOST_CELLS)) }
     ensures err { OnErr result (room_for slab.old.capacity (slab_len slab.old) ≡ 0) }
@@ -49,12 +50,13 @@ pub fn set_before<T>(slab: &mut Slab<Cell<T>>, key: Neighbour, before: Neighbour
     }
 }
 
-/// The first cell where there is a neighbour, else the second.
-pub fn beside(neighbour: Neighbour, first: Neighbour, second: Neighbour) -> Neighbour
-    ensures { result ≡ option_map_or (λ _. first) neighbour second }
+/// An end of the list, when a cell comes or goes there: it stays where that cell has a neighbour on the
+/// side of the end, and else is the other cell.
+pub fn new_end(neighbour: Neighbour, end: Neighbour, other: Neighbour) -> Neighbour
+    ensures { result ≡ option_map_or (λ _. end) neighbour other }
 {
     match neighbour.key() {
-        Some(_) => first,
-        None => second,
+        Some(_) => end,
+        None => other,
     }
 }
