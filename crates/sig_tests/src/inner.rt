@@ -132,7 +132,7 @@ fn rules_hold_line_by_line(rt: HostRuntime) {
 }
 
 /// Ten messages, for which the queue grows several times, and a mark in their midst.
-const GROWING: Rule = Rule(
+static GROWING: Rule = Rule(
     &[
         b"!1", b"!2", b"!3", b"r4", b"!4", b"!5", b"b4", b"!6", b"!7", b"!8", b"!9", b"!0", b"c4",
         b"-1", b"-2", b"-3", b"-4", b"-5", b"-6", b"-7", b"-8", b"-9", b"-0", b"?0",
