@@ -1,13 +1,13 @@
 //! The calls of an inner queue that no script makes so, and its marks. What receives find is tested by
 //! scripts.
 //!
-//! A call is written as a sign and a digit: `+5` appends the integer 5, `-5` takes the first message out,
-//! which is the integer 5, `#0` asks how many there are, `?0` whether there is none, and `*0` takes all
-//! out. `r5` reserves the serial 5; `b5` and `c5` bind and clear the owner's reference with the serial 5,
-//! `B5` and `C5` that of another process. An answer is `y`, `n`, the digit of a count or of the number by
-//! which the message came, or `.` where there is none.
+//! A call is written as a sign and a digit: `+5` appends the integer 5, `!5` too, and again where memory is
+//! refused; `-5` takes the first message out, which is the integer 5, `#0` asks how many there are, `?0`
+//! whether there is none, and `*0` takes all out. `r5` reserves the serial 5; `b5` and `c5` bind and clear
+//! the owner's reference with the serial 5, `B5` and `C5` that of another process. An answer is `y`, `n`,
+//! the digit of a count or of the number by which the message came, or `.` where there is none.
 
-use crate::shared::{Row, digit, each_row_holds, int};
+use crate::shared::{Row, digit, each_row_holds, int, passes};
 use sig_inner::{Append, Inner};
 use sig_terms::{Pid, Ref, Term};
 use std::alloc::{AllocError, Global};
@@ -23,6 +23,23 @@ fn appends(queue: &mut Inner, number: u8) -> bool {
     let is_added = matches!(appended, Append::Added);
     drop(appended);
     is_added
+}
+
+/// Appends the integer, and once more where memory is refused. Whether a refusal gave the message back
+/// and left the others.
+fn insists(queue: &mut Inner, number: u8) -> bool {
+    if queue.next_arrival() >= 1000 {
+        return false;
+    }
+    let held = (queue.len(), queue.next_arrival());
+    match queue.append(Term::Int(number as i64)) {
+        Append::Added => true,
+        Append::Memory { message } => {
+            let is_back = int(&message) == Some(number as i64);
+            drop(message);
+            is_back && (queue.len(), queue.next_arrival()) == held && appends(queue, number)
+        }
+    }
 }
 
 /// The digit of the number by which the first message came, which is taken out and is this integer.
@@ -45,6 +62,7 @@ fn called(queue: &mut Inner, sign: u8, number: u8) -> u8 {
     let serial = number as u64;
     let yes = match sign {
         b'+' => appends(queue, number),
+        b'!' => insists(queue, number),
         b'-' => return taken(queue, number),
         b'#' => return digit(queue.len() as u64),
         b'?' => queue.is_empty(),
@@ -111,4 +129,27 @@ const RULES: [Rule; 7] = [
 #[test]
 fn rules_hold_line_by_line(rt: HostRuntime) {
     each_row_holds(&rt, rt.alloc(), &RULES);
+}
+
+/// Ten messages, for which the queue grows several times, and a mark in their midst.
+static GROWING: Rule = Rule(
+    &[
+        b"!1", b"!2", b"!3", b"r4", b"!4", b"!5", b"b4", b"!6", b"!7", b"!8", b"!9", b"!0", b"c4",
+        b"-1", b"-2", b"-3", b"-4", b"-5", b"-6", b"-7", b"-8", b"-9", b"-0", b"?0",
+    ],
+    b"yyy.yyyyyyyyy1234567890y",
+);
+
+/// Whether the rule holds of a queue that is opened again where memory is refused.
+fn is_kept(alloc: Global) -> Result<bool, AllocError> {
+    match Inner::open(alloc, OWNER) {
+        Ok(mut queue) => Ok(are_answered(&mut queue, GROWING.0, GROWING.1)),
+        Err(_) => GROWING.holds(alloc),
+    }
+}
+
+/// Passes too where any one request for memory is refused (`rt try --test --fail-alloc N`).
+#[test]
+fn what_is_held_stays_where_memory_is_refused(rt: HostRuntime) {
+    passes(&rt, is_kept(rt.alloc()));
 }

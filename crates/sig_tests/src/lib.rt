@@ -5,6 +5,8 @@
 #[cfg(test)]
 mod base;
 #[cfg(test)]
+mod flushing;
+#[cfg(test)]
 mod held;
 #[cfg(test)]
 mod inner;

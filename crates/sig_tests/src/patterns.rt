@@ -11,7 +11,7 @@ use std::alloc::{AllocError, Global};
 use std::marker::Brand;
 use std::sync::ledger::{Blank, Ledger};
 
-fn var(alloc: Global, letter: u8) -> Result<Var, ReadTerm> {
+pub(crate) fn var(alloc: Global, letter: u8) -> Result<Var, ReadTerm> {
     match Name::new(alloc, &[letter])? {
         Some(name) => Ok(Var(name)),
         None => Err(ReadTerm::BadTerm),
