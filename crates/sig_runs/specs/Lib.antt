@@ -1,5 +1,6 @@
 pub mod Rules
 pub mod Machine
+pub mod Possible
 pub mod LocalRun
 pub mod Replay
 pub mod Crew

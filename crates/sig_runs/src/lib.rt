@@ -9,6 +9,8 @@ ghost use Rattle.std.specs.Prelude.{ℕ, ◌≡◌, List, [], ◌∷◌, ◌++�
 ghost use Rattle.std.specs.List.{All, AllAdjacentBelow, count_by};
 ghost use Rattle.sig_runs.specs.Rules.{Did, Effect, Rules, KeepStamps, addressed, coming_from};
 ghost use Rattle.sig_runs.specs.Machine.{Machine, At, Applied, apply, choice, IsRun};
+ghost use Rattle.sig_runs.specs.Machine.Choice.{Executes, Handles};
+ghost use Rattle.sig_runs.specs.Possible.{IsExecution, IsHandling};
 ghost use Rattle.sig_runs.specs.LocalRun.{Local, Act, CanDo, IsLocalRun, handles, sends};
 ghost use Rattle.sig_runs.specs.Replay.{RanAlone, OneMore};
 ghost use Rattle.sig_runs.specs.Crew.{Member, IsLawful, acts_of, opening_machine, crew_machine};
@@ -166,6 +168,17 @@ pub fn round_keeps_the_pair<X>()
         handled ++ queued ≡ sent → handled' ++ queued' ≡ (handled ++ queued) ++ fetched →
         put ≡ fetched ++ left →
         handled' ++ (queued' ++ left) ≡ sent ++ put }
+{}
+
+/// Nothing else is possible: what the machine gives for a choice comes only of a process that is there and isn't cut. An
+/// execution comes only of one that has not ended and for which no signal to itself is queued. A handling takes the oldest
+/// signal of its pair, whose stamp is below 2^62, and one of another process only where no signal of the process to itself
+/// is queued.
+pub fn nothing_else_is_possible<S, X, E>()
+    ensures executed { (rules : Rules S X E) (m : Machine S X) (p : ℕ) (next : Applied S X E) →
+        apply rules m (Executes p) ≡ Some next → IsExecution rules m p next }
+    ensures handled { (rules : Rules S X E) (m : Machine S X) (p f : ℕ) (next : Applied S X E) →
+        apply rules m (Handles p f) ≡ Some next → IsHandling rules m p f next }
 {}
 
 /// From a settled machine only a late process goes on, and only by handling a signal. So a run that ends settled can be
