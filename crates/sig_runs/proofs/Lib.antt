@@ -13,7 +13,7 @@ pub mod Whole
 pub mod Fresh
 pub mod Marks
 pub mod Settled
-pub mod Quiet
+pub mod Still
 pub mod Events
 pub mod OnTheWay
 pub mod Delivery

@@ -10,4 +10,4 @@ pub mod Everywhere
 pub mod Fresh
 pub mod Marks
 pub mod Settled
-pub mod Quiet
+pub mod Still

@@ -17,9 +17,9 @@ ghost use Rattle.sig_runs.specs.Crew.{Member, IsLawful, acts_of, opening_machine
 ghost use Rattle.sig_runs.specs.Order.{Place, IsOrder, NotAfter, counts, events_at, events_by, stamp_at, act_at};
 ghost use Rattle.sig_runs.specs.OnTheWay.{AtWork, IsLawfulAtWork, machine_at_work, opened_crew, DoesAct, Delivers};
 ghost use Rattle.sig_runs.specs.Fresh.{Marking, MakesFresh};
-ghost use Rattle.sig_runs.specs.Marks.{AllSound, KeepsSound, by_whole};
+ghost use Rattle.sig_runs.specs.Marks.{AllMarksSound, KeepsMarksSound, by_whole};
 ghost use Rattle.sig_runs.specs.Settled.{IsSettled, HandlesLate};
-ghost use Rattle.sig_runs.specs.Quiet.{IsQuiet, CutsHigh};
+ghost use Rattle.sig_runs.specs.Still.{IsStillMember, CutsHigh};
 ghost use Rattle.sig_runs.specs.Everywhere.{Facts, HoldEverywhere, EventKeeps};
 
 /// The merge theorem. Whatever the rules of a process are, if they stamp as they should, the events of a lawful crew in
@@ -51,19 +51,19 @@ pub trait Marked<S, X, R> {
 pub fn merge_from_marks_is_a_run<S, X, E, R, M: Marked<S, X, R>>()
     ensures run { (rules : Rules S X E) (whole : ℕ → S → Option (Effect S X E)) (opening : List S)
         (crew : List (Member S X E)) (order : List Place) →
-        MakesFresh M.marking rules → KeepsSound M.marking rules whole →
-        AllSound M.marking (opening_machine opening) →
+        MakesFresh M.marking rules → KeepsMarksSound M.marking rules whole →
+        AllMarksSound M.marking (opening_machine opening) →
         KeepStamps rules → IsLawful rules opening crew → IsOrder rules crew order →
         IsRun (by_whole rules whole) (opening_machine opening) (events_at crew order)
         (crew_machine rules crew) }
     ensures sound { (rules : Rules S X E) (whole : ℕ → S → Option (Effect S X E)) (opening : List S)
         (crew : List (Member S X E)) (order : List Place) →
-        MakesFresh M.marking rules → KeepsSound M.marking rules whole →
-        AllSound M.marking (opening_machine opening) →
+        MakesFresh M.marking rules → KeepsMarksSound M.marking rules whole →
+        AllMarksSound M.marking (opening_machine opening) →
         KeepStamps rules → IsLawful rules opening crew → IsOrder rules crew order →
-        AllSound M.marking (crew_machine rules crew) }
+        AllMarksSound M.marking (crew_machine rules crew) }
     ensures settled { (rules : Rules S X E) (whole : ℕ → S → Option (Effect S X E))
-        (m : Machine S X) → KeepsSound M.marking rules whole → AllSound M.marking m →
+        (m : Machine S X) → KeepsMarksSound M.marking rules whole → AllMarksSound M.marking m →
         IsSettled rules m → IsSettled (by_whole rules whole) m }
 {}
 
@@ -73,15 +73,15 @@ pub fn merge_from_marks_is_a_run<S, X, E, R, M: Marked<S, X, R>>()
 pub fn marks_stay_sound<S, X, E, R, M: Marked<S, X, R>>()
     ensures sound { (rules : Rules S X E) (whole : ℕ → S → Option (Effect S X E))
         (opening end : Machine S X) (events : List (At E)) → MakesFresh M.marking rules →
-        KeepsSound M.marking rules whole → AllSound M.marking opening →
-        IsRun (by_whole rules whole) opening events end → AllSound M.marking end }
+        KeepsMarksSound M.marking rules whole → AllMarksSound M.marking opening →
+        IsRun (by_whole rules whole) opening events end → AllMarksSound M.marking end }
     ensures from_the_mark { (rules : Rules S X E) (whole : ℕ → S → Option (Effect S X E))
         (opening end : Machine S X) (events : List (At E)) → MakesFresh M.marking rules →
-        KeepsSound M.marking rules whole → AllSound M.marking opening →
+        KeepsMarksSound M.marking rules whole → AllMarksSound M.marking opening →
         IsRun (by_whole rules whole) opening events end → IsRun rules opening events end }
     ensures from_the_head { (rules : Rules S X E) (whole : ℕ → S → Option (Effect S X E))
         (opening end : Machine S X) (events : List (At E)) → MakesFresh M.marking rules →
-        KeepsSound M.marking rules whole → AllSound M.marking opening →
+        KeepsMarksSound M.marking rules whole → AllMarksSound M.marking opening →
         IsRun rules opening events end → IsRun (by_whole rules whole) opening events end }
 {}
 
@@ -196,10 +196,10 @@ pub fn settled_run_goes_on_only_late<S, X, E>()
 
 /// A lawful crew in which no process can do anything is settled, so the pass or the round that finds nothing to do is the
 /// last one. A process can do nothing where it can't handle a signal, and can't execute or its instruction isn't defined.
-pub fn quiet_crew_is_settled<S, X, E>()
+pub fn still_crew_is_settled<S, X, E>()
     ensures { (rules : Rules S X E) (opening : List S) (crew : List (Member S X E)) →
         KeepStamps rules → CutsHigh rules → IsLawful rules opening crew →
-        ((p : ℕ) (m : Member S X E) → slice_get crew p ≡ Some m → IsQuiet rules p m) →
+        ((p : ℕ) (m : Member S X E) → slice_get crew p ≡ Some m → IsStillMember rules p m) →
         IsSettled rules (crew_machine rules crew) }
 {}
 
