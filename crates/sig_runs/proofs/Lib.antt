@@ -7,6 +7,7 @@ pub mod Order
 pub mod Sorting
 pub mod Replay
 pub mod Choices
+pub mod Stamps
 pub mod Runs
 pub mod Everywhere
 pub mod Whole

@@ -5,7 +5,7 @@
 //! and each function is a theorem: its contract is what was proved, and its body is empty.
 #![tactic(auto)]
 
-ghost use Rattle.std.specs.Prelude.{ℕ, ◌≡◌, List, [], ◌∷◌, ◌++◌, length, map, cond, is_some, Option, Some, slice_get};
+ghost use Rattle.std.specs.Prelude.{ℕ, ◌≡◌, ◌<◌, ◌≤◌, List, [], ◌∷◌, ◌++◌, length, map, cond, is_some, Option, Some, slice_get};
 ghost use Rattle.std.specs.List.{All, AllAdjacentBelow, count_by};
 ghost use Rattle.sig_runs.specs.Rules.{Did, Effect, Rules, KeepStamps, addressed, coming_from};
 ghost use Rattle.sig_runs.specs.Machine.{Machine, At, Applied, apply, choice, IsRun};
@@ -103,6 +103,19 @@ pub fn one_more_event_tells_the_run<S, X, E>()
         (handled : List X) (a : Act S X E) →
         KeepStamps rules → RanAlone rules p opening events handled now →
         CanDo rules p now a.input a.effect → OneMore rules p opening now events handled a }
+{}
+
+/// In a local run stamps only rise: no event has a stamp above the last one of the end, and each handled signal has a lower
+/// one. So what bounds the last stamp bounds all.
+pub fn no_stamp_is_above_the_last<S, X, E>()
+    ensures events { (rules : Rules S X E) (p : ℕ) (opening end : Local S X) (events : List E)
+        (handled : List X) →
+        KeepStamps rules → RanAlone rules p opening events handled end →
+        All (λ e. rules.event_stamp e ≤ rules.last end.state) events }
+    ensures handled { (rules : Rules S X E) (p : ℕ) (opening end : Local S X) (events : List E)
+        (handled : List X) →
+        KeepStamps rules → RanAlone rules p opening events handled end →
+        All (λ x. rules.stamp x < rules.last end.state) handled }
 {}
 
 /// One more event of a process keeps a crew at work lawful, and it is one step of the machine in which the crew's signals
