@@ -1,5 +1,5 @@
 -- No clause matches a message that is older than a hit's, and no earlier clause matches the hit's.
-use Rattle.std.proofs.Common.{◌≡◌, ◌+◌, List, [], ◌∷◌, take, refl, sym, subst, Option, Some, None, add-one}
+use Rattle.std.proofs.Common.{◌≡◌, List, [], ◌∷◌, take, refl, sym, subst, Option, Some, None, add-one}
 use Rattle.std.specs.Prelude.{IfSome}
 use Rattle.std.specs.List.{All}
 use Rattle.std.specs.Option.{option_map, option_or}
@@ -39,9 +39,10 @@ module _ (env : Environment) where
     next_by : (message : Term) (messages : List Term) (first later : Option Hit) → Tells (NoneMatches clauses env message) (IsFirstHere clauses env message) first
         → Tells (All (NoneMatches clauses env) messages) (IsOldest clauses env messages) later
         → Tells (All (NoneMatches clauses env) (message ∷ messages)) (IsOldest clauses env (message ∷ messages)) (option_or first (option_map behind_message later))
-    next_by message messages (Some h) later is more =
-        (subst (λ n. All (NoneMatches clauses env) (take n (message ∷ messages))) (sym is.0) (All-nil (NoneMatches clauses env)),
-        subst (λ (m : Term). NoneMatches (take h.clause clauses) env m) (sym is.1) is.2)
+    next_by message messages (Some h) later is more = (
+      subst (λ n. All (NoneMatches clauses env) (take n (message ∷ messages))) (sym is.0) (All-nil (NoneMatches clauses env)),
+      subst (λ (m : Term). NoneMatches (take h.clause clauses) env m) (sym is.1) is.2,
+    )
     next_by message messages None None is more = All-cons (NoneMatches clauses env) message messages is more
     next_by message messages None (Some h) is more = (rw add-one (All-cons (NoneMatches clauses env) message (take h.at messages) is more.0), more.1)
 

@@ -27,9 +27,11 @@ module _ {S X E : Type 0} (rules : Rules S X E) (stamped : KeepStamps rules) (p 
   acts_below (a ∷ later) l end h =
       let rest : (rules.last a.effect.state ≤ rules.last end.state) × All (IsEventBy end) later × All (IsEarlier end) (handles later) = acts_below later (after rules p l a) end h.1 in
       let stamp : (rules.event_stamp a.effect.event ≡ rules.last a.effect.state) × (rules.last l.state < rules.event_stamp a.effect.event) = act_stamp rules stamped p l a.input a.effect h.0 in
-      let by : rules.event_stamp a.effect.event ≤ rules.last end.state = omega (arith, stamp.0, rest.0) in
-      (omega (arith, stamp.1, by), All-cons (IsEventBy end) a later by rest.1,
-      All-append (IsEarlier end) (handled_in a.input) (handles later) (handled_earlier l end a.input a.effect h.0 by) rest.2)
+      let by : rules.event_stamp a.effect.event ≤ rules.last end.state = omega (arith, stamp.0, rest.0) in (
+        omega (arith, stamp.1, by),
+        All-cons (IsEventBy end) a later by rest.1,
+        All-append (IsEarlier end) (handled_in a.input) (handles later) (handled_earlier l end a.input a.effect h.0 by) rest.2,
+      )
 
   module _ (l end : Local S X) (events : List E) (handled : List X) (ran : RanAlone rules p l events handled end) where
     pub events_by_last : All (λ e. rules.event_stamp e ≤ rules.last end.state) events
