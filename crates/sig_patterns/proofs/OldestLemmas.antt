@@ -1,6 +1,5 @@
 -- No clause matches a message that is older than a hit's, and no earlier clause matches the hit's.
 use Rattle.std.proofs.Common.{◌≡◌, List, [], ◌∷◌, take, refl, sym, subst, Option, Some, None, add-one}
-use Rattle.std.specs.Prelude.{IfSome}
 use Rattle.std.specs.List.{All}
 use Rattle.std.specs.Option.{option_map, option_or}
 use Rattle.std.proofs.lemmas.List.Elements.{All-nil, All-cons}
