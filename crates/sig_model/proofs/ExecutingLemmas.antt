@@ -40,7 +40,7 @@ use Rattle.sig_model.specs.declared.event.Outcome.{Outcome}
 use Rattle.sig_model.specs.declared.event.Outcome.TheVariants as outcome
 use Rattle.sig_model.specs.ProcessState.{ProcessState, owner_of, Post, rewatched, InboxNames, TableNames}
 use Rattle.sig_model.specs.Bodies.{Body, at_next, place_after, going_on, ending, system_limit}
-use Rattle.sig_model.specs.Executing.{with_value, with_pid, with_ref, with_target, sending, setting, linked_by, unlink_posts, unlinked_by, new_ref, making, monitored_by, monitoring, aliasing, flushed_into, demonitoring, unaliasing, reserving, ref_in, ref_of_var, marked_by, marking, binding, clearing, marked_start, from_mark, hit_from, receiving, exec_body, executing}
+use Rattle.sig_model.specs.Executing.{with_value, with_pid, with_ref, with_target, sending, setting, linked_by, unlink_posts, unlinked_by, new_ref, making, monitored_by, monitoring, aliasing, flushed_into, demonitoring, unaliasing, reserving, ref_in, ref_of_var, marked_by, at_marker, binding, clearing, marked_start, from_mark, hit_from, receiving, exec_body, executing}
 use Rattle.sig_model.specs.Bounds.{IsBounded}
 use Rattle.sig_model.specs.Names.{ScriptNames}
 use Rattle.sig_model.specs.TermSizes.{IsKeptTerm, TableSizes, BodySizes}
@@ -282,7 +282,7 @@ module _ (L : Shown) (p : Declared) (s : ProcessState) (k : IsBefore L p s) (c :
         moving L p s _ (messaged L s.tables k.tables inbox h (λ z. subst AllMessages (sym only.messages) (sizes z).messages) moved) behind only.arrivals refl refl refl refl (no_posts L) (λ z. tt)
 
     marking_row : (rule : Ref → Bool × Inbox) → ((r : Ref) → OfRef L.name r → InboxNames L.name (rule r).1) → ((r : Ref) → OnlyMarks s.tables.inbox (rule r).1) → ((r : Ref) → L.inbox (rule r).1)
-        → (o : Option Ref) → IfSome o (OfRef L.name) → Row (marking s rule o)
+        → (o : Option Ref) → IfSome o (OfRef L.name) → Row (at_marker s rule o)
     marking_row rule h only moved None named = marked_row (false, s.tables.inbox) names.inbox (record { messages = refl; arrivals = refl }) c.same
     marking_row rule h only moved (Some r) named = marked_row (rule r) (h r named) (only r) (moved r)
 

@@ -54,15 +54,18 @@ module _ (r : Ref) where
       none_carried (numbered pid stamp s.counts.next_numbers b.posts)
       (numbered_all pid stamp (λ (x : Signal). All (IsOther r) (names_of_kind x.kind)) (PostNames (IsOther r)) (λ q n k. k.kind) s.counts.next_numbers b.posts h.posts) g
 
-  -- whether the process has made the reference
-  new_or_not : (pid : ℕ) (effect : Effect ProcessState Signal Event) → IsNew marking pid effect r ⊎ (r.owner.0 ≡ pid → effect.state.counts.next_serial ≤ r.serial)
-  new_or_not pid effect = by (cases_eq r.owner.0 pid) (cases_lt r.serial effect.state.counts.next_serial)
+  -- the event made the reference, or its serial isn't the one that the process gives next
+  new_or_not : (pid : ℕ) (s : ProcessState) (effect : Effect ProcessState Signal Event) → s.counts.next_serial ≤ effect.state.counts.next_serial
+      → IsNew marking pid s effect r ⊎ (r.owner.0 ≡ pid → s.counts.next_serial < effect.state.counts.next_serial → r.serial ≡ s.counts.next_serial → ⊥)
+  new_or_not pid s effect le = by (cases_eq r.owner.0 pid) (cases_lt r.serial s.counts.next_serial) (cases_lt r.serial effect.state.counts.next_serial)
     where
-      by : (r.owner.0 ≡ pid) ⊎ (r.owner.0 ≡ pid → ⊥) → (r.serial < effect.state.counts.next_serial) ⊎ (effect.state.counts.next_serial ≤ r.serial)
-          → IsNew marking pid effect r ⊎ (r.owner.0 ≡ pid → effect.state.counts.next_serial ≤ r.serial)
-      by (inl own) (inl lt) = inl (own, lt)
-      by (inl own) (inr ge) = inr (λ e. ge)
-      by (inr other) c = inr (λ e. absurd (other e))
+      by : (r.owner.0 ≡ pid) ⊎ (r.owner.0 ≡ pid → ⊥) → (r.serial < s.counts.next_serial) ⊎ (s.counts.next_serial ≤ r.serial)
+          → (r.serial < effect.state.counts.next_serial) ⊎ (effect.state.counts.next_serial ≤ r.serial)
+          → IsNew marking pid s effect r ⊎ (r.owner.0 ≡ pid → s.counts.next_serial < effect.state.counts.next_serial → r.serial ≡ s.counts.next_serial → ⊥)
+      by (inl own) (inl lt) c = inr (λ e rises is. omega (arith, lt, is))
+      by (inl own) (inr ge) (inl lt) = inl (own, (ge, lt))
+      by (inl own) (inr ge) (inr far) = inr (λ e rises is. omega (arith, far, rises, is))
+      by (inr other) b c = inr (λ e. absurd (other e))
 
   -- the processes that a script names are no references
   script_other : (p : Declared) → ScriptNames (IsOther r) p
@@ -70,21 +73,20 @@ module _ (r : Ref) where
 
   module _ (pid : ℕ) (s : ProcessState) where
     -- the reference that the process makes next is another one, where it makes one
-    new_other : (b : Body) → owner_of s.tables ≡ pid → (r.owner.0 ≡ pid → b.state.counts.next_serial ≤ r.serial) → s.counts.next_serial < b.state.counts.next_serial → IsOther r (reference (new_ref s))
+    new_other : (b : Body) → owner_of s.tables ≡ pid → (r.owner.0 ≡ pid → s.counts.next_serial < b.state.counts.next_serial → r.serial ≡ s.counts.next_serial → ⊥) → s.counts.next_serial < b.state.counts.next_serial → IsOther r (reference (new_ref s))
     new_other b own old rises e =
         let owner : owner_of s.tables ≡ r.owner.0 = ap owner_in e in
         let serial : s.counts.next_serial ≡ r.serial = ap serial_in e in
-        let later : b.state.counts.next_serial ≤ r.serial = old (sym owner ∙ own) in
-        absurd (omega (arith, rises, serial, later))
+        old (sym owner ∙ own) rises (sym serial)
 
     exec_stands : (p : Declared) (b : Body) → executing p s ≡ Some b → owner_of s.tables ≡ pid → StandsAfter marking (finished_exec pid s b) r
-        → StandsIn s r ⊎ IsNew marking pid (finished_exec pid s b) r
-    exec_stands p b can own stands =
+        → s.counts.next_serial ≤ b.state.counts.next_serial → StandsIn s r ⊎ IsNew marking pid s (finished_exec pid s b) r
+    exec_stands p b can own stands le =
         ⊎_elim (λ made. inr made)
         (λ old. inl (λ k.
         let kept : IsKeptMade (IsOther r) ⊥ p s b = MatchOption-at_some (Unit {0}) (IsKeptMade (IsOther r) ⊥ p s) b can (executing_kept (IsOther r) ⊥ p s k (λ j. absurd j) (λ j. absurd j) (script_other p)) in
         not_after pid s (s.counts.executed + 1) (s.counts.stamp + 1) (did.Exec s.counts.place) b (kept (new_other b own old)).names stands))
-        (new_or_not pid (finished_exec pid s b))
+        (new_or_not pid s (finished_exec pid s b) le)
 
     handle_stands : (x : Signal) → StandsAfter marking (handling_of pid s x) r → StandsIn s r ⊎ IsSaid x r
     handle_stands x stands =
@@ -109,11 +111,12 @@ module _ (turns : ℕ) (part : ℕ → Option Declared) where
   of_part_next (Some p) pid s effect e = exec_next p pid s effect e
 
   of_part_stands : (o : Option Declared) (pid : ℕ) (s : ProcessState) (effect : Effect ProcessState Signal Event) → execution_of pid o s ≡ Some effect → owner_of s.tables ≡ pid
-      → (r : Ref) → StandsAfter marking effect r → StandsIn s r ⊎ IsNew marking pid effect r
+      → (r : Ref) → StandsAfter marking effect r → StandsIn s r ⊎ IsNew marking pid s effect r
   of_part_stands None pid s effect e own r stands = cc
   of_part_stands (Some p) pid s effect e own r stands =
       let b : IsBodyOf p pid s effect = body_of p pid s effect e in
-      subst (λ (f : Effect ProcessState Signal Event). StandsAfter marking f r → StandsIn s r ⊎ IsNew marking pid f r) b.is (exec_stands r pid s p b.body b.can own) stands
+      let moved : IsMoved AnyInbox s b.body = MatchOption-at_some (Unit {0}) (IsMoved AnyInbox s) b.body b.can (executing_moved AnyInbox p s (any_executed s)) in
+      subst (λ (f : Effect ProcessState Signal Event). StandsAfter marking f r → StandsIn s r ⊎ IsNew marking pid s f r) b.is (λ stands. exec_stands r pid s p b.body b.can own stands moved.serial) stands
 
   pub makes_fresh : MakesFresh marking (rules_with turns part)
   unfolding rules_with
@@ -121,5 +124,5 @@ module _ (turns : ℕ) (part : ℕ → Option Declared) where
     exec_next = λ pid s effect e. of_part_next (part pid) pid s effect e;
     handle_next = λ pid s x. (handling_moved AnyInbox pid s (any_handled s) x).serial;
     exec_stands = λ pid s effect e sound r stands. of_part_stands (part pid) pid s effect e sound.owner r stands;
-    handle_stands = λ pid s x r stands. inl (handle_stands r pid s x stands);
+    handle_stands = λ pid s x r stands. handle_stands r pid s x stands;
   }

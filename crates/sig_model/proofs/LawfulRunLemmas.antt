@@ -7,9 +7,9 @@ use Rattle.sig_kinds.specs.declared.signal.Signal.{Signal}
 use Rattle.sig_program.specs.Scripts.{Program, IsWithin, IsProcBelow, IsSound}
 use Rattle.sig_runs.specs.Crew.{Member, crew_machine}
 use Rattle.sig_runs.specs.Settled.{IsSettled}
-use Rattle.sig_runs.specs.Quiet.{IsQuiet}
+use Rattle.sig_runs.specs.Still.{IsStillMember}
 use Rattle.sig_runs.proofs.Lists.{slice_get-set_same, slice_get-set_other}
-use Rattle.sig_runs.proofs.Quiet.{quiet_is_settled}
+use Rattle.sig_runs.proofs.Still.{still_is_settled}
 use Rattle.sig_model.specs.declared.event.Event.{Event}
 use Rattle.sig_model.specs.ProcessState.{ProcessState}
 use Rattle.sig_model.specs.Machine.{rules_of, opening_of}
@@ -27,7 +27,7 @@ use Rattle.sig_model.proofs.StillLemmas.{run_clear, run_still}
 use Rattle.sig_model.proofs.KeepLemmas.{opened_keeps}
 use Rattle.sig_model.proofs.NumberLemmas.{opened_numbered}
 use Rattle.sig_model.proofs.OpeningLemmas.{IsOpened, opened_tells, opened_length}
-use Rattle.sig_model.proofs.SettledLemmas.{cuts_high, quiet}
+use Rattle.sig_model.proofs.SettledLemmas.{cuts_high, still_member}
 use Rattle.sig_model.proofs.LawLemmas.{kept_of, mate, lawful_clear}
 use Rattle.sig_model.proofs.KeptLawLemmas.{IsMember, lawful_of, step_lawful, receiver, apart, delivery_lawful}
 
@@ -141,20 +141,20 @@ module _ (script : Program) where
       (MatchOption-at_some (Unit {0}) (IsProcBelow (length script.procs)) o.part o.there (at_place (IsProcBelow (length script.procs)) script.procs q sound.pids))))
 
   module _ (crew : List Running) (law : IsLawfulCrew script crew) (clear : IsClear crew) (still : IsStillCrew crew) where
-    whole_quiet : (p : ℕ) (r : Running) → slice_get crew p ≡ Some r → IsQuiet (rules_of script) p (whole_member r)
-    whole_quiet p r at =
-        let q = quiet script p r (kept_of script p r (law.processes p r at) (law.keeping p r at)) (still p r at) in
+    whole_still : (p : ℕ) (r : Running) → slice_get crew p ≡ Some r → IsStillMember (rules_of script) p (whole_member r)
+    whole_still p r at =
+        let q = still_member script p r (kept_of script p r (law.processes p r at) (law.keeping p r at)) (still p r at) in
         record { no_handle = q.no_handle; no_exec = q.no_exec; from_others = q.from_others }
 
-    quiet_case : (p : ℕ) (o : Option Running) (m : Member ProcessState Signal Event) → slice_get crew p ≡ o → mate o ≡ Some m → IsQuiet (rules_of script) p m
-    quiet_case p None m at e = cc
-    quiet_case p (Some r) m at e = subst (λ z. IsQuiet (rules_of script) p z) (same_Some (whole_member r) m e) (whole_quiet p r at)
+    still_case : (p : ℕ) (o : Option Running) (m : Member ProcessState Signal Event) → slice_get crew p ≡ o → mate o ≡ Some m → IsStillMember (rules_of script) p m
+    still_case p None m at e = cc
+    still_case p (Some r) m at e = subst (λ z. IsStillMember (rules_of script) p z) (same_Some (whole_member r) m e) (whole_still p r at)
 
     -- a lawful crew in which no process can do anything is settled
     pub still_settled : IsSettled (rules_of script) (crew_machine (rules_of script) (map whole_member crew))
     still_settled =
-        quiet_is_settled (rules_of script) (stamps_kept script.turns (slice_get script.procs)) (cuts_high script) (opening_of script) (map whole_member crew) (lawful_clear script crew law clear)
-        (λ p m at. quiet_case p (slice_get crew p) m refl (sym (slice_get-map whole_member crew p) ∙ at))
+        still_is_settled (rules_of script) (stamps_kept script.turns (slice_get script.procs)) (cuts_high script) (opening_of script) (map whole_member crew) (lawful_clear script crew law clear)
+        (λ p m at. still_case p (slice_get crew p) m refl (sym (slice_get-map whole_member crew p) ∙ at))
 
   -- and so is a crew at the end of a run
   pub run_settled : (crew last : List Running) → IsLawfulCrew script crew → IsClear crew → RunsTo crew last → IsSettled (rules_of script) (crew_machine (rules_of script) (map whole_member last))

@@ -5,7 +5,7 @@ use Rattle.sig_program.specs.Scripts.{Declared, Program, IsWithin, IsProcBelow, 
 use Rattle.sig_runs.specs.Machine.{Machine, At, IsRun}
 use Rattle.sig_runs.specs.Crew.{opening_machine}
 use Rattle.sig_runs.specs.Fresh.{MakesFresh}
-use Rattle.sig_runs.specs.Marks.{AllSound, by_whole}
+use Rattle.sig_runs.specs.Marks.{AllMarksSound, by_whole}
 use Rattle.sig_runs.specs.Settled.{IsSettled}
 use Rattle.sig_runs.specs.Everywhere.{HoldEverywhere}
 use Rattle.sig_runs.proofs.Marks.{run_sound, whole_run, marked_run, settled_whole}
@@ -46,12 +46,12 @@ module _ (script : Program) where
       pub from_head : MarkedRun → WholeRun
       from_head run = whole_run (rules_of script) marking script_fresh (whole_of script) (keeps_sound script within) events (opening_machine (opening_of script)) end (opening_sound script) run
 
-      pub end_sound : WholeRun → AllSound marking end
+      pub end_sound : WholeRun → AllMarksSound marking end
       end_sound run = run_sound (rules_of script) marking script_fresh (whole_of script) (keeps_sound script within) events (opening_machine (opening_of script)) end (opening_sound script) (from_mark run)
 
       -- so no receive through a marker skips a message that could match
       pub none_skipped : WholeRun → (pid : ℕ) (s : ProcessState) (p : Declared) → slice_get end.procs pid ≡ Some s → slice_get script.procs pid ≡ Some p → SkipsNone p s
       none_skipped run pid s p at part = skips_none pid s ((end_sound run).marks pid s at) p
 
-  pub still_settled : (m : Machine ProcessState Signal) → All IsWithin script.procs → AllSound marking m → IsSettled (rules_of script) m → IsSettled (by_whole (rules_of script) (whole_of script)) m
+  pub still_settled : (m : Machine ProcessState Signal) → All IsWithin script.procs → AllMarksSound marking m → IsSettled (rules_of script) m → IsSettled (by_whole (rules_of script) (whole_of script)) m
   still_settled m within sound settled = settled_whole (rules_of script) marking script_fresh (whole_of script) (keeps_sound script within) m sound settled

@@ -11,11 +11,11 @@ use Rattle.sig_terms.specs.declared.term.Term.{Term}
 use Rattle.sig_kinds.specs.declared.signal.Signal.{Signal}
 use Rattle.sig_runs.specs.Machine.{At, is_empty}
 use Rattle.sig_runs.specs.Settled.{IsAtRest, IsSettled}
-use Rattle.sig_runs.specs.Quiet.{IsQuiet, CutsHigh, next_signal, is_low}
-use Rattle.sig_runs.specs.Quiet.{can_handle as may_handle, can_exec as may_exec}
+use Rattle.sig_runs.specs.Still.{IsStillMember, CutsHigh, next_signal, is_low}
+use Rattle.sig_runs.specs.Still.{can_handle as may_handle, can_exec as may_exec}
 use Rattle.sig_runs.specs.Crew.{queued_at}
 use Rattle.sig_runs.proofs.Delivery.{at_rest}
-use Rattle.sig_runs.proofs.Quiet.{quiet_at_rest}
+use Rattle.sig_runs.proofs.Still.{still_at_rest}
 use Rattle.sig_program.specs.Scripts.{Program}
 use Rattle.sig_model.specs.declared.event.Event.{Event}
 use Rattle.sig_model.specs.declared.state.TheConstants.{LAST_STAMP}
@@ -26,7 +26,7 @@ use Rattle.sig_model.specs.Machine.{rules_of, rules_with, execution, execution_o
 use Rattle.sig_model.specs.Running.{Running, advanced, next_of, is_early, can_handle, can_exec}
 use Rattle.sig_model.specs.OneWorker.{RunsTo, rests, goes, pass, opened_crew}
 use Rattle.sig_model.specs.PrintedState.{is_late_signal, is_late}
-use Rattle.sig_model.specs.SettledRun.{IsMachineOf, IsResting, IsSettledRun}
+use Rattle.sig_model.specs.SettledRun.{IsMachineOf, IsRunningAtRest, IsSettledRun}
 use Rattle.sig_model.specs.MadeEvents.{made_in_pass, Makes}
 use Rattle.sig_model.specs.MadeEvents.{none, passes}
 use Rattle.sig_model.specs.Keeping.{IsToItself}
@@ -123,9 +123,9 @@ module _ (script : Program) where
     ]
 
     -- it can do nothing as the machine's process either
-    pub quiet : IsQuiet (rules_of script) p (member_of r)
+    pub still_member : IsStillMember (rules_of script) p (member_of r)
     unfolding rules_with
-    quiet = record { no_handle = no_handle; no_exec = no_exec; from_others = k.others }
+    still_member = record { no_handle = no_handle; no_exec = no_exec; from_others = k.others }
 
     -- its own signals aren't late while it isn't cut
     own_early : is_cut r.turns r.state ≡ false → (x : Signal) (own : List Signal) → r.own ≡ x ∷ own → nat_lt x.stamp LAST_STAMP ≡ true
@@ -149,13 +149,13 @@ module _ (script : Program) where
     stops (Some reason) e uncut own = inl (ap (λ o. is_some o) e)
     stops None e uncut own = inr ((waiting_iff r.proc r.state).0 (idle (can_exec_at r e uncut own)))
 
-    rests_by : (c : Bool) → is_cut r.turns r.state ≡ c → IsResting r
+    rests_by : (c : Bool) → is_cut r.turns r.state ≡ c → IsRunningAtRest r
     rests_by true e = inl e
     rests_by false e =
         let queue : (r.own ≡ []) × (((r.own ≡ []) × (r.taken_in ≡ [])) ⊎ (is_late r ≡ true)) = queue_rests r.own r.taken_in e refl refl (not_early r e s.handle) in
         inr (stops r.state.tables.end refl e queue.0, queue.1)
 
-    pub is_resting : IsResting r
+    pub is_resting : IsRunningAtRest r
     is_resting = rests_by (is_cut r.turns r.state) refl
 
   low : (p : ℕ) (r : Running) → IsKeptOf script p r → All (λ (x : Signal). (rules_of script).stamp x ≤ (rules_of script).last r.state) r.own
@@ -183,7 +183,7 @@ module _ (script : Program) where
     state_of p None s there e still = cc
     state_of p (Some r) s there e still =
         subst (λ z. IsAtRest (rules_of script) g.machine p z) (same_Some r.state s e)
-        (quiet_at_rest (rules_of script) (stamps_kept script.turns (slice_get script.procs)) cuts_high g.machine p (member_of r) (λ f. waiting f p r there) (low p r (g.kept p r there)) (quiet p r (g.kept p r there) (still p r there)))
+        (still_at_rest (rules_of script) (stamps_kept script.turns (slice_get script.procs)) cuts_high g.machine p (member_of r) (λ f. waiting f p r there) (low p r (g.kept p r there)) (still_member p r (g.kept p r there) (still p r there)))
 
     settled : IsStillCrew crew → IsSettled (rules_of script) g.machine
     settled still p s at = state_of p (slice_get crew p) s refl (sym (slice_get-map (λ (r : Running). r.state) crew p) ∙ ap (λ xs. slice_get xs p) (sym shown.states) ∙ at) still

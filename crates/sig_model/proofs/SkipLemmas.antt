@@ -22,7 +22,7 @@ use Rattle.sig_program.specs.declared.instruction.Instr.TheVariants as instr
 use Rattle.sig_program.specs.declared.instruction.After.{After}
 use Rattle.sig_program.specs.Scripts.{Declared, AreMarked, IsLawful, IsWithin}
 use Rattle.sig_model.specs.ProcessState.{ProcessState}
-use Rattle.sig_model.specs.Executing.{ref_in, using_ref, marked_start, from_mark, from_oldest, hit_from, taking, receiving, exec_body, executing, executing_whole, IsWaiting, IsSoundAt, SkipsNone}
+use Rattle.sig_model.specs.Executing.{ref_in, using_ref, marked_start, from_mark, from_oldest, hit_from, taking, receiving, exec_body, executing, executing_whole, IsWaiting, SkipsNoneAt, SkipsNone}
 use Rattle.sig_model.specs.Finishing.{finished_exec}
 use Rattle.sig_model.specs.Running.{Running, advanced, can_exec, exec_next, exec_next_whole}
 use Rattle.sig_model.proofs.Lookups.{at_place}
@@ -76,7 +76,7 @@ module _ (p : Declared) (s : ProcessState) where
         receiving p s after start 0 (hit_from 0 clauses s) ≡ receiving p s after start start (hit_from start clauses s)
     same_receive after marked none = ap (receiving p s after start 0) (skipped (using_ref s.tables.env using) refl marked none) ∙ same_row after start (hit_from start clauses s)
 
-  same_body : (o : Option Instr) → IfSome o (IsLawful (length p.labels)) → IsSoundAt s o → exec_body from_oldest p s o ≡ exec_body from_mark p s o
+  same_body : (o : Option Instr) → IfSome o (IsLawful (length p.labels)) → SkipsNoneAt s o → exec_body from_oldest p s o ≡ exec_body from_mark p s o
   same_body (Some (instr.Receive using clauses after)) lawful none = same_receive using clauses after lawful.3 none
   same_body _ lawful none = refl
 

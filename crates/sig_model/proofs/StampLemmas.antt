@@ -1,7 +1,7 @@
--- What one event gives: its stamp, and the signals that it sends.
+-- What one event gives: its stamp, and the signals that it sends; and the stamps of all events.
 use Rattle.std.proofs.Common.{◌≡◌, ℕ, ◌+◌, ◌≤◌, ◌<◌, max, List, [], ◌∷◌, All, IfSome, Option, Some, None, refl, subst, arith}
 use Rattle.std.specs.Prelude.{slice_index}
-use Rattle.std.proofs.lemmas.List.Elements.{All-nil, All-cons, All-head, All-tail}
+use Rattle.std.proofs.lemmas.List.Elements.{All-nil, All-cons, All-head, All-tail, All-weaker}
 use Rattle.std.proofs.lemmas.Option.{MatchOption-at_some}
 use Rattle.sig_kinds.specs.declared.signal.Signal.{Signal}
 use Rattle.sig_runs.specs.Rules.{Effect, IsStamped, KeepStamps}
@@ -19,6 +19,9 @@ use Rattle.sig_model.specs.Executing.{executing}
 use Rattle.sig_model.specs.Handling.{handling}
 use Rattle.sig_model.specs.Finishing.{drawn, numbered, finished, finished_exec}
 use Rattle.sig_model.specs.Machine.{execution_of, rules_with}
+use Rattle.sig_model.specs.Keeping.{IsKeeping, own_rules, opening_local, local_of}
+use Rattle.sig_model.specs.Running.{Running}
+use Rattle.sig_runs.proofs.Stamps.{events_by_last, handled_before_last}
 use Rattle.sig_model.proofs.Lookups.{mapped_tells}
 use Rattle.sig_model.proofs.Guards.{uncut_stamp}
 
@@ -121,3 +124,26 @@ module _ (turns : ℕ) (part : ℕ → Option Declared) where
       told = refl;
     };
   }
+
+-- no event of a running process has a stamp above 2^62, and each signal that it handled had a lower one
+module _ (r : Running) (keeping : IsKeeping r) where
+  stamped : KeepStamps (own_rules r)
+  stamped = stamps_kept r.turns (λ p. Some r.proc)
+
+  at_most : (n : ℕ) → n ≤ r.state.counts.stamp → n ≤ LAST_STAMP
+  at_most n le = let low : r.state.counts.stamp ≤ LAST_STAMP = keeping.low in omega (arith, le, low)
+
+  below : (n : ℕ) → n < r.state.counts.stamp → n < LAST_STAMP
+  below n lt = let low : r.state.counts.stamp ≤ LAST_STAMP = keeping.low in omega (arith, lt, low)
+
+  pub events_low : All (λ (e : Event). e.stamp ≤ LAST_STAMP) r.events
+  unfolding rules_with
+  events_low =
+      All-weaker (λ (e : Event). e.stamp ≤ r.state.counts.stamp) (λ (e : Event). e.stamp ≤ LAST_STAMP) (λ e le. at_most e.stamp le) r.events
+      (events_by_last (own_rules r) stamped r.pid (opening_local r) (local_of r) r.events r.handled keeping.ran)
+
+  pub handled_low : All (λ (x : Signal). x.stamp < LAST_STAMP) r.handled
+  unfolding rules_with
+  handled_low =
+      All-weaker (λ (x : Signal). x.stamp < r.state.counts.stamp) (λ (x : Signal). x.stamp < LAST_STAMP) (λ x lt. below x.stamp lt) r.handled
+      (handled_before_last (own_rules r) stamped r.pid (opening_local r) (local_of r) r.events r.handled keeping.ran)

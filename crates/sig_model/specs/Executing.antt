@@ -192,16 +192,16 @@ abbrev pub marked_by : ProcessState → Bool × Inbox → Body
 marked_by s (is, inbox) = record { state = inboxed (at_next s) inbox; outcome = outcome.Answered is; posts = [] }
 
 -- a value that is no reference has none
-abbrev pub marking : ProcessState → (Ref → Bool × Inbox) → Option Ref → Body
-marking s rule r = marked_by s (option_map_or rule r (false, s.tables.inbox))
+abbrev pub at_marker : ProcessState → (Ref → Bool × Inbox) → Option Ref → Body
+at_marker s rule r = marked_by s (option_map_or rule r (false, s.tables.inbox))
 
 -- the reserve becomes the mark of the variable's value
 abbrev pub binding : ProcessState → Var → Body
-binding s x = marking s (bound_in (owner_of s.tables) s.tables.inbox) (ref_of_var s.tables.env x)
+binding s x = at_marker s (bound_in (owner_of s.tables) s.tables.inbox) (ref_of_var s.tables.env x)
 
 -- the mark of the variable's value is taken out
 abbrev pub clearing : ProcessState → Var → Body
-clearing s x = marking s (cleared_in s.tables.inbox) (ref_of_var s.tables.env x)
+clearing s x = at_marker s (cleared_in s.tables.inbox) (ref_of_var s.tables.env x)
 
 -- the reference of a receive's marker
 abbrev pub using_ref : Environment → Option Var → Option Ref
@@ -280,11 +280,11 @@ pub record IsWaiting (p : Declared) (s : ProcessState) : Type 0 where
   pub none : hit_from (marked_start s using) clauses s ≡ None
 
 -- Where the instruction is a receive with a marker, no message before its start holds its reference.
-abbrev pub IsSoundAt : ProcessState → Option Instr → Type 0
-IsSoundAt s (Some (instr.Receive using clauses after)) =
+abbrev pub SkipsNoneAt : ProcessState → Option Instr → Type 0
+SkipsNoneAt s (Some (instr.Receive using clauses after)) =
     IfSome (using_ref s.tables.env using) (λ r. All (λ (t : Term). holds r t ≡ false) (take (marked_start s using) (terms_of s.tables.inbox.messages)))
-IsSoundAt s _ = Unit {0}
+SkipsNoneAt s _ = Unit {0}
 
 -- the same of the next instruction of the process: its scan skips no message that could match
 abbrev pub SkipsNone : Declared → ProcessState → Type 0
-SkipsNone p s = IsSoundAt s (slice_get p.instrs (s.counts.place - 1))
+SkipsNone p s = SkipsNoneAt s (slice_get p.instrs (s.counts.place - 1))

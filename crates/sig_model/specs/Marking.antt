@@ -51,7 +51,7 @@ pub record IsSoundInbox (owner : ℕ) (inbox : Inbox) : Type 0 where
   pub marks : All (IsSoundMark inbox) inbox.marks
 
 -- the process pid, which makes references of its own
-pub record IsSoundProcess (pid : ℕ) (s : ProcessState) : Type 0 where
+pub record HasSoundMarks (pid : ℕ) (s : ProcessState) : Type 0 where
   pub owner : owner_of s.tables ≡ pid
   pub inbox : IsSoundInbox pid s.tables.inbox
 
@@ -63,7 +63,7 @@ marking = record {
   next = λ s. s.counts.next_serial;
   stands = StandsIn;
   carried = IsSaid;
-  sound = IsSoundProcess;
+  sound = HasSoundMarks;
 }
 
 -- what a process of the script does with its next instruction, by a scan of all messages

@@ -40,8 +40,8 @@ events_of (Some r) = r.events
 
 -- The process is cut; or it has ended, or waits at a receive that no message meets, and in both cases no signal waits for it, or
 -- one that it never handles.
-abbrev pub IsResting : Running → Type 0
-IsResting r = (is_cut r.turns r.state ≡ true) ⊎ ((IsSome r.state.tables.end ⊎ IsWaiting r.proc r.state) × (((r.own ≡ []) × (r.taken_in ≡ [])) ⊎ (is_late r ≡ true)))
+abbrev pub IsRunningAtRest : Running → Type 0
+IsRunningAtRest r = (is_cut r.turns r.state ≡ true) ⊎ ((IsSome r.state.tables.end ⊎ IsWaiting r.proc r.state) × (((r.own ≡ []) × (r.taken_in ≡ [])) ⊎ (is_late r ≡ true)))
 
 -- The crew is what a settled run of the script's machine leads to: its events are possible one after another from the
 -- opening, each an execution or the handling of the oldest signal of one sender; each process has had its own ones in that
@@ -58,4 +58,4 @@ pub record IsSettledRun (script : Program) (crew : List Running) : Type 0 where
   pub settled : IsSettled (rules_of script) machine
   -- the crew has the script's processes, and each of them is at rest
   pub many : length crew ≡ length script.procs
-  pub resting : (p : ℕ) (r : Running) → slice_get crew p ≡ Some r → IsResting r
+  pub resting : (p : ℕ) (r : Running) → slice_get crew p ≡ Some r → IsRunningAtRest r

@@ -4,7 +4,7 @@ ghost use Rattle.sig_program.specs.Scripts.{Declared, Program, IsWithin, IsSound
 ghost use Rattle.sig_runs.specs.Machine.{Machine, At, IsRun};
 ghost use Rattle.sig_runs.specs.Crew.{opening_machine};
 ghost use Rattle.sig_runs.specs.Fresh.{MakesFresh};
-ghost use Rattle.sig_runs.specs.Marks.{AllSound, KeepsSound, by_whole};
+ghost use Rattle.sig_runs.specs.Marks.{AllMarksSound, KeepsMarksSound, by_whole};
 ghost use Rattle.sig_runs.specs.Settled.{IsSettled};
 ghost use Rattle.sig_runs.specs.Everywhere.{HoldEverywhere};
 ghost use Rattle.sig_model.specs.declared.event.Event.{Event};
@@ -26,12 +26,12 @@ ghost use Rattle.sig_model.specs.NameLaw.{names_below};
 pub fn a_run_from_marks_is_a_run()
     ensures fresh { (script : Program) → MakesFresh marking (rules_of script) }
     ensures keeps { (script : Program) → All IsWithin script.procs →
-        KeepsSound marking (rules_of script) (whole_of script) }
-    ensures opened { (script : Program) → AllSound marking (opening_machine (opening_of script)) }
+        KeepsMarksSound marking (rules_of script) (whole_of script) }
+    ensures opened { (script : Program) → AllMarksSound marking (opening_machine (opening_of script)) }
     ensures sound { (script : Program) (events : List (At Event)) (end : Machine ProcessState Signal) →
         All IsWithin script.procs →
         IsRun (by_whole (rules_of script) (whole_of script)) (opening_machine (opening_of script)) events end →
-        AllSound marking end }
+        AllMarksSound marking end }
     ensures skips_none { (script : Program) (events : List (At Event)) (end : Machine ProcessState Signal) →
         All IsWithin script.procs →
         IsRun (by_whole (rules_of script) (whole_of script)) (opening_machine (opening_of script)) events end →
@@ -46,7 +46,7 @@ pub fn a_run_from_marks_is_a_run()
         IsRun (rules_of script) (opening_machine (opening_of script)) events end →
         IsRun (by_whole (rules_of script) (whole_of script)) (opening_machine (opening_of script)) events end }
     ensures settled { (script : Program) (m : Machine ProcessState Signal) →
-        All IsWithin script.procs → AllSound marking m → IsSettled (rules_of script) m →
+        All IsWithin script.procs → AllMarksSound marking m → IsSettled (rules_of script) m →
         IsSettled (by_whole (rules_of script) (whole_of script)) m }
 {}
 

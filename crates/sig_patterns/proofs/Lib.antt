@@ -9,5 +9,6 @@ pub mod Placing
 pub mod Extents
 pub mod Examples
 pub mod HitLemmas
+pub mod OldestLemmas
 pub mod PinLemmas
 pub mod MarkLemmas

@@ -1,6 +1,7 @@
 -- The scan of a receive (Erlang Reference Manual, Expressions, Receive): the oldest message that some clause matches, and
 -- the first clause that matches it.
-use Rattle.std.specs.Prelude.{ℕ, ◌+◌, List, [], ◌∷◌, length, Option, None, is_some, position}
+use Rattle.std.specs.Prelude.{◌≡◌, ℕ, ◌+◌, List, [], ◌∷◌, length, Option, None, is_some, position}
+use Rattle.std.specs.List.{All}
 use Rattle.std.specs.Option.{option_map, option_map_or, option_or}
 use Rattle.sig_terms.specs.declared.term.Term.{Term}
 use Rattle.sig_patterns.specs.declared.clause.Clause.{Clause}
@@ -35,6 +36,10 @@ behind_messages older h = record h { at = h.at + older }
 
 abbrev pub found_behind : ℕ → Found → Found
 found_behind older f = record f { at = f.at + older }
+
+-- no clause matches the message
+abbrev pub NoneMatches : List Clause → Environment → Term → Type 0
+NoneMatches clauses env message = All (λ (c : Clause). match_of c.pattern env message ≡ None) clauses
 
 -- the first clause that matches the message
 abbrev pub hit_here : List Clause → Environment → Term → Option Hit

@@ -2,7 +2,7 @@
 //! theorem on the definitions: its contract is what was proved, and its body is empty. (Erlang Reference Manual, Pattern
 //! Matching; Expressions, Receive.)
 
-ghost use Rattle.std.specs.Prelude.{◌≡◌, if◌then◌else◌, List, [], ◌∷◌, ◌++◌, All, length, true, false, Some, None, slice_get};
+ghost use Rattle.std.specs.Prelude.{◌≡◌, if◌then◌else◌, List, [], ◌∷◌, ◌++◌, All, length, take, true, false, Some, None, slice_get};
 ghost use Rattle.std.specs.Option.{option_map};
 ghost use Rattle.std.specs.FinMap as map;
 ghost use Rattle.sig_terms.specs.Nodes.{holds};
@@ -17,7 +17,7 @@ ghost use Rattle.sig_patterns.specs.declared.pattern.Pattern.TheVariants as patt
 ghost use Rattle.sig_patterns.specs.Environment.{Environment, value_of_var};
 ghost use Rattle.sig_patterns.specs.Matching.{match_of};
 ghost use Rattle.sig_patterns.specs.Pinning.{pins, AskFor};
-ghost use Rattle.sig_patterns.specs.Scanning.{Hit, behind_messages, found_behind, hit, scan};
+ghost use Rattle.sig_patterns.specs.Scanning.{Hit, NoneMatches, behind_messages, found_behind, hit, scan};
 
 /// `[P1 | [P2, ..]]` matches as `[P1, P2, ..]` does.
 pub fn a_list_is_a_head_and_a_list()
@@ -39,14 +39,21 @@ pub fn a_pin_compares_with_the_value_before()
         ≡ (if same_term (value_of_var env x.0) u then Some (map.insert env x.0 t) else None) }
 {}
 
-/// A hit tells the message at its place, and where its clause goes on. The clause at its number matches that message, with
-/// the environment that the hit tells.
+/// A hit tells the oldest message that some clause matches, and the first clause that matches it: the message stands at the
+/// hit's place, and its clause matches it with the environment that the hit tells, and goes on where the hit says. No clause
+/// matches an older message, and no earlier clause this one. Where there is no hit, no clause matches any message.
 pub fn a_hit_tells_its_match()
     ensures message { (clauses : List Clause) (env : Environment) (messages : List Term) (h : Hit) →
         hit clauses env messages ≡ Some h → slice_get messages h.at ≡ Some h.message }
     ensures clause { (clauses : List Clause) (env : Environment) (messages : List Term) (h : Hit) →
         hit clauses env messages ≡ Some h →
         (c : Clause) × ((slice_get clauses h.clause ≡ Some c) × (h.target ≡ c.target) × (match_of c.pattern env h.message ≡ Some h.env)) }
+    ensures oldest { (clauses : List Clause) (env : Environment) (messages : List Term) (h : Hit) →
+        hit clauses env messages ≡ Some h → All (NoneMatches clauses env) (take h.at messages) }
+    ensures first { (clauses : List Clause) (env : Environment) (messages : List Term) (h : Hit) →
+        hit clauses env messages ≡ Some h → NoneMatches (take h.clause clauses) env h.message }
+    ensures none { (clauses : List Clause) (env : Environment) (messages : List Term) →
+        hit clauses env messages ≡ None → All (NoneMatches clauses env) messages }
 {}
 
 /// A pattern that pins a variable whose value is a reference matches only terms that hold the reference.

@@ -1,10 +1,12 @@
 -- What a choice that was possible tells of the machine before it.
-use Rattle.std.proofs.Common.{◌≡◌, ℕ, Bool, true, false, not, ◌||◌, List, [], ◌∷◌, Option, Some, None, refl, sym}
+use Rattle.std.proofs.Common.{◌≡◌, ◌≢◌, ℕ, Bool, true, false, not, ◌||◌, List, [], ◌∷◌, Option, Some, None, refl, sym, ap, ◌∙◌, ◌⊎◌, inl, inr}
 use Rattle.std.proofs.lemmas.Bool.{ltb-true}
-use Rattle.std.specs.Prelude.{◌==◌, ◌^◌, ◌<◌, nat_lt, if◌then◌else◌}
+use Rattle.std.proofs.lemmas.Bool.Decides.{eqb_tells}
+use Rattle.std.specs.Prelude.{◌==◌, ◌^◌, ◌<◌, nat_lt, slice_get, if◌then◌else◌}
 use Rattle.std.proofs.lemmas.Option.{same_Some}
 use Rattle.sig_runs.specs.Rules.{Effect, Rules}
 use Rattle.sig_runs.specs.Machine.{Machine, Applied, execute, executed, handle, moved, without_oldest, is_empty}
+use Rattle.sig_runs.specs.Possible.{IsExecution, IsHandling}
 
 or_false : (a b : Bool) → (a || b) ≡ false → ((a ≡ false) × (b ≡ false))
 or_false true b h = absurd cc
@@ -13,6 +15,10 @@ or_false false b h = (refl, h)
 not_false : (a : Bool) → not a ≡ false → a ≡ true
 not_false true h = refl
 not_false false h = absurd cc
+
+none_left : {A : Type 0} (xs : List A) → is_empty xs ≡ true → xs ≡ []
+none_left [] h = refl
+none_left (x ∷ xs) h = absurd cc
 
 none_there : {A : Type 0} (xs : List A) → not (is_empty xs) ≡ false → xs ≡ []
 none_there [] h = refl
@@ -37,6 +43,7 @@ module _ {S X E : Type 0} (rules : Rules S X E) where
     pub oldest : xs ≡ signal ∷ rest
     pub uncut : rules.is_cut state ≡ false
     pub low : rules.stamp signal < 2 ^ 62
+    pub own_first : (f ≡ p) ⊎ (m.queued p p ≡ [])
     pub is : r ≡ moved rules m p (without_oldest f p m.queued) (rules.handle p state signal)
 
   pub did_execute : (m : Machine S X) (p : ℕ) (o : Option S) (r : Applied S X E) → execute rules m p o ≡ Some r → DidExecute m p o r
@@ -74,6 +81,10 @@ module _ {S X E : Type 0} (rules : Rules S X E) where
       tests : Bool
       tests = rules.is_cut s || (not (nat_lt (rules.stamp x) (2 ^ 62)) || not (f == p || is_empty (m.queued p p)))
 
+      own_or_none : (((f == p) ≡ true) × (f ≡ p)) ⊎ (((f == p) ≡ false) × (f ≢ p)) → (f == p || is_empty (m.queued p p)) ≡ true → (f ≡ p) ⊎ (m.queued p p ≡ [])
+      own_or_none (inl own) t = inl own.1
+      own_or_none (inr other) t = inr (none_left (m.queued p p) (ap (λ (b : Bool). b || is_empty (m.queued p p)) (sym other.0) ∙ t))
+
       go : (b : Bool) → tests ≡ b → (if b then None else Some (moved rules m p (without_oldest f p m.queued) (rules.handle p s x))) ≡ Some r → DidHandle m p f (Some s) (x ∷ rest) r
       go true t g = absurd cc
       go false t g =
@@ -89,5 +100,37 @@ module _ {S X E : Type 0} (rules : Rules S X E) where
             oldest = refl;
             uncut = first.0;
             low = ltb-true (rules.stamp x) (2 ^ 62) (not_false (nat_lt (rules.stamp x) (2 ^ 62)) second.0);
+            own_first = own_or_none (eqb_tells f p) (not_false (f == p || is_empty (m.queued p p)) second.1);
             is = sym (same_Some (moved rules m p (without_oldest f p m.queued) (rules.handle p s x)) r g);
           }
+
+  -- what an execution and a handling come of
+  module _ (m : Machine S X) (p : ℕ) (next : Applied S X E) where
+    pub is_execution : execute rules m p (slice_get m.procs p) ≡ Some next → IsExecution rules m p next
+    is_execution h =
+        let d : DidExecute m p (slice_get m.procs p) next = did_execute m p (slice_get m.procs p) next h in
+        record {
+          state = d.state;
+          there = d.at;
+          going = d.going;
+          uncut = d.uncut;
+          no_own = d.no_own;
+          effect = d.effect;
+          defined = d.defined;
+          event = ap (λ (r : Applied S X E). r.event) d.is;
+        }
+
+    pub is_handling : (f : ℕ) → handle rules m p f (slice_get m.procs p) (m.queued f p) ≡ Some next → IsHandling rules m p f next
+    is_handling f h =
+        let d : DidHandle m p f (slice_get m.procs p) (m.queued f p) next = did_handle m p f (slice_get m.procs p) (m.queued f p) next h in
+        record {
+          state = d.state;
+          there = d.at;
+          uncut = d.uncut;
+          signal = d.signal;
+          newer = d.rest;
+          oldest = d.oldest;
+          early = d.low;
+          own_first = d.own_first;
+          event = ap (λ (r : Applied S X E). r.event) d.is;
+        }

@@ -43,13 +43,13 @@ module _ {S X E R : Type 0} (rules : Rules S X E) (marking : Marking S X R) wher
       (λ n. record { state = h.state; at = slice_get-set_other procs p (marking.owner r) s' n ∙ h.at; below = h.below })
       (cases_eq p (marking.owner r))
 
-  made_new : (procs : List S) (p : ℕ) (s : S) (effect : Effect S X E) → slice_get procs p ≡ Some s → (r : R) → IsNew marking p effect r → IsMade marking (slice_set procs p effect.state) r
+  made_new : (procs : List S) (p : ℕ) (s : S) (effect : Effect S X E) → slice_get procs p ≡ Some s → (r : R) → IsNew marking p s effect r → IsMade marking (slice_set procs p effect.state) r
   made_new procs p s effect at r n =
-      record { state = effect.state; at = subst (λ z. slice_get (slice_set procs p effect.state) z ≡ Some effect.state) (sym n.0) (slice_get-set_same procs p effect.state s at); below = n.1 }
+      record { state = effect.state; at = subst (λ z. slice_get (slice_set procs p effect.state) z ≡ Some effect.state) (sym n.0) (slice_get-set_same procs p effect.state s at); below = n.1.1 }
 
   -- a move after which what stands was made before, or is new
   moved_made : (m : Machine S X) (p : ℕ) (s : S) (effect : Effect S X E) (queued : ℕ → ℕ → List X) → AllMade marking m → slice_get m.procs p ≡ Some s → marking.next s ≤ marking.next effect.state →
-      ((r : R) → StandsAfter marking effect r → IsMade marking m.procs r ⊎ IsNew marking p effect r) → ((s t : ℕ) (r : R) → Holds marking (queued s t) r → Holds marking (m.queued s t) r) → AllMade marking (moved rules m p queued effect).machine
+      ((r : R) → StandsAfter marking effect r → IsMade marking m.procs r ⊎ IsNew marking p s effect r) → ((s t : ℕ) (r : R) → Holds marking (queued s t) r → Holds marking (m.queued s t) r) → AllMade marking (moved rules m p queued effect).machine
   moved_made m p s effect queued made at le after part = record {
     states = λ q u there r h.
         ⊎_elim
@@ -89,9 +89,8 @@ module _ {S X E R : Type 0} (rules : Rules S X E) (marking : Marking S X R) wher
         let d : DidHandle rules m p f (slice_get m.procs p) (m.queued f p) r = did_handle rules m p f (slice_get m.procs p) (m.queued f p) r h in
         subst (λ z. AllMade marking z.machine) (sym d.is)
         (moved_made m p d.state (rules.handle p d.state d.signal) (without_oldest f p m.queued) made d.at (fresh.handle_next p d.state d.signal)
-        (λ r a. ⊎_elim
-        (λ b. inl (⊎_elim (λ s. made.states p d.state d.at r s) (λ s. made.signals f p r (subst (λ z. Holds marking z r) (sym d.oldest) (inl s))) b))
-        (λ b. inr b) (fresh.handle_stands p d.state d.signal r a))
+        (λ r a. inl (⊎_elim (λ s. made.states p d.state d.at r s) (λ s. made.signals f p r (subst (λ z. Holds marking z r) (sym d.oldest) (inl s)))
+        (fresh.handle_stands p d.state d.signal r a)))
         (λ s t r a. without s t r (f == s && p == t) a))
       where
         without : (s t : ℕ) (r : R) (b : Bool) → Holds marking (if b then drop 1 (m.queued s t) else m.queued s t) r → Holds marking (m.queued s t) r

@@ -7,13 +7,14 @@ pub mod Order
 pub mod Sorting
 pub mod Replay
 pub mod Choices
+pub mod Stamps
 pub mod Runs
 pub mod Everywhere
 pub mod Whole
 pub mod Fresh
 pub mod Marks
 pub mod Settled
-pub mod Quiet
+pub mod Still
 pub mod Events
 pub mod OnTheWay
 pub mod Delivery

@@ -15,19 +15,19 @@ use Rattle.sig_runs.proofs.Lists.{slice_get-set_same, slice_get-set_other}
 use Rattle.sig_runs.proofs.Order.{order_is_run}
 use Rattle.sig_runs.proofs.Choices.{DidExecute, DidHandle, did_execute, did_handle}
 use Rattle.sig_runs.specs.Fresh.{Marking, IsMade, MakesFresh}
-use Rattle.sig_runs.specs.Marks.{by_whole, OwnMade, KeepsSound, AllSound}
+use Rattle.sig_runs.specs.Marks.{by_whole, OwnMade, KeepsMarksSound, AllMarksSound}
 use Rattle.sig_runs.proofs.Fresh.{keeps_made}
 use Rattle.sig_runs.proofs.Runs.{run_keeps}
 use Rattle.sig_runs.proofs.Whole.{apply_whole, run_whole}
 
 module _ {S X E R : Type 0} (rules : Rules S X E) (marking : Marking S X R) (fresh : MakesFresh marking rules) (whole : ℕ → S → Option (Effect S X E)) where
-  own_made : (m : Machine S X) → AllSound marking m → (p : ℕ) (s : S) → slice_get m.procs p ≡ Some s → OwnMade marking p s
+  own_made : (m : Machine S X) → AllMarksSound marking m → (p : ℕ) (s : S) → slice_get m.procs p ≡ Some s → OwnMade marking p s
   own_made m h p s at r there mine =
       let i : IsMade marking m.procs r = h.made.states p s at r there in
       let same : s ≡ i.state = same_Some s i.state (sym at ∙ ap (λ z. slice_get m.procs z) (sym mine) ∙ i.at) in
       subst (λ z. marking.serial r < marking.next z) (sym same) i.below
 
-  moved_sound : (m : Machine S X) (p : ℕ) (s s' : S) → AllSound marking m → slice_get m.procs p ≡ Some s → marking.sound p s' → (q : ℕ) (u : S) → slice_get (slice_set m.procs p s') q ≡ Some u → marking.sound q u
+  moved_sound : (m : Machine S X) (p : ℕ) (s s' : S) → AllMarksSound marking m → slice_get m.procs p ≡ Some s → marking.sound p s' → (q : ℕ) (u : S) → slice_get (slice_set m.procs p s') q ≡ Some u → marking.sound q u
   moved_sound m p s s' h at now q u there =
       ⊎_elim
       (λ e.
@@ -36,8 +36,8 @@ module _ {S X E R : Type 0} (rules : Rules S X E) (marking : Marking S X R) (fre
       (λ n. h.marks q u (sym (slice_get-set_other m.procs p q s' n) ∙ there))
       (cases_eq p q)
 
-  module _ (keeps : KeepsSound marking rules whole) where
-    keeps_sound : (m : Machine S X) (c : Choice) (r : Applied S X E) → AllSound marking m → apply rules m c ≡ Some r → AllSound marking r.machine
+  module _ (keeps : KeepsMarksSound marking rules whole) where
+    keeps_sound : (m : Machine S X) (c : Choice) (r : Applied S X E) → AllMarksSound marking m → apply rules m c ≡ Some r → AllMarksSound marking r.machine
     keeps_sound m (Executes p) r h e =
         let d : DidExecute rules m p (slice_get m.procs p) r = did_execute rules m p (slice_get m.procs p) r e in
         record {
@@ -54,19 +54,19 @@ module _ {S X E R : Type 0} (rules : Rules S X E) (marking : Marking S X R) (fre
         }
 
     -- in every run all references were made and all marks are sound
-    pub run_sound : (es : List (At E)) (m end : Machine S X) → AllSound marking m → IsRun rules m es end → AllSound marking end
-    run_sound es m end h run = run_keeps rules (AllSound marking) keeps_sound es m end h run
+    pub run_sound : (es : List (At E)) (m end : Machine S X) → AllMarksSound marking m → IsRun rules m es end → AllMarksSound marking end
+    run_sound es m end h run = run_keeps rules (AllMarksSound marking) keeps_sound es m end h run
 
     -- a run from the marks is a run over the whole lists
-    pub whole_run : (es : List (At E)) (m end : Machine S X) → AllSound marking m → IsRun rules m es end → IsRun (by_whole rules whole) m es end
+    pub whole_run : (es : List (At E)) (m end : Machine S X) → AllMarksSound marking m → IsRun rules m es end → IsRun (by_whole rules whole) m es end
     whole_run es m end h run =
-        run_whole rules whole (AllSound marking) keeps_sound (λ n i p s at ef e. keeps.agrees p s (i.marks p s at) ∙ e) es m end h run
+        run_whole rules whole (AllMarksSound marking) keeps_sound (λ n i p s at ef e. keeps.agrees p s (i.marks p s at) ∙ e) es m end h run
 
     -- and a run over the whole lists is one from the marks
-    apply_marked : (m : Machine S X) (c : Choice) (r : Applied S X E) → AllSound marking m → apply (by_whole rules whole) m c ≡ Some r → apply rules m c ≡ Some r
+    apply_marked : (m : Machine S X) (c : Choice) (r : Applied S X E) → AllMarksSound marking m → apply (by_whole rules whole) m c ≡ Some r → apply rules m c ≡ Some r
     apply_marked m c r h e = apply_whole (by_whole rules whole) rules.exec m c r (λ p s at ef w. sym (keeps.agrees p s (h.marks p s at)) ∙ w) e
 
-    pub marked_run : (es : List (At E)) (m end : Machine S X) → AllSound marking m → IsRun (by_whole rules whole) m es end → IsRun rules m es end
+    pub marked_run : (es : List (At E)) (m end : Machine S X) → AllMarksSound marking m → IsRun (by_whole rules whole) m es end → IsRun rules m es end
     marked_run [] m end h run = run
     marked_run (a ∷ later) m end h run =
         let r : Applied S X E = record { machine = run.0; event = a.event } in
@@ -77,7 +77,7 @@ module _ {S X E R : Type 0} (rules : Rules S X E) (marking : Marking S X R) (fre
     late_whole : (m : Machine S X) (p : ℕ) → IsLate rules m p → IsLate (by_whole rules whole) m p
     late_whole m p l = record { sender = l.sender; signal = l.signal; queued = l.queued; late = l.late }
 
-    pub settled_whole : (m : Machine S X) → AllSound marking m → IsSettled rules m → IsSettled (by_whole rules whole) m
+    pub settled_whole : (m : Machine S X) → AllMarksSound marking m → IsSettled rules m → IsSettled (by_whole rules whole) m
     settled_whole m h settled p s at = go (settled p s at)
       where
         signals : HasNoSignal m p ⊎ IsLate rules m p → HasNoSignal m p ⊎ IsLate (by_whole rules whole) m p
@@ -90,13 +90,13 @@ module _ {S X E R : Type 0} (rules : Rules S X E) (marking : Marking S X R) (fre
         go (inr (inr none, q)) = inr (inr (keeps.agrees p s (h.marks p s at) ∙ none), signals q)
 
     -- the merge theorem, for the rule that looks at the whole list
-    pub order_is_whole_run : (stamped : KeepStamps rules) (opening : List S) (crew : List (Member S X E)) (order : List Place) → AllSound marking (opening_machine opening) → IsLawful rules opening crew → IsOrder rules crew order →
+    pub order_is_whole_run : (stamped : KeepStamps rules) (opening : List S) (crew : List (Member S X E)) (order : List Place) → AllMarksSound marking (opening_machine opening) → IsLawful rules opening crew → IsOrder rules crew order →
         IsRun (by_whole rules whole) (opening_machine opening) (events_at crew order) (crew_machine rules crew)
     order_is_whole_run stamped opening crew order h lawful o =
         whole_run (events_at crew order) (opening_machine opening) (crew_machine rules crew) h (order_is_run rules stamped opening crew order lawful o)
 
     -- whose end is sound, so what is settled there from the marks is settled over the whole lists
-    pub order_is_sound : (stamped : KeepStamps rules) (opening : List S) (crew : List (Member S X E)) (order : List Place) → AllSound marking (opening_machine opening) → IsLawful rules opening crew → IsOrder rules crew order →
-        AllSound marking (crew_machine rules crew)
+    pub order_is_sound : (stamped : KeepStamps rules) (opening : List S) (crew : List (Member S X E)) (order : List Place) → AllMarksSound marking (opening_machine opening) → IsLawful rules opening crew → IsOrder rules crew order →
+        AllMarksSound marking (crew_machine rules crew)
     order_is_sound stamped opening crew order h lawful o =
         run_sound (events_at crew order) (opening_machine opening) (crew_machine rules crew) h (order_is_run rules stamped opening crew order lawful o)

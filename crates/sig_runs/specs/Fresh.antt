@@ -38,15 +38,16 @@ module _ {S X E R : Type 0} (marking : Marking S X R) where
   abbrev pub StandsAfter : Effect S X E → R → Type 0
   StandsAfter effect r = marking.stands effect.state r ⊎ Holds marking effect.sends r
 
-  -- p made r by this effect, or before
-  abbrev pub IsNew : ℕ → Effect S X E → R → Type 0
-  IsNew p effect r = (marking.owner r ≡ p) × (marking.serial r < marking.next effect.state)
+  -- the process p made r by this effect: r is its own, with a serial that was not below its next one in the state before, and that
+  -- is below the next one after
+  abbrev pub IsNew : ℕ → S → Effect S X E → R → Type 0
+  IsNew p s effect r = (marking.owner r ≡ p) × ((marking.next s ≤ marking.serial r) × (marking.serial r < marking.next effect.state))
 
-  -- The law of freshness, on one event: the next serial never falls, and what stands in the process or in a sent signal
-  -- after the event stood before in the process or in the handled signal, or the process made it. An execution has to keep
-  -- that only where the marks of the process are sound.
+  -- The law of freshness, on one event: the next serial never falls. What stands in the process or in a sent signal after an
+  -- execution stood in the process before, or the execution made it; and after a handling, it stood there before, or the signal that
+  -- was handled carried it. An execution has to keep that only where the marks of the process are sound.
   pub record MakesFresh (rules : Rules S X E) : Type 0 where
     pub exec_next : (p : ℕ) (s : S) (effect : Effect S X E) → rules.exec p s ≡ Some effect → marking.next s ≤ marking.next effect.state
     pub handle_next : (p : ℕ) (s : S) (x : X) → marking.next s ≤ marking.next (rules.handle p s x).state
-    pub exec_stands : (p : ℕ) (s : S) (effect : Effect S X E) → rules.exec p s ≡ Some effect → marking.sound p s → (r : R) → StandsAfter effect r → marking.stands s r ⊎ IsNew p effect r
-    pub handle_stands : (p : ℕ) (s : S) (x : X) (r : R) → StandsAfter (rules.handle p s x) r → (marking.stands s r ⊎ marking.carried x r) ⊎ IsNew p (rules.handle p s x) r
+    pub exec_stands : (p : ℕ) (s : S) (effect : Effect S X E) → rules.exec p s ≡ Some effect → marking.sound p s → (r : R) → StandsAfter effect r → marking.stands s r ⊎ IsNew p s effect r
+    pub handle_stands : (p : ℕ) (s : S) (x : X) (r : R) → StandsAfter (rules.handle p s x) r → marking.stands s r ⊎ marking.carried x r

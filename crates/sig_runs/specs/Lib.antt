@@ -1,5 +1,6 @@
 pub mod Rules
 pub mod Machine
+pub mod Possible
 pub mod LocalRun
 pub mod Replay
 pub mod Crew
@@ -9,4 +10,4 @@ pub mod Everywhere
 pub mod Fresh
 pub mod Marks
 pub mod Settled
-pub mod Quiet
+pub mod Still

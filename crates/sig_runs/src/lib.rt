@@ -5,19 +5,21 @@
 //! and each function is a theorem: its contract is what was proved, and its body is empty.
 #![tactic(auto)]
 
-ghost use Rattle.std.specs.Prelude.{ℕ, ◌≡◌, List, [], ◌∷◌, ◌++◌, length, map, cond, is_some, Option, Some, slice_get};
+ghost use Rattle.std.specs.Prelude.{ℕ, ◌≡◌, ◌<◌, ◌≤◌, List, [], ◌∷◌, ◌++◌, length, map, cond, is_some, Option, Some, slice_get};
 ghost use Rattle.std.specs.List.{All, AllAdjacentBelow, count_by};
 ghost use Rattle.sig_runs.specs.Rules.{Did, Effect, Rules, KeepStamps, addressed, coming_from};
 ghost use Rattle.sig_runs.specs.Machine.{Machine, At, Applied, apply, choice, IsRun};
+ghost use Rattle.sig_runs.specs.Machine.Choice.{Executes, Handles};
+ghost use Rattle.sig_runs.specs.Possible.{IsExecution, IsHandling};
 ghost use Rattle.sig_runs.specs.LocalRun.{Local, Act, CanDo, IsLocalRun, handles, sends};
 ghost use Rattle.sig_runs.specs.Replay.{RanAlone, OneMore};
 ghost use Rattle.sig_runs.specs.Crew.{Member, IsLawful, acts_of, opening_machine, crew_machine};
 ghost use Rattle.sig_runs.specs.Order.{Place, IsOrder, NotAfter, counts, events_at, events_by, stamp_at, act_at};
 ghost use Rattle.sig_runs.specs.OnTheWay.{AtWork, IsLawfulAtWork, machine_at_work, opened_crew, DoesAct, Delivers};
 ghost use Rattle.sig_runs.specs.Fresh.{Marking, MakesFresh};
-ghost use Rattle.sig_runs.specs.Marks.{AllSound, KeepsSound, by_whole};
+ghost use Rattle.sig_runs.specs.Marks.{AllMarksSound, KeepsMarksSound, by_whole};
 ghost use Rattle.sig_runs.specs.Settled.{IsSettled, HandlesLate};
-ghost use Rattle.sig_runs.specs.Quiet.{IsQuiet, CutsHigh};
+ghost use Rattle.sig_runs.specs.Still.{IsStillMember, CutsHigh};
 ghost use Rattle.sig_runs.specs.Everywhere.{Facts, HoldEverywhere, EventKeeps};
 
 /// The merge theorem. Whatever the rules of a process are, if they stamp as they should, the events of a lawful crew in
@@ -49,19 +51,19 @@ pub trait Marked<S, X, R> {
 pub fn merge_from_marks_is_a_run<S, X, E, R, M: Marked<S, X, R>>()
     ensures run { (rules : Rules S X E) (whole : ℕ → S → Option (Effect S X E)) (opening : List S)
         (crew : List (Member S X E)) (order : List Place) →
-        MakesFresh M.marking rules → KeepsSound M.marking rules whole →
-        AllSound M.marking (opening_machine opening) →
+        MakesFresh M.marking rules → KeepsMarksSound M.marking rules whole →
+        AllMarksSound M.marking (opening_machine opening) →
         KeepStamps rules → IsLawful rules opening crew → IsOrder rules crew order →
         IsRun (by_whole rules whole) (opening_machine opening) (events_at crew order)
         (crew_machine rules crew) }
     ensures sound { (rules : Rules S X E) (whole : ℕ → S → Option (Effect S X E)) (opening : List S)
         (crew : List (Member S X E)) (order : List Place) →
-        MakesFresh M.marking rules → KeepsSound M.marking rules whole →
-        AllSound M.marking (opening_machine opening) →
+        MakesFresh M.marking rules → KeepsMarksSound M.marking rules whole →
+        AllMarksSound M.marking (opening_machine opening) →
         KeepStamps rules → IsLawful rules opening crew → IsOrder rules crew order →
-        AllSound M.marking (crew_machine rules crew) }
+        AllMarksSound M.marking (crew_machine rules crew) }
     ensures settled { (rules : Rules S X E) (whole : ℕ → S → Option (Effect S X E))
-        (m : Machine S X) → KeepsSound M.marking rules whole → AllSound M.marking m →
+        (m : Machine S X) → KeepsMarksSound M.marking rules whole → AllMarksSound M.marking m →
         IsSettled rules m → IsSettled (by_whole rules whole) m }
 {}
 
@@ -71,15 +73,15 @@ pub fn merge_from_marks_is_a_run<S, X, E, R, M: Marked<S, X, R>>()
 pub fn marks_stay_sound<S, X, E, R, M: Marked<S, X, R>>()
     ensures sound { (rules : Rules S X E) (whole : ℕ → S → Option (Effect S X E))
         (opening end : Machine S X) (events : List (At E)) → MakesFresh M.marking rules →
-        KeepsSound M.marking rules whole → AllSound M.marking opening →
-        IsRun (by_whole rules whole) opening events end → AllSound M.marking end }
+        KeepsMarksSound M.marking rules whole → AllMarksSound M.marking opening →
+        IsRun (by_whole rules whole) opening events end → AllMarksSound M.marking end }
     ensures from_the_mark { (rules : Rules S X E) (whole : ℕ → S → Option (Effect S X E))
         (opening end : Machine S X) (events : List (At E)) → MakesFresh M.marking rules →
-        KeepsSound M.marking rules whole → AllSound M.marking opening →
+        KeepsMarksSound M.marking rules whole → AllMarksSound M.marking opening →
         IsRun (by_whole rules whole) opening events end → IsRun rules opening events end }
     ensures from_the_head { (rules : Rules S X E) (whole : ℕ → S → Option (Effect S X E))
         (opening end : Machine S X) (events : List (At E)) → MakesFresh M.marking rules →
-        KeepsSound M.marking rules whole → AllSound M.marking opening →
+        KeepsMarksSound M.marking rules whole → AllMarksSound M.marking opening →
         IsRun rules opening events end → IsRun (by_whole rules whole) opening events end }
 {}
 
@@ -101,6 +103,19 @@ pub fn one_more_event_tells_the_run<S, X, E>()
         (handled : List X) (a : Act S X E) →
         KeepStamps rules → RanAlone rules p opening events handled now →
         CanDo rules p now a.input a.effect → OneMore rules p opening now events handled a }
+{}
+
+/// In a local run stamps only rise: no event has a stamp above the last one of the end, and each handled signal has a lower
+/// one. So what bounds the last stamp bounds all.
+pub fn no_stamp_is_above_the_last<S, X, E>()
+    ensures events { (rules : Rules S X E) (p : ℕ) (opening end : Local S X) (events : List E)
+        (handled : List X) →
+        KeepStamps rules → RanAlone rules p opening events handled end →
+        All (λ e. rules.event_stamp e ≤ rules.last end.state) events }
+    ensures handled { (rules : Rules S X E) (p : ℕ) (opening end : Local S X) (events : List E)
+        (handled : List X) →
+        KeepStamps rules → RanAlone rules p opening events handled end →
+        All (λ x. rules.stamp x < rules.last end.state) handled }
 {}
 
 /// One more event of a process keeps a crew at work lawful, and it is one step of the machine in which the crew's signals
@@ -168,6 +183,17 @@ pub fn round_keeps_the_pair<X>()
         handled' ++ (queued' ++ left) ≡ sent ++ put }
 {}
 
+/// Nothing else is possible: what the machine gives for a choice comes only of a process that is there and isn't cut. An
+/// execution comes only of one that has not ended and for which no signal to itself is queued. A handling takes the oldest
+/// signal of its pair, whose stamp is below 2^62, and one of another process only where no signal of the process to itself
+/// is queued.
+pub fn nothing_else_is_possible<S, X, E>()
+    ensures executed { (rules : Rules S X E) (m : Machine S X) (p : ℕ) (next : Applied S X E) →
+        apply rules m (Executes p) ≡ Some next → IsExecution rules m p next }
+    ensures handled { (rules : Rules S X E) (m : Machine S X) (p f : ℕ) (next : Applied S X E) →
+        apply rules m (Handles p f) ≡ Some next → IsHandling rules m p f next }
+{}
+
 /// From a settled machine only a late process goes on, and only by handling a signal. So a run that ends settled can be
 /// extended by no choice where no process is late.
 pub fn settled_run_goes_on_only_late<S, X, E>()
@@ -183,10 +209,10 @@ pub fn settled_run_goes_on_only_late<S, X, E>()
 
 /// A lawful crew in which no process can do anything is settled, so the pass or the round that finds nothing to do is the
 /// last one. A process can do nothing where it can't handle a signal, and can't execute or its instruction isn't defined.
-pub fn quiet_crew_is_settled<S, X, E>()
+pub fn still_crew_is_settled<S, X, E>()
     ensures { (rules : Rules S X E) (opening : List S) (crew : List (Member S X E)) →
         KeepStamps rules → CutsHigh rules → IsLawful rules opening crew →
-        ((p : ℕ) (m : Member S X E) → slice_get crew p ≡ Some m → IsQuiet rules p m) →
+        ((p : ℕ) (m : Member S X E) → slice_get crew p ≡ Some m → IsStillMember rules p m) →
         IsSettled rules (crew_machine rules crew) }
 {}
 

@@ -12,7 +12,7 @@ use Rattle.sig_runs.specs.LocalRun.{Local, Input, Act, IsLocalRun, after, own_le
 use Rattle.sig_runs.specs.LocalRun.Input.{Execute, Handle}
 use Rattle.sig_runs.specs.Crew.{Member, IsLawful, HasLocalRun, queued_at, crew_machine}
 use Rattle.sig_runs.specs.Settled.{IsLate, HasNoSignal, IsAtRest, IsSettled}
-use Rattle.sig_runs.specs.Quiet.{IsQuiet, CutsHigh, is_low, next_signal}
+use Rattle.sig_runs.specs.Still.{IsStillMember, CutsHigh, is_low, next_signal}
 use Rattle.sig_runs.proofs.Steps.{act_sends, act_stamp}
 
 module _ {S X E : Type 0} (rules : Rules S X E) (stamped : KeepStamps rules) where
@@ -85,19 +85,19 @@ module _ {S X E : Type 0} (rules : Rules S X E) (stamped : KeepStamps rules) whe
 
   module _ (cuts : CutsHigh rules) where
     -- a process that can do nothing is at rest
-    pub quiet_at_rest : (m : Machine S X) (p : ℕ) (n : Member S X E) → ((s : ℕ) → m.queued s p ≡ queued_at rules s p (Some n)) → OwnLow n.local.state n.local.own → IsQuiet rules p n → IsAtRest rules m p n.local.state
-    quiet_at_rest m p n q low quiet = go (rules.is_cut n.local.state) refl
+    pub still_at_rest : (m : Machine S X) (p : ℕ) (n : Member S X E) → ((s : ℕ) → m.queued s p ≡ queued_at rules s p (Some n)) → OwnLow n.local.state n.local.own → IsStillMember rules p n → IsAtRest rules m p n.local.state
+    still_at_rest m p n q low still = go (rules.is_cut n.local.state) refl
       where
         go : (b : Bool) → rules.is_cut n.local.state ≡ b → IsAtRest rules m p n.local.state
         go true c = inl c
         go false c =
-            let h : is_low rules (next_signal n.local.own n.taken_in) ≡ false = subst (λ z. (not z && is_low rules (next_signal n.local.own n.taken_in)) ≡ false) c quiet.no_handle in
-            let w : (n.local.own ≡ []) × (HasNoSignal m p ⊎ IsLate rules m p) = signals cuts m p n.local.state c n.local.own n.taken_in q low h quiet.from_others in
-            inr (stands_still cuts m p n.local.state c n.local.own w.0 quiet.no_exec, w.1)
+            let h : is_low rules (next_signal n.local.own n.taken_in) ≡ false = subst (λ z. (not z && is_low rules (next_signal n.local.own n.taken_in)) ≡ false) c still.no_handle in
+            let w : (n.local.own ≡ []) × (HasNoSignal m p ⊎ IsLate rules m p) = signals cuts m p n.local.state c n.local.own n.taken_in q low h still.from_others in
+            inr (stands_still cuts m p n.local.state c n.local.own w.0 still.no_exec, w.1)
 
     -- a lawful crew in which no process can do anything is settled
-    pub quiet_is_settled : (opening : List S) (crew : List (Member S X E)) → IsLawful rules opening crew → ((p : ℕ) (n : Member S X E) → slice_get crew p ≡ Some n → IsQuiet rules p n) → IsSettled rules (crew_machine rules crew)
-    quiet_is_settled opening crew lawful quiet p s at = go (slice_get crew p) refl
+    pub still_is_settled : (opening : List S) (crew : List (Member S X E)) → IsLawful rules opening crew → ((p : ℕ) (n : Member S X E) → slice_get crew p ≡ Some n → IsStillMember rules p n) → IsSettled rules (crew_machine rules crew)
+    still_is_settled opening crew lawful still p s at = go (slice_get crew p) refl
       where
         go : (o : Option (Member S X E)) → slice_get crew p ≡ o → IsAtRest rules (crew_machine rules crew) p s
         go None e =
@@ -106,4 +106,4 @@ module _ {S X E : Type 0} (rules : Rules S X E) (stamped : KeepStamps rules) whe
         go (Some n) e =
             let same : n.local.state ≡ s = same_Some n.local.state s (sym (slice_get-map (λ n. n.local.state) crew p ∙ ap (λ o. option_map (λ n. n.local.state) o) e) ∙ at) in
             subst (λ z. IsAtRest rules (crew_machine rules crew) p z) same
-            (quiet_at_rest (crew_machine rules crew) p n (λ f. ap (λ o. queued_at rules f p o) e) (run_low p (slice_get opening p) n (subst (λ o. HasLocalRun rules p (slice_get opening p) o) e (lawful.runs p))) (quiet p n e))
+            (still_at_rest (crew_machine rules crew) p n (λ f. ap (λ o. queued_at rules f p o) e) (run_low p (slice_get opening p) n (subst (λ o. HasLocalRun rules p (slice_get opening p) o) e (lawful.runs p))) (still p n e))

@@ -25,7 +25,7 @@ abbrev pub can_handle : {S X E : Type 0} → Rules S X E → Member S X E → Bo
 can_handle rules m = not (rules.is_cut m.local.state) && is_low rules (next_signal m.local.own m.taken_in)
 
 -- The process p can do nothing: it can't handle a signal, and it can't execute or its instruction is not defined.
-pub record IsQuiet {S X E : Type 0} (rules : Rules S X E) (p : ℕ) (m : Member S X E) : Type 0 where
+pub record IsStillMember {S X E : Type 0} (rules : Rules S X E) (p : ℕ) (m : Member S X E) : Type 0 where
   pub no_handle : can_handle rules m ≡ false
   pub no_exec : (can_exec rules m ≡ false) ⊎ (rules.exec p m.local.state ≡ None)
   -- what it took in comes from others
