@@ -9,6 +9,7 @@ pub mod Replay
 pub mod Choices
 pub mod Runs
 pub mod Everywhere
+pub mod PairFacts
 pub mod Whole
 pub mod Fresh
 pub mod Marks
