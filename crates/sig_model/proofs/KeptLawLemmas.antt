@@ -94,7 +94,7 @@ module _ (script : Program) where
         };
         count = ap (λ (z : Running). z.count) event.is ∙ (law.placed p r there).1 ∙ law.many;
         keeping = step_keeps r t keeps step;
-        numbered = step_numbered r t keeps (law.numbered p r there) step;
+        numbered = step_numbered r t keeps step;
       }
 
       abbrev act : Act ProcessState Signal Event
