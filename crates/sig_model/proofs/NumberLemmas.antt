@@ -9,11 +9,11 @@ use Rattle.std.proofs.lemmas.Option.{same_Some, none-some}
 use Rattle.sig_kinds.specs.declared.signal.Signal.{Signal}
 use Rattle.sig_kinds.specs.Counting.{IsCounting}
 use Rattle.sig_program.specs.Scripts.{Declared, Program}
-use Rattle.sig_runs.specs.Rules.{Effect, Rules}
+use Rattle.sig_runs.specs.Rules.{Effect}
 use Rattle.sig_runs.specs.Machine.{Machine, At, IsRun}
 use Rattle.sig_runs.specs.Crew.{opening_machine}
 use Rattle.sig_runs.specs.Replay.{acts_told}
-use Rattle.sig_runs.specs.PairFacts.{turned, HoldOfPairs, KeepSenders, HoldsAfter, FirstKeeps, PairKeeps}
+use Rattle.sig_runs.specs.PairFacts.{turned, HoldOfPairs, KeepSenders, HoldsAfter, FirstKeeps}
 use Rattle.sig_runs.proofs.PairFacts.{run_keeps_pairs, alone_keeps}
 use Rattle.sig_model.specs.declared.event.Event.{Event}
 use Rattle.sig_model.specs.declared.event.Did.{Did}
@@ -161,9 +161,10 @@ opening_numbers pid count q t lt = record { there = lt; many = length-replicate 
 from_opening : (pid count : ℕ) (ps : List Declared) (p : ℕ) (s : ProcessState) → slice_get (opening_from pid count ps) p ≡ Some s →
     ((p < length ps) × ((q : ℕ) (t : ProcessState) → q < count → HasNumbersFor count q s t []))
 from_opening pid count [] p s e = absurd (none-some s e)
-from_opening pid count (d ∷ ps) zero s e =
-    (let lt : 0 < length (d ∷ ps) = omega arith in lt,
-    λ q t lt. subst (λ (z : ProcessState). HasNumbersFor count q z t []) (same_Some (opening_state pid count) s e) (opening_numbers pid count q t lt))
+from_opening pid count (d ∷ ps) zero s e = (
+  let lt : 0 < length (d ∷ ps) = omega arith in lt,
+  λ q t lt. subst (λ (z : ProcessState). HasNumbersFor count q z t []) (same_Some (opening_state pid count) s e) (opening_numbers pid count q t lt),
+)
 from_opening pid count (d ∷ ps) (suc p) s e =
     let w : (p < length ps) × ((q : ℕ) (t : ProcessState) → q < count → HasNumbersFor count q s t []) = from_opening (pid + 1) count ps p s e in
     (let lt : suc p < length (d ∷ ps) = omega (arith, w.0) in lt, w.1)
