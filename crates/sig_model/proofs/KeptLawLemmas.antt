@@ -22,14 +22,13 @@ use Rattle.sig_model.specs.Machine.{rules_with, rules_of, opening_of}
 use Rattle.sig_model.specs.Running.{Running}
 use Rattle.sig_model.specs.OneWorker.{arrived}
 use Rattle.sig_model.specs.Keeping.{IsArriving, IsLeaving, IsKeeping, own_rules, opening_local, local_of}
-use Rattle.sig_model.specs.Accounts.{IsNumbered}
 use Rattle.sig_model.specs.SettledRun.{IsProcessOf}
 use Rattle.sig_model.specs.CrewLaw.{outbox_of, ArePaired, IsLawfulCrew, IsMachineStep, whole_member, crew_at_work, machine_of}
 use Rattle.sig_model.proofs.Lookups.{at_set}
 use Rattle.sig_model.proofs.StampLemmas.{stamps_kept}
 use Rattle.sig_model.proofs.EventLemmas.{member_of, IsEventOf, IsStep, step_event}
 use Rattle.sig_model.proofs.KeepLemmas.{part, step_keeps, arrived_keeps, outbox_keeps, leaving_arrives}
-use Rattle.sig_model.proofs.NumberLemmas.{step_numbered, lists_numbered}
+use Rattle.sig_model.proofs.NumberLemmas.{keeping_numbered}
 use Rattle.sig_model.proofs.LawLemmas.{can_elsewhere, kept_of, mate_at, paired, lawful_at_work}
 
 -- what the law says of one process, of a script
@@ -37,14 +36,13 @@ pub record IsMember (script : Program) (p : ℕ) (r : Running) : Type 0 where
   pub process : IsProcessOf script p r
   pub count : r.count ≡ length script.procs
   pub keeping : IsKeeping r
-  pub numbered : IsNumbered r
 
 abbrev pub AreMembers : Program → List Running → Type 0
 AreMembers script crew = (p : ℕ) (r : Running) → slice_get crew p ≡ Some r → IsMember script p r
 
 module _ (script : Program) where
   pub members_of : (crew : List Running) → IsLawfulCrew script crew → AreMembers script crew
-  members_of crew law p r at = record { process = law.processes p r at; count = (law.placed p r at).1 ∙ law.many; keeping = law.keeping p r at; numbered = law.numbered p r at }
+  members_of crew law p r at = record { process = law.processes p r at; count = (law.placed p r at).1 ∙ law.many; keeping = law.keeping p r at }
 
   pub lawful_of : (crew : List Running) → length crew ≡ length script.procs → AreMembers script crew → ArePaired crew → IsLawfulCrew script crew
   lawful_of crew many members pairs = record {
@@ -52,7 +50,7 @@ module _ (script : Program) where
     placed = λ p r at. ((members p r at).process.pid, (members p r at).count ∙ sym many);
     processes = λ p r at. (members p r at).process;
     keeping = λ p r at. (members p r at).keeping;
-    numbered = λ p r at. (members p r at).numbered;
+    numbered = λ p r at. keeping_numbered r (members p r at).keeping;
     pairs = pairs;
   }
 
@@ -68,7 +66,6 @@ module _ (script : Program) where
     process = record { pid = m.process.pid; turns = m.process.turns; proc = m.process.proc };
     count = m.count;
     keeping = k;
-    numbered = lists_numbered r taken out m.numbered;
   }
 
   module _ (crew : List Running) (law : IsLawfulCrew script crew) (p : ℕ) (r : Running) (there : slice_get crew p ≡ Some r) where
@@ -94,7 +91,6 @@ module _ (script : Program) where
         };
         count = ap (λ (z : Running). z.count) event.is ∙ (law.placed p r there).1 ∙ law.many;
         keeping = step_keeps r t keeps step;
-        numbered = step_numbered r t keeps (law.numbered p r there) step;
       }
 
       abbrev act : Act ProcessState Signal Event

@@ -25,7 +25,6 @@ use Rattle.sig_model.proofs.GoingLemmas.{Goes, stays, on, goes_visited}
 use Rattle.sig_model.proofs.ReachLemmas.{set_here}
 use Rattle.sig_model.proofs.StillLemmas.{run_clear, run_still}
 use Rattle.sig_model.proofs.KeepLemmas.{opened_keeps}
-use Rattle.sig_model.proofs.NumberLemmas.{opened_numbered}
 use Rattle.sig_model.proofs.OpeningLemmas.{IsOpened, opened_tells, opened_length}
 use Rattle.sig_model.proofs.SettledLemmas.{cuts_high, still_member}
 use Rattle.sig_model.proofs.LawLemmas.{kept_of, mate, lawful_clear}
@@ -122,7 +121,7 @@ module _ (script : Program) where
       (λ q r e.
       let o : IsOpened script q r = opened_tells script q r e in
       subst (λ z. IsKeeping z → IsMember script q z) o.is
-      (λ k. record { process = record { pid = refl; turns = refl; proc = o.there }; count = refl; keeping = k; numbered = opened_numbered q (length script.procs) script.turns o.part })
+      (λ k. record { process = record { pid = refl; turns = refl; proc = o.there }; count = refl; keeping = k })
       (keeping q r e))
       opened_paired
 

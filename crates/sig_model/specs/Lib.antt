@@ -10,6 +10,7 @@ pub mod Names
 pub mod Bounds
 pub mod Keeping
 pub mod Accounts
+pub mod PairNumbers
 pub mod OneWorker
 pub mod PrintedState
 pub mod SettledRun

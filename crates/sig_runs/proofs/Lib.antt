@@ -10,6 +10,7 @@ pub mod Choices
 pub mod Stamps
 pub mod Runs
 pub mod Everywhere
+pub mod PairFacts
 pub mod Whole
 pub mod Fresh
 pub mod Marks

@@ -7,6 +7,7 @@ pub mod Crew
 pub mod Order
 pub mod OnTheWay
 pub mod Everywhere
+pub mod PairFacts
 pub mod Fresh
 pub mod Marks
 pub mod Settled

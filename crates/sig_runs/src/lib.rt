@@ -22,6 +22,10 @@ ghost use Rattle.sig_runs.specs.Settled.{IsSettled, HandlesLate};
 ghost use Rattle.sig_runs.specs.Still.{IsStillMember, CutsHigh};
 ghost use Rattle.sig_runs.specs.Everywhere.{Facts, HoldEverywhere, EventKeeps};
 
+mod pair_law;
+
+pub use pair_law::{StatedOfPairs, pair_law_holds_in_every_run};
+
 /// The merge theorem. Whatever the rules of a process are, if they stamp as they should, the events of a lawful crew in
 /// their order are a run of the machine. It begins with the processes as they were opened and no signal sent, and it ends
 /// with the crew's states and with exactly the signals that are queued in the crew. Each process's events come in it as

@@ -113,7 +113,7 @@ module _ (r t : Running) (k : IsKeeping r) (e : IsEvent r.turns (part r) r.pid r
     turns = ap (λ (z : Running). z.turns) e.is;
     proc = ap (λ (z : Running). z.proc) e.is;
     keeping = step_keeps r t k step;
-    numbered = λ n. step_numbered r t k n step;
+    numbered = λ n. step_numbered r t k step;
     event = e.effect.event;
     events = ap (λ (z : Running). z.events) e.is;
     stamp = stamp_more;
