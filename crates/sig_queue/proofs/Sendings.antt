@@ -48,7 +48,7 @@ module _ (x : Signal) (v u w : Knows) (t : Tried v u) where
   last_load bs b = more_loads v.loads t.loads (bs ++ b ∷ []) ∙ ap (λ (z : List Bool). v.loads ++ mode_loads z) (sym (append_assoc t.loads bs (b ∷ [])))
 
   -- the looks before the last one, which gave 0
-  before_off : Bool → List Bool
+  abbrev before_off : Bool → List Bool
   before_off false = []
   before_off true = true ∷ []
 
