@@ -68,8 +68,11 @@ module _ (x y : Signal) (v u w : Knows) (again : Bool) (idle : Idle v) (same : y
   one_more n = append_assoc v.tries before ((0, n) ∷ [])
 
   pub offered_out : (o : Offer) → OfferedOut y u o w → Offered x v o w
-  offered_out (offer.Put via.Outer) e = (again, e ∙ ((λ i. record (tried (saw i) 0 0) { saw_off = false; put = (saw i).put ++ item via.Outer (same i) ∷ []; refused = 0 })
-      ∙ (λ i. record (looked v (looks_off again)) { tries = one_more 0 i; saw_off = sym idle.saw i; put = v.put ++ item via.Outer x ∷ []; refused = 0 })))
+  offered_out (offer.Put via.Outer) e = (
+    again,
+    e ∙ ((λ i. record (tried (saw i) 0 0) { saw_off = false; put = (saw i).put ++ item via.Outer (same i) ∷ []; refused = 0 })
+        ∙ (λ i. record (looked v (looks_off again)) { tries = one_more 0 i; saw_off = sym idle.saw i; put = v.put ++ item via.Outer x ∷ []; refused = 0 })),
+  )
   offered_out (offer.Put (via.Buffer b)) e = absurd e
   offered_out (offer.Busy z n) e = (
     e.0 ∙ same,
