@@ -67,16 +67,20 @@ OfferedOut x v (offer.Memory y) w = (y ≡ x) × (w ≡ record (tried v 0 0) { s
 -- where it gave 1. The turn of the list was tried once and found free, and before the outer turn that of the buffer where the
 -- mode was on at first
 abbrev pub PutBy : Signal → Knows → Via → Knows → Type 0
-PutBy x v via.Outer w = (again : Bool) × (w ≡ record (went v (looks_off again) (tries_off (buffer_of x.from.0) again ++ (0, 0) ∷ [])) { put = v.put ++ item via.Outer x ∷ []; refused = 0 })
-PutBy x v (via.Buffer b) w = (b ≡ buffer_of x.from.0) × (w ≡ record (went v (true ∷ true ∷ []) ((b + 3, 0) ∷ [])) { put = v.put ++ item (via.Buffer b) x ∷ [] })
+PutBy x v via.Outer w = (again : Bool)
+    × (w ≡ record (went v (looks_off again) (tries_off (buffer_of x.from.0) again ++ (0, 0) ∷ [])) { put = v.put ++ item via.Outer x ∷ []; refused = 0 })
+PutBy x v (via.Buffer b) w = (b ≡ buffer_of x.from.0)
+    × (w ≡ record (went v (true ∷ true ∷ []) ((b + 3, 0) ∷ [])) { put = v.put ++ item (via.Buffer b) x ∷ [] })
 
 -- the last try was refused: on the outer turn, or on the turn of the sender's buffer. None was refused before it
 abbrev pub RefusedOne : Signal → Knows → ℕ → Knows → Type 0
-RefusedOne x v n w = ((again : Bool) × (w ≡ record (went v (looks_off again) (tries_off (buffer_of x.from.0) again ++ (0, n) ∷ [])) { refused = v.refused + 1 })) ⊎ (w ≡ went v (true ∷ []) ((buffer_of x.from.0 + 3, n) ∷ []))
+RefusedOne x v n w = ((again : Bool) × (w ≡ record (went v (looks_off again) (tries_off (buffer_of x.from.0) again ++ (0, n) ∷ [])) { refused = v.refused + 1 }))
+    ⊎ (w ≡ went v (true ∷ []) ((buffer_of x.from.0 + 3, n) ∷ []))
 
 -- no try was refused, and nothing was put
 abbrev pub LeftFree : Signal → Knows → Knows → Type 0
-LeftFree x v w = ((again : Bool) × (w ≡ went v (looks_off again) (tries_off (buffer_of x.from.0) again ++ (0, 0) ∷ []))) ⊎ (w ≡ went v (true ∷ true ∷ []) ((buffer_of x.from.0 + 3, 0) ∷ []))
+LeftFree x v w = ((again : Bool) × (w ≡ went v (looks_off again) (tries_off (buffer_of x.from.0) again ++ (0, 0) ∷ [])))
+    ⊎ (w ≡ went v (true ∷ true ∷ []) ((buffer_of x.from.0 + 3, 0) ∷ []))
 
 abbrev pub Offered : Signal → Knows → Offer → Knows → Type 0
 Offered x v (offer.Put way) w = PutBy x v way w
@@ -109,7 +113,8 @@ pub record InOrder (new : List Signal) (skipped : ℕ) (w : Knows) : Type 0 wher
 
 -- what the tries of buffers found: another seat's number for each buffer of `skipped`, and 0 for each other
 abbrev pub TriedAs : Knows → ℕ → (ℕ → ℕ) → Type 0
-TriedAs v skipped values = ((c : ℕ) → filled_at skipped c ≡ true → Foreign v (values c)) × ((c : ℕ) → filled_at skipped c ≡ false → values c ≡ 0)
+TriedAs v skipped values = ((c : ℕ) → filled_at skipped c ≡ true → Foreign v (values c))
+    × ((c : ℕ) → filled_at skipped c ≡ false → values c ≡ 0)
 
 abbrev pub FetchedAs : Setup → List Signal → List Signal → Knows → ℕ → Bool → ℕ → Knows → Type 0
 FetchedAs z before now v count due skipped w = (new : List Signal) × (values : ℕ → ℕ) × (now ≡ before ++ new) × (count ≡ length new)
@@ -117,7 +122,8 @@ FetchedAs z before now v count due skipped w = (new : List Signal) × (values : 
     × TriedAs v skipped values × FreshBut skipped w × TookCarried z w × InOrder new skipped w
 
 abbrev pub Left : List Signal → List Signal → Knows → Knows → Type 0
-Left before now v w = (now ≡ before) × ((skipped : ℕ) × (values : ℕ → ℕ) × (w ≡ record v { held = None; tries = v.tries ++ each_try values w.bits 64; bits = w.bits; emptied = [] }) × TriedAs v skipped values)
+Left before now v w = (now ≡ before)
+    × ((skipped : ℕ) × (values : ℕ → ℕ) × (w ≡ record v { held = None; tries = v.tries ++ each_try values w.bits 64; bits = w.bits; emptied = [] }) × TriedAs v skipped values)
 
 -- under the outer turn
 abbrev pub FetchedHeld : Setup → List Signal → List Signal → Knows → Fetch → Knows → Type 0

@@ -8,10 +8,11 @@ use Rattle.sig_queue.specs.Tied.{Held}
 use Rattle.sig_queue.specs.Parts.{held_or}
 use Rattle.sig_queue.specs.Fetching.{outer_out}
 
--- the view v, with the tries of w, and for the first with its count of refusals
+-- the view v, with the tries of w and its count of refusals
 abbrev pub waited : Knows → Knows → Knows
 waited v w = record v { refused = w.refused; tries = w.tries }
 
+-- the view v, with the tries of w
 abbrev pub waits : Knows → Knows → Knows
 waits v w = record v { tries = w.tries }
 
