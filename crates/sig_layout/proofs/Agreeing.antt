@@ -422,23 +422,24 @@ module _ (m : QState) (ok : Agrees m) (i : ℕ) (v : Knows) (at : get_elem? m.se
 
   -- a step of a seat on one buffer, which leaves the outer turn and the mask as they are
   buffer_changes : (lg : List Item) (so : ℕ → Bool) (fl c : ℕ) (x : Cell) (b : Bool) (ps : List Part) (pt : List Item)
-      (ls : List (ℕ × ℕ)) → x.mask ≡ (m.cells c).mask
+      (ls ts : List (ℕ × ℕ)) → x.mask ≡ (m.cells c).mask
       → ((j : ℕ) → j ≢ i → so j ≡ m.saw_off j) → so i ≡ b → ((j : ℕ) → j ≢ i → (m.cells c).holder ≡ Some j → ⊥)
       → HoldsAll (put m.cells c x) i ps
-      → Turn (With (record v { saw_off = b; parts = ps; put = pt; loads = ls })) x.word x.holder (HasBuffer c)
+      → Turn (With (record v { saw_off = b; parts = ps; put = pt; loads = ls; tries = ts })) x.word x.holder (HasBuffer c)
       → ((d : ℕ) → d ≢ c → Among d v.parts → Among d ps)
       → Agrees (record m {
         log = lg;
         filled = fl;
         cells = put m.cells c x;
         saw_off = so;
-        seats = With (record v { saw_off = b; parts = ps; put = pt; loads = ls });
+        seats = With (record v { saw_off = b; parts = ps; put = pt; loads = ls; tries = ts });
       })
-  buffer_changes lg so fl c x b ps pt ls masks saws mine others holds turn rest = let w : Knows = record v {
+  buffer_changes lg so fl c x b ps pt ls ts masks saws mine others holds turn rest = let w : Knows = record v {
     saw_off = b;
     parts = ps;
     put = pt;
     loads = ls;
+    tries = ts;
   } in
       let same : SameSeat v w = record { senders = refl; role = refl } in
       let m' : QState = record m { log = lg; filled = fl; cells = put m.cells c x; saw_off = so } in
@@ -477,7 +478,7 @@ module _ (m : QState) (ok : Agrees m) (i : ℕ) (v : Knows) (at : get_elem? m.se
       let none = free_of m.seats (m.cells c).word (m.cells c).holder (HasBuffer c) (ok.cells c) can.free in
       let no_one : (j : ℕ) → (m.cells c).holder ≡ Some j → ⊥ = (λ j e. none_some j (sym none ∙ e)) in
       let apart : Apart c v.parts = apart_of m.cells i c v.parts (no_one i) own.parts in
-      buffer_changes m.log m.saw_off m.filled c x v.saw_off (v.parts ++ p ∷ []) v.put v.loads refl (λ j n. refl) own.saw
+      buffer_changes m.log m.saw_off m.filled c x v.saw_off (v.parts ++ p ∷ []) v.put v.loads w.tries refl (λ j n. refl) own.saw
       (λ j _. no_one j)
       (holds_more (put m.cells c x) i p v.parts (unchanged m.cells i c x v.parts apart own.parts) apart
       (subst (HeldBy i p) (sym (put_here m.cells c x)) record { holder = refl; list = refl; set = refl; sure = refl }))
@@ -516,7 +517,7 @@ module _ (m : QState) (ok : Agrees m) (i : ℕ) (v : Knows) (at : get_elem? m.se
     pub agrees_leave_buffer : Agrees (buffer_same m i v p ps)
     agrees_leave_buffer = let c : ℕ = p.number in
         let x : Cell = record (m.cells c) { word = 0; holder = None; set = false; sure = false } in
-        buffer_changes m.log m.saw_off m.filled c x v.saw_off (tail v.parts) v.put v.loads refl (λ j n. refl) own.saw no_other
+        buffer_changes m.log m.saw_off m.filled c x v.saw_off (tail v.parts) v.put v.loads v.tries refl (λ j n. refl) own.saw no_other
         (subst (HoldsAll (put m.cells c x) i) (sym tail_is) (unchanged m.cells i c x ps all.1 all.2))
         (open_turn (With (loses v)) (HasBuffer c)) others_stay
 
@@ -529,7 +530,7 @@ module _ (m : QState) (ok : Agrees m) (i : ℕ) (v : Knows) (at : get_elem? m.se
       sure = false;
     } in let w : Knows = put_aside v (p.list ++ y ∷ []) in
         buffer_changes (m.log ++ record { signal = y; via = via.Buffer p.number } ∷ []) m.saw_off m.filled c x v.saw_off
-        (tail v.parts) w.put v.loads refl (λ j n. refl) own.saw no_other
+        (tail v.parts) w.put v.loads v.tries refl (λ j n. refl) own.saw no_other
         (subst (HoldsAll (put m.cells c x) i) (sym tail_is) (unchanged m.cells i c x ps all.1 all.2))
         (open_turn (With w) (HasBuffer c)) others_stay
 
@@ -606,7 +607,7 @@ module _ (m : QState) (ok : Agrees m) (i : ℕ) (v : Knows) (at : get_elem? m.se
     pub agrees_set_bit : Agrees (set_bit m i v p)
     agrees_set_bit = let c : ℕ = p.number in let x : Cell = record (m.cells c) { set = true } in let h = (all p [] one).0 in
         let w : Knows = marked v p in
-        buffer_changes m.log m.saw_off (with_bit m.filled c) c x v.saw_off (record p { set = true } ∷ []) v.put v.loads refl
+        buffer_changes m.log m.saw_off (with_bit m.filled c) c x v.saw_off (record p { set = true } ∷ []) v.put v.loads v.tries refl
         (λ j n. refl) own.saw (no_other p [] one) (
           subst (HeldBy i (record p { set = true })) (sym (put_here m.cells c x)) record {
             holder = h.holder;
@@ -623,7 +624,7 @@ module _ (m : QState) (ok : Agrees m) (i : ℕ) (v : Knows) (at : get_elem? m.se
     agrees_load_under = let c : ℕ = p.number in let x : Cell = record (m.cells c) { sure = m.mode } in let h = (all p [] one).0 in
         let w : Knows = saw_under v p m.mode in
         buffer_changes m.log (put m.saw_off i (not m.mode)) m.filled c x (not m.mode)
-        (record p { sure = m.mode } ∷ []) v.put w.loads refl (λ j n. put_else m.saw_off i j (not m.mode) n)
+        (record p { sure = m.mode } ∷ []) v.put w.loads v.tries refl (λ j n. put_else m.saw_off i j (not m.mode) n)
         (put_here m.saw_off i (not m.mode)) (no_other p [] one) (
           subst (HeldBy i (record p { sure = m.mode })) (sym (put_here m.cells c x)) record {
             holder = h.holder;

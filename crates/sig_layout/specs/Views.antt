@@ -73,10 +73,10 @@ part c l = record { number = c; list = l; set = false; sure = false }
 
 -- the outer turn is taken, refused with the value n found, and left; between these the bits are taken and the mode is stored
 abbrev pub holding : Knows → Outer → Knows
-holding v o = record v { held = Some o }
+holding v o = record v { held = Some o; tries = v.tries ++ (0, 0) ∷ [] }
 
 abbrev pub turned_away : Knows → ℕ → Knows
-turned_away v n = record v { refused = v.refused + 1; refusals = v.refusals ++ (0, n) ∷ []; saw_off = false }
+turned_away v n = record v { refused = v.refused + 1; tries = v.tries ++ (0, n) ∷ []; saw_off = false }
 
 abbrev pub after_put : Knows → Outer → Knows
 after_put v o = record v {
@@ -122,12 +122,12 @@ saw v on = record v { saw_off = not on; loads = v.loads ++ (1, mode_word on) ∷
 abbrev pub counted : Knows → ℕ → Knows
 counted v n = record v { loads = v.loads ++ (2, n) ∷ [] }
 
--- a buffer's turn is taken, or refused with the value n found in its word
+-- a buffer's turn is taken, or refused with the value n found in its word. The word of the buffer c has the number c + 3
 abbrev pub gains : Knows → ℕ → List Signal → Knows
-gains v c l = record v { parts = v.parts ++ part c l ∷ [] }
+gains v c l = record v { parts = v.parts ++ part c l ∷ []; tries = v.tries ++ (c + 3, 0) ∷ [] }
 
 abbrev pub turned_away_at : Knows → ℕ → ℕ → Knows
-turned_away_at v word n = record v { refusals = v.refusals ++ (word, n) ∷ []; saw_off = false }
+turned_away_at v word n = record v { tries = v.tries ++ (word, n) ∷ []; saw_off = false }
 
 -- under the turn of a buffer the mode is loaded and the bit is set; a fetch gives a bit back
 abbrev pub saw_under : Knows → Part → Bool → Knows
@@ -197,7 +197,7 @@ right_of v set role = record {
   bits = (if role then v.bits else 0);
   emptied = (if role then v.emptied else []);
   refused = 0;
-  refusals = [];
+  tries = [];
   loads = [];
 }
 
@@ -224,7 +224,7 @@ spent = record {
   bits = 0;
   emptied = [];
   refused = 0;
-  refusals = [];
+  tries = [];
   loads = [];
 }
 
@@ -249,6 +249,6 @@ joined v w = record v {
   bits = v.bits + w.bits;
   emptied = v.emptied ++ w.emptied;
   refused = v.refused + w.refused;
-  refusals = v.refusals ++ w.refusals;
+  tries = v.tries ++ w.tries;
   loads = v.loads ++ w.loads;
 }

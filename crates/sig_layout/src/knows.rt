@@ -49,8 +49,9 @@ pub struct Knows {
     pub emptied: Sequence<Part>,
     /// How many tries of the outer turn were refused since its last put into the outer list.
     pub refused: u64,
-    /// Each refused exchange, with the word's number and the value found there.
-    pub refusals: Sequence<(u64, u64)>,
+    /// Each try of a turn, with the word's number and the value found there: 0 where the turn was
+    /// free, and is the seat's then. A refusal is a try that found another value.
+    pub tries: Sequence<(u64, u64)>,
     /// Each load of the mode or of the bits, with the word's number and the value that it gave.
     pub loads: Sequence<(u64, u64)>,
 }

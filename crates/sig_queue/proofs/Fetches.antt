@@ -23,7 +23,7 @@ use Rattle.sig_layout.proofs.Lawful.{bit_now, bit_else, no_bit}
 use Rattle.sig_queue.specs.declared.found.Found.{Found}
 use Rattle.sig_queue.specs.Tied.{Held, Foreign}
 use Rattle.sig_queue.specs.Parts.{first_part, held_or, IsFirst, OfBuffer}
-use Rattle.sig_queue.specs.Fetching.{picked, same_number, numbers, all_of, slots_of, outer_out, skips, EachOwn, kept_of, Finding, Standing, Emptying, Leaving}
+use Rattle.sig_queue.specs.Fetching.{picked, same_number, numbers, all_of, slots_of, outer_out, each_try, EachOwn, kept_of, Finding, Standing, Emptying, Leaving}
 use Rattle.sig_queue.proofs.Offering.{foreign_as}
 
 module _ {X : Type 0} where
@@ -131,8 +131,9 @@ finding_starts v n me z is no_parts none_held none_skipped none_counted no_total
   kept = λ c h. absurd (omega arith);
   back = sym none_skipped;
   values = λ _. 0;
-  refusals = sym (append-nil v.refusals) ∙ ap (λ (l : List (ℕ × ℕ)). v.refusals ++ l) (sym (picked_none (λ c. (c + 3, 0)) (filled_at z.skipped) 0));
+  tries = sym (append-nil v.tries) ∙ ap (λ (l : List (ℕ × ℕ)). v.tries ++ l) (sym (picked_none (λ c. (c + 3, 0)) (filled_at n) 0));
   others = λ c h. not_both (filled_at z.skipped c) h (ap (λ (k : ℕ). filled_at k c) none_skipped ∙ no_bit c);
+  free = λ c _. refl;
   none_held = λ c _. ap (λ (k : ℕ). filled_at k c) none_held ∙ no_bit c;
   none_skipped = λ c _. ap (λ (k : ℕ). filled_at k c) none_skipped ∙ no_bit c;
   total = subst (λ (t : Option ℕ). IfSome t (λ t. t ≡ length (all_of v.parts))) (sym no_total) (ap (λ (ps : List Part). length (all_of ps)) (sym no_parts));
@@ -168,8 +169,9 @@ module _ (v : Knows) (n k : ℕ) (me : Held) (z : Found) (f : Finding v n k me z
     kept = λ c h. ⊎_elim (λ (l : c < k). f.kept c l) (λ (e : c ≡ k). subst (λ (d : ℕ). flag me.0.mask d ≡ filled_at z.held d) (sym e) (f.to_come k low (omega arith) ∙ (none ∙ sym (f.none_held k (omega arith))))) (below_next c h);
     back = f.back;
     values = f.values;
-    refusals = f.refusals ∙ ap (λ (l : List (ℕ × ℕ)). v.refusals ++ l) (sym (picked_no (λ c. (c + 3, f.values c)) (filled_at z.skipped) 0 k (ap (filled_at z.skipped) next_is ∙ f.none_skipped k (omega arith))) ∙ ap (skips f.values z.skipped) one_more);
+    tries = f.tries ∙ ap (λ (l : List (ℕ × ℕ)). v.tries ++ l) (sym (picked_no (λ c. (c + 3, f.values c)) (filled_at n) 0 k (ap (filled_at n) next_is ∙ none)) ∙ ap (each_try f.values n) one_more);
     others = f.others;
+    free = f.free;
     none_held = λ c h. f.none_held c (omega arith);
     none_skipped = λ c h. f.none_skipped c (omega arith);
     total = f.total;
@@ -182,12 +184,21 @@ module _ (v : Knows) (n k : ℕ) (me : Held) (z : Found) (f : Finding v n k me z
   bit_on : (m : ℕ) → (c : ℕ) → c < k → filled_at (with_bit m k) c ≡ filled_at m c
   bit_on m c h = bit_else m k c low (λ e. omega arith)
 
+  -- one try more, of a buffer that has its bit
+  tries_next : (x : ℕ) (values : ℕ → ℕ) → filled_at n k ≡ true → values k ≡ x → ((c : ℕ) → c < k → f.values c ≡ values c) → me.0.tries ++ (k + 3, x) ∷ [] ≡ v.tries ++ each_try values n (k + 1)
+  tries_next x values bit is same =
+      ap (λ (r : List (ℕ × ℕ)). r ++ (k + 3, x) ∷ []) (f.tries ∙ ap (λ (r : List (ℕ × ℕ)). v.tries ++ r) (picked_same (λ c. (c + 3, f.values c)) (λ c. (c + 3, values c)) (filled_at n) (filled_at n) 0 k
+      (λ c h. ap (λ (y : ℕ). let r : ℕ × ℕ = (c + 3, y) in r) (same c (omega (arith, h)))) (λ c h. refl)))
+      ∙ (append_assoc v.tries (each_try values n k) ((k + 3, x) ∷ []) ∙ ap (λ (r : List (ℕ × ℕ)). v.tries ++ r)
+      (ap (λ (y : ℕ × ℕ). each_try values n k ++ y ∷ []) (λ j. (k + 3, sym is j)) ∙ (ap (λ (c : ℕ). each_try values n k ++ (c + 3, values c) ∷ []) (sym next_is)
+      ∙ (sym (picked_yes (λ c. (c + 3, values c)) (filled_at n) 0 k (ap (filled_at n) next_is ∙ bit)) ∙ ap (each_try values n) one_more))))
+
   -- its turn was free, and is held now
   pub finding_held : (l : List Signal) (me' : Held) (z' : Found) → filled_at n k ≡ true → me' ≡ (gains me.0 k l, (k + 1, slot.List l) ∷ me.1) → z'.held ≡ with_bit z.held k → z'.skipped ≡ z.skipped → z'.count ≡ z.count + 1
       → IfSome z'.total (λ t. t ≡ length (all_of me.0.parts) + length l) → OfBuffer k l → Finding v n (k + 1) me' z'
   finding_held l me' z' bit is held skipped count total mine = let ps : List Part = me.0.parts ++ part k l ∷ [] in let held' : ℕ = with_bit z.held k in
       subst (λ (m : Held). Finding v n (k + 1) m z') (sym is) record {
-        view = ap (λ (w : Knows). record w { parts = ps }) f.view;
+        view = ap (λ (w : Knows). record w { parts = ps; tries = me.0.tries ++ (k + 3, 0) ∷ [] }) f.view;
         slots = ap (λ (s : List (ℕ × Slot)). (k + 1, slot.List l) ∷ s) f.slots ∙ ap (λ (s : List (ℕ × Slot)). s ++ outer_out ∷ []) (sym (slots_more me.0.parts (part k l)));
         numbers_are = numbers_more me.0.parts (part k l) ∙ (ap (λ (xs : List ℕ). xs ++ k ∷ []) (f.numbers_are ∙ picked_same same_number same_number (filled_at z.held) (filled_at held') 0 k (λ c _. refl) (λ c h. sym (bit_on z.held c (omega arith))))
             ∙ (ap (λ (c : ℕ). picked same_number (filled_at held') 0 k ++ c ∷ []) (sym next_is) ∙ (sym (picked_yes same_number (filled_at held') 0 k (ap (filled_at held') next_is ∙ bit_now z.held k low))
@@ -198,8 +209,9 @@ module _ (v : Knows) (n k : ℕ) (me : Held) (z : Found) (f : Finding v n k me z
             (λ (e : c ≡ k). subst (λ (d : ℕ). flag me.0.mask d ≡ filled_at z'.held d) (sym e) (f.to_come k low (omega arith) ∙ (bit ∙ (sym (bit_now z.held k low) ∙ ap (λ (m : ℕ). filled_at m k) (sym held))))) (below_next c h);
         back = f.back ∙ sym skipped;
         values = f.values;
-        refusals = f.refusals ∙ ap (λ (r : List (ℕ × ℕ)). v.refusals ++ r) (sym (picked_no (λ c. (c + 3, f.values c)) (filled_at z.skipped) 0 k (ap (filled_at z.skipped) next_is ∙ f.none_skipped k (omega arith))) ∙ (ap (skips f.values z.skipped) one_more ∙ ap (λ (m : ℕ). skips f.values m (k + 1)) (sym skipped)));
+        tries = tries_next 0 f.values bit (f.free k (f.none_skipped k (omega arith))) (λ c _. refl);
         others = λ c h. f.others c (ap (λ (m : ℕ). filled_at m c) (sym skipped) ∙ h);
+        free = λ c h. f.free c (ap (λ (m : ℕ). filled_at m c) (sym skipped) ∙ h);
         none_held = λ c h. ap (λ (m : ℕ). filled_at m c) held ∙ (bit_else z.held k c low (λ e. omega arith) ∙ f.none_held c (omega arith));
         none_skipped = λ c h. ap (λ (m : ℕ). filled_at m c) skipped ∙ f.none_skipped c (omega arith);
         total = subst (λ (t : ℕ). IfSome z'.total (λ s. s ≡ t)) (sym (all_more me.0.parts (part k l))) total;
@@ -214,7 +226,7 @@ module _ (v : Knows) (n k : ℕ) (me : Held) (z : Found) (f : Finding v n k me z
   pub finding_skipped : (x : ℕ) (me' : Held) (z' : Found) → me' ≡ (given_back (turned_away_at me.0 (k + 3) x) k, me.1) → Foreign me.0 x → v.saw_off ≡ false → z'.held ≡ z.held → z'.skipped ≡ with_bit z.skipped k → z'.count ≡ z.count → z'.total ≡ z.total → filled_at n k ≡ true → Finding v n (k + 1) me' z'
   finding_skipped x me' z' is other blind held skipped count total bit = let skipped' : ℕ = with_bit z.skipped k in let values' : ℕ → ℕ = put f.values k x in
       subst (λ (m : Held). Finding v n (k + 1) m z') (sym is) record {
-        view = ap (λ (w : Knows). given_back (turned_away_at w (k + 3) x) k) f.view ∙ (λ j. record v { parts = me.0.parts; mask = set me.0.mask k false; back = with_bit me.0.back k; refusals = me.0.refusals ++ (k + 3, x) ∷ []; saw_off = sym blind j });
+        view = ap (λ (w : Knows). given_back (turned_away_at w (k + 3) x) k) f.view ∙ (λ j. record v { parts = me.0.parts; mask = set me.0.mask k false; back = with_bit me.0.back k; tries = me.0.tries ++ (k + 3, x) ∷ []; saw_off = sym blind j });
         slots = f.slots;
         numbers_are = f.numbers_are ∙ (sym (picked_no same_number (filled_at z.held) 0 k (ap (filled_at z.held) next_is ∙ f.none_held k (omega arith))) ∙ (ap (picked same_number (filled_at z.held) 0) one_more ∙ ap (λ (m : ℕ). picked same_number (filled_at m) 0 (k + 1)) (sym held)));
         count = count ∙ f.count;
@@ -223,14 +235,13 @@ module _ (v : Knows) (n k : ℕ) (me : Held) (z : Found) (f : Finding v n k me z
             (λ (e : c ≡ k). subst (λ (d : ℕ). flag (set me.0.mask k false) d ≡ filled_at z'.held d) (sym e) (flag_dropped me.0.mask k ∙ (sym (f.none_held k (omega arith)) ∙ ap (λ (m : ℕ). filled_at m k) (sym held)))) (below_next c h);
         back = ap (λ (n : ℕ). with_bit n k) f.back ∙ sym skipped;
         values = values';
-        refusals = ap (λ (r : List (ℕ × ℕ)). r ++ (k + 3, x) ∷ []) (f.refusals ∙ ap (λ (r : List (ℕ × ℕ)). v.refusals ++ r) (picked_same (λ c. (c + 3, f.values c)) (λ c. (c + 3, values' c)) (filled_at z.skipped) (filled_at skipped') 0 k
-            (λ c h. ap (λ (y : ℕ). let r : ℕ × ℕ = (c + 3, y) in r) (sym (put_else f.values k c x (λ e. omega arith)))) (λ c h. sym (bit_on z.skipped c (omega arith)))))
-            ∙ (append_assoc v.refusals (skips values' skipped' k) ((k + 3, x) ∷ []) ∙ ap (λ (r : List (ℕ × ℕ)). v.refusals ++ r)
-            (ap (λ (y : ℕ × ℕ). skips values' skipped' k ++ y ∷ []) (λ j. (k + 3, sym (put_here f.values k x) j)) ∙ (ap (λ (c : ℕ). skips values' skipped' k ++ (c + 3, values' c) ∷ []) (sym next_is)
-            ∙ (sym (picked_yes (λ c. (c + 3, values' c)) (filled_at skipped') 0 k (ap (filled_at skipped') next_is ∙ bit_now z.skipped k low)) ∙ (ap (skips values' skipped') one_more ∙ ap (λ (m : ℕ). skips values' m (k + 1)) (sym skipped))))));
+        tries = tries_next x values' bit (put_here f.values k x) (λ c h. sym (put_else f.values k c x (λ e. omega arith)));
         others = λ c h. dite (ℕ_discrete c k)
             (λ e. subst (Foreign v) (sym (ap values' e ∙ put_here f.values k x)) (foreign_as me.0 v x (sym (ap (λ (w : Knows). w.senders) f.view)) (sym (ap (λ (w : Knows). w.role) f.view)) other))
             (λ e. subst (Foreign v) (sym (put_else f.values k c x e)) (f.others c (sym (bit_else z.skipped k c low e) ∙ (ap (λ (m : ℕ). filled_at m c) (sym skipped) ∙ h))));
+        free = λ c h. dite (ℕ_discrete c k)
+            (λ e. not_both (filled_at z'.skipped c) (ap (λ (m : ℕ). filled_at m c) skipped ∙ (ap (filled_at skipped') e ∙ bit_now z.skipped k low)) h)
+            (λ e. put_else f.values k c x e ∙ f.free c (sym (bit_else z.skipped k c low e) ∙ (ap (λ (m : ℕ). filled_at m c) (sym skipped) ∙ h)));
         none_held = λ c h. ap (λ (m : ℕ). filled_at m c) held ∙ f.none_held c (omega arith);
         none_skipped = λ c h. ap (λ (m : ℕ). filled_at m c) skipped ∙ (bit_else z.skipped k c low (λ e. omega arith) ∙ f.none_skipped c (omega arith));
         total = subst (λ (t : Option ℕ). IfSome t (λ s. s ≡ length (all_of me.0.parts))) (sym total) f.total;

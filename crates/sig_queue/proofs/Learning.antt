@@ -44,6 +44,6 @@ learned v me four note = λ i. record v {
   bits = plus_zero v.bits me.0.bits note.no_bits i;
   emptied = behind_none v.emptied me.0.emptied note.nothing_emptied i;
   refused = plus_zero v.refused me.0.refused note.unrefused i;
-  refusals = behind_none v.refusals me.0.refusals note.no_refusals i;
+  tries = behind_none v.tries me.0.tries note.no_tries i;
   loads = behind_none v.loads me.0.loads note.no_loads i;
 }

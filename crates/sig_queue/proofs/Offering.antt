@@ -1,38 +1,43 @@
 -- What an offer says, put together from what its steps say.
-use Rattle.std.proofs.Common.{◌≡◌, ◌≢◌, ℕ, ◌+◌, ◌<◌, arith, Bool, true, false, List, [], ◌∷◌, ◌++◌, sym, refl, ap, ◌∙◌, append_assoc, subst, inl, ⊎_elim, drop, length}
+use Rattle.std.proofs.Common.{◌≡◌, ◌≢◌, ℕ, ◌+◌, ◌<◌, arith, Bool, true, false, List, [], ◌∷◌, ◌++◌, sym, refl, ap, ◌∙◌, append_assoc, append-nil, subst, inl, ⊎_elim, drop, length, None}
 use Rattle.sig_kinds.specs.declared.signal.Signal.{Signal}
 use Rattle.sig_layout.specs.Sets.{has}
 use Rattle.sig_layout.proofs.Members.{least_of}
 use Rattle.sig_layout.specs.declared.knows.Knows.{Knows}
 use Rattle.sig_layout.specs.Core.{Idle, some_refused, buffer_of}
-use Rattle.sig_layout.specs.Views.{number, IsSomebody, buffer_in, part, put_by, saw, saw_under, marked, put_aside, gains, turned_away_at}
+use Rattle.sig_layout.specs.Views.{number, IsSomebody, buffer_in, part, put_by, saw, saw_under, marked, put_aside, holding, gains, turned_away_at}
 use Rattle.sig_queue.specs.declared.aside.Aside.{Aside}
 use Rattle.sig_queue.specs.declared.aside.Aside.TheVariants as aside
 use Rattle.sig_queue.specs.declared.offer.Offer.{Offer}
 use Rattle.sig_queue.specs.declared.offer.Offer.TheVariants as offer
 use Rattle.sig_queue.specs.declared.kept.Kept.{Kept}
 use Rattle.sig_layout.specs.declared.part.Part.{Part}
+use Rattle.sig_layout.specs.declared.outer.Outer.{Outer}
 use Rattle.sig_queue.specs.declared.slot.Slot.{Slot}
 use Rattle.sig_layout.specs.declared.item.Item.{Item}
 use Rattle.sig_layout.specs.declared.via.Via.TheVariants as via
 use Rattle.sig_queue.specs.Tied.{Foreign}
-use Rattle.sig_queue.specs.Parts.{first_part, item, mode_loads, looked}
+use Rattle.sig_queue.specs.Parts.{first_part, item, mode_loads, looked, tried, went, looks_off, tries_off}
 use Rattle.sig_queue.specs.Seats.{Keeps, IsSeat}
-use Rattle.sig_queue.specs.Calls.{Under, OfferedAside, OfferedOut, Offered}
+use Rattle.sig_queue.specs.Calls.{Under, OfferedAside, PutHeld, OfferedOut, Offered}
 
 pub foreign_as : (v w : Knows) (n : ℕ) → w.senders ≡ v.senders → w.role ≡ v.role → Foreign v n → Foreign w n
 foreign_as v w n senders role f = record { taken = f.taken; other = λ s h. f.other s (ap (λ (z : List ℕ). has z s) (sym senders) ∙ h); not_role = λ h. f.not_role (sym role ∙ h) }
 
 -- the mode was on, and the turn is another's
 pub aside_busy : (b : ℕ) (x : Signal) (v : Knows) (n : ℕ) (w : Knows) → Idle v → w ≡ turned_away_at (saw v true) (b + 3) n → Foreign (saw v true) n → OfferedAside b x v (aside.Busy x n) w
-aside_busy b x v n w idle e f = (refl, (true ∷ [], e ∙ (λ k. record v { loads = v.loads ++ (1, 1) ∷ []; refusals = v.refusals ++ (b + 3, n) ∷ []; saw_off = sym idle.saw k })), foreign_as (saw v true) v n refl refl f)
+aside_busy b x v n w idle e f = (refl, e ∙ (λ k. record (went v (true ∷ []) ((b + 3, n) ∷ [])) { saw_off = sym idle.saw k }), foreign_as (saw v true) v n refl refl f)
+
+-- the mode was off
+pub aside_off : (b : ℕ) (x : Signal) (v : Knows) (w : Knows) → w ≡ saw v false → OfferedAside b x v (aside.Off x) w
+aside_off b x v w e = (refl, (false, e ∙ (λ k. record (looked v (false ∷ [])) { saw_off = true; tries = sym (append-nil v.tries) k })))
 
 -- the mode was on, the turn was taken, and then the mode was looked at again
 pub aside_under : (b : ℕ) (x : Signal) (v : Knows) (l : List Signal) (r : Aside) (w : Knows) → Idle v → Under x (gains (saw v true) b l) r w → OfferedAside b x v r w
-aside_under b x v l (aside.Off y) w idle e = (e.0, (true ∷ [], e.1 ∙ (λ k. record v { loads = append_assoc v.loads ((1, 1) ∷ []) ((1, 0) ∷ []) k; saw_off = true; parts = sym idle.parts k })))
-aside_under b x v l aside.Put w idle e = (true ∷ [], e ∙ (λ k. record v { loads = append_assoc v.loads ((1, 1) ∷ []) ((1, 1) ∷ []) k; saw_off = sym idle.saw k; parts = sym idle.parts k; put = v.put ++ item (via.Buffer (buffer_in (idle.parts k ++ part b l ∷ []))) x ∷ [] }))
+aside_under b x v l (aside.Off y) w idle e = (e.0, (true, e.1 ∙ (λ k. record (went v [] ((b + 3, 0) ∷ [])) { loads = append_assoc v.loads ((1, 1) ∷ []) ((1, 0) ∷ []) k; saw_off = true; parts = sym idle.parts k })))
+aside_under b x v l aside.Put w idle e = e ∙ (λ k. record (went v [] ((b + 3, 0) ∷ [])) { loads = append_assoc v.loads ((1, 1) ∷ []) ((1, 1) ∷ []) k; saw_off = sym idle.saw k; parts = sym idle.parts k; put = v.put ++ item (via.Buffer (buffer_in (idle.parts k ++ part b l ∷ []))) x ∷ [] })
 aside_under b x v l (aside.Busy y n) w idle e = absurd e
-aside_under b x v l (aside.Memory y) w idle e = (e.0, (true ∷ true ∷ [], e.1 ∙ (λ k. record v { loads = append_assoc v.loads ((1, 1) ∷ []) ((1, 1) ∷ []) k; saw_off = sym idle.saw k; parts = sym idle.parts k })))
+aside_under b x v l (aside.Memory y) w idle e = (e.0, e.1 ∙ (λ k. record (went v [] ((b + 3, 0) ∷ [])) { loads = append_assoc v.loads ((1, 1) ∷ []) ((1, 1) ∷ []) k; saw_off = sym idle.saw k; parts = sym idle.parts k }))
 
 drop_whole : (l : List Signal) (x : Signal) → drop (length l) (l ++ x ∷ []) ≡ x ∷ []
 drop_whole [] x = refl
@@ -47,20 +52,34 @@ put_under x v p l one is = let new : drop (length p.list) l ≡ x ∷ [] = ap (d
 pub somebody : (v : Knows) (s n : ℕ) → has v.senders s ≡ true → number v ≡ n → IsSomebody v × (n + 1 ≡ number v + 1)
 somebody v s n from is = let low : number v < 256 = least_of v.senders s from in ((λ h. absurd (omega arith)), omega arith)
 
+-- the outer turn was free
+pub out_held : (x : Signal) (v w : Knows) (o : Outer) (r : Offer) → v.held ≡ None → PutHeld x (holding v o) r w → OfferedOut x v r w
+out_held x v w o (offer.Put via.Outer) free e = e ∙ (λ k. record (tried v 0 0) { held = sym free k; saw_off = false; put = v.put ++ item via.Outer x ∷ []; refused = 0 })
+out_held x v w o (offer.Put (via.Buffer b)) free e = absurd e
+out_held x v w o (offer.Busy y n) free e = absurd e
+out_held x v w o (offer.Memory y) free e = (e.0, e.1 ∙ (λ k. record (tried v 0 0) { held = sym free k; saw_off = false }))
+
 -- the mode was off, and so the signal was offered to the outer list
-module _ (x y : Signal) (v u w : Knows) (bs : List Bool) (idle : Idle v) (same : y ≡ x) (saw : u ≡ record (looked v (bs ++ false ∷ [])) { saw_off = true }) where
-  abbrev all : List Bool
-  all = bs ++ false ∷ []
+module _ (x y : Signal) (v u w : Knows) (again : Bool) (idle : Idle v) (same : y ≡ x) (saw : u ≡ record (went v (looks_off again) (tries_off (buffer_of x.from.0) again)) { saw_off = true }) where
+  abbrev before : List (ℕ × ℕ)
+  before = tries_off (buffer_of x.from.0) again
+
+  one_more : (n : ℕ) → (v.tries ++ before) ++ (0, n) ∷ [] ≡ v.tries ++ (before ++ (0, n) ∷ [])
+  one_more n = append_assoc v.tries before ((0, n) ∷ [])
 
   pub offered_out : (o : Offer) → OfferedOut y u o w → Offered x v o w
-  offered_out (offer.Put via.Outer) e = (bs, e ∙ ((λ i. record (saw i) { saw_off = false; put = (saw i).put ++ item via.Outer (same i) ∷ []; refused = 0 }) ∙ (λ i. record (looked v all) { saw_off = sym idle.saw i; put = v.put ++ item via.Outer x ∷ []; refused = 0 })))
+  offered_out (offer.Put via.Outer) e = (
+    again,
+    e ∙ ((λ i. record (tried (saw i) 0 0) { saw_off = false; put = (saw i).put ++ item via.Outer (same i) ∷ []; refused = 0 })
+        ∙ (λ i. record (looked v (looks_off again)) { tries = one_more 0 i; saw_off = sym idle.saw i; put = v.put ++ item via.Outer x ∷ []; refused = 0 })),
+  )
   offered_out (offer.Put (via.Buffer b)) e = absurd e
   offered_out (offer.Busy z n) e = (
     e.0 ∙ same,
     foreign_as u v n (sym (ap (λ (k : Knows). k.senders) saw)) (sym (ap (λ (k : Knows). k.role) saw)) e.2,
-    (all, inl (e.1 ∙ ((λ i. record (saw i) { saw_off = false; refused = (saw i).refused + 1; refusals = (saw i).refusals ++ (0, n) ∷ [] }) ∙ (λ i. record (looked v all) { saw_off = sym idle.saw i; refused = v.refused + 1; refusals = v.refusals ++ (0, n) ∷ [] })))),
+    inl (again, e.1 ∙ ((λ i. record (tried (saw i) 0 n) { saw_off = false; refused = (saw i).refused + 1 }) ∙ (λ i. record (looked v (looks_off again)) { tries = one_more n i; saw_off = sym idle.saw i; refused = v.refused + 1 }))),
   )
-  offered_out (offer.Memory z) e = (e.0 ∙ same, (all, e.1 ∙ ((λ i. record (saw i) { saw_off = false }) ∙ (λ i. record (looked v all) { saw_off = sym idle.saw i }))))
+  offered_out (offer.Memory z) e = (e.0 ∙ same, inl (again, e.1 ∙ ((λ i. record (tried (saw i) 0 0) { saw_off = false }) ∙ (λ i. record (looked v (looks_off again)) { tries = one_more 0 i; saw_off = sym idle.saw i }))))
 
 -- an offer to the outer list puts into no buffer
 pub no_buffer : (x : Signal) (u w : Knows) (o : Offer) (b : ℕ) → OfferedOut x u o w → o ≢ offer.Put (via.Buffer b)
@@ -69,20 +88,25 @@ no_buffer x u w (offer.Put (via.Buffer c)) b e = absurd e
 no_buffer x u w (offer.Busy z n) b e = λ is. absurd cc
 no_buffer x u w (offer.Memory z) b e = λ is. absurd cc
 
--- an offer changes what was put, the refusals and the loads alone
+-- an offer changes what was put, the tries and the loads alone
 abbrev Same : Knows → Knows → Type 0
-Same v w = w ≡ record v { put = w.put; refused = w.refused; refusals = w.refusals; loads = w.loads }
+Same v w = w ≡ record v { put = w.put; refused = w.refused; tries = w.tries; loads = w.loads }
 
-same_but : (v w : Knows) (put : List Item) (refused : ℕ) (refusals loads : List (ℕ × ℕ)) → w ≡ record v { put = put; refused = refused; refusals = refusals; loads = loads } → Same v w
-same_but v w put refused refusals loads e = e ∙ (λ i. record v { put = (sym e i).put; refused = (sym e i).refused; refusals = (sym e i).refusals; loads = (sym e i).loads })
+same_but : (v w : Knows) (put : List Item) (refused : ℕ) (tries loads : List (ℕ × ℕ)) → w ≡ record v { put = put; refused = refused; tries = tries; loads = loads } → Same v w
+same_but v w put refused tries loads e = e ∙ (λ i. record v { put = (sym e i).put; refused = (sym e i).refused; tries = (sym e i).tries; loads = (sym e i).loads })
+
+went_same : (v w : Knows) (put : List Item) (refused : ℕ) (bs : List Bool) (ts : List (ℕ × ℕ)) → w ≡ record (went v bs ts) { put = put; refused = refused } → Same v w
+went_same v w put refused bs ts = same_but v w put refused (v.tries ++ ts) (v.loads ++ mode_loads bs)
 
 offered_same : (x : Signal) (v w : Knows) (o : Offer) → Offered x v o w → Same v w
-offered_same x v w (offer.Put via.Outer) e = same_but v w (v.put ++ item via.Outer x ∷ []) 0 v.refusals (v.loads ++ mode_loads (e.0 ++ false ∷ [])) e.1
-offered_same x v w (offer.Put (via.Buffer b)) e = same_but v w (v.put ++ item (via.Buffer b) x ∷ []) v.refused v.refusals (v.loads ++ mode_loads (e.1.0 ++ true ∷ [])) e.1.1
+offered_same x v w (offer.Put via.Outer) e = went_same v w (v.put ++ item via.Outer x ∷ []) 0 (looks_off e.0) (tries_off (buffer_of x.from.0) e.0 ++ (0, 0) ∷ []) e.1
+offered_same x v w (offer.Put (via.Buffer b)) e = went_same v w (v.put ++ item (via.Buffer b) x ∷ []) v.refused (true ∷ true ∷ []) ((b + 3, 0) ∷ []) e.1
 offered_same x v w (offer.Busy y n) e = ⊎_elim
-    (λ (h : w ≡ record (looked v e.2.0) { refused = v.refused + 1; refusals = v.refusals ++ (0, n) ∷ [] }). same_but v w v.put (v.refused + 1) (v.refusals ++ (0, n) ∷ []) (v.loads ++ mode_loads e.2.0) h)
-    (λ (h : w ≡ record (looked v e.2.0) { refusals = v.refusals ++ (buffer_of x.from.0 + 3, n) ∷ [] }). same_but v w v.put v.refused (v.refusals ++ (buffer_of x.from.0 + 3, n) ∷ []) (v.loads ++ mode_loads e.2.0) h) e.2.1
-offered_same x v w (offer.Memory y) e = same_but v w v.put v.refused v.refusals (v.loads ++ mode_loads e.1.0) e.1.1
+    (λ (h : (again : Bool) × (w ≡ record (went v (looks_off again) (tries_off (buffer_of x.from.0) again ++ (0, n) ∷ [])) { refused = v.refused + 1 })). went_same v w v.put (v.refused + 1) (looks_off h.0) (tries_off (buffer_of x.from.0) h.0 ++ (0, n) ∷ []) h.1)
+    (λ (h : w ≡ went v (true ∷ []) ((buffer_of x.from.0 + 3, n) ∷ [])). went_same v w v.put v.refused (true ∷ []) ((buffer_of x.from.0 + 3, n) ∷ []) h) e.2
+offered_same x v w (offer.Memory y) e = ⊎_elim
+    (λ (h : (again : Bool) × (w ≡ went v (looks_off again) (tries_off (buffer_of x.from.0) again ++ (0, 0) ∷ []))). went_same v w v.put v.refused (looks_off h.0) (tries_off (buffer_of x.from.0) h.0 ++ (0, 0) ∷ []) h.1)
+    (λ (h : w ≡ went v (true ∷ true ∷ []) ((buffer_of x.from.0 + 3, 0) ∷ [])). went_same v w v.put v.refused (true ∷ true ∷ []) ((buffer_of x.from.0 + 3, 0) ∷ []) h) e.1
 
 -- the seat is one between two calls again
 pub seat_again : (x : Signal) (v w : Knows) (xs : List (ℕ × Slot)) (o : Offer) (k : Kept) (refused : Bool) → Offered x v o w → Idle v → Keeps v k → xs ≡ [] → refused ≡ some_refused w.refused → IsSeat (w, xs) (record k { refused = refused })

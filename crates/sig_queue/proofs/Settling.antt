@@ -19,8 +19,9 @@ use Rattle.sig_queue.specs.declared.fetch.Fetch.TheVariants as fetch
 use Rattle.sig_queue.specs.declared.taken.Taken.{Taken}
 use Rattle.sig_queue.specs.Tied.{Held, FreshBut, TookCarried}
 use Rattle.sig_queue.specs.Seats.{Keeps, IsSeat}
-use Rattle.sig_queue.specs.Fetching.{all_of, journal_of, numbers, picked, same_number, skips, EachOwn, kept_of, Finding, Standing, Emptying, Leaving}
-use Rattle.sig_queue.specs.Calls.{bare, taken_by, due_of, Finished, Settled, Left, FetchedAs, FetchedHeld, Fetched}
+use Rattle.sig_queue.specs.Parts.{tried}
+use Rattle.sig_queue.specs.Fetching.{all_of, journal_of, numbers, picked, same_number, each_try, EachOwn, kept_of, Finding, Standing, Emptying, Leaving}
+use Rattle.sig_queue.specs.Calls.{bare, taken_by, due_of, Finished, Settled, TriedAs, Left, FetchedAs, FetchedHeld, Fetched}
 use Rattle.sig_queue.proofs.Offering.{foreign_as}
 use Rattle.sig_queue.proofs.Fetches.{picked_same, standing_ends}
 
@@ -75,14 +76,18 @@ same_outer a b xs ys zs e g = ap Rattle.sig_queue.specs.Tied.outer_in (sym e ∙
 
 -- a fetch that found its buffers, from a view v with which it took the bits
 module _ (z : Setup) (before now : List Signal) (v taking u w : Knows) (bits : ℕ) (me : Held) (found : Found) (f : Finding taking bits 64 me found) (took : taking ≡ with_bits v bits) (same : u ≡ me.0) where
-  abbrev passed_over : List (ℕ × ℕ)
-  passed_over = skips f.values found.skipped 64
+  abbrev tries_made : List (ℕ × ℕ)
+  tries_made = each_try f.values bits 64
 
-  found_as : u ≡ record (with_bits v bits) { parts = me.0.parts; mask = me.0.mask; back = me.0.back; refusals = v.refusals ++ passed_over }
-  found_as = same ∙ (f.view ∙ (λ i. record (took i) { parts = me.0.parts; mask = me.0.mask; back = me.0.back; refusals = (f.refusals ∙ ap (λ (k : Knows). k.refusals ++ passed_over) took) i }))
+  found_as : u ≡ record (with_bits v bits) { parts = me.0.parts; mask = me.0.mask; back = me.0.back; tries = v.tries ++ tries_made }
+  found_as = same ∙ (f.view ∙ (λ i. record (took i) { parts = me.0.parts; mask = me.0.mask; back = me.0.back; tries = (f.tries ∙ ap (λ (k : Knows). k.tries ++ tries_made) took) i }))
 
   bits_taken : w.bits ≡ u.bits → w.bits ≡ bits
   bits_taken e = e ∙ ap (λ (k : Knows). k.bits) found_as
+
+  -- they are so for the seat before it took the bits
+  tried_as : TriedAs v found.skipped f.values
+  tried_as = ((λ c bit. foreign_as taking v (f.values c) (sym (ap (λ (k : Knows). k.senders) took)) (sym (ap (λ (k : Knows). k.role) took)) (f.others c bit)), f.free)
 
   module _ (still : v.fetching ≡ false) (free : v.parts ≡ []) (mask : v.mask ≡ []) (back : v.back ≡ 0) (moved : v.moved ≡ 0) (saw : v.saw_off ≡ false) where
     pub fetched_all : (t : Taken) → Settled z before now u (Some t) w → FetchedAs z before now v t.count t.due found.skipped w
@@ -94,8 +99,8 @@ module _ (z : Setup) (before now : List Signal) (v taking u w : Knows) (bits : �
           s.0,
           s.1,
           s.2.0 ∙ ((λ i. record (bare (found_as i)) { taken = (found_as i).taken ++ taken_by u; fetches = (found_as i).fetches + 1; due = t.due; emptied = u.emptied ++ u.parts })
-              ∙ (λ i. record v { held = None; fetching = sym still i; mask = sym mask i; back = sym back i; moved = sym moved i; saw_off = sym saw i; parts = sym free i; taken = v.taken ++ taken_by u; fetches = v.fetches + 1; due = t.due; refusals = v.refusals ++ passed_over; bits = sym bits_are i; emptied = sym (ap (λ (k : Knows). k.emptied) s.2.0) i })),
-          (λ c bit. foreign_as taking v (f.values c) (sym (ap (λ (k : Knows). k.senders) took)) (sym (ap (λ (k : Knows). k.role) took)) (f.others c bit)),
+              ∙ (λ i. record v { held = None; fetching = sym still i; mask = sym mask i; back = sym back i; moved = sym moved i; saw_off = sym saw i; parts = sym free i; taken = v.taken ++ taken_by u; fetches = v.fetches + 1; due = t.due; tries = v.tries ++ each_try f.values (sym bits_are i) 64; bits = sym bits_are i; emptied = sym (ap (λ (k : Knows). k.emptied) s.2.0) i })),
+          tried_as,
           subst (λ (n : ℕ). FreshBut n w) (ap (λ (k : Knows). k.back) same ∙ f.back) s.2.1,
           s.2.2,
           record {
@@ -108,25 +113,30 @@ module _ (z : Setup) (before now : List Signal) (v taking u w : Knows) (bits : �
         )
 
     pub fetched_none : Settled z before now u None w → Left before now v w
-    fetched_none s = (
+    fetched_none s = let bits_are : w.bits ≡ bits = bits_taken (ap (λ (k : Knows). k.bits) s.1) in (
       s.0,
       (
-        passed_over,
+        found.skipped,
+        f.values,
         s.1 ∙ ((λ i. bare (found_as i))
-            ∙ (λ i. record v { held = None; fetching = sym still i; mask = sym mask i; back = sym back i; moved = sym moved i; parts = sym free i; saw_off = sym saw i; refusals = v.refusals ++ passed_over; bits = sym (bits_taken (ap (λ (k : Knows). k.bits) s.1)) i; emptied = [] })),
+            ∙ (λ i. record v { held = None; fetching = sym still i; mask = sym mask i; back = sym back i; moved = sym moved i; parts = sym free i; saw_off = sym saw i; tries = v.tries ++ each_try f.values (sym bits_are i) 64; bits = sym bits_are i; emptied = [] })),
+        tried_as,
       ),
     )
 
 -- a fetch of a seat that took the outer turn for it
 module _ (z : Setup) (before now : List Signal) (v w : Knows) (o : Outer) where
+  same_tries : (skipped : ℕ) (values : ℕ → ℕ) → TriedAs (holding v o) skipped values → TriedAs (tried v 0 0) skipped values
+  same_tries skipped values h = ((λ c bit. foreign_as (holding v o) (tried v 0 0) (values c) refl refl (h.0 c bit)), h.1)
+
   pub fetched_by : (r : Fetch) → FetchedHeld z before now (holding v o) r w → Fetched z before now v r w
-  fetched_by (fetch.Took count due bits) h = (h.0, h.1, h.2, h.3, h.4, (λ c bit. foreign_as (holding v o) v (h.1 c) refl refl (h.5 c bit)), h.6, h.7, h.8)
+  fetched_by (fetch.Took count due bits) h = (h.0, h.1, h.2, h.3, h.4, same_tries bits h.1 h.5, h.6, h.7, h.8)
   fetched_by (fetch.Busy n) h = absurd h
-  fetched_by fetch.Memory h = h
+  fetched_by fetch.Memory h = (h.0, (h.1.0, h.1.1, h.1.2, same_tries h.1.0 h.1.1 h.1.3))
 
   module _ (i : Idle v) (kept : Kept) (h : Keeps v kept) (xs : List (ℕ × Slot)) (free : xs ≡ []) where
-    seat_after : (taken : List Signal) (fetches : ℕ) (due : Bool) (refusals : List (ℕ × ℕ)) (emptied : List Part) → w ≡ record v { held = None; taken = taken; fetches = fetches; due = due; refusals = refusals; bits = w.bits; emptied = emptied } → IsSeat (w, xs) (record kept { due = due })
-    seat_after taken fetches due refusals emptied e = record {
+    seat_after : (taken : List Signal) (fetches : ℕ) (due : Bool) (tries : List (ℕ × ℕ)) (emptied : List Part) → w ≡ record v { held = None; taken = taken; fetches = fetches; due = due; tries = tries; bits = w.bits; emptied = emptied } → IsSeat (w, xs) (record kept { due = due })
+    seat_after taken fetches due tries emptied e = record {
       idle = subst Idle (sym e) (record { held = refl; parts = i.parts; saw = i.saw; fetching = i.fetching; removing = i.removing; switched = i.switched; mask = i.mask; back = i.back; moved = i.moved; progress = i.progress });
       bare = free;
       keeps = record {
@@ -140,6 +150,6 @@ module _ (z : Setup) (before now : List Signal) (v w : Knows) (o : Outer) where
     }
 
     pub seat_fetched : v.due ≡ false → (r : Fetch) → FetchedHeld z before now (holding v o) r w → IsSeat (w, xs) (record kept { due = due_of r })
-    seat_fetched not_due (fetch.Took count due bits) f = seat_after (v.taken ++ f.0) (v.fetches + 1) due (v.refusals ++ skips f.1 bits 64) w.emptied f.4
+    seat_fetched not_due (fetch.Took count due bits) f = seat_after (v.taken ++ f.0) (v.fetches + 1) due ((holding v o).tries ++ each_try f.1 w.bits 64) w.emptied f.4
     seat_fetched not_due (fetch.Busy n) f = absurd f
-    seat_fetched not_due fetch.Memory f = seat_after v.taken v.fetches false (v.refusals ++ f.1.0) [] (f.1.1 ∙ (λ k. record v { held = None; due = not_due k; refusals = v.refusals ++ f.1.0; bits = w.bits; emptied = [] }))
+    seat_fetched not_due fetch.Memory f = seat_after v.taken v.fetches false ((holding v o).tries ++ each_try f.1.1 w.bits 64) [] (f.1.2 ∙ (λ k. record v { held = None; due = not_due k; tries = (holding v o).tries ++ each_try f.1.1 w.bits 64; bits = w.bits; emptied = [] }))

@@ -23,9 +23,9 @@ use Rattle.sig_queue.specs.declared.fetch.Fetch.TheVariants as fetch
 use Rattle.sig_queue.specs.declared.taken.Taken.{Taken}
 use Rattle.sig_layout.specs.Views.{filled_at, signals_of, buffer_in}
 use Rattle.sig_layout.specs.Core.{buffer_of}
-use Rattle.sig_queue.specs.Fetching.{skips, all_of, numbers, picked, same_number, EachOwn, kept_of}
+use Rattle.sig_queue.specs.Fetching.{each_try, all_of, numbers, picked, same_number, EachOwn, kept_of}
 use Rattle.sig_queue.specs.Tied.{Foreign, FreshBut, TookCarried}
-use Rattle.sig_queue.specs.Parts.{item, looked}
+use Rattle.sig_queue.specs.Parts.{item, looked, tried, went, looks_off, tries_off}
 
 -- under the turn of a buffer
 abbrev pub Under : Signal → Knows → Aside → Knows → Type 0
@@ -34,12 +34,13 @@ Under x v aside.Put w = w ≡ record (looked v (true ∷ [])) { saw_off = false;
 Under x v (aside.Busy y n) w = ⊥
 Under x v (aside.Memory y) w = (y ≡ x) × (w ≡ record (looked v (true ∷ [])) { saw_off = false; parts = [] })
 
--- an offer to buffer b. It was off only where the last load of the mode gave 0, and put only where it gave 1
+-- an offer to buffer b. It was off only where the last look at the mode gave 0, and put only where both gave 1. The turn of the
+-- buffer is tried once, where the first look gave 1
 abbrev pub OfferedAside : ℕ → Signal → Knows → Aside → Knows → Type 0
-OfferedAside b x v (aside.Off y) w = (y ≡ x) × ((bs : List Bool) × (w ≡ record (looked v (bs ++ false ∷ [])) { saw_off = true }))
-OfferedAside b x v aside.Put w = (bs : List Bool) × (w ≡ record (looked v (bs ++ true ∷ [])) { put = v.put ++ item (via.Buffer b) x ∷ [] })
-OfferedAside b x v (aside.Busy y n) w = (y ≡ x) × ((bs : List Bool) × (w ≡ record (looked v bs) { refusals = v.refusals ++ (b + 3, n) ∷ [] })) × Foreign v n
-OfferedAside b x v (aside.Memory y) w = (y ≡ x) × ((bs : List Bool) × (w ≡ looked v bs))
+OfferedAside b x v (aside.Off y) w = (y ≡ x) × ((again : Bool) × (w ≡ record (went v (looks_off again) (tries_off b again)) { saw_off = true }))
+OfferedAside b x v aside.Put w = w ≡ record (went v (true ∷ true ∷ []) ((b + 3, 0) ∷ [])) { put = v.put ++ item (via.Buffer b) x ∷ [] }
+OfferedAside b x v (aside.Busy y n) w = (y ≡ x) × (w ≡ went v (true ∷ []) ((b + 3, n) ∷ [])) × Foreign v n
+OfferedAside b x v (aside.Memory y) w = (y ≡ x) × (w ≡ went v (true ∷ true ∷ []) ((b + 3, 0) ∷ []))
 
 -- it was off, and put, only where the policy allows the mode to be so
 abbrev pub AllowsAside : Policy → Aside → Type 0
@@ -48,26 +49,43 @@ AllowsAside p aside.Put = AllowsMode p true
 AllowsAside p (aside.Busy y n) = Unit {0}
 AllowsAside p (aside.Memory y) = Unit {0}
 
--- an offer to the outer list
+-- under the outer turn
+abbrev pub PutHeld : Signal → Knows → Offer → Knows → Type 0
+PutHeld x v (offer.Put via.Outer) w = w ≡ record v { held = None; saw_off = false; put = v.put ++ item via.Outer x ∷ []; refused = 0 }
+PutHeld x v (offer.Put (via.Buffer b)) w = ⊥
+PutHeld x v (offer.Busy y n) w = ⊥
+PutHeld x v (offer.Memory y) w = (y ≡ x) × (w ≡ record v { held = None; saw_off = false })
+
+-- an offer to the outer list, with one try of the outer turn
 abbrev pub OfferedOut : Signal → Knows → Offer → Knows → Type 0
-OfferedOut x v (offer.Put via.Outer) w = w ≡ record v { saw_off = false; put = v.put ++ item via.Outer x ∷ []; refused = 0 }
+OfferedOut x v (offer.Put via.Outer) w = w ≡ record (tried v 0 0) { saw_off = false; put = v.put ++ item via.Outer x ∷ []; refused = 0 }
 OfferedOut x v (offer.Put (via.Buffer b)) w = ⊥
-OfferedOut x v (offer.Busy y n) w = (y ≡ x) × (w ≡ record v { saw_off = false; refused = v.refused + 1; refusals = v.refusals ++ (0, n) ∷ [] }) × Foreign v n
-OfferedOut x v (offer.Memory y) w = (y ≡ x) × (w ≡ record v { saw_off = false })
+OfferedOut x v (offer.Busy y n) w = (y ≡ x) × (w ≡ record (tried v 0 n) { saw_off = false; refused = v.refused + 1 }) × Foreign v n
+OfferedOut x v (offer.Memory y) w = (y ≡ x) × (w ≡ record (tried v 0 0) { saw_off = false })
 
--- the way of a put: to the outer list only where the last load of the mode in this call gave 0, and to the sender's buffer only where it gave 1
+-- The way of a put: to the outer list only where the last look at the mode in this call gave 0, and to the sender's buffer only
+-- where it gave 1. The turn of the list was tried once and found free, and before the outer turn that of the buffer where the
+-- mode was on at first
 abbrev pub PutBy : Signal → Knows → Via → Knows → Type 0
-PutBy x v via.Outer w = (bs : List Bool) × (w ≡ record (looked v (bs ++ false ∷ [])) { put = v.put ++ item via.Outer x ∷ []; refused = 0 })
-PutBy x v (via.Buffer b) w = (b ≡ buffer_of x.from.0) × ((bs : List Bool) × (w ≡ record (looked v (bs ++ true ∷ [])) { put = v.put ++ item (via.Buffer b) x ∷ [] }))
+PutBy x v via.Outer w = (again : Bool)
+    × (w ≡ record (went v (looks_off again) (tries_off (buffer_of x.from.0) again ++ (0, 0) ∷ [])) { put = v.put ++ item via.Outer x ∷ []; refused = 0 })
+PutBy x v (via.Buffer b) w = (b ≡ buffer_of x.from.0)
+    × (w ≡ record (went v (true ∷ true ∷ []) ((b + 3, 0) ∷ [])) { put = v.put ++ item (via.Buffer b) x ∷ [] })
 
--- the one exchange that was refused: on the outer turn, or on the turn of the sender's buffer
+-- the last try was refused: on the outer turn, or on the turn of the sender's buffer. None was refused before it
 abbrev pub RefusedOne : Signal → Knows → ℕ → Knows → Type 0
-RefusedOne x v n w = (bs : List Bool) × ((w ≡ record (looked v bs) { refused = v.refused + 1; refusals = v.refusals ++ (0, n) ∷ [] }) ⊎ (w ≡ record (looked v bs) { refusals = v.refusals ++ (buffer_of x.from.0 + 3, n) ∷ [] }))
+RefusedOne x v n w = ((again : Bool) × (w ≡ record (went v (looks_off again) (tries_off (buffer_of x.from.0) again ++ (0, n) ∷ [])) { refused = v.refused + 1 }))
+    ⊎ (w ≡ went v (true ∷ []) ((buffer_of x.from.0 + 3, n) ∷ []))
+
+-- no try was refused, and nothing was put
+abbrev pub LeftFree : Signal → Knows → Knows → Type 0
+LeftFree x v w = ((again : Bool) × (w ≡ went v (looks_off again) (tries_off (buffer_of x.from.0) again ++ (0, 0) ∷ [])))
+    ⊎ (w ≡ went v (true ∷ true ∷ []) ((buffer_of x.from.0 + 3, 0) ∷ []))
 
 abbrev pub Offered : Signal → Knows → Offer → Knows → Type 0
 Offered x v (offer.Put way) w = PutBy x v way w
 Offered x v (offer.Busy y n) w = (y ≡ x) × Foreign v n × RefusedOne x v n w
-Offered x v (offer.Memory y) w = (y ≡ x) × ((bs : List Bool) × (w ≡ looked v bs))
+Offered x v (offer.Memory y) w = (y ≡ x) × LeftFree x v w
 
 -- all that the seat u, which fetches, leaves with
 abbrev pub taken_by : Knows → List Signal
@@ -93,13 +111,19 @@ pub record InOrder (new : List Signal) (skipped : ℕ) (w : Knows) : Type 0 wher
   pub own : EachOwn w.emptied
   pub had : (c : ℕ) → filled_at skipped c ≡ true → filled_at w.bits c ≡ true
 
+-- what the tries of buffers found: another seat's number for each buffer of `skipped`, and 0 for each other
+abbrev pub TriedAs : Knows → ℕ → (ℕ → ℕ) → Type 0
+TriedAs v skipped values = ((c : ℕ) → filled_at skipped c ≡ true → Foreign v (values c))
+    × ((c : ℕ) → filled_at skipped c ≡ false → values c ≡ 0)
+
 abbrev pub FetchedAs : Setup → List Signal → List Signal → Knows → ℕ → Bool → ℕ → Knows → Type 0
 FetchedAs z before now v count due skipped w = (new : List Signal) × (values : ℕ → ℕ) × (now ≡ before ++ new) × (count ≡ length new)
-    × (w ≡ record v { held = None; taken = v.taken ++ new; fetches = v.fetches + 1; due = due; refusals = v.refusals ++ skips values skipped 64; bits = w.bits; emptied = w.emptied })
-    × ((c : ℕ) → filled_at skipped c ≡ true → Foreign v (values c)) × FreshBut skipped w × TookCarried z w × InOrder new skipped w
+    × (w ≡ record v { held = None; taken = v.taken ++ new; fetches = v.fetches + 1; due = due; tries = v.tries ++ each_try values w.bits 64; bits = w.bits; emptied = w.emptied })
+    × TriedAs v skipped values × FreshBut skipped w × TookCarried z w × InOrder new skipped w
 
 abbrev pub Left : List Signal → List Signal → Knows → Knows → Type 0
-Left before now v w = (now ≡ before) × ((more : List (ℕ × ℕ)) × (w ≡ record v { held = None; refusals = v.refusals ++ more; bits = w.bits; emptied = [] }))
+Left before now v w = (now ≡ before)
+    × ((skipped : ℕ) × (values : ℕ → ℕ) × (w ≡ record v { held = None; tries = v.tries ++ each_try values w.bits 64; bits = w.bits; emptied = [] }) × TriedAs v skipped values)
 
 -- under the outer turn
 abbrev pub FetchedHeld : Setup → List Signal → List Signal → Knows → Fetch → Knows → Type 0
@@ -107,11 +131,13 @@ FetchedHeld z before now v (fetch.Took count due skipped) w = FetchedAs z before
 FetchedHeld z before now v (fetch.Busy n) w = ⊥
 FetchedHeld z before now v fetch.Memory w = Left before now v w
 
--- The signals that came into the caller's list are those that the seat took. The refusals are as before, and then one for each bit of `skipped`, by ascending number. All that the seat put and was told of was taken, but of senders whose buffers are in `skipped`
+-- The signals that came into the caller's list are those that the seat took. All that the seat put and was told of was taken, but of
+-- senders whose buffers are in `skipped`. The outer turn was tried once, and where it was free the turn of each buffer whose bit was
+-- taken, by ascending number
 abbrev pub Fetched : Setup → List Signal → List Signal → Knows → Fetch → Knows → Type 0
-Fetched z before now v (fetch.Took count due skipped) w = FetchedAs z before now v count due skipped w
-Fetched z before now v (fetch.Busy n) w = (now ≡ before) × (w ≡ record v { refused = v.refused + 1; refusals = v.refusals ++ (0, n) ∷ [] }) × Foreign v n
-Fetched z before now v fetch.Memory w = Left before now v w
+Fetched z before now v (fetch.Took count due skipped) w = FetchedAs z before now (tried v 0 0) count due skipped w
+Fetched z before now v (fetch.Busy n) w = (now ≡ before) × (w ≡ record (tried v 0 n) { refused = v.refused + 1 }) × Foreign v n
+Fetched z before now v fetch.Memory w = Left before now (tried v 0 0) w
 
 -- a fetch that took something says whether a removal is due
 abbrev pub due_of : Fetch → Bool
@@ -123,17 +149,17 @@ abbrev pub Holds : Knows → TableId → Hold → Type 0
 Holds v z (hold.Held h) = (h.queue ≡ z) × ((o : Outer) × (h.knows ≡ holding v o))
 Holds v z (hold.Busy seat n) = (seat.queue ≡ z) × (seat.knows ≡ turned_away v n) × Foreign v n
 
--- the seat was refused some times, and loaded the mode some times
+-- the seat tried turns some times, and loaded the mode some times
 abbrev pub refused_as : Knows → List Bool → Knows → Knows
-refused_as v bs w = record (looked v bs) { refused = w.refused; refusals = w.refusals }
+refused_as v bs w = record (looked v bs) { refused = w.refused; tries = w.tries }
 
 pub record Tried (v w : Knows) : Type 0 where
   pub loads : List Bool
   pub is : w ≡ refused_as v loads w
 
 abbrev pub SentBy : Signal → Knows → Via → Knows → Type 0
-SentBy x v via.Outer w = (bs : List Bool) × (w ≡ record (looked v (bs ++ false ∷ [])) { put = v.put ++ item via.Outer x ∷ []; refused = 0; refusals = w.refusals })
-SentBy x v (via.Buffer b) w = (b ≡ buffer_of x.from.0) × ((bs : List Bool) × (w ≡ record (looked v (bs ++ true ∷ [])) { put = v.put ++ item (via.Buffer b) x ∷ []; refused = w.refused; refusals = w.refusals }))
+SentBy x v via.Outer w = (bs : List Bool) × (w ≡ record (looked v (bs ++ false ∷ [])) { put = v.put ++ item via.Outer x ∷ []; refused = 0; tries = w.tries })
+SentBy x v (via.Buffer b) w = (b ≡ buffer_of x.from.0) × ((bs : List Bool) × (w ≡ record (looked v (bs ++ true ∷ [])) { put = v.put ++ item (via.Buffer b) x ∷ []; refused = w.refused; tries = w.tries }))
 
 abbrev pub SentAs : Signal → Knows → Sent → Knows → Type 0
 SentAs x v (sent.Put way) w = SentBy x v way w

@@ -48,13 +48,13 @@ abbrev pub journal_of : Option Outer → List Entry
 journal_of (Some o) = o.journal
 journal_of None = []
 
--- each refused try of a buffer that is skipped, by ascending number
-abbrev pub skips : (ℕ → ℕ) → ℕ → ℕ → List (ℕ × ℕ)
-skips f skipped n = picked (λ c. (c + 3, f c)) (filled_at skipped) 0 n
+-- one try of each buffer below n whose bit was taken, by ascending number, with what it found
+abbrev pub each_try : (ℕ → ℕ) → ℕ → ℕ → List (ℕ × ℕ)
+each_try f bits n = picked (λ c. (c + 3, f c)) (filled_at bits) 0 n
 
 -- the view v, but for the buffers
 abbrev pub fetching_as : Knows → Knows → Knows
-fetching_as v w = record v { parts = w.parts; mask = w.mask; back = w.back; refusals = w.refusals }
+fetching_as v w = record v { parts = w.parts; mask = w.mask; back = w.back; tries = w.tries }
 
 -- A fetch that took the bits n has tried the buffers below k. The seat had the view v before the first
 pub record Finding (v : Knows) (n k : ℕ) (me : Held) (z : Found) : Type 0 where
@@ -66,8 +66,9 @@ pub record Finding (v : Knows) (n k : ℕ) (me : Held) (z : Found) : Type 0 wher
   pub kept : (c : ℕ) → c < k → flag me.0.mask c ≡ filled_at z.held c
   pub back : me.0.back ≡ z.skipped
   pub values : ℕ → ℕ
-  pub refusals : me.0.refusals ≡ v.refusals ++ skips values z.skipped k
+  pub tries : me.0.tries ≡ v.tries ++ each_try values n k
   pub others : (c : ℕ) → filled_at z.skipped c ≡ true → Foreign v (values c)
+  pub free : (c : ℕ) → filled_at z.skipped c ≡ false → values c ≡ 0
   pub none_held : (c : ℕ) → k ≤ c → filled_at z.held c ≡ false
   pub none_skipped : (c : ℕ) → k ≤ c → filled_at z.skipped c ≡ false
   pub total : IfSome z.total (λ t. t ≡ length (all_of me.0.parts))

@@ -1,5 +1,5 @@
 -- The buffer that a seat took first, and the outer value that it holds.
-use Rattle.std.specs.Prelude.{◌≡◌, ℕ, Bool, All, List, [], ◌∷◌, ◌++◌, Option, Some, None}
+use Rattle.std.specs.Prelude.{◌≡◌, ℕ, ◌+◌, Bool, true, false, All, List, [], ◌∷◌, ◌++◌, Option, Some, None}
 use Rattle.sig_kinds.specs.declared.signal.Signal.{Signal}
 use Rattle.sig_layout.specs.declared.via.Via.{Via}
 use Rattle.sig_layout.specs.declared.item.Item.{Item}
@@ -40,3 +40,21 @@ mode_loads (b ∷ bs) = (1, mode_word b) ∷ mode_loads bs
 -- the seat has loaded the mode besides, with these results
 abbrev pub looked : Knows → List Bool → Knows
 looked v bs = record v { loads = v.loads ++ mode_loads bs }
+
+-- the seat has tried the turn of this word besides, and found n: 0 where it was free
+abbrev pub tried : Knows → ℕ → ℕ → Knows
+tried v word n = record v { tries = v.tries ++ (word, n) ∷ [] }
+
+-- the seat has loaded the mode besides, with these results, and tried these turns, with what it found
+abbrev pub went : Knows → List Bool → List (ℕ × ℕ) → Knows
+went v bs ts = record (looked v bs) { tries = v.tries ++ ts }
+
+-- The mode was off at the first look; or it was on, the turn of buffer b was free, and the mode was off at the second look, under
+-- that turn. There is no third
+abbrev pub looks_off : Bool → List Bool
+looks_off false = false ∷ []
+looks_off true = true ∷ false ∷ []
+
+abbrev pub tries_off : ℕ → Bool → List (ℕ × ℕ)
+tries_off b false = []
+tries_off b true = (b + 3, 0) ∷ []

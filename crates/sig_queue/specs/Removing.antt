@@ -8,17 +8,18 @@ use Rattle.sig_queue.specs.Tied.{Held}
 use Rattle.sig_queue.specs.Parts.{held_or}
 use Rattle.sig_queue.specs.Fetching.{outer_out}
 
--- the view v, with the refusals of w
+-- the view v, with the tries of w and its count of refusals
 abbrev pub waited : Knows → Knows → Knows
-waited v w = record v { refused = w.refused; refusals = w.refusals }
+waited v w = record v { refused = w.refused; tries = w.tries }
 
+-- the view v, with the tries of w
 abbrev pub waits : Knows → Knows → Knows
-waits v w = record v { refusals = w.refusals }
+waits v w = record v { tries = w.tries }
 
 -- The removal of a seat that had the view u has passed the buffers below k. What came behind the outer list is in `out`
 pub record Passing (u : Knows) (k : ℕ) (me : Held) (out : List Signal) : Type 0 where
-  pub view : me.0 ≡ record u { held = me.0.held; progress = k; refusals = me.0.refusals }
-  pub refusals : Prefix u.refusals me.0.refusals
+  pub view : me.0 ≡ record u { held = me.0.held; progress = k; tries = me.0.tries }
+  pub tries : Prefix u.tries me.0.tries
   pub slots : me.1 ≡ outer_out ∷ []
   pub holds : me.0.held ≡ Some (held_or me.0.held)
   pub signals : (held_or me.0.held).signals ≡ out

@@ -49,7 +49,7 @@ pub record IsNote (me : Held) : Type 0 where
   pub no_bits : me.0.bits ≡ 0
   pub nothing_emptied : me.0.emptied ≡ []
   pub unrefused : me.0.refused ≡ 0
-  pub no_refusals : me.0.refusals ≡ []
+  pub no_tries : me.0.tries ≡ []
   pub no_loads : me.0.loads ≡ []
 
 -- a seat that holds the outer turn between two calls, for tests

@@ -61,9 +61,10 @@ fn offer_at(
 
 impl SigQueue {
     /// Offers a signal: to the sender's buffer where the mode is on, and else to the outer list. It
-    /// tries each turn once, and never waits. The signal is of a sender of the seat, goes to the
-    /// queue's receiver, continues the numbers of its sender, has a stamp of at most 2^62, and names
-    /// only processes below the queue's count. Under `Never` it is put into no buffer, and under
+    /// tries the outer turn once, or that of the buffer, or first this one and then the outer one,
+    /// looks at the mode at most twice, and takes no lock. The signal is of a sender of the seat, goes
+    /// to the queue's receiver, continues the numbers of its sender, has a stamp of at most 2^62, and
+    /// names only processes below the queue's count. Under `Never` it is put into no buffer, and under
     /// `Always` never into the outer list.
     pub fn offer(&self, seat: &mut QSeat, signal: Signal) -> Offer
         requires own { seat.old.queue ≡ self.now.id }

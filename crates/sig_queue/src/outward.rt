@@ -7,7 +7,7 @@ ghost use Rattle.sig_layout.specs.declared.entry.Entry.TheVariants.{Direct};
 ghost use Rattle.sig_layout.specs.Summaries.{due_at, is_install};
 ghost use Rattle.sig_layout.specs.Core.{Begins, some_refused};
 ghost use Rattle.sig_layout.specs.Views.{number, IsSomebody};
-ghost use Rattle.sig_queue.specs.Calls.{OfferedOut};
+ghost use Rattle.sig_queue.specs.Calls.{PutHeld, OfferedOut};
 
 use crate::offer::Offer;
 use crate::rule::{Place, Words};
@@ -44,7 +44,7 @@ fn put_held(
     requires next { IsNext words.now.key place.old.me.0.put signal }
     requires refused { refused.old ≡ some_refused place.old.me.0.refused }
     ensures same { (place.new.table_id ≡ place.old.table_id) × (place.new.id ≡ place.old.id) × (place.new.me.1 ≡ []) }
-    ensures offered { OfferedOut signal (record place.old.me.0 { held = None }) result place.new.me.0 }
+    ensures offered { PutHeld signal place.old.me.0 result place.new.me.0 }
     ensures refused { refused.new ≡ some_refused place.new.me.0.refused }
 {
     let mut outer = take_value(words, place);

@@ -1,12 +1,12 @@
 //! A removal: the mode goes off, and all buffers are emptied into the outer list, under one outer turn.
-ghost use Rattle.std.specs.Prelude.{◌≡◌, ◌+◌, ◌<◌, ◌≤◌, [], ◌∷◌, List, true, false, Some, None, OnOk, OnErr};
+ghost use Rattle.std.specs.Prelude.{◌≡◌, ◌+◌, ◌<◌, ◌≤◌, ◌++◌, [], ◌∷◌, List, true, false, Some, None, OnOk, OnErr};
 ghost use Rattle.sig_layout.specs.Outers.{removed};
 ghost use Rattle.sig_kinds.specs.declared.signal.Signal.{Signal};
 ghost use Rattle.sig_layout.specs.declared.outer.Outer.{Outer};
 ghost use Rattle.sig_layout.specs.Core.{Begins, some_refused};
 ghost use Rattle.sig_layout.specs.Sent.{Prefix};
 ghost use Rattle.sig_layout.specs.declared.knows.Knows.{Knows};
-ghost use Rattle.sig_layout.specs.Views.{number, IsSomebody, gains, after_same};
+ghost use Rattle.sig_layout.specs.Views.{number, IsSomebody, part, after_same};
 ghost use Rattle.sig_queue.specs.Fetching.{outer_out};
 ghost use Rattle.sig_queue.specs.Removing.{waited, waits, Passing, WithRoom};
 
@@ -37,7 +37,7 @@ fn wait_outer<R: Wait>(
     ensures same { (place.new.table_id ≡ place.old.table_id) × (place.new.id ≡ place.old.id) }
     ensures took { (o : Outer) × (place.new.me ≡ (record (waited place.old.me.0 place.new.me.0) { held = Some o }, (0, Slot.Outer o) ∷ place.old.me.1)) }
     ensures refused { (result ≡ some_refused place.new.me.0.refused) × (place.old.me.0.refused ≤ place.new.me.0.refused) }
-    ensures refusals { Prefix place.old.me.0.refusals place.new.me.0.refusals }
+    ensures tries { Prefix place.old.me.0.tries place.new.me.0.tries }
 {
     for _ in rt.forever() {
         if try_outer(words, place, mine) == 0 {
@@ -55,8 +55,8 @@ fn wait_buffer<R: Wait>(rt: &R, words: &Words, place: &mut Place, buffer: usize,
     requires bare { (place.old.me.0.parts ≡ []) × (place.old.me.0.saw_off ≡ false) }
     requires somebody { IsSomebody place.old.me.0 × (mine ≡ number place.old.me.0 + 1) }
     ensures same { (place.new.table_id ≡ place.old.table_id) × (place.new.id ≡ place.old.id) }
-    ensures took { (l : List Signal) × (place.new.me ≡ (gains (waits place.old.me.0 place.new.me.0) buffer l, (buffer + 1, Slot.List l) ∷ place.old.me.1)) }
-    ensures refusals { Prefix place.old.me.0.refusals place.new.me.0.refusals }
+    ensures took { (l : List Signal) × (place.new.me ≡ (record (waits place.old.me.0 place.new.me.0) { parts = place.old.me.0.parts ++ part buffer l ∷ [] }, (buffer + 1, Slot.List l) ∷ place.old.me.1)) }
+    ensures tries { Prefix place.old.me.0.tries place.new.me.0.tries }
 {
     for _ in rt.forever() {
         if try_buffer(words, place, buffer, mine) == 0 {
@@ -133,7 +133,7 @@ fn remove_with_room<R: Wait>(
     requires room { 64 ≤ growing.spare }
     ensures same { (place.new.table_id ≡ place.old.table_id) × (place.new.id ≡ place.old.id) × (place.new.me.1 ≡ []) }
     ensures removed { place.new.me.0 ≡ record (waits place.old.me.0 place.new.me.0) { held = None; removing = false; progress = 0; due = false } }
-    ensures refusals { Prefix place.old.me.0.refusals place.new.me.0.refusals }
+    ensures tries { Prefix place.old.me.0.tries place.new.me.0.tries }
 {
     mode_off(words, place);
     pass_all(rt, alloc, words, place, mine, &mut growing);
@@ -158,7 +158,7 @@ fn remove_held<R: Wait>(
     ensures same { (place.new.table_id ≡ place.old.table_id) × (place.new.id ≡ place.old.id) × (place.new.me.1 ≡ []) }
     ensures ok { OnOk result (place.new.me.0 ≡ record (waits place.old.me.0 place.new.me.0) { held = None; removing = false; progress = 0; due = false }) }
     ensures err { OnErr result (place.new.me.0 ≡ after_same place.old.me.0) }
-    ensures refusals { Prefix place.old.me.0.refusals place.new.me.0.refusals }
+    ensures tries { Prefix place.old.me.0.tries place.new.me.0.tries }
 {
     let mut outer = take_value(words, place);
     match outer.grow(alloc, 64) {
@@ -194,7 +194,7 @@ impl SigQueue {
         ensures own { seat.new.queue ≡ seat.old.queue }
         ensures ok { OnOk result (seat.new.knows ≡ record (waited seat.old.knows seat.new.knows) { due = false }) }
         ensures err { OnErr result (seat.new.knows ≡ waited seat.old.knows seat.new.knows) }
-        ensures refusals { Prefix seat.old.knows.refusals seat.new.knows.refusals }
+        ensures tries { Prefix seat.old.knows.tries seat.new.knows.tries }
         ensures refused { seat.old.knows.refused ≤ seat.new.knows.refused }
     {
         let words = &self.table.shared;

@@ -33,7 +33,7 @@ impl SigQueue {
         requires next { IsNext self.now.setup seat.old.knows.put signal }
         ensures own { seat.new.queue ≡ seat.old.queue }
         ensures sent { SentAs signal seat.old.knows result seat.new.knows }
-        ensures refusals { Prefix seat.old.knows.refusals seat.new.knows.refusals }
+        ensures tries { Prefix seat.old.knows.tries seat.new.knows.tries }
         ensures refused { result ≢ Sent.Put Via.Outer → seat.old.knows.refused ≤ seat.new.knows.refused }
         ensures never { self.now.setup.policy ≡ Never → (b : ℕ) → result ≢ Sent.Put (Via.Buffer b) }
         ensures always { self.now.setup.policy ≡ Always → result ≢ Sent.Put Via.Outer }

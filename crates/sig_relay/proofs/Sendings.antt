@@ -16,7 +16,7 @@ use Rattle.sig_layout.proofs.Sending.{of_own, of-append, of_signals, signals-app
 use Rattle.sig_queue.specs.Parts.{item}
 use Rattle.sig_queue.specs.declared.offer.Offer.{Offer}
 use Rattle.sig_queue.specs.declared.offer.Offer.TheVariants as offer
-use Rattle.sig_queue.specs.Calls.{PutBy, RefusedOne, Offered}
+use Rattle.sig_queue.specs.Calls.{PutBy, RefusedOne, LeftFree, Offered}
 use Rattle.sig_relay.specs.declared.relaying.Line.{Line}
 use Rattle.sig_relay.specs.Relays.{message, messages, Sender, Sends, put_by}
 
@@ -66,7 +66,7 @@ module _ (z : Setup) (l : Line) (xs : List ℕ) (x : ℕ) (v : Knows) (sending :
     no_role = ap (λ (k : Knows). k.role) e ∙ sends.no_role;
     none_taken = ap (λ (k : Knows). k.taken) e ∙ sends.none_taken;
   }
-  sends_more n ys (via.Buffer b) w is more p = let e = p.1.1 in record {
+  sends_more n ys (via.Buffer b) w is more p = let e = p.1 in record {
     senders = ap (λ (k : Knows). k.senders) e ∙ sends.senders;
     can = ap (λ (k : Knows). has k.senders l.from.0) e ∙ sends.can;
     put_is = put_more n (via.Buffer b) w is (ap (λ (k : Knows). k.put) e) ∙ ap (messages l.from z.opening.receiver (first_of z l.from.0)) (sym more);
@@ -74,18 +74,22 @@ module _ (z : Setup) (l : Line) (xs : List ℕ) (x : ℕ) (v : Knows) (sending :
     none_taken = ap (λ (k : Knows). k.taken) e ∙ sends.none_taken;
   }
 
--- a refused offer changes nothing of this
+-- a seat of which this is as before
+sends_as : (z : Setup) (from : Pid) (xs : List ℕ) (v w : Knows) → Sends z from xs v → w.senders ≡ v.senders → w.put ≡ v.put → w.role ≡ v.role → w.taken ≡ v.taken → Sends z from xs w
+sends_as z from xs v w s senders put role taken = record {
+  senders = senders ∙ s.senders;
+  can = ap (λ (l : List ℕ). has l from.0) senders ∙ s.can;
+  put_is = ap signals put ∙ s.put_is;
+  no_role = role ∙ s.no_role;
+  none_taken = taken ∙ s.none_taken;
+}
+
+-- a refused offer changes nothing of this, nor one for which memory is wanting
 pub sends_still : (z : Setup) (from : Pid) (xs : List ℕ) (v w : Knows) → Sends z from xs v → (x : Signal) (n : ℕ) → RefusedOne x v n w → Sends z from xs w
-sends_still z from xs v w s x n k = let put : w.put ≡ v.put = ⊎_elim (λ e. ap (λ (y : Knows). y.put) e) (λ e. ap (λ (y : Knows). y.put) e) k.1 in
-    let senders : w.senders ≡ v.senders = ⊎_elim (λ e. ap (λ (y : Knows). y.senders) e) (λ e. ap (λ (y : Knows). y.senders) e) k.1 in
-    let role : w.role ≡ v.role = ⊎_elim (λ e. ap (λ (y : Knows). y.role) e) (λ e. ap (λ (y : Knows). y.role) e) k.1 in
-    let taken : w.taken ≡ v.taken = ⊎_elim (λ e. ap (λ (y : Knows). y.taken) e) (λ e. ap (λ (y : Knows). y.taken) e) k.1 in record {
-      senders = senders ∙ s.senders;
-      can = ap (λ (l : List ℕ). has l from.0) senders ∙ s.can;
-      put_is = ap signals put ∙ s.put_is;
-      no_role = role ∙ s.no_role;
-      none_taken = taken ∙ s.none_taken;
-    }
+sends_still z from xs v w s x n k = sends_as z from xs v w s (⊎_elim (λ e. ap (λ (y : Knows). y.senders) e.1) (λ e. ap (λ (y : Knows). y.senders) e) k) (⊎_elim (λ e. ap (λ (y : Knows). y.put) e.1) (λ e. ap (λ (y : Knows). y.put) e) k) (⊎_elim (λ e. ap (λ (y : Knows). y.role) e.1) (λ e. ap (λ (y : Knows). y.role) e) k) (⊎_elim (λ e. ap (λ (y : Knows). y.taken) e.1) (λ e. ap (λ (y : Knows). y.taken) e) k)
+
+sends_free : (z : Setup) (from : Pid) (xs : List ℕ) (v w : Knows) → Sends z from xs v → (x : Signal) → LeftFree x v w → Sends z from xs w
+sends_free z from xs v w s x k = sends_as z from xs v w s (⊎_elim (λ e. ap (λ (y : Knows). y.senders) e.1) (λ e. ap (λ (y : Knows). y.senders) e) k) (⊎_elim (λ e. ap (λ (y : Knows). y.put) e.1) (λ e. ap (λ (y : Knows). y.put) e) k) (⊎_elim (λ e. ap (λ (y : Knows). y.role) e.1) (λ e. ap (λ (y : Knows). y.role) e) k) (⊎_elim (λ e. ap (λ (y : Knows). y.taken) e.1) (λ e. ap (λ (y : Knows). y.taken) e) k)
 
 pub or_yes : (b : Bool) → (b || true) ≡ true
 or_yes true = refl
@@ -93,19 +97,19 @@ or_yes false = refl
 
 -- neither a put nor a refused offer changes who puts
 refused_senders : (x : Signal) (v w : Knows) (n : ℕ) → RefusedOne x v n w → w.senders ≡ v.senders
-refused_senders x v w n k = ⊎_elim (λ e. ap (λ (y : Knows). y.senders) e) (λ e. ap (λ (y : Knows). y.senders) e) k.1
+refused_senders x v w n k = ⊎_elim (λ e. ap (λ (y : Knows). y.senders) e.1) (λ e. ap (λ (y : Knows). y.senders) e) k
 
 put_senders : (x : Signal) (v w : Knows) (way : Via) → PutBy x v way w → w.senders ≡ v.senders
 put_senders x v w via.Outer p = ap (λ (y : Knows). y.senders) p.1
-put_senders x v w (via.Buffer b) p = ap (λ (y : Knows). y.senders) p.1.1
+put_senders x v w (via.Buffer b) p = ap (λ (y : Knows). y.senders) p.1
 
 pub offered_senders : (x : Signal) (v w : Knows) (o : Offer) → Offered x v o w → w.senders ≡ v.senders
 offered_senders x v w (offer.Put way) p = put_senders x v w way p
 offered_senders x v w (offer.Busy y n) p = refused_senders x v w n p.2
-offered_senders x v w (offer.Memory y) p = ap (λ (k : Knows). k.senders) p.1.1
+offered_senders x v w (offer.Memory y) p = ⊎_elim (λ e. ap (λ (k : Knows). k.senders) e.1) (λ e. ap (λ (k : Knows). k.senders) e) p.1
 
 refused_put : (x : Signal) (v w : Knows) (n : ℕ) → RefusedOne x v n w → w.put ≡ v.put
-refused_put x v w n k = ⊎_elim (λ e. ap (λ (y : Knows). y.put) e) (λ e. ap (λ (y : Knows). y.put) e) k.1
+refused_put x v w n k = ⊎_elim (λ e. ap (λ (y : Knows). y.put) e.1) (λ e. ap (λ (y : Knows). y.put) e) k
 
 -- a put is one more of its sender
 one_more : (put : List Item) (i : Item) → length (of putter (putter i) (put ++ i ∷ [])) ≡ length (of putter (putter i) put) + 1
@@ -113,7 +117,7 @@ one_more put i = ap length (of-append putter (putter i) put (i ∷ [])) ∙ (ap 
 
 put_more_of : (x : Signal) (v w : Knows) (way : Via) → PutBy x v way w → length (of putter x.from.0 w.put) ≡ length (of putter x.from.0 v.put) + 1
 put_more_of x v w via.Outer p = ap (λ (y : Knows). length (of putter x.from.0 y.put)) p.1 ∙ one_more v.put (item via.Outer x)
-put_more_of x v w (via.Buffer b) p = ap (λ (y : Knows). length (of putter x.from.0 y.put)) p.1.1 ∙ one_more v.put (item (via.Buffer b) x)
+put_more_of x v w (via.Buffer b) p = ap (λ (y : Knows). length (of putter x.from.0 y.put)) p.1 ∙ one_more v.put (item (via.Buffer b) x)
 
 -- an offer is one more of its sender where it was put, and else none
 pub offered_count : (x : Signal) (v w : Knows) (r : Offer) → Offered x v r w → IfSome (put_by r) (λ b. length (of putter x.from.0 w.put) ≡ length (of putter x.from.0 v.put) + (if b then 1 else 0))
@@ -126,10 +130,4 @@ pub sends_after : (z : Setup) (l : Line) (xs ys : List ℕ) (x n : ℕ) (v w : K
     → MatchOption (put_by r) (Sends z l.from xs w) (λ b. Sends z l.from (if b then ys else xs) w)
 sends_after z l xs ys x n v w (offer.Put way) sending sends is more p = sends_more z l xs x v sending sends n ys way w is more p
 sends_after z l xs ys x n v w (offer.Busy y found) sending sends is more p = sends_still z l.from xs v w sends (message l.from l.to n x) found p.2
-sends_after z l xs ys x n v w (offer.Memory y) sending sends is more p = let e = p.1.1 in record {
-  senders = ap (λ (k : Knows). k.senders) e ∙ sends.senders;
-  can = ap (λ (k : Knows). has k.senders l.from.0) e ∙ sends.can;
-  put_is = ap (λ (k : Knows). signals k.put) e ∙ sends.put_is;
-  no_role = ap (λ (k : Knows). k.role) e ∙ sends.no_role;
-  none_taken = ap (λ (k : Knows). k.taken) e ∙ sends.none_taken;
-}
+sends_after z l xs ys x n v w (offer.Memory y) sending sends is more p = sends_free z l.from xs v w sends (message l.from l.to n x) p.1

@@ -15,18 +15,21 @@ use Rattle.sig_tests.specs.Queues.{via_by, is_put, put_after, SameHand}
 
 pub offered_hand : (x : Signal) (v w : Knows) (o : Offer) → Offered x v o w → SameHand v w
 offered_hand x v w (offer.Put via.Outer) p = (ap (λ (k : Knows). k.senders) p.1, ap (λ (k : Knows). k.role) p.1, ap (λ (k : Knows). k.due) p.1)
-offered_hand x v w (offer.Put (via.Buffer b)) p = (ap (λ (k : Knows). k.senders) p.1.1, ap (λ (k : Knows). k.role) p.1.1, ap (λ (k : Knows). k.due) p.1.1)
+offered_hand x v w (offer.Put (via.Buffer b)) p = (ap (λ (k : Knows). k.senders) p.1, ap (λ (k : Knows). k.role) p.1, ap (λ (k : Knows). k.due) p.1)
 offered_hand x v w (offer.Busy y n) p =
-    let senders : w.senders ≡ v.senders = ⊎_elim (λ e. ap (λ (k : Knows). k.senders) e) (λ e. ap (λ (k : Knows). k.senders) e) p.2.1 in
-    let role : w.role ≡ v.role = ⊎_elim (λ e. ap (λ (k : Knows). k.role) e) (λ e. ap (λ (k : Knows). k.role) e) p.2.1 in
-    let due : w.due ≡ v.due = ⊎_elim (λ e. ap (λ (k : Knows). k.due) e) (λ e. ap (λ (k : Knows). k.due) e) p.2.1 in (senders, role, due)
-offered_hand x v w (offer.Memory y) p = (ap (λ (k : Knows). k.senders) p.1.1, ap (λ (k : Knows). k.role) p.1.1, ap (λ (k : Knows). k.due) p.1.1)
+    let senders : w.senders ≡ v.senders = ⊎_elim (λ e. ap (λ (k : Knows). k.senders) e.1) (λ e. ap (λ (k : Knows). k.senders) e) p.2 in
+    let role : w.role ≡ v.role = ⊎_elim (λ e. ap (λ (k : Knows). k.role) e.1) (λ e. ap (λ (k : Knows). k.role) e) p.2 in
+    let due : w.due ≡ v.due = ⊎_elim (λ e. ap (λ (k : Knows). k.due) e.1) (λ e. ap (λ (k : Knows). k.due) e) p.2 in (senders, role, due)
+offered_hand x v w (offer.Memory y) p =
+    let senders : w.senders ≡ v.senders = ⊎_elim (λ e. ap (λ (k : Knows). k.senders) e.1) (λ e. ap (λ (k : Knows). k.senders) e) p.1 in
+    let role : w.role ≡ v.role = ⊎_elim (λ e. ap (λ (k : Knows). k.role) e.1) (λ e. ap (λ (k : Knows). k.role) e) p.1 in
+    let due : w.due ≡ v.due = ⊎_elim (λ e. ap (λ (k : Knows). k.due) e.1) (λ e. ap (λ (k : Knows). k.due) e) p.1 in (senders, role, due)
 
 pub offered_put : (x : Signal) (v w : Knows) (o : Offer) → Offered x v o w → w.put ≡ put_after v.put x (via_by o)
 offered_put x v w (offer.Put via.Outer) p = ap (λ (k : Knows). k.put) p.1
-offered_put x v w (offer.Put (via.Buffer b)) p = ap (λ (k : Knows). k.put) p.1.1
-offered_put x v w (offer.Busy y n) p = ⊎_elim (λ e. ap (λ (k : Knows). k.put) e) (λ e. ap (λ (k : Knows). k.put) e) p.2.1
-offered_put x v w (offer.Memory y) p = ap (λ (k : Knows). k.put) p.1.1
+offered_put x v w (offer.Put (via.Buffer b)) p = ap (λ (k : Knows). k.put) p.1
+offered_put x v w (offer.Busy y n) p = ⊎_elim (λ e. ap (λ (k : Knows). k.put) e.1) (λ e. ap (λ (k : Knows). k.put) e) p.2
+offered_put x v w (offer.Memory y) p = ⊎_elim (λ e. ap (λ (k : Knows). k.put) e.1) (λ e. ap (λ (k : Knows). k.put) e) p.1
 
 one_more : (put : List Item) (i : Item) → length (of putter (putter i) (put ++ i ∷ [])) ≡ length (of putter (putter i) put) + 1
 one_more put i = ap length (of-append putter (putter i) put (i ∷ [])) ∙ (ap (λ (l : List Item). length (of putter (putter i) put ++ l)) (of_own putter (putter i) i [] refl) ∙ length-append (of putter (putter i) put) (i ∷ []))

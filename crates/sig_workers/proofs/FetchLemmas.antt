@@ -18,6 +18,7 @@ use Rattle.sig_layout.specs.Sets.{has}
 use Rattle.sig_layout.specs.Openings.{first_of, IsCarried}
 use Rattle.sig_queue.specs.Seats.{Queue, Seated}
 use Rattle.sig_queue.specs.Calls.{FetchedAs, Fetched}
+use Rattle.sig_queue.specs.Parts.{tried}
 use Rattle.sig_queue.specs.declared.fetch.Fetch.{Fetch}
 use Rattle.sig_queue.specs.declared.fetch.Fetch.TheVariants as fetch
 use Rattle.sig_workers.specs.Gone.{Continued, TakesFor, IsReady, IsSameSeat, Goes}
@@ -40,7 +41,7 @@ removed_fetched q v u w now e f = record {
   counted = λ s asks. subst (λ (z : List Signal). IsCounting (first_of q.setup s + length (coming_from s z)) (coming_from s now)) e.taken (f.counted s asks);
 }
 
-took_fetched : (q : Queue) (v w : Seated) (before now : List Signal) (count : ℕ) (due : Bool) (skipped : ℕ) → before ≡ [] → w.queue ≡ v.queue → FetchedAs q.setup before now v.knows count due skipped w.knows → IsFetched q v now w
+took_fetched : (q : Queue) (v w : Seated) (before now : List Signal) (count : ℕ) (due : Bool) (skipped : ℕ) → before ≡ [] → w.queue ≡ v.queue → FetchedAs q.setup before now (tried v.knows 0 0) count due skipped w.knows → IsFetched q v now w
 took_fetched q v w before now count due skipped empty own h =
     let new : List Signal = h.0 in
     let same : now ≡ new = h.2 ∙ ap (λ z. z ++ new) empty in

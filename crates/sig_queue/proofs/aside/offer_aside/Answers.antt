@@ -3,7 +3,7 @@ use Rattle.sig_layout.specs.declared.knows.Knows.{Knows}
 use Rattle.sig_layout.specs.Views.{saw, gains, turned_away_at}
 use Rattle.sig_queue.specs.Tied.{Held, Foreign}
 use Rattle.sig_queue.specs.Calls.{Under}
-use Rattle.sig_queue.proofs.Offering.{aside_busy, aside_under}
+use Rattle.sig_queue.proofs.Offering.{aside_busy, aside_off, aside_under}
 use Rattle.sig_queue.proofs.aside.offer_aside.Goals as goal
 
 pub returns-then-found-ne0-clause-offered : goal.returns-then-found-ne0-clause-offered
@@ -13,3 +13,6 @@ returns-then-found-ne0-clause-offered c = let v : Knows = c.args.place.now.me.0 
 pub returns-clause-offered : goal.returns-clause-offered
 returns-clause-offered c = let v : Knows = c.args.place.now.me.0 in let on : c.load_mode.new.place.me.0 ≡ saw v true = ap (λ (m : Held). m.0) c.if-not-load_mode.ensures.saw in let t = c.try_buffer-found.ensures.took c.if-found-ne0.false in
     aside_under c.args.buffer c.args.signal v t.0 _ _ c.requires.idle.0 (subst (λ (z : Knows). Under c.args.signal z c.under_turn.result c.under_turn.new.place.me.0) (ap (λ (m : Held). m.0) t.1 ∙ ap (λ (z : Knows). gains z c.args.buffer t.0) on) c.under_turn.ensures.offered)
+
+pub returns-then-not-load_mode-clause-offered : goal.returns-then-not-load_mode-clause-offered
+returns-then-not-load_mode-clause-offered c = aside_off c.args.buffer c.args.signal c.args.place.now.me.0 c.load_mode.new.place.me.0 (ap (λ (m : Held). m.0) c.if-not-load_mode.ensures.saw)

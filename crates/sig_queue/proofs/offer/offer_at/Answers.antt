@@ -14,7 +14,7 @@ pub offer_outer-requires-clause-somebody : goal.offer_outer-requires-clause-some
 offer_outer-requires-clause-somebody c = subst (λ (z : Knows). IsSomebody z × (c.args.mine ≡ number z + 1)) (sym c.in-Off.ensures.offered.1.1) c.requires.somebody
 
 pub returns-in-Busy-clause-offered : goal.returns-in-Busy-clause-offered
-returns-in-Busy-clause-offered c = let o = c.in-Busy.ensures.offered in (o.0, o.2, (o.1.0, inr o.1.1))
+returns-in-Busy-clause-offered c = let o = c.in-Busy.ensures.offered in (o.0, o.2, inr o.1)
 
 pub returns-in-Memory-clause-offered : goal.returns-in-Memory-clause-offered
-returns-in-Memory-clause-offered c = c.in-Memory.ensures.offered
+returns-in-Memory-clause-offered c = let o = c.in-Memory.ensures.offered in (o.0, inr o.1)

@@ -1,10 +1,11 @@
-use Rattle.std.proofs.Common.{ℕ, List, ◌∷◌, None, refl, ap, sym, ◌∙◌, subst}
+use Rattle.std.proofs.Common.{ℕ, List, ◌∷◌, refl, ap, sym, ◌∙◌, subst}
 use Rattle.sig_layout.specs.declared.knows.Knows.{Knows}
 use Rattle.sig_layout.specs.Core.{Begins, some_refused}
 use Rattle.sig_queue.specs.declared.slot.Slot.{Slot}
 use Rattle.sig_queue.specs.declared.slot.Slot.TheVariants as slot
-use Rattle.sig_queue.specs.Calls.{OfferedOut}
+use Rattle.sig_queue.specs.Calls.{PutHeld}
 use Rattle.sig_queue.specs.Tied.{Held}
+use Rattle.sig_queue.proofs.Offering.{out_held}
 use Rattle.sig_queue.proofs.outward.offer_outer.Goals as goal
 
 pub try_outer-found-requires-clause-idle : goal.try_outer-found-requires-clause-idle
@@ -31,6 +32,6 @@ pub put_held-requires-clause-refused : goal.put_held-requires-clause-refused
 put_held-requires-clause-refused c = let t = c.try_outer-found.ensures.took c.if-found-ne0.false in c.requires.refused ∙ sym (ap (λ (m : Held). some_refused m.0.refused) t.1)
 
 pub returns-clause-offered : goal.returns-clause-offered
-returns-clause-offered c = let t = c.try_outer-found.ensures.took c.if-found-ne0.false in let v : Knows = c.args.place.now.me.0 in
-    subst (λ (u : Knows). OfferedOut c.args.signal u c.put_held.result c.put_held.new.place.me.0)
-    (ap (λ (m : Held). record m.0 { held = None }) t.1 ∙ (λ k. record v { held = sym c.requires.idle.0 k })) c.put_held.ensures.offered
+returns-clause-offered c = let t = c.try_outer-found.ensures.took c.if-found-ne0.false in
+    out_held c.args.signal c.args.place.now.me.0 c.put_held.new.place.me.0 t.0 c.put_held.result c.requires.idle.0
+    (subst (λ (m : Held). PutHeld c.args.signal m.0 c.put_held.result c.put_held.new.place.me.0) t.1 c.put_held.ensures.offered)

@@ -8,5 +8,5 @@ invariant-loop g l = record {
   table : l.place.table_id ≡ l.initial.place.table_id;
   id : l.place.id ≡ l.initial.place.id;
   me : l.place.me ≡ (waits l.initial.place.me.0 l.place.me.0, l.initial.place.me.1);
-  refusals : Prefix l.initial.place.me.0.refusals l.place.me.0.refusals;
+  tries : Prefix l.initial.place.me.0.tries l.place.me.0.tries;
 }

@@ -11,5 +11,5 @@ invariant-loop g l = record {
   me : l.place.me ≡ (waited l.initial.place.me.0 l.place.me.0, l.initial.place.me.1);
   refused : l.refused ≡ some_refused l.place.me.0.refused;
   count : l.initial.place.me.0.refused ≤ l.place.me.0.refused;
-  refusals : Prefix l.initial.place.me.0.refusals l.place.me.0.refusals;
+  tries : Prefix l.initial.place.me.0.tries l.place.me.0.tries;
 }

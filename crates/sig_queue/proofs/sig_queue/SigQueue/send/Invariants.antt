@@ -8,6 +8,6 @@ invariant-loop g l = record {
   own : l.seat.queue ≡ l.initial.seat.queue;
   signal : l.signal ≡ l.initial.signal;
   tried : Tried l.initial.seat.knows l.seat.knows;
-  refusals : Prefix l.initial.seat.knows.refusals l.seat.knows.refusals;
+  tries : Prefix l.initial.seat.knows.tries l.seat.knows.tries;
   refused : l.initial.seat.knows.refused ≤ l.seat.knows.refused;
 }
