@@ -628,7 +628,7 @@ state ended normal
 ];
 
 /// Each refused text that LANGUAGE.md shows, and what is told of it.
-pub(crate) static REFUSALS: [(&[u8], &[u8]); 15] = [
+pub(crate) static REFUSALS: [(&[u8], &[u8]); 16] = [
     (b"sigscript 3\n", b"sigrun: line 1: header\n"),
     (
         b"sigscript 1\nprocess a\nreceive\non _x\n",
@@ -649,6 +649,10 @@ pub(crate) static REFUSALS: [(&[u8], &[u8]); 15] = [
     (
         b"sigscript 1\nprocess a\nturns 5\n",
         b"sigrun: line 3: syntax\n",
+    ),
+    (
+        b"sigscript 1\nprocess a\nreceive\non x\nsend @a y\n",
+        b"sigrun: line 5: syntax\n",
     ),
     (
         b"sigscript 1\nprocess a\nreceive\non x\n",
