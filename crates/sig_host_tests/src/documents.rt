@@ -5,15 +5,19 @@ pub(crate) static EXAMPLES: [(&[u8], &[u8]); 15] = [
     (
         br"sigscript 1
 process worker
+receive
+on ready
+end
 link @friend
-link @guard
+link @watcher
 exit kill
 process friend
 receive
 on never
 end
-process guard
+process watcher
 trap on
+send @worker ready
 receive
 on {'EXIT',@worker,Reason}
 end
@@ -21,21 +25,24 @@ set Seen Reason
 ",
         br"sigrecord 1
 process 0 worker
-1 exec 1 done
-2 exec 2 done
-3 exec 3 ended kill
+3 from 2 1 kept ready
+4 exec 1 took 1 1 ready
+5 exec 2 done
+6 exec 3 done
+7 exec 4 ended kill
 state ended kill
 process 1 friend
-2 from 0 1 linked
-4 from 0 2 ended kill
+6 from 0 1 linked
+8 from 0 2 ended kill
 state ended kill
-process 2 guard
+process 2 watcher
 1 exec 1 done
-3 from 0 1 linked
-4 from 0 2 kept {'EXIT',<0>,kill}
-5 exec 2 took 1 1 {'EXIT',<0>,kill}
-6 exec 3 set kill
-7 exec 4 ended normal
+2 exec 2 sent <0> ready
+7 from 0 1 linked
+8 from 0 2 kept {'EXIT',<0>,kill}
+9 exec 3 took 1 1 {'EXIT',<0>,kill}
+10 exec 4 set kill
+11 exec 5 ended normal
 state ended normal
 ",
     ),
@@ -159,25 +166,33 @@ state ended normal
     ),
     (
         br"sigscript 1
-turns 2
+turns 3
 process a
 label again
+send @b tick
 goto again
 process b
-send @a one
-send @a two
+receive
+on tick
+end
+receive
+on tick
+end
+send @a late
 ",
         br"sigrecord 1
 process 0 a
-1 exec 1 done
-2 from 1 1 kept one
-3 exec 1 done
-left 1 one
-queued 1 2 2 message two
+1 exec 1 sent <1> tick
+2 exec 2 done
+3 exec 1 sent <1> tick
+queued 1 1 6 message late
 state cut
 process 1 b
-1 exec 1 sent <0> one
-2 exec 2 sent <0> two
+2 from 0 1 kept tick
+3 exec 1 took 1 1 tick
+4 from 0 2 kept tick
+5 exec 2 took 1 1 tick
+6 exec 3 sent <0> late
 state cut
 ",
     ),
@@ -185,23 +200,30 @@ state cut
         br"sigscript 1
 process a
 trap on
+send @b ready
 receive
 on {'EXIT',From,Why}
 end
 process b
+receive
+on ready
+end
 exit_to @a {boom,1}
 exit done
 ",
         br"sigrecord 1
 process 0 a
 1 exec 1 done
-2 from 1 1 kept {'EXIT',<1>,{boom,1}}
-3 exec 2 took 1 1 {'EXIT',<1>,{boom,1}}
-4 exec 3 ended normal
+2 exec 2 sent <1> ready
+6 from 1 1 kept {'EXIT',<1>,{boom,1}}
+7 exec 3 took 1 1 {'EXIT',<1>,{boom,1}}
+8 exec 4 ended normal
 state ended normal
 process 1 b
-1 exec 1 done
-2 exec 2 ended done
+3 from 0 1 kept ready
+4 exec 1 took 1 1 ready
+5 exec 2 done
+6 exec 3 ended done
 state ended done
 ",
     ),
@@ -209,7 +231,14 @@ state ended done
         br"sigscript 1
 process parent
 trap on
+link @friend
+unlink @friend
+send @friend go
+receive
+on bye
+end
 link @child
+send @child go
 receive
 on {'EXIT',@child,Why}
 end
@@ -217,73 +246,101 @@ link @child                     % it has ended
 receive
 on {'EXIT',@child,noproc}
 end
-process child
-set N 1
-exit {crash,N}
 process friend
-link @parent
-unlink @parent
+receive
+on go
+end
+send @parent bye
 exit boom
+process child
+receive
+on go
+end
+exit {crash,1}
 ",
         br"sigrecord 1
 process 0 parent
 1 exec 1 done
-2 from 2 1 linked
-3 exec 2 done
-6 from 1 1 kept {'EXIT',<1>,{crash,1}}
-7 from 2 2 unlinked
-8 exec 3 took 1 1 {'EXIT',<1>,{crash,1}}
-9 exec 4 done
-11 from 1 2 kept {'EXIT',<1>,noproc}
-12 exec 5 took 1 1 {'EXIT',<1>,noproc}
-13 exec 6 ended normal
-state ended normal
-process 1 child
-1 exec 1 set 1
-4 from 0 1 linked
-5 exec 2 ended {crash,1}
-10 from 0 2 noproc
-state ended {crash,1}
-process 2 friend
-1 exec 1 done
 2 exec 2 done
-8 from 0 1 acked
-9 exec 3 ended boom
+3 exec 3 done
+5 from 1 1 acked
+6 exec 4 sent <1> go
+10 from 1 2 kept bye
+11 exec 5 took 1 1 bye
+12 exec 6 done
+13 exec 7 sent <2> go
+17 from 2 1 kept {'EXIT',<2>,{crash,1}}
+18 exec 8 took 1 1 {'EXIT',<2>,{crash,1}}
+19 exec 9 done
+21 from 2 2 kept {'EXIT',<2>,noproc}
+22 exec 10 took 1 1 {'EXIT',<2>,noproc}
+23 exec 11 ended normal
+state ended normal
+process 1 friend
+3 from 0 1 linked
+4 from 0 2 unlinked
+7 from 0 3 kept go
+8 exec 1 took 1 1 go
+9 exec 2 sent <0> bye
+10 exec 3 ended boom
 state ended boom
+process 2 child
+13 from 0 1 linked
+14 from 0 2 kept go
+15 exec 1 took 1 1 go
+16 exec 2 ended {crash,1}
+20 from 0 3 noproc
+state ended {crash,1}
 ",
     ),
     (
         br"sigscript 1
-process guard
+process watcher
 monitor First @worker
-monitor Gone @dead
+monitor Second @brief
+send @brief go
 receive
-on {'DOWN',^Gone,process,_,Why}
+on {'DOWN',^Second,process,_,Why}
+end
+monitor Third @brief            % it has ended
+receive
+on {'DOWN',^Third,process,_,noproc}
 end
 demonitor First flush
 process worker
 receive
 on never
 end
-process dead
+process brief
+receive
+on go
+end
+exit done
 ",
         br"sigrecord 1
-process 0 guard
+process 0 watcher
 1 exec 1 set #Ref<0.1>
 2 exec 2 set #Ref<0.2>
-4 from 2 1 kept {'DOWN',#Ref<0.2>,process,<2>,noproc}
-5 exec 3 took 1 1 {'DOWN',#Ref<0.2>,process,<2>,noproc}
-6 exec 4 answered false
-7 exec 5 ended normal
+3 exec 3 sent <2> go
+7 from 2 1 kept {'DOWN',#Ref<0.2>,process,<2>,done}
+8 exec 4 took 1 1 {'DOWN',#Ref<0.2>,process,<2>,done}
+9 exec 5 set #Ref<0.3>
+11 from 2 2 kept {'DOWN',#Ref<0.3>,process,<2>,noproc}
+12 exec 6 took 1 1 {'DOWN',#Ref<0.3>,process,<2>,noproc}
+13 exec 7 answered false
+14 exec 8 ended normal
 state ended normal
 process 1 worker
 2 from 0 1 watched
-7 from 0 2 unwatched
+14 from 0 2 unwatched
 state waiting
-process 2 dead
-1 exec 1 ended normal
-3 from 0 1 noproc
-state ended normal
+process 2 brief
+3 from 0 1 watched
+4 from 0 2 kept go
+5 exec 1 took 1 1 go
+6 exec 2 ended done
+10 from 0 3 noproc
+state ended done
 ",
     ),
     (
@@ -396,14 +453,15 @@ state waiting
     ),
     (
         br"sigscript 1
-turns 5
+turns 4
 process a
-label again
 send @b {m,[1]}
+exit_to @b normal
 receive
 on never
-after -> again
+after
 end
+send @c go
 process b
 receive
 on {m,X}
@@ -413,10 +471,9 @@ goto last
 label last
 stop
 process c
-set N 1
-set N 2
-set N 3
-set N 4
+receive
+on go
+end
 send @a late
 process d
 send Nobody hi
@@ -424,28 +481,25 @@ send Nobody hi
         br"sigrecord 1
 process 0 a
 1 exec 1 sent <1> {m,[1]}
-2 exec 2 after 0
-3 exec 1 sent <1> {m,[1]}
-4 exec 2 after 0
-5 exec 1 sent <1> {m,[1]}
-queued 2 1 5 message late
+2 exec 2 done
+3 exec 3 after 0
+4 exec 4 sent <2> go
+queued 2 1 7 message late
 state cut
 process 1 b
 2 from 0 1 kept {m,[1]}
 3 exec 1 took 1 1 {m,[1]}
-4 exec 2 set [1]
-5 from 0 2 kept {m,[1]}
+4 from 0 2 dropped
+5 exec 2 set [1]
 6 exec 3 done
 7 exec 4 ended normal
-8 from 0 3 dropped
 state ended normal
 process 2 c
-1 exec 1 set 1
-2 exec 2 set 2
-3 exec 3 set 3
-4 exec 4 set 4
-5 exec 5 sent <0> late
-state cut
+5 from 0 1 kept go
+6 exec 1 took 1 1 go
+7 exec 2 sent <0> late
+8 exec 3 ended normal
+state ended normal
 process 3 d
 1 exec 1 ended badarg
 state ended badarg
@@ -453,117 +507,128 @@ state ended badarg
     ),
     (
         br"sigscript 1
-turns 2
+turns 4
 process first
-link @a
-unlink @a
+set N 1
+set N 2
+link @idle
+unlink @idle
 process a
-set X 1
-set X 2
+set N 1
+set N 2
+set N 3
+send @b go
 process b
+receive
+on go
+end
 link @a
 unlink @a
+send @c go
 process c
+receive
+on go
+end
+exit_to @a {late,1}
 link @a
 exit boom
-process d
-set X 1
-exit_to @a {late,X}
-process e
-set X 1
-link @a
+process idle
+receive
+on never
+end
 ",
         br"sigrecord 1
 process 0 first
-1 exec 1 done
-2 exec 2 done
-queued 1 1 6 unlink_ack 1
+1 exec 1 set 1
+2 exec 2 set 2
+3 exec 3 done
+4 exec 4 done
+queued 4 1 5 unlink_ack 1
 state cut
 process 1 a
-2 from 0 1 linked
-3 exec 1 set 1
-4 from 2 1 linked
-5 from 3 1 linked
-6 from 0 2 unlinked
-7 exec 2 set 2
-queued 2 2 2 unlink 1
-queued 3 2 2 exit linked boom
-queued 4 1 2 exit plain {late,1}
-queued 5 1 2 link
+1 exec 1 set 1
+2 exec 2 set 2
+3 exec 3 set 3
+4 exec 4 sent <2> go
+queued 2 1 7 link
+queued 2 2 8 unlink 1
+queued 3 1 12 exit plain {late,1}
+queued 3 2 13 link
+queued 3 3 14 exit linked boom
 state cut
 process 2 b
-1 exec 1 done
-2 exec 2 done
+5 from 1 1 kept go
+6 exec 1 took 1 1 go
+7 exec 2 done
+8 exec 3 done
+9 exec 4 sent <3> go
 state cut
 process 3 c
-1 exec 1 done
-2 exec 2 ended boom
+10 from 2 1 kept go
+11 exec 1 took 1 1 go
+12 exec 2 done
+13 exec 3 done
+14 exec 4 ended boom
 state ended boom
-process 4 d
-1 exec 1 set 1
-2 exec 2 done
-state cut
-process 5 e
-1 exec 1 set 1
-2 exec 2 done
-state cut
+process 4 idle
+4 from 0 1 linked
+5 from 0 2 unlinked
+state waiting
 ",
     ),
     (
         br"sigscript 1
-turns 3
+turns 4
 process a
+set N 1
 alias A
-monitor M @d
-send @d A
+monitor M @b
+send @b A
 process b
-set X 1
-monitor N @a
-demonitor N
-process c
-set X 1
-set X 2
-monitor N @a
-process d
 receive
 on R
 end
 send R late
+send @c go
+process c
+receive
+on go
+end
+monitor N @a
+demonitor N
 ",
         br"sigrecord 1
 process 0 a
-1 exec 1 set #Ref<0.1>
-2 exec 2 set #Ref<0.2>
-3 from 1 1 watched
-4 exec 3 sent <3> #Ref<0.1>
-queued 1 2 3 demonitor #Ref<1.1>
-queued 2 1 3 monitor #Ref<2.1>
-queued 3 1 7 alias #Ref<0.1> late
-queued 3 2 8 down #Ref<0.2> normal
+1 exec 1 set 1
+2 exec 2 set #Ref<0.1>
+3 exec 3 set #Ref<0.2>
+4 exec 4 sent <1> #Ref<0.1>
+queued 1 1 7 alias #Ref<0.1> late
+queued 1 2 9 down #Ref<0.2> normal
+queued 2 1 11 monitor #Ref<2.1>
+queued 2 2 12 demonitor #Ref<2.1>
 state cut
 process 1 b
-1 exec 1 set 1
-2 exec 2 set #Ref<1.1>
-3 exec 3 done
-state cut
-process 2 c
-1 exec 1 set 1
-2 exec 2 set 2
-3 exec 3 set #Ref<2.1>
-state cut
-process 3 d
-3 from 0 1 watched
+4 from 0 1 watched
 5 from 0 2 kept #Ref<0.1>
 6 exec 1 took 1 1 #Ref<0.1>
 7 exec 2 sent #Ref<0.1> late
-8 exec 3 ended normal
+8 exec 3 sent <2> go
+9 exec 4 ended normal
+state ended normal
+process 2 c
+9 from 1 1 kept go
+10 exec 1 took 1 1 go
+11 exec 2 set #Ref<2.1>
+12 exec 3 done
+13 exec 4 ended normal
 state ended normal
 ",
     ),
 ];
 
 /// Each refused text that LANGUAGE.md shows, and what is told of it.
-pub(crate) static REFUSALS: [(&[u8], &[u8]); 15] = [
+pub(crate) static REFUSALS: [(&[u8], &[u8]); 16] = [
     (b"sigscript 3\n", b"sigrun: line 1: header\n"),
     (
         b"sigscript 1\nprocess a\nreceive\non _x\n",
@@ -584,6 +649,10 @@ pub(crate) static REFUSALS: [(&[u8], &[u8]); 15] = [
     (
         b"sigscript 1\nprocess a\nturns 5\n",
         b"sigrun: line 3: syntax\n",
+    ),
+    (
+        b"sigscript 1\nprocess a\nreceive\non x\nsend @a y\n",
+        b"sigrun: line 5: syntax\n",
     ),
     (
         b"sigscript 1\nprocess a\nreceive\non x\n",
