@@ -69,8 +69,10 @@ fn is_removal_due(fetch: &Fetch) -> bool
 impl SigQueue {
     /// Takes the outer list, and then the lists of the buffers whose bits were set and whose turns
     /// were free, by ascending number. They come behind what is in `into`. It tries the outer turn
-    /// once, and where that was free the turn of each buffer whose bit was set, and takes no lock. The
-    /// seat has the receiver's role, and no removal is due.
+    /// once, and where that was free the turn of each buffer whose bit was set, and takes no lock.
+    ///
+    /// Asks that the seat is of this queue and has the receiver's role, and that no removal is due,
+    /// as [`SigQueue::removal_due`] tells.
     pub fn try_fetch(&self, seat: &mut QSeat, into: &mut Signals) -> Fetch
         requires own { seat.old.queue ≡ self.now.id }
         requires role { seat.old.knows.role ≡ true }

@@ -62,10 +62,13 @@ fn offer_at(
 impl SigQueue {
     /// Offers a signal: to the sender's buffer where the mode is on, and else to the outer list. It
     /// tries the outer turn once, or that of the buffer, or first this one and then the outer one,
-    /// looks at the mode at most twice, and takes no lock. The signal is of a sender of the seat, goes
-    /// to the queue's receiver, continues the numbers of its sender, has a stamp of at most 2^62, and
-    /// names only processes below the queue's count. Under `Never` it is put into no buffer, and under
-    /// `Always` never into the outer list.
+    /// looks at the mode at most twice, and takes no lock. Under `Never` it is put into no buffer,
+    /// and under `Always` never into the outer list.
+    ///
+    /// Asks that the seat is of this queue and has the signal's sender, which is one of the
+    /// queue's; and that the signal goes to the queue's receiver, has the next number of its sender
+    /// (the first number and as many more as the sender has put) and a stamp of at most 2^62, and
+    /// names only processes below the queue's count.
     pub fn offer(&self, seat: &mut QSeat, signal: Signal) -> Offer
         requires own { seat.old.queue ≡ self.now.id }
         requires from { has seat.old.knows.senders signal.from.0 ≡ true }
