@@ -23,12 +23,9 @@ module _ {S X E : Type 0} (rules : Rules S X E) where
     where
       other : FirstKeeps (turned facts) rules
       other = record {
-        executed = λ p q s t out back effect alive e h.
-            symmetric p q effect.state t (out ++ addressed rules q effect.sends) back (law.executed p q s t out back effect alive e (symmetric q p t s back out h));
-        handled = λ p q s t x out back from h.
-            symmetric p q (rules.handle p s x).state t (out ++ addressed rules q (rules.handle p s x).sends) back (law.handled p q s t x out back from (symmetric q p t s (x ∷ back) out h));
-        handled_other = λ p q s t x out back apart h.
-            symmetric p q (rules.handle p s x).state t (out ++ addressed rules q (rules.handle p s x).sends) back (law.handled_other p q s t x out back apart (symmetric q p t s back out h));
+        executed = λ p q s t out back effect alive e h. symmetric p q effect.state t _ back (law.executed p q s t out back effect alive e (symmetric q p t s _ _ h));
+        handled = λ p q s t x out back from h. symmetric p q (rules.handle p s x).state t _ back (law.handled p q s t x out back from (symmetric q p t s _ _ h));
+        handled_other = λ p q s t x out back apart h. symmetric p q (rules.handle p s x).state t _ back (law.handled_other p q s t x out back apart (symmetric q p t s _ _ h));
       }
 
   -- one process alone, and another that does nothing meanwhile
