@@ -38,3 +38,4 @@ pub mod GeneratedLemmas
 pub mod OtherPhrases
 pub mod OtherForms
 pub mod OtherWalks
+pub mod ScriptNames

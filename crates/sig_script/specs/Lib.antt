@@ -1,5 +1,7 @@
 pub mod LabelPlaces
 pub mod Faults
+pub mod FaultWords
+pub mod ErrorTexts
 pub mod Lines
 pub mod Numbers
 pub mod Tokens
@@ -15,7 +17,6 @@ pub mod Grammar
 pub mod Reading
 pub mod ScriptText
 pub mod ReadableScript
-pub mod Putting
 pub mod Printing
 pub mod Generated
 pub mod Sections

@@ -28,7 +28,7 @@ mod token;
 
 pub use fault::FaultKind;
 pub use generating::{MOST_CALLS, generate};
-pub use laws::a_printed_script_is_read_back;
+pub use laws::{a_printed_script_is_read_back, names_of_scripts_are_name_tokens};
 pub use printing::print_script;
 pub use reader::{MOST_BYTES, ScriptError, read_script};
 pub use sig_program::{
