@@ -5,6 +5,7 @@ ghost use Rattle.sig_program.specs.Scripts.{Program, IsSound};
 ghost use Rattle.sig_script.specs.Generated.{generated};
 ghost use Rattle.sig_model.specs.OneWorker.{IsClear, RunsTo};
 ghost use Rattle.sig_model.specs.CrewLaw.{IsLawfulCrew};
+ghost use Rattle.sig_process.specs.Standing.{runnings_of};
 ghost use Rattle.sig_workers.specs.Rounds.{HasSettled};
 ghost use Rattle.sig_host.specs.Answers.{
   AreTexts,
@@ -78,12 +79,12 @@ fn run_crew<R: Threads + Wait + Sync, G: Gate>(
     gate: &G,
 ) -> Result<Crew, AllocError>
     requires range { IsInRange settings }
-    requires lawful { (script : Program) × IsSound script × IsLawfulCrew script crew }
-    requires clear { IsClear crew }
-    ensures lawful { (script : Program) → IsLawfulCrew script crew → IfOk result (IsLawfulCrew script) }
-    ensures clear { IfOk result IsClear }
-    ensures settled { (script : Program) → IsLawfulCrew script crew → IfOk result (HasSettled script) }
-    ensures alone { settings.workers ≡ 1 → IfOk result (RunsTo crew) }
+    requires lawful { (script : Program) × IsSound script × IsLawfulCrew script (runnings_of crew) }
+    requires clear { IsClear (runnings_of crew) }
+    ensures lawful { (script : Program) → IsLawfulCrew script (runnings_of crew) → IfOk result (λ c. IsLawfulCrew script (runnings_of c)) }
+    ensures clear { IfOk result (λ c. IsClear (runnings_of c)) }
+    ensures settled { (script : Program) → IsLawfulCrew script (runnings_of crew) → IfOk result (λ c. HasSettled script (runnings_of c)) }
+    ensures alone { settings.workers ≡ 1 → IfOk result (λ c. RunsTo (runnings_of crew) (runnings_of c)) }
 {
     if settings.workers == 1 {
         lawful_crew_comes_to_rest();

@@ -235,3 +235,46 @@ fn workers_put_as_the_policy_says(rt: HostRuntime) {
         assert!(rt; put_into(&rt, rt.alloc(), policy, buffers), "{policy}");
     }
 }
+
+/// A gate that counts the puts of process 1, and keeps how many it was told of when that process had
+/// handled its second signal.
+#[derive(Drop)]
+struct PutsBefore {
+    count: AtomicU64,
+    handled: AtomicU64,
+    before: AtomicU64,
+}
+
+impl Gate for PutsBefore {
+    fn at(&self, _worker: u32, pid: u32, point: Point) {
+        match (pid, point) {
+            (1, Point::Put { buffer: _ }) => {
+                self.count.fetch_add(1, Ordering::SeqCst);
+            }
+            (1, Point::Handled) => {
+                if self.handled.fetch_add(1, Ordering::SeqCst) == 1 {
+                    let count = self.count.load(Ordering::SeqCst);
+                    self.before.store(count, Ordering::SeqCst);
+                }
+            }
+            _ => (),
+        }
+    }
+}
+
+/// Process 1 handles a link, and then an unlink, which it acknowledges.
+const ACKNOWLEDGED: &[u8] =
+    b"sigscript 1\nprocess a\nlink @b\nunlink @b\nprocess b\nreceive\non never\nend\n";
+
+#[test]
+fn workers_put_before_they_tell_of_the_handling(rt: HostRuntime) {
+    let gate = PutsBefore {
+        count: AtomicU64::new(0),
+        handled: AtomicU64::new(0),
+        before: AtomicU64::new(0),
+    };
+    let words: &[&str] = &["--workers", "2"];
+    assert!(rt; ends_well(&rt, rt.alloc(), words, ACKNOWLEDGED, &gate) == Ok(true));
+    assert_eq!(rt; gate.handled.load(Ordering::SeqCst), 2);
+    assert_eq!(rt; gate.before.load(Ordering::SeqCst), 1);
+}

@@ -22,15 +22,10 @@ pub any_at : {A : Type 0} (p : A → Bool) (xs : List A) (i : ℕ) (x : A) → s
     list_any p (drop i xs) ≡ (p x || list_any p (drop (i + 1) xs))
 any_at p xs i x e = ap (list_any p) (drop_at xs i x e)
 
--- what a crew has run, whatever the process at a place is replaced by
-pub runnings_set_all : (xs : List Standing) (i : ℕ) → ◌≡◌ {A = Standing → List Running} (λ p. runnings_of (slice_set xs i p)) (λ p. slice_set (runnings_of xs) i p.running)
-runnings_set_all xs i = λ k p. map-set (λ (q : Standing). q.running) xs i p k
-
 -- the process that is lent
-pub runnings_lent : (xs : List Standing) (i : ℕ) (o : Option (MutBor Standing)) → IsItemAtMut xs i o → MatchOption o (length (runnings_of xs) ≤ i) (λ p. slice_get (runnings_of xs) i ≡ Some p.now.running)
-runnings_lent xs i None e = let le : length xs ≤ i = e.3 in omega (arith, le, length-map xs (λ (p : Standing). p.running))
-runnings_lent xs i (Some p) e =
-    slice_get-map (λ (q : Standing). q.running) xs i ∙ ap (option_map (λ (q : Standing). q.running)) (slice_get-get_or xs i p.now e.3.0 ∙ ap Some (sym e.1))
+pub standing_lent : (xs : List Standing) (i : ℕ) (o : Option (MutBor Standing)) → IsItemAtMut xs i o → MatchOption o (length xs ≤ i) (λ p. slice_get xs i ≡ Some p.now)
+standing_lent xs i None e = e.3
+standing_lent xs i (Some p) e = slice_get-get_or xs i p.now e.3.0 ∙ ap Some (sym e.1)
 
 opened_at : (procs : List Declared) (pid count turns : ℕ) (o : Option Declared) (d : Declared) (p : Running) (before : List Running) →
     o ≡ Some d → slice_get procs pid ≡ o → IfSome o (λ d. p ≡ opened pid count turns d) →

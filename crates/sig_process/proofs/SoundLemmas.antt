@@ -7,6 +7,9 @@ use Rattle.std.proofs.lemmas.Option.{slice_get_within, get_or_from_slice_get}
 use Rattle.sig_terms.specs.declared.term.Term.{Term}
 use Rattle.sig_kinds.specs.declared.signal.Signal.{Signal}
 use Rattle.sig_kinds.specs.SignalList.{SignalList}
+use Rattle.sig_kinds.specs.Pushes.{IsPush}
+use Rattle.sig_kinds.specs.declared.signals.Push.{Push}
+use Rattle.sig_kinds.specs.declared.signals.Push.TheVariants.{Added, Memory}
 use Rattle.sig_kinds.specs.SignalNames.{IsSignalBelow}
 use Rattle.sig_program.specs.declared.instruction.Instr.{Instr}
 use Rattle.sig_program.specs.Scripts.{Declared, Program, IsProcBelow, IsWithin, IsSound as IsSoundScript}
@@ -115,7 +118,7 @@ module _ (pid count turns : ℕ) (proc : Declared) where
 
     pub exec_tells : (how : Exec) → can_exec (runs before) ≡ true → HasGone pid proc before after how → IsExec (standing_of pid count turns proc before) (standing_of pid count turns proc after) how
     exec_tells Stepped h x = (executed_next h x, unsaved_none after.tables.inner.queue.last x.unsaved)
-    exec_tells Waiting h x = (x.waits, unmoved_is x.unmoved, x.saved)
+    exec_tells Waiting h x = (x.waits, unmoved_is x.unmoved, x.saved, omega (arith, x.saved, x.within))
 
     pub exec_sound : (how : Exec) → IsSound pid count turns proc before → can_exec (runs before) ≡ true → HasGone pid proc before after how → IsSaved (here after) after →
         IsSound pid count turns proc after
@@ -225,15 +228,14 @@ module _ (pid count turns : ℕ) (proc : Declared) where
 
   -- a signal of another arrives, or there is no room and no memory for it
   module _ (p : Progress) (k : IsSound pid count turns proc p) (left : SignalList) where
-    pub arrived_sound : {T E : Type 0} (x : Signal) (o : Result T E) → IsArriving pid count x →
-        MatchResult o (λ _. left.items ≡ p.taken_in.items ++ x ∷ []) (λ _. left.items ≡ p.taken_in.items) → IsSound pid count turns proc (record p { taken_in = left })
-    arrived_sound x (Ok _) h e = record {
-      keeps = rw e (arrived_keeps (runs p) x k.keeps h);
+    pub arrived_sound : (x : Signal) (o : Push) → IsArriving pid count x → IsPush p.taken_in left x o → IsSound pid count turns proc (record p { taken_in = left })
+    arrived_sound x Added h e = record {
+      keeps = rw e.0 (arrived_keeps (runs p) x k.keeps h);
       owner = k.owner;
       saved = record { none = k.saved.none; ended = k.saved.ended };
     }
-    arrived_sound x (Err _) h e = record {
-      keeps = rw e k.keeps;
+    arrived_sound x (Memory back) h e = record {
+      keeps = rw e.0 k.keeps;
       owner = k.owner;
       saved = record { none = k.saved.none; ended = k.saved.ended };
     }

@@ -64,6 +64,8 @@ pub record HasWaited (proc : Declared) (before after : Progress) : Type 0 where
   pub waits : IsWaiting proc (state_of before)
   pub unmoved : IsUnmoved before after
   pub saved : passed after.tables.inner.queue.last ≡ length before.tables.inner.queue.inbox.messages
+  -- it lay among the messages before
+  pub within : passed before.tables.inner.queue.last ≤ length before.tables.inner.queue.inbox.messages
 
 -- The last scan has found this hit among the messages behind the first `start` ones, with the clause of this number, and looked at
 -- so many messages.

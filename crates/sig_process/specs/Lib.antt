@@ -7,6 +7,7 @@ pub mod KeptMessage
 pub mod Soundness
 pub mod Executions
 pub mod Steps
+pub mod Arrivals
 pub mod Tests
 pub mod PartsOf
 pub mod Lending

@@ -3,26 +3,13 @@
 ghost use Rattle.std.specs.Prelude.{◌≡◌, ◌++◌, [], ◌∷◌, length, All, IfSome, MatchOption, MatchResult, slice_index};
 ghost use Rattle.sig_model.specs.Accounts.{Continues};
 ghost use Rattle.sig_model.specs.Keeping.{IsArriving, IsLeaving};
-ghost use Rattle.sig_model.specs.OneWorker.{arrived};
+ghost use Rattle.sig_process.specs.Arrivals.{IsArrival};
 
 use crate::process::Process;
 use sig_kinds::{Push, Signal, Signals};
 use sig_terms::Pid;
 use std::alloc::AllocError;
-use std::mem::{self, drop};
-
-/// The signal joins the list. The error is want of memory; then the list is as before.
-fn push_signal(signals: &mut Signals, signal: Signal) -> Result<(), AllocError>
-    ensures { MatchResult result (λ _. signals.new.items ≡ signals.old.items ++ signal ∷ []) (λ _. signals.new.items ≡ signals.old.items) }
-{
-    match signals.push(signal) {
-        Push::Added => Ok(()),
-        Push::Memory { signal } => {
-            drop(signal);
-            Err(AllocError)
-        }
-    }
-}
+use std::mem;
 
 impl Process {
     /// How many signals to itself it has not handled.
@@ -50,13 +37,13 @@ impl Process {
     }
 
     /// A signal of another process joins those that wait for this one. It goes to this process, names
-    /// only processes that there are, and has a stamp of at most 2^62. The error is want of memory;
-    /// then the process is as before.
-    pub fn arrive(&mut self, signal: Signal) -> Result<(), AllocError>
+    /// only processes that there are, and has a stamp of at most 2^62. Where there is no memory for
+    /// it, the process is as before, and the signal comes back.
+    pub fn arrive(&mut self, signal: Signal) -> Push
         requires { IsArriving self.old.running.pid self.old.running.count signal }
-        ensures { MatchResult result (λ _. self.new ≡ record self.old { running = arrived self.old.running signal }) (λ _. self.new ≡ self.old) }
+        ensures { IsArrival self.old self.new signal result }
     {
-        push_signal(&mut self.progress.taken_in, signal)
+        self.progress.taken_in.push(signal)
     }
 
     /// Signals of other processes join those that wait for this one. Each goes to this process, names

@@ -118,6 +118,7 @@ impl Progress {
         ensures saved { IsSaved (slice_get proc.now.instrs (self.new.counts.place - 1)) self.new }
         ensures ticks { steps.new ≤ steps.old + tests_of (state_of self.old) (passed self.old.tables.inner.queue.last) (Some (Instr.Receive «using».now clauses.now after.now)) }
     {
+        prove!(self.tables.inner.passed() <= self.tables.inner.len());
         let using = self.using_ref(using);
         match scan_messages(
             &mut self.tables.inner,

@@ -5,6 +5,7 @@ ghost use Rattle.sig_model.specs.Machine.{rules_of};
 ghost use Rattle.sig_model.specs.CrewLaw.{IsLawfulCrew, whole_member};
 ghost use Rattle.sig_model.specs.Keeping.{IsPlaced};
 ghost use Rattle.sig_model.specs.OneWorker.{IsClear};
+ghost use Rattle.sig_process.specs.Standing.{runnings_of};
 ghost use Rattle.sig_record.specs.RecordOf.{record_of, sorted_record, AreInOrder, IsByPid};
 ghost use Rattle.sig_record.specs.Records.{IsRecord};
 ghost use Rattle.sig_record.specs.Merging.{IsMerged};
@@ -63,13 +64,13 @@ impl Record {
     /// Asks that nothing is left of what a process of the crew has sent to others (its outbox is
     /// empty), and that the process at place p of the crew, from 0, has the pid p.
     pub fn gather(alloc: Global, crew: Crew) -> Result<Record, AllocError>
-        requires clear { IsClear crew }
-        requires by_pid { IsByPid crew }
-        ensures sorted { IfOk result (λ r. r ≡ sorted_record crew) }
-        ensures in_order { IsPlaced crew → AreInOrder crew → IfOk result (λ r. r ≡ record_of crew) }
-        ensures lawful { (script : Program) → IsLawfulCrew script crew → IfOk result (λ r. r ≡ record_of crew) }
-        ensures run { (script : Program) → IsLawfulCrew script crew →
-            IfOk result (IsRecordOfRun script (crew_machine (rules_of script) (map whole_member crew))) }
+        requires clear { IsClear (runnings_of crew) }
+        requires by_pid { IsByPid (runnings_of crew) }
+        ensures sorted { IfOk result (λ r. r ≡ sorted_record (runnings_of crew)) }
+        ensures in_order { IsPlaced (runnings_of crew) → AreInOrder (runnings_of crew) → IfOk result (λ r. r ≡ record_of (runnings_of crew)) }
+        ensures lawful { (script : Program) → IsLawfulCrew script (runnings_of crew) → IfOk result (λ r. r ≡ record_of (runnings_of crew)) }
+        ensures run { (script : Program) → IsLawfulCrew script (runnings_of crew) →
+            IfOk result (IsRecordOfRun script (crew_machine (rules_of script) (map whole_member (runnings_of crew)))) }
     {
         let reports = gather_all(alloc, crew.procs)?;
         Ok(Record { reports })

@@ -15,7 +15,7 @@ ghost use Rattle.sig_tests.specs.Plays.{SameCome};
 use crate::orders::is_message;
 use crate::shared::{Row, each_row_holds};
 use sig_base::Steps;
-use sig_kinds::{Kind, Signal, Signals};
+use sig_kinds::{Kind, Push, Signal, Signals};
 use sig_lists::same_items;
 use sig_model::{Did, Event, Outcome};
 use sig_process::{Crew, Exec, Process};
@@ -195,8 +195,10 @@ fn arrives(process: &mut Process, count: u32, signal: Signal) -> Result<bool, Al
         drop(signal);
         return Ok(false);
     }
-    process.arrive(signal)?;
-    Ok(true)
+    match process.arrive(signal) {
+        Push::Added => Ok(true),
+        Push::Memory { signal: _ } => Err(AllocError),
+    }
 }
 
 /// Delivers what one has sent to the other. False where a signal is for a third, or a hundred are sent.

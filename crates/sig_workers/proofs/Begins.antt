@@ -21,11 +21,11 @@ pub record IsBegun (script : Program) (start : List Standing) : Type 0 where
   pub few : length (runnings_of start) ≤ 256
   pub few_procs : length start ≤ 256
 
-pub begun : (script : Program) (start : List Standing) (crew : List Running) → runnings_of start ≡ crew → IsSound script → IsLawfulCrew script crew → IsClear crew → IsBegun script start
+pub begun : (script : Program) (start crew : List Standing) → start ≡ crew → IsSound script → IsLawfulCrew script (runnings_of crew) → IsClear (runnings_of crew) → IsBegun script start
 begun script start crew view sound lawful clear =
-    let law : IsLawfulCrew script (runnings_of start) = subst (IsLawfulCrew script) (sym view) lawful in
+    let law : IsLawfulCrew script (runnings_of start) = subst (λ z. IsLawfulCrew script (runnings_of z)) (sym view) lawful in
     let few : length (runnings_of start) ≤ 256 = crew_few script (runnings_of start) sound law in
-    record { law = law; clear = subst IsClear (sym view) clear; few = few; few_procs = omega (arith, few, many_running start) }
+    record { law = law; clear = subst (λ z. IsClear (runnings_of z)) (sym view) clear; few = few; few_procs = omega (arith, few, many_running start) }
 
 -- these are their queues
 pub record HasQueues (policy : Policy) (start : List Standing) (queues : List Queue) (seats : List Seated) : Type 0 where
@@ -42,17 +42,17 @@ module _ (script : Program) (policy : Policy) (start : List Standing) (b : IsBeg
       record {
         opened = o;
         same = same;
-        fresh = subst (λ n. AreFresh queues 0 n seats) (many_running start) (opened_fresh script policy (runnings_of start) b.law b.few b.clear queues seats o same);
+        fresh = subst (λ n. AreFresh queues 0 n seats) (many_running start) (opened_fresh script policy start b.law b.few b.clear queues seats o same);
       }
 
 -- what is said of so many processes, of so many states
-pub row_of : (queues slice : List Queue) (start : List Standing) (parts : List Part) → slice ≡ queues → FreshRow slice (runnings_of start) 0 (length start) parts
-    → FreshRow queues (runnings_of start) 0 (length (runnings_of start)) parts
+pub row_of : (queues slice : List Queue) (start : List Standing) (parts : List Part) → slice ≡ queues → FreshRow slice start 0 (length start) parts
+    → FreshRow queues start 0 (length (runnings_of start)) parts
 row_of queues slice start parts is row =
-    subst (λ n. FreshRow queues (runnings_of start) 0 n parts) (sym (many_running start)) (subst (λ z. FreshRow z (runnings_of start) 0 (length start) parts) is row)
+    subst (λ n. FreshRow queues start 0 n parts) (sym (many_running start)) (subst (λ z. FreshRow z start 0 (length start) parts) is row)
 
-pub whole_of : (queues slice : List Queue) (start kept : List Standing) (w : Worked) → slice ≡ queues → kept ≡ start → IsWhole slice (runnings_of kept) (length kept) w
-    → IsWhole queues (runnings_of start) (length (runnings_of start)) w
+pub whole_of : (queues slice : List Queue) (start kept : List Standing) (w : Worked) → slice ≡ queues → kept ≡ start → IsWhole slice kept (length kept) w
+    → IsWhole queues start (length (runnings_of start)) w
 whole_of queues slice start kept w is same whole =
-    subst (λ n. IsWhole queues (runnings_of start) n w) (sym (many_running start))
-    (subst (λ z. IsWhole z (runnings_of start) (length start) w) is (subst (λ z. IsWhole slice (runnings_of z) (length z) w) same whole))
+    subst (λ n. IsWhole queues start n w) (sym (many_running start))
+    (subst (λ z. IsWhole z start (length start) w) is (subst (λ z. IsWhole slice z (length z) w) same whole))

@@ -16,6 +16,7 @@ use Rattle.sig_queue.specs.Accounts.{account_of}
 use Rattle.sig_queue.specs.Ends.{EndsAs}
 use Rattle.sig_queue.specs.Seats.{Queue, Seated}
 use Rattle.sig_process.specs.Standing.{Standing, runnings_of}
+use Rattle.sig_workers.specs.Acting.{KeepEvents}
 use Rattle.sig_workers.specs.Closing.{CanClose, HasClosed, IsClosedAt}
 use Rattle.sig_workers.proofs.SeatLists.{of_is}
 use Rattle.sig_workers.proofs.FetchLemmas.{may_arrive, arrivals_keep}
@@ -105,3 +106,15 @@ pub first_left : {X : Type 0} (n : ℕ) (xs ys zs : List X) (x : X) → ys ≡ d
 first_left n xs ys zs x e lt value rest =
     let t : (slice_get xs n ≡ Some x) × (zs ≡ drop (suc n) xs) = drop_tells n xs zs x (sym e ∙ first_removed ys zs x (some_left n xs ys e lt) value rest) in
     (t.0, t.1 ∙ ap (λ m. drop m xs) (let m : suc n ≡ n + 1 = omega arith in m))
+
+-- one more process that has its events and its saved place
+module _ (start procs : List Standing) (at : ℕ) (p t : Standing) (there : slice_get procs at ≡ Some p) (events : t.running.events ≡ p.running.events) (saved : t.saved ≡ p.saved) where
+  pub kept_more : KeepEvents start procs → KeepEvents start (slice_set procs at t)
+  kept_more kept i q is = elim (eqb_tells at i) [
+    | inl e ↦ (
+        let mine : t ≡ q = same_Some t q (sym (slice_get-set_same procs at t p there) ∙ ap (λ z. slice_get (slice_set procs at t) z) e.1 ∙ is) in
+        let w : (s : Standing) × (slice_get start i ≡ Some s) × (p.running.events ≡ s.running.events) × (p.saved ≡ s.saved) = kept i p (ap (λ z. slice_get procs z) (sym e.1) ∙ there) in
+        (w.0, w.1, ap (λ (z : Standing). z.running.events) (sym mine) ∙ events ∙ w.2, ap (λ (z : Standing). z.saved) (sym mine) ∙ saved ∙ w.3)
+        )
+    | inr e ↦ kept i q (sym (slice_get-set_other procs at i t e.1) ∙ is)
+  ]

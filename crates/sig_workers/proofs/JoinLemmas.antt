@@ -21,7 +21,7 @@ use Rattle.sig_workers.specs.declared.part.Part.{Part}
 use Rattle.sig_workers.specs.Parts.{procs_of, base_of, is_in, IsOwn, IsSeat, AreSeats, LooksSame, HasPlace, IsPart, IsJoined, AreJoined}
 use Rattle.sig_workers.proofs.PartLemmas.{place_kept}
 
-pub get_append : (xs ys : List Running) (i : ℕ) (r : Running) → slice_get (xs ++ ys) i ≡ Some r → (slice_get xs i ≡ Some r) ⊎ ((j : ℕ) × (i ≡ length xs + j) × (slice_get ys j ≡ Some r))
+pub get_append : {X : Type 0} (xs ys : List X) (i : ℕ) (r : X) → slice_get (xs ++ ys) i ≡ Some r → (slice_get xs i ≡ Some r) ⊎ ((j : ℕ) × (i ≡ length xs + j) × (slice_get ys j ≡ Some r))
 get_append [] ys i r h = inr (i, (let e : i ≡ 0 + i = omega arith in e), h)
 get_append (x ∷ xs) ys zero r h = inl h
 get_append (x ∷ xs) ys (suc i) r h = elim (get_append xs ys i r h) [

@@ -18,6 +18,7 @@ pub mod FreshLemmas
 pub mod RowLemmas
 pub mod RoundLaw
 pub mod EndLemmas
+pub mod StillBefore
 pub mod RoundLemmas
 pub mod Begins
 pub mod RoundsLemmas

@@ -132,6 +132,9 @@ many_running [] = refl
 many_running (p ∷ ps) = ap suc (many_running ps)
 
 -- a process that was read stands at its place
+pub standing_at : (procs : List Standing) (i : ℕ) (p : Standing) → i < length procs → p ≡ get_or procs i p → slice_get procs i ≡ Some p
+standing_at procs i p lt is = slice_get-get_or procs i p lt ∙ ap (λ z. Some z) (sym is)
+
 pub running_at : (procs : List Standing) (i : ℕ) (p : Standing) → i < length procs → p ≡ get_or procs i p → slice_get (runnings_of procs) i ≡ Some p.running
 running_at procs i p lt is =
     slice_get-map (λ (z : Standing). z.running) procs i ∙ ap (λ o. option_map (λ (z : Standing). z.running) o) (slice_get-get_or procs i p lt ∙ ap (λ z. Some z) (sym is))

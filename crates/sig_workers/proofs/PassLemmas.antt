@@ -8,7 +8,9 @@ use Rattle.std.proofs.lemmas.Option.{same_Some, slice_get_within, slice_get-get_
 use Rattle.sig_runs.proofs.Lists.{slice_get-set_same, slice_get-set_other}
 use Rattle.sig_model.specs.Running.{Running}
 use Rattle.sig_model.specs.Still.{IsStill}
+use Rattle.sig_process.specs.Standing.{Standing}
 use Rattle.sig_workers.specs.Visits.{HasMoved}
+use Rattle.sig_workers.specs.Acting.{HasActed, HasActedAt, ActBelow}
 use Rattle.sig_workers.specs.Parts.{procs_of, HasVisited, Grow, AnyMore, StillBelow, HavePassed, IsSamePart}
 use Rattle.sig_workers.specs.declared.part.Part.{Part}
 
@@ -74,6 +76,45 @@ module _ (start procs later : List Running) (at : ℕ) (here : Bool) (v : HasVis
 
   pub visit_passed : (a : Bool) → ((i : ℕ) → at ≤ i → slice_get procs i ≡ slice_get start i) → MatchBool a (AnyMore start procs) (StillBelow at start procs) → MatchBool (a || here) (AnyMore start later) (StillBelow (at + 1) start later)
   visit_passed a rest h = visit_case a here (sym (rest at (omega arith)) ∙ v.there) h v.moved_is
+
+-- who can act acts, at one place
+module _ (start procs later : List Standing) (at : ℕ) (v : HasActedAt at procs later) where
+  stands_new : slice_get later at ≡ Some v.new
+  stands_new = ap (λ z. slice_get z at) v.set ∙ slice_get-set_same procs at v.new v.old v.there
+
+  stands_other : (i : ℕ) → at ≢ i → slice_get later i ≡ slice_get procs i
+  stands_other i ne = ap (λ z. slice_get z i) v.set ∙ slice_get-set_other procs at i v.new ne
+
+  pub acted_rest : ((i : ℕ) → at ≤ i → slice_get procs i ≡ slice_get start i) → (i : ℕ) → at + 1 ≤ i → slice_get later i ≡ slice_get start i
+  acted_rest rest i le = stands_other i (λ e. (let f : ⊥ = omega (arith, le, e) in f)) ∙ rest i (omega (arith, le))
+
+  pub acted_more : ((i : ℕ) → at ≤ i → slice_get procs i ≡ slice_get start i) → ActBelow at start procs → ActBelow (at + 1) start later
+  acted_more rest h i q lt is = elim (eqb_tells at i) [
+    | inl e ↦ (
+      v.old,
+      subst (λ z. slice_get start z ≡ Some v.old) e.1 (sym (rest at (omega arith)) ∙ v.there),
+      subst (HasActed v.old) (same_Some v.new q (sym stands_new ∙ ap (λ z. slice_get later z) e.1 ∙ is)) v.acted,
+    )
+    | inr e ↦ h i q (let f : i < at = omega (arith, lt, e.1) in f) (sym (stands_other i e.1) ∙ is)
+  ]
+
+-- two passes
+acts_on : (p m q : Standing) → HasActed p m → HasActed m q → HasActed p q
+acts_on p m q (inl a) (inl b) = inl (omega (arith, a, b))
+acts_on p m q (inl a) (inr b) = inl (omega (arith, a, b.0))
+acts_on p m q (inr a) (inl b) = inl (omega (arith, a.0, b))
+acts_on p m q (inr a) (inr b) = inr (b.0 ∙ a.0, b.1, omega (arith, a.2, b.2))
+
+act_twice : (xs ys zs : List Standing) → ActBelow (length ys) xs ys → ActBelow (length zs) ys zs → ActBelow (length zs) xs zs
+act_twice xs ys zs h k i q lt at =
+    let w : (m : Standing) × (slice_get ys i ≡ Some m) × HasActed m q = k i q lt at in
+    let v : (p : Standing) × (slice_get xs i ≡ Some p) × HasActed p w.0 = h i w.0 (slice_get_within ys i w.0 w.1) w.1 in
+    (v.0, v.1, acts_on v.0 w.0 q v.2 w.2)
+
+pub acted_pass : (start mid end : Part) (a : Bool) → MatchBool a (AnyMore (procs_of start) (procs_of mid)) (mid ≡ start) → (a ≡ true → ActBelow (length mid.procs.items) start.procs.items mid.procs.items) →
+    ActBelow (length end.procs.items) mid.procs.items end.procs.items → ActBelow (length end.procs.items) start.procs.items end.procs.items
+acted_pass start mid end true m h k = act_twice start.procs.items mid.procs.items end.procs.items (h refl) k
+acted_pass start mid end false m h k = subst (λ (z : Part). ActBelow (length end.procs.items) z.procs.items end.procs.items) m k
 
 -- several passes
 -- one pass more, which had an event or had none

@@ -20,17 +20,18 @@ use Rattle.sig_layout.specs.Sent.{putter, of, signals}
 use Rattle.sig_layout.proofs.Sending.{signals-append}
 use Rattle.sig_queue.specs.declared.account.Account.{Account}
 use Rattle.sig_queue.specs.Accounts.{MayFollow, followed, EachMayFollow, all_followed}
+use Rattle.sig_process.specs.Standing.{Standing, runnings_of}
 use Rattle.sig_workers.specs.Room.{room_of, room}
 use Rattle.sig_workers.specs.Rounds.{Begin, NoneMore, IsReceiptOf, IsFlag, IsRound, IsRounds, room_left}
 use Rattle.sig_workers.proofs.OpenLemmas.{some_at}
 use Rattle.sig_workers.proofs.SeatLists.{items_length}
 
-pub first_round : (script : Program) (policy : Policy) (crew later : List Running) (receipts : List Account) (moved : Bool) → IsRound script policy crew later receipts moved → IsRounds script policy crew later receipts
+pub first_round : (script : Program) (policy : Policy) (crew later : List Standing) (receipts : List Account) (moved : Bool) → IsRound script policy crew later receipts moved → IsRounds script policy (runnings_of crew) (runnings_of later) receipts
 first_round script policy crew later receipts moved h = record { lawful = h.lawful; clear = h.clear; begin = h.begin; count = h.count; receipt = h.receipt }
 
 -- where a round has no event, no process can do anything
-pub round_still : (script : Program) (policy : Policy) (crew later : List Running) (receipts : List Account) (moved : Bool) → IsRound script policy crew later receipts moved → moved ≡ false → IsStillCrew later
-round_still script policy crew later receipts moved h none = (subst (IsFlag crew later) none h.flag).1
+pub round_still : (script : Program) (policy : Policy) (crew later : List Standing) (receipts : List Account) (moved : Bool) → IsRound script policy crew later receipts moved → moved ≡ false → IsStillCrew (runnings_of later)
+round_still script policy crew later receipts moved h none = (subst (IsFlag (runnings_of crew) (runnings_of later)) none h.flag).1
 
 room_cons : (x : Running) (xs : List Running) → room (x ∷ xs) ≡ room_of x + room xs
 room_cons x xs = sum_by-cons room_of x xs
@@ -70,7 +71,13 @@ le_or zero b = inl (omega arith)
 le_or (suc a) zero = inr (omega arith)
 le_or (suc a) (suc b) = elim (le_or a b) [ inl h ↦ inl (omega (arith, h)) | inr h ↦ inr (omega (arith, h)) ]
 
-module _ (script : Program) (policy : Policy) (crew later : List Running) (receipts : List Account) (moved : Bool) (law : IsLawfulCrew script crew) (h : IsRound script policy crew later receipts moved) where
+module _ (script : Program) (policy : Policy) (stands last : List Standing) (receipts : List Account) (moved : Bool) (law : IsLawfulCrew script (runnings_of stands)) (h : IsRound script policy stands last receipts moved) where
+  abbrev crew : List Running
+  crew = runnings_of stands
+
+  abbrev later : List Running
+  later = runnings_of last
+
   as_many : length later ≡ length crew
   as_many = h.lawful.many ∙ sym law.many
 
@@ -117,7 +124,13 @@ followed_at (x ∷ xs) (y ∷ ys) zero c e h = (x, y, refl, refl, sym (same_Some
 followed_at (x ∷ xs) (y ∷ ys) (suc p) c e h = followed_at xs ys p c (omega (arith, e)) h
 
 -- one more round
-module _ (script : Program) (policy : Policy) (crew mid later : List Running) (receipts more : List Account) (moved : Bool) (law : IsLawfulCrew script crew) (a : IsRounds script policy crew mid receipts) (b : IsRound script policy mid later more moved) where
+module _ (script : Program) (policy : Policy) (crew : List Running) (between last : List Standing) (receipts more : List Account) (moved : Bool) (law : IsLawfulCrew script crew) (a : IsRounds script policy crew (runnings_of between) receipts) (b : IsRound script policy between last more moved) where
+  abbrev mid : List Running
+  mid = runnings_of between
+
+  abbrev later : List Running
+  later = runnings_of last
+
   mid_many : length mid ≡ length crew
   mid_many = a.lawful.many ∙ sym law.many
 

@@ -1,5 +1,5 @@
 -- The steps of a visit.
-use Rattle.std.proofs.Common.{◌≡◌, ℕ, ◌+◌, ◌<◌, ◌≤◌, List, [], ◌∷◌, length, Bool, true, false, ◌||◌, Some, None, sym, ap, ◌∙◌, subst, arith, length-append}
+use Rattle.std.proofs.Common.{◌≡◌, ℕ, ◌+◌, ◌<◌, ◌≤◌, List, [], ◌∷◌, length, Bool, true, false, ◌||◌, Some, None, sym, ap, ◌∙◌, subst, inl, inr, arith, length-append}
 use Rattle.std.specs.Bool.{MatchBool}
 use Rattle.std.specs.Option.{option_map}
 use Rattle.sig_model.specs.declared.event.Event.{Event}
@@ -15,6 +15,7 @@ use Rattle.sig_process.specs.Steps.{IsExec}
 use Rattle.sig_queue.specs.Seats.{Queue, Seated}
 use Rattle.sig_workers.specs.Gone.{IsReady, Goes}
 use Rattle.sig_workers.specs.Visits.{HasMoved}
+use Rattle.sig_workers.specs.Acting.{HasActed}
 use Rattle.sig_workers.proofs.OneEvent.{IsOneEvent}
 use Rattle.sig_workers.proofs.Going.{goes_event, goes_trans}
 
@@ -23,11 +24,11 @@ pub stepped : (p q : Standing) (how : Exec) → how ≡ Stepped → IsExec p q h
 stepped p q Stepped e h = h.0
 stepped p q Waiting e h = cc
 
-pub waited : (p q : Standing) (how : Exec) → how ≡ Waiting → can_exec p.running ≡ true → IsExec p q how → (q.running ≡ p.running) × (exec_next p.running ≡ None)
+pub waited : (p q : Standing) (how : Exec) → how ≡ Waiting → can_exec p.running ≡ true → IsExec p q how → (q.running ≡ p.running) × (exec_next p.running ≡ None) × (p.saved ≤ q.saved)
 waited p q Stepped e can h = cc
 waited p q Waiting e can h =
     let r : Running = p.running in
-    (h.1, exec_due r can ∙ ap (λ o. option_map (advanced r) (option_map (finished_exec r.pid r.state) o)) ((waiting_iff r.proc r.state).1 h.0))
+    (h.1, exec_due r can ∙ ap (λ o. option_map (advanced r) (option_map (finished_exec r.pid r.state) o)) ((waiting_iff r.proc r.state).1 h.0), h.3)
 
 -- one event, and then what it sent was put
 module _ (queues : List Queue) (pid : ℕ) (r t u : Running) (seats later : List Seated) (e : IsOneEvent r t) (h : IsReady queues pid r seats) where
@@ -47,16 +48,36 @@ module _ (queues : List Queue) (pid : ℕ) (r t u : Running) (seats later : List
   event_stamp same = let m : u.state.counts.stamp ≡ t.state.counts.stamp = ap (λ (z : Running). z.state.counts.stamp) same in omega (arith, m, e.stamp)
 
 -- one more handling
-pub handled_more : (a : Bool) (start r t : Running) → MatchBool a (length start.events < length r.events) (r ≡ start) → length r.events < length t.events → length start.events < length t.events
+pub handled_more : (a : Bool) (start r t : Standing) → MatchBool a (length start.running.events < length r.running.events) (r ≡ start) → length r.running.events < length t.running.events →
+    length start.running.events < length t.running.events
 handled_more true start r t h lt = omega (arith, h, lt)
-handled_more false start r t h lt = let e : length r.events ≡ length start.events = ap (λ (z : Running). length z.events) h in omega (arith, e, lt)
+handled_more false start r t h lt = let e : length r.running.events ≡ length start.running.events = ap (λ (z : Standing). length z.running.events) h in omega (arith, e, lt)
 
 -- what the handlings and the execution of a visit come to
-pub visit_moved : (r a b t : Running) (h e : Bool) → a.events ≡ r.events → MatchBool h (length a.events < length b.events) (b ≡ a) → can_handle b ≡ false
-    → MatchBool e (length b.events < length t.events) ((t ≡ b) × (exec_next b ≡ None)) → length b.events ≤ length t.events → HasMoved r t (h || e)
-visit_moved r a b t true e same more none later le = let s : length a.events ≡ length r.events = ap (λ (es : List Event). length es) same in omega (arith, s, more, le)
-visit_moved r a b t false true same is none more le =
-    let s : length b.events ≡ length r.events = ap (λ (z : Running). length z.events) is ∙ ap (λ (es : List Event). length es) same in omega (arith, s, more)
-visit_moved r a b t false false same is none later le =
-    let s : length b.events ≡ length r.events = ap (λ (z : Running). length z.events) is ∙ ap (λ (es : List Event). length es) same in
-    (ap (λ (z : Running). length z.events) later.0 ∙ s, subst IsStill (sym later.0) (record { handle = none; exec = later.1 }))
+module _ (r a b t : Standing) (same : a.running.events ≡ r.running.events) (none : can_handle b.running ≡ false) (le : length b.running.events ≤ length t.running.events) where
+  abbrev HandledBy : Bool → Type 0
+  HandledBy h = MatchBool h (length a.running.events < length b.running.events) (b ≡ a)
+
+  abbrev ExecutedBy : Bool → Type 0
+  ExecutedBy e = MatchBool e (length b.running.events < length t.running.events) ((t.running ≡ b.running) × (exec_next b.running ≡ None) × (b.saved ≤ t.saved))
+
+  as_many : length a.running.events ≡ length r.running.events
+  as_many = ap (λ (es : List Event). length es) same
+
+  unhandled : b ≡ a → length b.running.events ≡ length r.running.events
+  unhandled is = ap (λ (z : Standing). length z.running.events) is ∙ as_many
+
+  still_now : (t.running ≡ b.running) × (exec_next b.running ≡ None) × (b.saved ≤ t.saved) → IsStill t.running
+  still_now later = subst IsStill (sym later.0) (record { handle = none; exec = later.1 })
+
+  pub visit_moved : (h e : Bool) → HandledBy h → ExecutedBy e → HasMoved r.running t.running (h || e)
+  visit_moved true e more later = omega (arith, as_many, more, le)
+  visit_moved false true is more = omega (arith, unhandled is, more)
+  visit_moved false false is later = (ap (λ (z : Running). length z.events) later.0 ∙ unhandled is, still_now later)
+
+  pub visit_acted : (h e : Bool) → a.saved ≡ r.saved → HandledBy h → ExecutedBy e → HasActed r t
+  visit_acted true e saved more later = inl (omega (arith, as_many, more, le))
+  visit_acted false true saved is more = inl (omega (arith, unhandled is, more))
+  visit_acted false false saved is later =
+      let kept : b.saved ≡ a.saved = ap (λ (z : Standing). z.saved) is in
+      inr (ap (λ (z : Running). length z.events) later.0 ∙ unhandled is, still_now later, omega (arith, saved, kept, later.2))

@@ -2,6 +2,7 @@ pub mod Room
 pub mod SeatAccounts
 pub mod Gone
 pub mod Visits
+pub mod Acting
 pub mod Parts
 pub mod Opening
 pub mod Rows

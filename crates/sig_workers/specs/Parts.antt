@@ -4,13 +4,14 @@ use Rattle.std.specs.Bool.{MatchBool}
 use Rattle.std.specs.declared.alloc.AllocError.{AllocError}
 use Rattle.sig_model.specs.Running.{Running}
 use Rattle.sig_model.specs.Still.{IsStill}
-use Rattle.sig_process.specs.Standing.{runnings_of}
+use Rattle.sig_process.specs.Standing.{Standing, runnings_of}
 use Rattle.sig_layout.specs.Sets.{has}
 use Rattle.sig_layout.specs.Views.{joined}
 use Rattle.sig_queue.specs.Seats.{Queue, Seated}
 use Rattle.sig_workers.specs.SeatAccounts.{put_by, taken_at}
 use Rattle.sig_workers.specs.Gone.{HasGone, IsReady}
 use Rattle.sig_workers.specs.Visits.{HasMoved}
+use Rattle.sig_workers.specs.Acting.{ActBelow}
 use Rattle.sig_workers.specs.declared.part.Part.{Part}
 use Rattle.sig_workers.specs.declared.part.Worked.{Worked}
 
@@ -18,8 +19,11 @@ use Rattle.sig_workers.specs.declared.part.Worked.{Worked}
 abbrev pub procs_of : Part → List Running
 procs_of part = runnings_of part.procs.items
 
+abbrev pub crew_of : Part → List Standing
+crew_of part = part.base.crew.value.items
+
 abbrev pub base_of : Part → List Running
-base_of part = runnings_of part.base.crew.value.items
+base_of part = runnings_of (crew_of part)
 
 -- the process s is one of these, of which there are so many from the first one on
 unfoldable pub is_in : ℕ → ℕ → ℕ → Bool
@@ -74,7 +78,7 @@ pub record IsPart (queues : List Queue) (part : Part) : Type 0 where
 pub record IsSamePart (part later : Part) : Type 0 where
   pub first : later.first ≡ part.first
   pub count : length (procs_of later) ≡ length (procs_of part)
-  pub base : base_of later ≡ base_of part
+  pub base : crew_of later ≡ crew_of part
 
 -- the process at this place was visited
 pub record HasVisited (at : ℕ) (procs later : List Running) (moved : Bool) : Type 0 where
@@ -109,6 +113,7 @@ pub record HasWorked (queues : List Queue) (given : Part) (w : Worked) : Type 0 
   pub part : IsPart queues w.part
   pub same : IsSamePart given w.part
   pub passed : HavePassed (procs_of given) (procs_of w.part) w.moved
+  pub acted : ActBelow (length w.part.procs.items) given.procs.items w.part.procs.items
 
 -- the result of each part's work
 abbrev pub HaveWorked : List Queue → List Part → List (Result Worked AllocError) → Type 0
@@ -128,5 +133,5 @@ pub record AreJoined (seats others later : List Seated) : Type 0 where
 -- the later part has the processes of both
 pub record HasJoined (part other later : Part) : Type 0 where
   pub first : later.first ≡ part.first
-  pub base : base_of later ≡ base_of part
-  pub procs : procs_of later ≡ procs_of part ++ procs_of other
+  pub base : crew_of later ≡ crew_of part
+  pub procs : later.procs.items ≡ part.procs.items ++ other.procs.items

@@ -1,5 +1,5 @@
 -- What a round makes of a crew, and what several rounds make.
-use Rattle.std.specs.Prelude.{◌≡◌, ◌≢◌, ℕ, ◌+◌, ◌<◌, ◌≤◌, Bool, true, false, List, ◌++◌, length, map, slice_get, slice_index_or, Some, cond}
+use Rattle.std.specs.Prelude.{◌≡◌, ◌≢◌, ◌⊎◌, ℕ, ◌+◌, ◌<◌, ◌≤◌, Bool, true, false, List, ◌++◌, length, map, slice_get, slice_index_or, Some, cond}
 use Rattle.std.specs.Bool.{MatchBool}
 use Rattle.sig_program.specs.Scripts.{Program}
 use Rattle.sig_runs.specs.Crew.{crew_machine}
@@ -8,6 +8,7 @@ use Rattle.sig_model.specs.declared.event.Event.{Event}
 use Rattle.sig_model.specs.Machine.{rules_of}
 use Rattle.sig_model.specs.Running.{Running}
 use Rattle.sig_model.specs.OneWorker.{IsClear}
+use Rattle.sig_process.specs.Standing.{Standing, runnings_of}
 use Rattle.sig_model.specs.Still.{IsStill, IsStillCrew}
 use Rattle.sig_model.specs.Accounts.{went, coming_from}
 use Rattle.sig_model.specs.CrewLaw.{IsLawfulCrew, whole_member}
@@ -51,19 +52,25 @@ abbrev pub HasSettled : Program → List Running → Type 0
 HasSettled script later = IsSettled (rules_of script) (crew_machine (rules_of script) (map whole_member later))
 
 -- What a round makes of a lawful crew of the script: a lawful crew of the same script, whose events begin with those that they had;
--- the receipts, one a process; and the flag.
-pub record IsRound (script : Program) (policy : Policy) (crew later : List Running) (receipts : List Account) (moved : Bool) : Type 0 where
-  pub lawful : IsLawfulCrew script later
-  pub clear : IsClear later
-  pub begin : Begin crew later
-  pub count : length receipts ≡ length crew
-  pub receipt : (p : ℕ) (a : Account) → slice_get receipts p ≡ Some a → IsReceiptOf policy crew later p a
-  pub flag : IsFlag crew later moved
+-- the receipts, one a process; and the flag. Each process that could do something has done something.
+pub record IsRound (script : Program) (policy : Policy) (crew later : List Standing) (receipts : List Account) (moved : Bool) : Type 0 where
+  pub lawful : IsLawfulCrew script (runnings_of later)
+  pub clear : IsClear (runnings_of later)
+  pub begin : Begin (runnings_of crew) (runnings_of later)
+  pub count : length receipts ≡ length (runnings_of crew)
+  pub receipt : (p : ℕ) (a : Account) → slice_get receipts p ≡ Some a → IsReceiptOf policy (runnings_of crew) (runnings_of later) p a
+  pub flag : IsFlag (runnings_of crew) (runnings_of later) moved
+  -- a process that can do something when the round begins has an event more when it ends
+  pub acted : (p : ℕ) (s t : Standing) → slice_get crew p ≡ Some s → slice_get later p ≡ Some t →
+      IsStill s.running ⊎ (length s.running.events < length t.running.events)
+  -- the saved place of a process without an event more lies no earlier
+  pub saved : (p : ℕ) (s t : Standing) → slice_get crew p ≡ Some s → slice_get later p ≡ Some t →
+      length t.running.events ≡ length s.running.events → s.saved ≤ t.saved
   -- the stamps don't fall, and rise with the events
-  pub stamp : (p : ℕ) (r t : Running) → slice_get crew p ≡ Some r → slice_get later p ≡ Some t →
+  pub stamp : (p : ℕ) (r t : Running) → slice_get (runnings_of crew) p ≡ Some r → slice_get (runnings_of later) p ≡ Some t →
       (r.state.counts.stamp ≤ t.state.counts.stamp) × (length r.events < length t.events → r.state.counts.stamp < t.state.counts.stamp)
   -- it has settled where it had no event
-  pub settled : moved ≡ false → HasSettled script later
+  pub settled : moved ≡ false → HasSettled script (runnings_of later)
 
 -- What rounds make of a lawful crew: a lawful crew of the same script, whose processes' events begin with those that they had, and for
 -- each process a receipt of all that was sent to it in these rounds.

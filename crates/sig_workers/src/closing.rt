@@ -5,8 +5,10 @@ ghost use Rattle.sig_model.specs.Running.{Running};
 ghost use Rattle.sig_process.specs.Standing.{runnings_of};
 ghost use Rattle.sig_queue.specs.Seats.{Queue, Seated};
 ghost use Rattle.sig_queue.specs.declared.account.Account.{Account};
+ghost use Rattle.sig_workers.specs.Acting.{KeepEvents};
 ghost use Rattle.sig_workers.specs.Closing.{CanClose, HasClosed, IsClosedAt};
 
+use crate::arriving::arrive;
 use sig_lists::Pushed;
 use sig_process::Process;
 use sig_queue::{Closed, QSeat, Receipt, Receipts, Rest, SigQueue};
@@ -15,10 +17,11 @@ use std::alloc::{AllocError, Global};
 /// What is left waits for the process, behind what that has taken in. The error is want of memory.
 fn hand_over(mut rest: Rest, process: &mut Process) -> Result<(), AllocError>
     requires { All (IsArriving process.old.running.pid process.old.running.count) rest }
-    ensures { OnOk result (process.new.running ≡ record process.old.running { taken_in = process.old.running.taken_in ++ rest }) }
+    ensures given { OnOk result (process.new.running ≡ record process.old.running { taken_in = process.old.running.taken_in ++ rest }) }
+    ensures saved { OnOk result (process.new.saved ≡ process.old.saved) }
 {
     while let Some(signal) = rest.next() {
-        process.arrive(signal)?;
+        arrive(process, signal)?;
     }
     Ok(())
 }
@@ -26,7 +29,8 @@ fn hand_over(mut rest: Rest, process: &mut Process) -> Result<(), AllocError>
 /// Closes a queue, and hands what it has left to its receiver. The error is want of memory.
 fn close_one(queue: SigQueue, seat: QSeat, process: &mut Process) -> Result<Receipt, AllocError>
     requires { CanClose queue seat process.old.running }
-    ensures { IfOk result (λ a. HasClosed queue seat process.old.running a process.new.running) }
+    ensures closed { IfOk result (λ a. HasClosed queue seat process.old.running a process.new.running) }
+    ensures saved { OnOk result (process.new.saved ≡ process.old.saved) }
 {
     let Closed { rest, receipt, .. } = queue.close(seat);
     hand_over(rest, process)?;
@@ -58,6 +62,7 @@ pub(crate) fn close_all(
     ensures procs { OnOk result (vec_len procs.new ≡ vec_len procs.old) }
     ensures closed { IfOk result (λ receipts. (p : ℕ) (a : Account) (t : Running) →
         slice_get receipts p ≡ Some a → slice_get (runnings_of procs.new.items) p ≡ Some t → IsClosedAt queues.items seats.items (runnings_of procs.old.items) p a t) }
+    ensures kept { OnOk result (KeepEvents procs.old.items procs.new.items) }
 {
     let mut receipts = Receipts::new(alloc);
     for at in 0..procs.len() {

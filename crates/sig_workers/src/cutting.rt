@@ -1,6 +1,5 @@
 //! A crew and its seats are cut into the workers' parts.
 ghost use Rattle.std.specs.Prelude.{◌≡◌, ◌≤◌, ◌<◌, ◌+◌, ◌-◌, length, take, drop, vec_len, Some, All, IfOk, OnOk};
-ghost use Rattle.sig_process.specs.Standing.{runnings_of};
 ghost use Rattle.sig_workers.specs.Parts.{is_in};
 ghost use Rattle.sig_workers.specs.Opening.{IsFreshSeat, AreFresh};
 ghost use Rattle.sig_workers.specs.Rows.{FreshRow};
@@ -113,7 +112,7 @@ pub(crate) fn make_parts(
     requires queues { length queues.now ≤ 256 }
     requires fresh { AreFresh queues.now 0 (length procs.items) seats.items }
     ensures some { IfOk result (λ ps. 0 < vec_len ps) }
-    ensures row { IfOk result (λ ps. FreshRow queues.now (runnings_of procs.items) 0 (length procs.items) ps.items) }
+    ensures row { IfOk result (λ ps. FreshRow queues.now procs.items 0 (length procs.items) ps.items) }
 {
     let count = procs.len() as u32;
     let mut bases = bases(alloc, &procs, workers)?;

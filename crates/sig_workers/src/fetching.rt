@@ -56,6 +56,7 @@ pub(crate) fn fetch<R: Wait>(
     ensures goes { OnOk result (Goes queues.now me.pid process.old.running seats.old.items process.new.running seats.new.items) }
     ensures outbox { OnOk result (process.new.running.outbox ≡ process.old.running.outbox) }
     ensures events { OnOk result (process.new.running.events ≡ process.old.running.events) }
+    ensures saved { OnOk result (process.new.saved ≡ process.old.saved) }
 {
     let at = me.pid as usize;
     let mut signals = Signals::new(alloc);

@@ -1,8 +1,7 @@
 //! The workers' parts are joined at the end of their work.
 ghost use Rattle.std.specs.Prelude.{◌≡◌, ◌+◌, ◌<◌, ℕ, length, vec_len, slice_get, Some, OnOk, IfOk};
 ghost use Rattle.sig_queue.specs.Seats.{Seated};
-ghost use Rattle.sig_process.specs.Standing.{runnings_of};
-ghost use Rattle.sig_workers.specs.Parts.{procs_of, base_of, IsPart, IsOwn, AreJoined, HasJoined};
+ghost use Rattle.sig_workers.specs.Parts.{procs_of, crew_of, IsPart, IsOwn, AreJoined, HasJoined};
 ghost use Rattle.sig_workers.specs.Rows.{DoneRow, IsWhole};
 
 use crate::part::{Base, Part, Worked};
@@ -27,7 +26,7 @@ fn join_parts(queues: &[SigQueue], part: &mut Part, other: Part) -> Result<(), A
     requires part { IsPart queues.now part.old }
     requires other { IsPart queues.now other }
     requires next { other.first ≡ part.old.first + length (procs_of part.old) }
-    requires base { base_of other ≡ base_of part.old }
+    requires base { crew_of other ≡ crew_of part.old }
     ensures part { OnOk result (IsPart queues.now part.new) }
     ensures joined { OnOk result (HasJoined part.old other part.new) }
 {
@@ -50,8 +49,8 @@ pub(crate) fn join_all(
     mut done: Vec<Result<Worked, AllocError>>,
 ) -> Result<Worked, AllocError>
     requires some { 0 < vec_len done }
-    requires row { DoneRow queues.now (runnings_of base.now.crew.value.items) 0 (length base.now.crew.value.items) done.items }
-    ensures { IfOk result (IsWhole queues.now (runnings_of base.now.crew.value.items) (length base.now.crew.value.items)) }
+    requires row { DoneRow queues.now base.now.crew.value.items 0 (length base.now.crew.value.items) done.items }
+    ensures { IfOk result (IsWhole queues.now base.now.crew.value.items (length base.now.crew.value.items)) }
 {
     let mut whole = done.remove(0)?;
     while !done.is_empty() {

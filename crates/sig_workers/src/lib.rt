@@ -1,6 +1,7 @@
 //! Workers, which run the processes of a crew.
 #![tactic(auto)]
 
+mod arriving;
 mod closing;
 mod cutting;
 mod fetching;

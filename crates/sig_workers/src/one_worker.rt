@@ -44,12 +44,12 @@ fn run_passes<L: Ledger>(blank: Blank, crew: Crew) -> Result<Crew, AllocError>
     requires name { blank.name ≡ L.name }
     requires parts { blank.parts ≡ L.parts }
     requires some { 0 < blank.parts }
-    requires clear { IsClear crew }
-    requires placed { IsPlaced crew }
-    ensures run { IfOk result (RunsTo crew) }
-    ensures clear { IfOk result IsClear }
-    ensures lawful { (script : Program) → IsLawfulCrew script crew → IfOk result (IsLawfulCrew script) }
-    ensures still { IfOk result IsStillCrew }
+    requires clear { IsClear (runnings_of crew) }
+    requires placed { IsPlaced (runnings_of crew) }
+    ensures run { IfOk result (λ c. RunsTo (runnings_of crew) (runnings_of c)) }
+    ensures clear { IfOk result (λ c. IsClear (runnings_of c)) }
+    ensures lawful { (script : Program) → IsLawfulCrew script (runnings_of crew) → IfOk result (λ c. IsLawfulCrew script (runnings_of c)) }
+    ensures still { IfOk result (λ c. IsStillCrew (runnings_of c)) }
 {
     let mut steps: Steps<L> = Steps::open(blank);
     let mut procs = crew.procs;
@@ -70,12 +70,12 @@ fn run_passes<L: Ledger>(blank: Blank, crew: Crew) -> Result<Crew, AllocError>
 /// empty), that the process at place p of the crew, from 0, has the pid p, and that each is one of
 /// as many as the crew has, as [`Process::count`] tells.
 pub fn run_one(crew: Crew) -> Result<Crew, AllocError>
-    requires clear { IsClear crew }
-    requires placed { IsPlaced crew }
-    ensures run { IfOk result (RunsTo crew) }
-    ensures clear { IfOk result IsClear }
-    ensures lawful { (script : Program) → IsLawfulCrew script crew → IfOk result (IsLawfulCrew script) }
-    ensures still { IfOk result IsStillCrew }
+    requires clear { IsClear (runnings_of crew) }
+    requires placed { IsPlaced (runnings_of crew) }
+    ensures run { IfOk result (λ c. RunsTo (runnings_of crew) (runnings_of c)) }
+    ensures clear { IfOk result (λ c. IsClear (runnings_of c)) }
+    ensures lawful { (script : Program) → IsLawfulCrew script (runnings_of crew) → IfOk result (λ c. IsLawfulCrew script (runnings_of c)) }
+    ensures still { IfOk result (λ c. IsStillCrew (runnings_of c)) }
 {
     run_passes::<Brand>(Blank::new(1), crew)
 }

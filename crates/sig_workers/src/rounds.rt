@@ -3,6 +3,7 @@ ghost use Rattle.sig_program.specs.Scripts.{Program, IsSound};
 ghost use Rattle.sig_model.specs.CrewLaw.{IsLawfulCrew};
 ghost use Rattle.sig_model.specs.OneWorker.{IsClear};
 ghost use Rattle.sig_model.specs.Still.{IsStillCrew};
+ghost use Rattle.sig_process.specs.Standing.{runnings_of};
 ghost use Rattle.sig_layout.specs.Policies.{IsPolicy};
 ghost use Rattle.sig_workers.specs.Rounds.{IsRound, IsRounds, HasSettled};
 
@@ -24,9 +25,10 @@ use std::thread::Threads;
 /// this policy and the crew's next numbers. The workers run side by side, each over its part of the
 /// processes, until it has passed over them without an event or has made at least `quota` events.
 /// Then the queues are closed, and what each has left waits for its receiver. Gives the crew, the
-/// receipt of each queue, by pid, and whether there was an event. The crew is lawful and its outboxes
-/// are empty, there are 1 to 16 workers, the quota is at least 1, and so is the number of `Churn`. The
-/// error is want of memory.
+/// receipt of each queue, by pid, and whether there was an event. Each process that could do something
+/// has an event more, and one without an event more has a saved place no earlier than before. The crew
+/// is lawful and its outboxes are empty, there are 1 to 16 workers, the quota is at least 1, and so is
+/// the number of `Churn`. The error is want of memory.
 pub fn round<R: Threads + Wait + Sync, G: Gate>(
     rt: &R,
     alloc: Global,
@@ -36,12 +38,12 @@ pub fn round<R: Threads + Wait + Sync, G: Gate>(
     policy: Policy,
     gate: &G,
 ) -> Result<(Crew, Receipts, bool), AllocError>
-    requires lawful { (script : Program) × IsSound script × IsLawfulCrew script crew }
-    requires clear { IsClear crew }
+    requires lawful { (script : Program) × IsSound script × IsLawfulCrew script (runnings_of crew) }
+    requires clear { IsClear (runnings_of crew) }
     requires workers { (1 ≤ workers) × (workers ≤ 16) }
     requires quota { 1 ≤ quota }
     requires policy { IsPolicy policy }
-    ensures { (script : Program) → IsLawfulCrew script crew → IfOk result (λ r. IsRound script policy crew r.0 r.1 r.2) }
+    ensures { (script : Program) → IsLawfulCrew script (runnings_of crew) → IfOk result (λ r. IsRound script policy crew r.0 r.1 r.2) }
 {
     let procs = crew.procs;
     let (queues, seats) = open_all(alloc, policy, procs.as_slice())?;
@@ -73,14 +75,14 @@ pub fn run_rounds<R: Threads + Wait + Sync, G: Gate>(
     policy: Policy,
     gate: &G,
 ) -> Result<(Crew, Receipts), AllocError>
-    requires lawful { (script : Program) × IsSound script × IsLawfulCrew script crew }
-    requires clear { IsClear crew }
+    requires lawful { (script : Program) × IsSound script × IsLawfulCrew script (runnings_of crew) }
+    requires clear { IsClear (runnings_of crew) }
     requires workers { (1 ≤ workers) × (workers ≤ 16) }
     requires quota { 1 ≤ quota }
     requires policy { IsPolicy policy }
-    ensures rounds { (script : Program) → IsLawfulCrew script crew → IfOk result (λ r. IsRounds script policy crew r.0 r.1) }
-    ensures settled { (script : Program) → IsLawfulCrew script crew → IfOk result (λ r. HasSettled script r.0) }
-    ensures still { IfOk result (λ r. IsStillCrew r.0) }
+    ensures rounds { (script : Program) → IsLawfulCrew script (runnings_of crew) → IfOk result (λ r. IsRounds script policy (runnings_of crew) (runnings_of r.0) r.1) }
+    ensures settled { (script : Program) → IsLawfulCrew script (runnings_of crew) → IfOk result (λ r. HasSettled script (runnings_of r.0)) }
+    ensures still { IfOk result (λ r. IsStillCrew (runnings_of r.0)) }
 {
     let (mut now, mut receipts, mut moved) = round(rt, alloc, crew, workers, quota, policy, gate)?;
     while moved {

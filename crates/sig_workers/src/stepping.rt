@@ -1,9 +1,10 @@
 //! A visit of one process by a worker.
-ghost use Rattle.std.specs.Prelude.{◌≡◌, ◌<◌, [], length, true, false, IfOk, OnOk, vec_len, None};
+ghost use Rattle.std.specs.Prelude.{◌≡◌, ◌<◌, ◌≤◌, [], length, true, false, IfOk, OnOk, vec_len, None};
 ghost use Rattle.std.specs.Bool.{MatchBool};
 ghost use Rattle.sig_model.specs.Running.{can_handle, exec_next};
 ghost use Rattle.sig_workers.specs.Gone.{IsReady, Goes};
 ghost use Rattle.sig_workers.specs.Visits.{HasMoved};
+ghost use Rattle.sig_workers.specs.Acting.{HasActed};
 
 use crate::fetching::fetch;
 use crate::putting::{Me, put_all};
@@ -52,7 +53,7 @@ fn handle_all<R: Wait, G: Gate>(
     ensures goes { OnOk result (Goes queues.now me.pid process.old.running seats.old.items process.new.running seats.new.items) }
     ensures empty { OnOk result (process.new.running.outbox ≡ []) }
     ensures all { OnOk result (can_handle process.new.running ≡ false) }
-    ensures moved { IfOk result (λ moved. MatchBool moved (length process.old.running.events < length process.new.running.events) (process.new.running ≡ process.old.running)) }
+    ensures moved { IfOk result (λ moved. MatchBool moved (length process.old.running.events < length process.new.running.events) (process.new ≡ process.old)) }
 {
     let mut moved = false;
     while process.can_handle() {
@@ -77,7 +78,7 @@ fn exec_one<R: Wait, G: Gate, L: Ledger>(
     requires clear { process.old.running.outbox ≡ [] }
     ensures goes { OnOk result (Goes queues.now me.pid process.old.running seats.old.items process.new.running seats.new.items) }
     ensures empty { OnOk result (process.new.running.outbox ≡ []) }
-    ensures moved { IfOk result (λ moved. MatchBool moved (length process.old.running.events < length process.new.running.events) ((process.new.running ≡ process.old.running) × (exec_next process.old.running ≡ None))) }
+    ensures moved { IfOk result (λ moved. MatchBool moved (length process.old.running.events < length process.new.running.events) ((process.new.running ≡ process.old.running) × (exec_next process.old.running ≡ None) × (process.old.saved ≤ process.new.saved))) }
 {
     if !process.can_exec() {
         return Ok(false);
@@ -111,6 +112,7 @@ pub(crate) fn visit<R: Wait, G: Gate, L: Ledger>(
     ensures goes { OnOk result (Goes queues.now me.pid process.old.running seats.old.items process.new.running seats.new.items) }
     ensures empty { OnOk result (process.new.running.outbox ≡ []) }
     ensures moved { IfOk result (HasMoved process.old.running process.new.running) }
+    ensures acted { OnOk result (HasActed process.old process.new) }
 {
     fetch(rt, alloc, queues, me, process, seats)?;
     let handled = handle_all(rt, queues, gate, me, process, seats)?;

@@ -3,6 +3,7 @@ ghost use Rattle.sig_model.specs.Keeping.{IsArriving, IsPlaced};
 ghost use Rattle.sig_model.specs.OneWorker.{handle_all, exec_or_stay, visited, deliver_all, deliver_to, visit, has_moved};
 ghost use Rattle.sig_process.specs.Standing.{runnings_of};
 
+use crate::arriving::arrive;
 use sig_base::Steps;
 use sig_kinds::{Signal, Signals};
 use sig_process::Process;
@@ -53,7 +54,7 @@ fn deliver_one(procs: &mut Vec<Process>, signal: Signal) -> Result<(), AllocErro
     ensures placed { OnOk result (IsPlaced (runnings_of procs.new.items)) }
     ensures len { vec_len procs.new ≡ vec_len procs.old }
 {
-    procs[signal.to.0 as usize].arrive(signal)
+    arrive(&mut procs[signal.to.0 as usize], signal)
 }
 
 /// Each of the signals is delivered.

@@ -1,5 +1,6 @@
 //! The work of one worker in a round.
-ghost use Rattle.std.specs.Prelude.{◌≡◌, ◌<◌, ◌≤◌, IfOk, OnOk, vec_len};
+ghost use Rattle.std.specs.Prelude.{◌≡◌, ◌<◌, ◌≤◌, length, IfOk, OnOk, vec_len};
+ghost use Rattle.sig_workers.specs.Acting.{HasActedAt, ActBelow};
 ghost use Rattle.sig_workers.specs.Parts.{procs_of, IsPart, IsSamePart, HasVisited, Grow, HavePassed, HasWorked};
 
 use crate::part::{Part, Worked};
@@ -29,6 +30,7 @@ fn visit_at<R: Wait, G: Gate, L: Ledger>(
     ensures part { OnOk result (IsPart queues.now part.new) }
     ensures same { OnOk result (IsSamePart part.old part.new) }
     ensures visited { IfOk result (HasVisited at (procs_of part.old) (procs_of part.new)) }
+    ensures acted { OnOk result (HasActedAt at part.old.procs.items part.new.procs.items) }
 {
     let me = Me {
         worker: part.worker,
@@ -57,6 +59,7 @@ fn pass<R: Wait, G: Gate, L: Ledger>(
     ensures same { OnOk result (IsSamePart part.old part.new) }
     ensures grow { OnOk result (Grow (procs_of part.old) (procs_of part.new)) }
     ensures passed { IfOk result (HavePassed (procs_of part.old) (procs_of part.new)) }
+    ensures acted { OnOk result (ActBelow (length part.new.procs.items) part.old.procs.items part.new.procs.items) }
 {
     let mut moved = false;
     for at in 0..part.procs.len() {
@@ -85,6 +88,7 @@ fn work_with<R: Wait, G: Gate, L: Ledger>(
     ensures part { OnOk result (IsPart queues.now part.new) }
     ensures same { OnOk result (IsSamePart part.old part.new) }
     ensures passed { IfOk result (HavePassed (procs_of part.old) (procs_of part.new)) }
+    ensures acted { OnOk result (ActBelow (length part.new.procs.items) part.old.procs.items part.new.procs.items) }
 {
     let mut steps: Steps<L> = Steps::open(blank);
     let mut moved = false;

@@ -1,6 +1,7 @@
 use Rattle.std.proofs.Common.{List, subst}
 use Rattle.sig_model.specs.Running.{Running}
 use Rattle.sig_model.specs.OneWorker.{RunsTo}
+use Rattle.sig_process.specs.Standing.{runnings_of}
 use Rattle.sig_host.proofs.host.run_record.Goals as goal
 
 pub run_crew-requires-clause-lawful : goal.run_crew-requires-clause-lawful
@@ -10,7 +11,7 @@ pub returns : goal.returns
 returns g c =
     let before = c.in_ok-crew.ensures.lawful in
     let after = c.in_ok-crew-2.ensures.lawful c.args.script before in
-    let last : List Running = c.in_ok-crew-2.crew in
+    let last : List Running = runnings_of c.in_ok-crew-2.crew in
     record {
       machine = _;
       run = c.in_ok-given.ensures.run c.args.script after;

@@ -9,6 +9,7 @@ pub loop-signal-preserved : goal.loop-signal-preserved
 loop-signal-preserved c =
     let given = ap (λ z. z.running) c.in_ok-arrive.ensures in
     record {
-      leads = one_handed c.loop-signal.process.running c.arrive.new.self.running c.in-Some.signal c.loop-signal.rest c.next.new.self c.in-Some.ensures given ∙ c.loop-signal.invariant.leads;
-      arriving = others_arrive c.loop-signal.process.running c.arrive.new.self.running c.in-Some.signal c.loop-signal.rest c.next.new.self c.in-Some.ensures given c.loop-signal.invariant.arriving;
+      leads = one_handed c.loop-signal.process.running c.arrive.new.process.running c.in-Some.signal c.loop-signal.rest c.next.new.self c.in-Some.ensures given ∙ c.loop-signal.invariant.leads;
+      saved = ap (λ z. z.saved) c.in_ok-arrive.ensures ∙ c.loop-signal.invariant.saved;
+      arriving = others_arrive c.loop-signal.process.running c.arrive.new.process.running c.in-Some.signal c.loop-signal.rest c.next.new.self c.in-Some.ensures given c.loop-signal.invariant.arriving;
     }

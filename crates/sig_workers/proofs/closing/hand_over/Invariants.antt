@@ -6,6 +6,7 @@ use Rattle.sig_workers.proofs.closing.hand_over.Given as goal
 abbrev pub invariant-loop-signal : goal.invariant-loop-signal
 invariant-loop-signal l = record {
   leads : record l.process.running { taken_in = l.process.running.taken_in ++ l.rest } ≡ record l.fn.process.running { taken_in = l.fn.process.running.taken_in ++ l.fn.rest };
+  saved : l.process.saved ≡ l.fn.process.saved;
   arriving : All (IsArriving l.process.running.pid l.process.running.count) l.rest;
 }
 

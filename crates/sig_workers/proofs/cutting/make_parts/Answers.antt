@@ -1,6 +1,5 @@
 use Rattle.std.proofs.Common.{suc, ◌≡◌, ◌≤◌, ◌+◌, ◌∷◌, ◌++◌, [], length, length-append, List, sym, subst, ap, ◌∙◌, arith, All}
 use Rattle.std.proofs.lemmas.Grind.{common_steps}
-use Rattle.sig_process.specs.Standing.{runnings_of}
 use Rattle.sig_workers.specs.declared.part.Base.{Base}
 use Rattle.sig_workers.specs.declared.part.Part.{Part}
 use Rattle.sig_workers.specs.Rows.{FreshRow}
@@ -28,8 +27,8 @@ loop-base-preserved c =
       left = left_again crew ps new f inv.left le e.procs;
       few = omega (arith, long, le, inv.few);
       fresh = subst (λ z. AreFresh queues 0 z c.cut_part.new.seats.items) (sym long) e.left;
-      row = subst (λ z. FreshRow queues (runnings_of crew) z (length crew) c.insert.new.self.items) (sym long)
-          (subst (FreshRow queues (runnings_of crew) f (length crew)) (sym c.in_ok-insert.ensures.items) (push_part queues crew ps inv.left f (length crew) c.in_ok-part.part c.loop-base.parts.items le e.part.0 base e.part.2 e.right inv.row));
+      row = subst (λ z. FreshRow queues crew z (length crew) c.insert.new.self.items) (sym long)
+          (subst (FreshRow queues crew f (length crew)) (sym c.in_ok-insert.ensures.items) (push_part queues crew ps inv.left f le (length crew) c.in_ok-part.part c.loop-base.parts.items e.part.0 base e.part.2 e.right inv.row));
       all = all_left (λ (b : Base). b.crew.value.items ≡ crew) c.pop.new.self.items c.in-Some.base all;
       many = omega (arith, count, inserted, inv.many);
       none = λ e. (let zero : f ≡ 0 = grind (arith, common_steps, e) in long ∙ zero);

@@ -1,5 +1,4 @@
 use Rattle.std.proofs.Common.{◌≡◌, ◌+◌, ◌≤◌, All, length, take}
-use Rattle.sig_process.specs.Standing.{runnings_of}
 use Rattle.sig_workers.specs.Opening.{AreFresh}
 use Rattle.sig_workers.specs.Rows.{FreshRow}
 use Rattle.sig_workers.proofs.cutting.make_parts.Given as goal
@@ -9,7 +8,7 @@ invariant-loop-base l = record {
   left : l.procs.items ≡ take (length l.procs.items) l.fn.procs.items;
   few : length l.procs.items ≤ length l.fn.procs.items;
   fresh : AreFresh l.queues 0 (length l.procs.items) l.seats.items;
-  row : FreshRow l.queues (runnings_of l.fn.procs.items) (length l.procs.items) (length l.fn.procs.items) l.parts.items;
+  row : FreshRow l.queues l.fn.procs.items (length l.procs.items) (length l.fn.procs.items) l.parts.items;
   all : All (λ b. b.crew.value.items ≡ l.fn.procs.items) l.bases.items;
   many : length l.bases.items + length l.parts.items ≡ l.fn.workers;
   none : length l.bases.items ≡ 0 → length l.procs.items ≡ 0;

@@ -11,13 +11,13 @@ returns-then-not-moved-clause-run g c =
 pub returns-then-not-moved-clause-lawful : goal.returns-then-not-moved-clause-lawful
 returns-then-not-moved-clause-lawful g c = λ script law.
     let last = runnings_of c.pass_all.new.procs.items in
-    run_lawful script c.args.crew last
+    run_lawful script (runnings_of c.args.crew) last
     (c.loop-sent.invariant.leads last (run_rests (runnings_of c.loop-sent.procs.items) last c.in_ok-moved.moved c.in_ok-moved.ensures.pass c.if-not-moved.true)) law
 
 pub returns-then-not-moved-clause-still : goal.returns-then-not-moved-clause-still
 returns-then-not-moved-clause-still g c =
     let last = runnings_of c.pass_all.new.procs.items in
-    run_still c.args.crew last
+    run_still (runnings_of c.args.crew) last
     (c.loop-sent.invariant.leads last (run_rests (runnings_of c.loop-sent.procs.items) last c.in_ok-moved.moved c.in_ok-moved.ensures.pass c.if-not-moved.true)) c.requires.clear
 
 pub loop-sent-preserved : goal.loop-sent-preserved

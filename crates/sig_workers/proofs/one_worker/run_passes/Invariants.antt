@@ -9,7 +9,7 @@ use Rattle.sig_workers.proofs.one_worker.run_passes.Given as goal
 -- wherever the passes lead from here, they lead from the crew as it was given
 abbrev pub invariant-loop-sent : goal.invariant-loop-sent
 invariant-loop-sent g l = record {
-  leads : (last : List Running) → RunsTo (runnings_of l.procs.items) last → RunsTo l.fn.crew last;
+  leads : (last : List Running) → RunsTo (runnings_of l.procs.items) last → RunsTo (runnings_of l.fn.crew) last;
   clear : IsClear (runnings_of l.procs.items);
   placed : IsPlaced (runnings_of l.procs.items);
   empty : l.sent.items ≡ [];

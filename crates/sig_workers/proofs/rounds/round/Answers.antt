@@ -65,7 +65,7 @@ work_all-requires-clause-parts g c κs within =
     let many : length queues ≡ length c.as_slice.result.now = omega (arith, c.in_ok-queues.ensures.many, c.in_ok-queues.queues.ok.0) in
     let q = has_queues c.requires.lawful.0 c.args.policy start b c.as_slice.result.now queues seats c.as_slice.ensures.value c.in_ok-queues.ensures.opened many in
     let row = row_of queues c.as_slice-2.result.now start parts c.as_slice-2.ensures.value c.in_ok-parts.ensures.row in
-    subst (λ z. All (IsPart z) parts) (sym c.as_slice-3.ensures.value) (parts_ready c.requires.lawful.0 c.args.policy (runnings_of start) b.law b.few b.clear queues seats q.opened q.same parts row)
+    subst (λ z. All (IsPart z) parts) (sym c.as_slice-3.ensures.value) (parts_ready c.requires.lawful.0 c.args.policy start b.law b.few b.clear queues seats q.opened q.same parts row)
 
 pub join_all-requires-clause-row : goal.join_all-requires-clause-row
 join_all-requires-clause-row g c =
@@ -77,8 +77,8 @@ join_all-requires-clause-row g c =
     let row = row_of queues c.as_slice-2.result.now start parts c.as_slice-2.ensures.value c.in_ok-parts.ensures.row in
     let worked : HaveWorked queues parts done = subst (λ z. HaveWorked z parts done) c.as_slice-3.ensures.value c.in_ok-done.ensures.each in
     let many : length done ≡ length parts = grind (arith, common_steps, c.in_ok-done.ensures.len) in
-    subst (λ z. DoneRow c.as_slice-4.result.now (runnings_of z) 0 (length z) done) (sym c.keep_base-base.ensures)
-    (subst (λ z. DoneRow z crew 0 (length start) done) (sym c.as_slice-4.ensures.value) (subst (λ n. DoneRow queues crew 0 n done) (many_running start) (row_done queues crew 0 (length crew) parts done row many worked)))
+    subst (λ z. DoneRow c.as_slice-4.result.now z 0 (length z) done) (sym c.keep_base-base.ensures)
+    (subst (λ z. DoneRow z start 0 (length start) done) (sym c.as_slice-4.ensures.value) (subst (λ n. DoneRow queues start 0 n done) (many_running start) (row_done queues start 0 (length crew) parts done row many worked)))
 
 pub close_all-requires-clause-can : goal.close_all-requires-clause-can
 close_all-requires-clause-can g c =
@@ -89,7 +89,7 @@ close_all-requires-clause-can g c =
     let b = begun c.requires.lawful.0 start c.args.crew c.crew.view_is c.requires.lawful.1 c.requires.lawful.2 c.requires.clear in
     let many : length queues ≡ length c.as_slice.result.now = omega (arith, c.in_ok-queues.ensures.many, c.in_ok-queues.queues.ok.0) in
     let q = has_queues c.requires.lawful.0 c.args.policy start b c.as_slice.result.now queues seats c.as_slice.ensures.value c.in_ok-queues.ensures.opened many in
-    can_close c.requires.lawful.0 c.args.policy (runnings_of start) b.law b.few b.clear queues seats q.opened q.same w
+    can_close c.requires.lawful.0 c.args.policy start b.law b.few b.clear queues seats q.opened q.same w
     (whole_of queues c.as_slice-4.result.now start c.keep_base-base.result.crew.value.items w c.as_slice-4.ensures.value c.keep_base-base.ensures c.in_ok-part.ensures)
 
 pub returns : goal.returns
@@ -101,7 +101,7 @@ returns g c script law_is =
     let w = c.in_ok-part.field-0 in
     let later = runnings_of c.close_all.new.procs.items in
     let receipts = c.in_ok-receipts.receipts in
-    let law : IsLawfulCrew script crew = subst (IsLawfulCrew script) (sym c.crew.view_is) law_is in
+    let law : IsLawfulCrew script crew = subst (λ z. IsLawfulCrew script (runnings_of z)) (sym c.crew.view_is) law_is in
     let b = begun c.requires.lawful.0 start c.args.crew c.crew.view_is c.requires.lawful.1 c.requires.lawful.2 c.requires.clear in
     let opened : length queues ≡ length c.as_slice.result.now = omega (arith, c.in_ok-queues.ensures.many, c.in_ok-queues.queues.ok.0) in
     let q = has_queues c.requires.lawful.0 c.args.policy start b c.as_slice.result.now queues seats c.as_slice.ensures.value c.in_ok-queues.ensures.opened opened in
@@ -109,5 +109,5 @@ returns g c script law_is =
     let count : length receipts ≡ length queues = grind (arith, common_steps, c.in_ok-receipts.ensures.count) in
     let as_before : length c.close_all.new.procs.items ≡ length w.part.procs.items = grind (arith, common_steps, c.in_ok-receipts.ensures.procs) in
     let many : length later ≡ length (procs_of w.part) = many_running c.close_all.new.procs.items ∙ as_before ∙ sym (many_running w.part.procs.items) in
-    subst (λ z. IsRound script c.args.policy z later receipts w.moved) c.crew.view_is
-    (is_round script c.args.policy crew law b.few b.clear queues seats q.opened q.same w whole later receipts count many c.in_ok-receipts.ensures.closed)
+    subst (λ z. IsRound script c.args.policy z c.close_all.new.procs.items receipts w.moved) c.crew.view_is
+    (is_round script c.args.policy start law b.few b.clear queues seats q.opened q.same w whole c.close_all.new.procs.items receipts count many c.in_ok-receipts.ensures.closed c.in_ok-receipts.ensures.kept)

@@ -1,4 +1,5 @@
 use Rattle.std.proofs.Common.{◌<◌, sym, subst}
+use Rattle.sig_process.specs.Standing.{runnings_of}
 use Rattle.sig_workers.specs.Rounds.{IsRounds, room_left}
 use Rattle.sig_workers.proofs.RoundsLemmas.{first_round, less_room, may_follow, one_more_round, round_still}
 use Rattle.sig_workers.proofs.rounds.run_rounds.Goals as goal
@@ -26,21 +27,21 @@ pub follow-requires : goal.follow-requires
 follow-requires g c =
     let law = c.requires.lawful in
     let rounds = c.loop-moved.invariant.rounds law.0 law.2 in
-    may_follow law.0 c.args.policy c.args.crew c.loop-moved.now c.in_ok-later.later c.loop-moved.receipts c.in_ok-later.more c.in_ok-later.again law.2 rounds (c.in_ok-later.ensures law.0 rounds.lawful)
+    may_follow law.0 c.args.policy (runnings_of c.args.crew) c.loop-moved.now c.in_ok-later.later c.loop-moved.receipts c.in_ok-later.more c.in_ok-later.again law.2 rounds (c.in_ok-later.ensures law.0 rounds.lawful)
 
 pub loop-moved-smaller : goal.loop-moved-smaller
 loop-moved-smaller g c =
     let law = c.requires.lawful in
     let rounds = c.loop-moved.invariant.rounds law.0 law.2 in
-    subst (λ z. room_left c.in_ok-later.later c.in_ok-later.again < room_left c.loop-moved.now z) (sym c.loop-moved-test.true)
+    subst (λ z. room_left (runnings_of c.in_ok-later.later) c.in_ok-later.again < room_left (runnings_of c.loop-moved.now) z) (sym c.loop-moved-test.true)
     (less_room law.0 c.args.policy c.loop-moved.now c.in_ok-later.later c.in_ok-later.more c.in_ok-later.again rounds.lawful (c.in_ok-later.ensures law.0 rounds.lawful))
 
 pub loop-moved-preserved : goal.loop-moved-preserved
 loop-moved-preserved g c = record {
   rounds = λ script law.
       let rounds = c.loop-moved.invariant.rounds script law in
-      subst (IsRounds script c.args.policy c.args.crew c.in_ok-later.later) (sym c.follow.ensures)
-      (one_more_round script c.args.policy c.args.crew c.loop-moved.now c.in_ok-later.later c.loop-moved.receipts c.in_ok-later.more c.in_ok-later.again law rounds (c.in_ok-later.ensures script rounds.lawful));
+      subst (IsRounds script c.args.policy (runnings_of c.args.crew) (runnings_of c.in_ok-later.later)) (sym c.follow.ensures)
+      (one_more_round script c.args.policy (runnings_of c.args.crew) c.loop-moved.now c.in_ok-later.later c.loop-moved.receipts c.in_ok-later.more c.in_ok-later.again law rounds (c.in_ok-later.ensures script rounds.lawful));
   settled = λ script law. (c.in_ok-later.ensures script (c.loop-moved.invariant.rounds script law).lawful).settled;
   still =
       let law = c.requires.lawful in

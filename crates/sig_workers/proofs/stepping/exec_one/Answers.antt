@@ -1,4 +1,4 @@
-use Rattle.std.proofs.Common.{refl, sym, ap, subst, ◌∙◌}
+use Rattle.std.proofs.Common.{refl, sym, ap, subst, ◌∙◌, arith}
 use Rattle.sig_model.specs.Running.{Running}
 use Rattle.sig_workers.specs.Gone.{Goes}
 use Rattle.sig_workers.proofs.Going.{goes_refl}
@@ -8,7 +8,7 @@ use Rattle.sig_model.proofs.Guards.{exec_refused}
 use Rattle.sig_workers.proofs.stepping.exec_one.Goals as goal
 
 pub returns-then-not-can_exec-clause-moved : goal.returns-then-not-can_exec-clause-moved
-returns-then-not-can_exec-clause-moved g c = (refl, exec_refused c.args.process.now.running (sym c.can_exec.ensures ∙ c.if-not-can_exec.true))
+returns-then-not-can_exec-clause-moved g c = (refl, exec_refused c.args.process.now.running (sym c.can_exec.ensures ∙ c.if-not-can_exec.true), omega arith)
 
 pub put_all-requires-after_bounds : goal.put_all-requires-after_bounds
 put_all-requires-after_bounds g c κs within =

@@ -14,5 +14,5 @@ loop-me-preserved g c =
       goes = goes_trans c.args.queues.now c.args.me.pid c.args.process.now.running c.loop-me.process.running c.handle_one.new.process.running c.args.seats.now.items c.loop-me.seats.items c.handle_one.new.seats.items
           inv.goes e.goes;
       clear = e.empty;
-      moved = handled_more c.loop-me.moved c.args.process.now.running c.loop-me.process.running c.handle_one.new.process.running inv.moved e.more;
+      moved = handled_more c.loop-me.moved c.args.process.now c.loop-me.process c.handle_one.new.process inv.moved e.more;
     }

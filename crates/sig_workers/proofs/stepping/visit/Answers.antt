@@ -1,5 +1,5 @@
 use Rattle.sig_workers.proofs.Going.{goes_trans}
-use Rattle.sig_workers.proofs.VisitLemmas.{visit_moved}
+use Rattle.sig_workers.proofs.VisitLemmas.{visit_moved, visit_acted}
 use Rattle.sig_workers.proofs.stepping.visit.Goals as goal
 
 pub returns-clause-goes : goal.returns-clause-goes
@@ -17,5 +17,10 @@ returns-clause-goes g c =
 
 pub returns-clause-moved : goal.returns-clause-moved
 returns-clause-moved g c =
-    visit_moved c.args.process.now.running c.fetch.new.process.running c.handle_all.new.process.running c.exec_one.new.process.running c.in_ok-handled.handled c.in_ok-executed.executed
-    c.in_ok-fetch.ensures.events c.in_ok-handled.ensures.moved c.in_ok-handled.ensures.all c.in_ok-executed.ensures.moved c.in_ok-executed.ensures.goes.events
+    visit_moved c.args.process.now c.fetch.new.process c.handle_all.new.process c.exec_one.new.process c.in_ok-fetch.ensures.events c.in_ok-handled.ensures.all c.in_ok-executed.ensures.goes.events
+    c.in_ok-handled.handled c.in_ok-executed.executed c.in_ok-handled.ensures.moved c.in_ok-executed.ensures.moved
+
+pub returns-clause-acted : goal.returns-clause-acted
+returns-clause-acted g c =
+    visit_acted c.args.process.now c.fetch.new.process c.handle_all.new.process c.exec_one.new.process c.in_ok-fetch.ensures.events c.in_ok-handled.ensures.all c.in_ok-executed.ensures.goes.events
+    c.in_ok-handled.handled c.in_ok-executed.executed c.in_ok-fetch.ensures.saved c.in_ok-handled.ensures.moved c.in_ok-executed.ensures.moved

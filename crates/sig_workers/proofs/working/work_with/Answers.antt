@@ -1,4 +1,5 @@
-use Rattle.sig_workers.proofs.PassLemmas.{same_part, one_pass, one_turn, or_true}
+use Rattle.std.proofs.Common.{arith}
+use Rattle.sig_workers.proofs.PassLemmas.{same_part, one_pass, one_turn, or_true, acted_pass}
 use Rattle.sig_workers.proofs.working.work_with.Goals as goal
 
 pub returns-then-not-here-clause-passed : goal.returns-then-not-here-clause-passed
@@ -14,5 +15,13 @@ loop-turn-preserved g c =
       part = e.part;
       same = same_part c.args.part.now c.loop-turn.part c.pass.new.part inv.same e.same;
       first = λ _. or_true c.loop-turn.moved c.in_ok-here.here c.if-not-here.false;
+      acted = λ _. acted_pass c.args.part.now c.loop-turn.part c.pass.new.part c.loop-turn.moved inv.passed inv.acted e.acted;
       passed = one_turn c.args.part.now c.loop-turn.part c.pass.new.part e.same e.grow c.loop-turn.moved c.in_ok-here.here c.if-not-here.false inv.passed e.passed;
     }
+
+pub returns-then-not-here-clause-acted : goal.returns-then-not-here-clause-acted
+returns-then-not-here-clause-acted g c =
+    acted_pass c.args.part.now c.loop-turn.part c.pass.new.part c.loop-turn.moved c.loop-turn.invariant.passed c.loop-turn.invariant.acted c.in_ok-here.ensures.acted
+
+pub returns-clause-acted : goal.returns-clause-acted
+returns-clause-acted g c = c.loop-turn.invariant.acted (c.loop-turn.invariant.first (omega arith))

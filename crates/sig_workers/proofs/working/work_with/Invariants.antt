@@ -1,6 +1,7 @@
-use Rattle.std.proofs.Common.{◌≡◌, ◌<◌, true}
+use Rattle.std.proofs.Common.{◌≡◌, ◌<◌, length, true}
 use Rattle.std.specs.Bool.{MatchBool}
 use Rattle.sig_workers.specs.Parts.{procs_of, IsPart, IsSamePart, AnyMore}
+use Rattle.sig_workers.specs.Acting.{ActBelow}
 use Rattle.sig_workers.proofs.working.work_with.Given as goal
 
 abbrev pub invariant-loop-turn : goal.invariant-loop-turn
@@ -8,5 +9,6 @@ invariant-loop-turn g l = record {
   part : IsPart l.queues l.part;
   same : IsSamePart l.fn.part l.part;
   first : 0 < l._turn → l.moved ≡ true;
+  acted : l.moved ≡ true → ActBelow (length l.part.procs.items) l.fn.part.procs.items l.part.procs.items;
   passed : MatchBool l.moved (AnyMore (procs_of l.fn.part) (procs_of l.part)) (l.part ≡ l.fn.part);
 }

@@ -1,11 +1,12 @@
 use Rattle.std.proofs.Common.{◌≡◌, sym, ◌∙◌, subst, arith, List, length, ◌<◌, ◌≤◌}
+use Rattle.std.proofs.lemmas.List.Elements.{All-push}
 use Rattle.sig_model.specs.OneWorker.{IsClear, opened_crew}
 use Rattle.sig_model.specs.Keeping.{IsPlaced}
 use Rattle.sig_model.proofs.OpeningLemmas.{clear_from}
 use Rattle.sig_model.proofs.PlacedLemmas.{opened_placed}
 use Rattle.sig_model.proofs.LawfulRunLemmas.{opened_keeping_lawful}
 use Rattle.sig_program.specs.Scripts.{Declared}
-use Rattle.sig_process.specs.Standing.{runnings_of}
+use Rattle.sig_process.specs.Standing.{Standing, runnings_of}
 use Rattle.sig_process.proofs.Lists.{opened_more, all_opened, keeping_more}
 use Rattle.sig_process.proofs.crew.Crew.open.Goals as goal
 
@@ -18,6 +19,7 @@ loop-pid-preserved c =
       rest = opened_more procs c.loop-pid.pid (length procs) c.args.script.now.turns c.in_ok-process.process.running.proc c.in_ok-process.process c.loop-pid.procs.items lt c.in_ok-process.ensures.opened
           ∙ c.loop-pid.invariant.rest;
       keeping = keeping_more c.loop-pid.procs.items c.in_ok-process.process c.loop-pid.invariant.keeping c.in_ok-process.ensures.keeps;
+      saved = All-push (λ (p : Standing). p.saved ≡ 0) c.loop-pid.procs.items c.in_ok-process.process c.loop-pid.invariant.saved c.in_ok-process.ensures.saved;
     })
 
 pub returns-clause-opened : goal.returns-clause-opened

@@ -12,4 +12,5 @@ invariant-loop-pid l =
     record {
       rest : runnings_of l.procs.items ++ opened_from l.pid count l.script.turns (drop l.pid l.script.procs) ≡ opened_from 0 count l.script.turns l.script.procs;
       keeping : All IsKeeping (runnings_of l.procs.items);
+      saved : All (λ p. p.saved ≡ 0) l.procs.items;
     }

@@ -1,7 +1,7 @@
 use Rattle.std.proofs.Common.{◌≡◌, ◌+◌, ◌++◌, ◌∷◌, [], List, length, ap, refl, sym, subst, ◌∙◌, arith}
 use Rattle.std.proofs.lemmas.Grind.{common_steps}
 use Rattle.std.proofs.lemmas.List.{append-nil, length-append}
-use Rattle.std.proofs.lemmas.List.Elements.{All-nil, All-head, All-tail}
+use Rattle.std.proofs.lemmas.List.Elements.{All-nil, All-head, All-tail, All-push}
 use Rattle.std.specs.Prelude.{All}
 use Rattle.std.specs.Vec.Iter.{into_iter_items}
 use Rattle.sig_program.specs.Scripts.{Declared, Program, IsProcBelow}
@@ -20,7 +20,7 @@ loop-proc-init c =
     let all : List Declared = c.args.script.procs in
     let whole : into_iter_items c.into_iter-proc-iterator.result ≡ all =
     (c.into_iter-proc-iterator.ensures.into_iter_gives).0 ∙ c.into_vec-proc-items.ensures ∙ ap (λ (s : Program). s.procs) c.script.view_is in
-    rw (whole, c.new-procs.ensures.items) (record { rest = refl; count = (let e : 0 + length all ≡ length all = omega arith in e); below = c.count-count.ensures.sound.pids; keeping = All-nil IsKeeping })
+    rw (whole, c.new-procs.ensures.items) (record { rest = refl; count = (let e : 0 + length all ≡ length all = omega arith in e); below = c.count-count.ensures.sound.pids; keeping = All-nil IsKeeping; saved = All-nil (λ (p : Standing). p.saved ≡ 0) })
 
 pub start-requires-clause-below : goal.start-requires-clause-below
 start-requires-clause-below c =
@@ -43,6 +43,7 @@ loop-proc-preserved c =
       count = omega (arith, len, ap length step, c.loop-proc.invariant.count);
       below = All-tail (IsProcBelow (length all)) c.in-Some.proc left (subst (All (IsProcBelow (length all))) step c.loop-proc.invariant.below);
       keeping = rw grown (keeping_more before c.in_ok-process.process c.loop-proc.invariant.keeping c.in_ok-process.ensures.keeps);
+      saved = rw grown (All-push (λ (p : Standing). p.saved ≡ 0) before c.in_ok-process.process c.loop-proc.invariant.saved c.in_ok-process.ensures.saved);
     }
 
 pub returns-clause-opened : goal.returns-clause-opened

@@ -18,4 +18,5 @@ invariant-loop-proc l =
       count : started + length left ≡ length all;
       below : All (IsProcBelow (length all)) left;
       keeping : All IsKeeping (runnings_of l.procs.items);
+      saved : All (λ p. p.saved ≡ 0) l.procs.items;
     }

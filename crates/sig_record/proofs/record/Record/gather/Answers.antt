@@ -18,24 +18,24 @@ use Rattle.sig_record.proofs.record.Record.gather.Goals as goal
 pub invariant_of-result : goal.invariant_of-result
 invariant_of-result c =
     let crew : List Running = runnings_of c.crew.inside.procs.items in
-    let by_pid : IsByPid crew = subst IsByPid (sym c.crew.view_is) c.requires.by_pid in
+    let by_pid : IsByPid crew = subst IsByPid (sym (ap runnings_of c.crew.view_is)) c.requires.by_pid in
     subst IsRecord (sym c.in_ok-reports.ensures.reports) (record_kept crew by_pid c.in_ok-reports.ensures.keeping)
 
 pub returns-clause-in_order : goal.returns-clause-in_order
 returns-clause-in_order c =
     let crew : List Running = runnings_of c.crew.inside.procs.items in
     λ placed ordered. c.in_ok-reports.ensures.reports
-    ∙ same_record crew (subst IsPlaced (sym c.crew.view_is) placed) c.in_ok-reports.ensures.keeping (subst AreInOrder (sym c.crew.view_is) ordered)
-    ∙ ap record_of c.crew.view_is
+    ∙ same_record crew (subst IsPlaced (sym (ap runnings_of c.crew.view_is)) placed) c.in_ok-reports.ensures.keeping (subst AreInOrder (sym (ap runnings_of c.crew.view_is)) ordered)
+    ∙ ap record_of (ap runnings_of c.crew.view_is)
 
 -- of a lawful crew
 pub returns-clause-lawful : goal.returns-clause-lawful
 returns-clause-lawful c =
     let crew : List Running = runnings_of c.crew.inside.procs.items in
     λ script law. c.in_ok-reports.ensures.reports
-    ∙ same_record crew (subst IsPlaced (sym c.crew.view_is) law.placed) c.in_ok-reports.ensures.keeping (counted_in_order crew c.in_ok-reports.ensures.keeping (crew_counted script crew (subst (IsLawfulCrew script) (sym c.crew.view_is) law)))
-    ∙ ap record_of c.crew.view_is
+    ∙ same_record crew (subst IsPlaced (sym (ap runnings_of c.crew.view_is)) law.placed) c.in_ok-reports.ensures.keeping (counted_in_order crew c.in_ok-reports.ensures.keeping (crew_counted script crew (subst (IsLawfulCrew script) (sym (ap runnings_of c.crew.view_is)) law)))
+    ∙ ap record_of (ap runnings_of c.crew.view_is)
 
 pub returns-clause-run : goal.returns-clause-run
 returns-clause-run c =
-    λ script law. subst (IsRecordOfRun script (crew_machine (rules_of script) (map whole_member c.args.crew))) (sym (returns-clause-lawful c script law)) (record_of_a_run script c.args.crew law c.requires.clear)
+    λ script law. subst (IsRecordOfRun script (crew_machine (rules_of script) (map whole_member (runnings_of c.args.crew)))) (sym (returns-clause-lawful c script law)) (record_of_a_run script (runnings_of c.args.crew) law c.requires.clear)
