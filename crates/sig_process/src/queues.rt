@@ -26,7 +26,7 @@ impl Process {
         self.progress.taken_in.len()
     }
 
-    /// The number that the next signal to this process will have.
+    /// The number that the next signal to this process will have; 0 where there is no such process.
     pub fn next_number(&self, to: Pid) -> u64
         ensures { result ≡ slice_index self.now.running.state.counts.next_numbers to.0 }
     {
@@ -36,9 +36,11 @@ impl Process {
         }
     }
 
-    /// A signal of another process joins those that wait for this one. It goes to this process, names
-    /// only processes that there are, and has a stamp of at most 2^62. Where there is no memory for
+    /// A signal of another process joins those that wait for this one. Where there is no memory for
     /// it, the process is as before, and the signal comes back.
+    ///
+    /// Asks that the signal is of another process, goes to this one, names only processes below
+    /// [`Process::count`], and has a stamp of at most 2^62.
     pub fn arrive(&mut self, signal: Signal) -> Push
         requires { IsArriving self.old.running.pid self.old.running.count signal }
         ensures { IsArrival self.old self.new signal result }
@@ -46,10 +48,12 @@ impl Process {
         self.progress.taken_in.push(signal)
     }
 
-    /// Signals of other processes join those that wait for this one. Each goes to this process, names
-    /// only processes that there are, and has a stamp of at most 2^62, and those of each sender go on
-    /// with the numbers of those that came before. The error is want of memory; then the process and
-    /// the signals are as before.
+    /// Signals of other processes join those that wait for this one. The error is want of memory;
+    /// then the process and the signals are as before.
+    ///
+    /// Asks that each signal is of another process, goes to this one, names only processes below
+    /// [`Process::count`], and has a stamp of at most 2^62; and that the numbers of each sender's
+    /// signals count on from those that came before, or from 1.
     pub fn take_in(&mut self, signals: &mut Signals) -> Result<(), AllocError>
         requires arriving { All (IsArriving self.old.running.pid self.old.running.count) signals.old.items }
         requires continues { Continues self.old.running signals.old.items }
@@ -75,6 +79,8 @@ impl Process {
     /// Moves the signals that it has sent to others into the empty list, the oldest first. It takes no
     /// memory: the outbox has that list's room from then on. Each of the signals may arrive at its
     /// receiver.
+    ///
+    /// Asks that `into` is empty.
     pub fn take_outbox(&mut self, into: &mut Signals)
         requires { into.old.items ≡ [] }
         ensures signals { into.new.items ≡ self.old.running.outbox }

@@ -17,12 +17,16 @@ use crate::turns::{leave_aside, leave_buffer, put_list, take_list, try_buffer};
 use sig_kinds::Signal;
 use std::marker::Brand;
 
-/// What an offer to a buffer gave. `Off`: the mode was off.
+/// What an offer to a buffer gave.
 #[derive(Drop)]
 pub(crate) enum Aside {
+    /// The mode was off; the signal comes back.
     Off(Signal),
+    /// The signal was put.
     Put,
+    /// Another seat held the buffer's turn; the signal, and the number of that seat plus 1.
     Busy(Signal, u64),
+    /// There was no memory; the signal comes back.
     Memory(Signal),
 }
 
@@ -61,6 +65,7 @@ fn under_turn(words: &Words, place: &mut Place, buffer: usize, signal: Signal) -
         leave_buffer(words, place, buffer);
         return Aside::Memory(signal);
     }
+    // Others see the list when the turn is left; the bit is set before that.
     put_list(words, place, buffer, list);
     leave_filled(words, place, buffer);
     Aside::Put

@@ -21,14 +21,17 @@ use std::alloc::{AllocError, Global};
 use std::sync::Wait;
 use std::thread::Threads;
 
-/// A round of a crew by several workers, over shared queues: one queue for each process, opened with
-/// this policy and the crew's next numbers. The workers run side by side, each over its part of the
-/// processes, until it has passed over them without an event or has made at least `quota` events.
-/// Then the queues are closed, and what each has left waits for its receiver. Gives the crew, the
-/// receipt of each queue, by pid, and whether there was an event. Each process that could do something
-/// has an event more, and one without an event more has a saved place no earlier than before. The crew
-/// is lawful and its outboxes are empty, there are 1 to 16 workers, the quota is at least 1, and so is
-/// the number of `Churn`. The error is want of memory.
+/// A round of a crew by several workers, over shared queues: one queue for each process, opened
+/// with this policy and the crew's next numbers. The workers run side by side, each over its part
+/// of the processes, until it has passed over them without an event or has made at least `quota`
+/// events. Then the queues are closed, and what each has left waits for its receiver. Gives the
+/// crew, the receipt of each queue, by pid, and whether there was an event. Each process that could
+/// do something has an event more, and one without an event more has a saved place no earlier than
+/// before. The error is want of memory.
+///
+/// Asks that the crew is lawful, as [`Crew::start`] opens it for a script and as the workers leave
+/// it; that its outboxes are empty; that there are 1 to 16 workers; and that the quota is at least
+/// 1, and so is the number of `Churn`.
 pub fn round<R: Threads + Wait + Sync, G: Gate>(
     rt: &R,
     alloc: Global,
@@ -63,9 +66,11 @@ pub fn round<R: Threads + Wait + Sync, G: Gate>(
 }
 
 /// Rounds until one has no event. Gives the crew, which has settled and of which no process can do
-/// anything, and for each process the receipt of all that was put for it, by pid. It ends, since each
-/// round but the last raises the sum of the processes' stamps, and no stamp is above 2^62. It asks
-/// what [`round`] asks. The error is want of memory.
+/// anything, and for each process the receipt of all that was put for it, by pid. It ends, since
+/// each round but the last raises the sum of the processes' stamps, and no stamp is above 2^62. The
+/// error is want of memory.
+///
+/// Asks what [`round`] asks.
 pub fn run_rounds<R: Threads + Wait + Sync, G: Gate>(
     rt: &R,
     alloc: Global,
