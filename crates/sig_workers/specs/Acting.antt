@@ -1,5 +1,5 @@
 -- What the work of a round does for each process: one that can do something does something (this project's own).
-use Rattle.std.specs.Prelude.{◌≡◌, ◌⊎◌, ℕ, ◌+◌, ◌<◌, ◌≤◌, List, length, slice_get, Some}
+use Rattle.std.specs.Prelude.{◌≡◌, ◌⊎◌, ℕ, ◌+◌, ◌<◌, ◌≤◌, List, length, slice_get, slice_set, Some}
 use Rattle.sig_model.specs.Still.{IsStill}
 use Rattle.sig_process.specs.Standing.{Standing}
 
