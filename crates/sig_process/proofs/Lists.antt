@@ -1,13 +1,12 @@
 -- Lists from a place on, and the processes of a crew.
 use Rattle.std.proofs.Common.{◌≡◌, ℕ, zero, suc, ◌+◌, ◌<◌, ◌≤◌, List, [], ◌∷◌, ◌++◌, length, drop, Option, Some, None, refl, sym, ◌∙◌, ap, subst, append_assoc, Bool, ◌||◌, arith}
-use Rattle.std.specs.Prelude.{All, slice_get, slice_set, IfSome, MatchOption}
+use Rattle.std.specs.Prelude.{All, slice_get, IfSome, MatchOption}
 use Rattle.std.specs.List.{IsItemAtMut}
 use Rattle.std.specs.Borrow.{MutBor}
 use Rattle.std.specs.List.{list_any}
-use Rattle.std.specs.Option.{option_map}
-use Rattle.std.proofs.lemmas.List.{append-nil, drop_more, drop_all, length-append, length-map, map-append, map-set}
+use Rattle.std.proofs.lemmas.List.{append-nil, drop_more, drop_all, length-append, map-append}
 use Rattle.std.proofs.lemmas.List.Elements.{All-push}
-use Rattle.std.proofs.lemmas.Option.{slice_get-map, slice_get_within, get_or_from_slice_get, slice_get-get_or}
+use Rattle.std.proofs.lemmas.Option.{slice_get_within, get_or_from_slice_get, slice_get-get_or}
 use Rattle.sig_program.specs.Scripts.{Declared}
 use Rattle.sig_model.specs.Running.{Running, opened}
 use Rattle.sig_model.specs.Keeping.{IsKeeping}

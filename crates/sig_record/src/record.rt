@@ -67,7 +67,8 @@ impl Record {
         requires clear { IsClear (runnings_of crew) }
         requires by_pid { IsByPid (runnings_of crew) }
         ensures sorted { IfOk result (λ r. r ≡ sorted_record (runnings_of crew)) }
-        ensures in_order { IsPlaced (runnings_of crew) → AreInOrder (runnings_of crew) → IfOk result (λ r. r ≡ record_of (runnings_of crew)) }
+        ensures in_order { IsPlaced (runnings_of crew) → AreInOrder (runnings_of crew) →
+            IfOk result (λ r. r ≡ record_of (runnings_of crew)) }
         ensures lawful { (script : Program) → IsLawfulCrew script (runnings_of crew) → IfOk result (λ r. r ≡ record_of (runnings_of crew)) }
         ensures run { (script : Program) → IsLawfulCrew script (runnings_of crew) →
             IfOk result (IsRecordOfRun script (crew_machine (rules_of script) (map whole_member (runnings_of crew)))) }

@@ -128,8 +128,8 @@ module _ (script : Program) (policy : Policy) (crew : List Running) (between las
   abbrev mid : List Running
   mid = runnings_of between
 
-  abbrev later : List Running
-  later = runnings_of last
+  abbrev after : List Running
+  after = runnings_of last
 
   mid_many : length mid ≡ length crew
   mid_many = a.lawful.many ∙ sym law.many
@@ -143,7 +143,7 @@ module _ (script : Program) (policy : Policy) (crew : List Running) (between las
   may_at : (p : ℕ) (x y : Account) → slice_get receipts p ≡ Some x → slice_get more p ≡ Some y → MayFollow x y
   may_at p x y at_x at_y =
       let e : IsReceiptOf policy crew mid p x = a.receipt p x at_x in
-      let f : IsReceiptOf policy mid later p y = b.receipt p y at_y in
+      let f : IsReceiptOf policy mid after p y = b.receipt p y at_y in
       record {
         receiver = to_pid y.receiver x.receiver (f.receiver ∙ sym e.receiver);
         senders = λ s. same_bool (has y.senders s) (has x.senders s)
@@ -172,12 +172,12 @@ module _ (script : Program) (policy : Policy) (crew : List Running) (between las
   pub may_follow : EachMayFollow receipts more
   may_follow = each_may receipts more count_same may_at
 
-  receipt_at : (p : ℕ) (c : Account) → slice_get (all_followed receipts more) p ≡ Some c → IsReceiptOf policy crew later p c
+  receipt_at : (p : ℕ) (c : Account) → slice_get (all_followed receipts more) p ≡ Some c → IsReceiptOf policy crew after p c
   receipt_at p c at =
       let w : (x : Account) × (y : Account) × (slice_get receipts p ≡ Some x) × (slice_get more p ≡ Some y) × (c ≡ followed x y) = followed_at receipts more p c count_same at in
       let e : IsReceiptOf policy crew mid p w.0 = a.receipt p w.0 w.2 in
-      let f : IsReceiptOf policy mid later p w.1 = b.receipt p w.1 w.3 in
-      subst (IsReceiptOf policy crew later p) (sym w.4) (record {
+      let f : IsReceiptOf policy mid after p w.1 = b.receipt p w.1 w.3 in
+      subst (IsReceiptOf policy crew after p) (sym w.4) (record {
         receiver = e.receiver;
         policy_is = e.policy_is;
         senders = e.senders;
@@ -189,11 +189,11 @@ module _ (script : Program) (policy : Policy) (crew : List Running) (between las
             ∙ ap (λ z. went p r ++ z) (sym (ap (coming_from s) (signals-append w.0.put w.1.put) ∙ filter-append (λ (x : Signal). x.from.0 == s) (signals w.0.put) (signals w.1.put)));
       })
 
-  begins : Begin crew later
+  begins : Begin crew after
   begins p r at =
       let u : (m : Running) × (slice_get mid p ≡ Some m) × (x : List Event) × (m.events ≡ r.events ++ x) = a.begin p r at in
-      let v : (t : Running) × (slice_get later p ≡ Some t) × (y : List Event) × (t.events ≡ u.0.events ++ y) = b.begin p u.0 u.1 in
+      let v : (t : Running) × (slice_get after p ≡ Some t) × (y : List Event) × (t.events ≡ u.0.events ++ y) = b.begin p u.0 u.1 in
       (v.0, v.1, u.2 ++ v.2, v.3 ∙ ap (λ z. z ++ v.2) u.3 ∙ append_assoc r.events u.2 v.2)
 
-  pub one_more_round : IsRounds script policy crew later (all_followed receipts more)
+  pub one_more_round : IsRounds script policy crew after (all_followed receipts more)
   one_more_round = record { lawful = b.lawful; clear = b.clear; begin = begins; count = followed_length receipts more ∙ a.count; receipt = receipt_at }

@@ -8,7 +8,7 @@ use Rattle.sig_model.specs.Running.{Running}
 use Rattle.sig_model.specs.OneWorker.{IsClear}
 use Rattle.sig_layout.specs.declared.policy.Policy.{Policy}
 use Rattle.sig_model.specs.Still.{IsStill}
-use Rattle.sig_workers.specs.Parts.{procs_of, crew_of, AreSeats, HasPlace, IsPart, HavePassed, HasWorked, HaveWorked, HasJoined}
+use Rattle.sig_workers.specs.Parts.{procs_of, crew_of, base_of, AreSeats, HasPlace, IsPart, HavePassed, HasWorked, HaveWorked, HasJoined}
 use Rattle.sig_program.specs.Scripts.{Program}
 use Rattle.sig_model.specs.CrewLaw.{IsLawfulCrew}
 use Rattle.sig_queue.specs.Seats.{Queue}

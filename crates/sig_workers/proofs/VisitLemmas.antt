@@ -14,7 +14,7 @@ use Rattle.sig_process.specs.Standing.{Standing}
 use Rattle.sig_process.specs.Steps.{IsExec}
 use Rattle.sig_queue.specs.Seats.{Queue, Seated}
 use Rattle.sig_workers.specs.Gone.{IsReady, Goes}
-use Rattle.sig_workers.specs.Visits.{HasMoved}
+use Rattle.sig_workers.specs.Visits.{HasMoved, HaveHandled, HaveExecuted}
 use Rattle.sig_workers.specs.Acting.{HasActed}
 use Rattle.sig_workers.proofs.OneEvent.{IsOneEvent}
 use Rattle.sig_workers.proofs.Going.{goes_event, goes_trans}
@@ -55,12 +55,6 @@ handled_more false start r t h lt = let e : length r.running.events ≡ length s
 
 -- what the handlings and the execution of a visit come to
 module _ (r a b t : Standing) (same : a.running.events ≡ r.running.events) (none : can_handle b.running ≡ false) (le : length b.running.events ≤ length t.running.events) where
-  abbrev HandledBy : Bool → Type 0
-  HandledBy h = MatchBool h (length a.running.events < length b.running.events) (b ≡ a)
-
-  abbrev ExecutedBy : Bool → Type 0
-  ExecutedBy e = MatchBool e (length b.running.events < length t.running.events) ((t.running ≡ b.running) × (exec_next b.running ≡ None) × (b.saved ≤ t.saved))
-
   as_many : length a.running.events ≡ length r.running.events
   as_many = ap (λ (es : List Event). length es) same
 
@@ -70,12 +64,12 @@ module _ (r a b t : Standing) (same : a.running.events ≡ r.running.events) (no
   still_now : (t.running ≡ b.running) × (exec_next b.running ≡ None) × (b.saved ≤ t.saved) → IsStill t.running
   still_now later = subst IsStill (sym later.0) (record { handle = none; exec = later.1 })
 
-  pub visit_moved : (h e : Bool) → HandledBy h → ExecutedBy e → HasMoved r.running t.running (h || e)
+  pub visit_moved : (h e : Bool) → HaveHandled a b h → HaveExecuted b t e → HasMoved r.running t.running (h || e)
   visit_moved true e more later = omega (arith, as_many, more, le)
   visit_moved false true is more = omega (arith, unhandled is, more)
   visit_moved false false is later = (ap (λ (z : Running). length z.events) later.0 ∙ unhandled is, still_now later)
 
-  pub visit_acted : (h e : Bool) → a.saved ≡ r.saved → HandledBy h → ExecutedBy e → HasActed r t
+  pub visit_acted : (h e : Bool) → a.saved ≡ r.saved → HaveHandled a b h → HaveExecuted b t e → HasActed r t
   visit_acted true e saved more later = inl (omega (arith, as_many, more, le))
   visit_acted false true saved is more = inl (omega (arith, unhandled is, more))
   visit_acted false false saved is later =

@@ -1,9 +1,10 @@
 -- What the calls of a visit do.
-use Rattle.std.specs.Prelude.{◌≡◌, ℕ, ◌+◌, ◌<◌, Bool, true, false, List, [], ◌∷◌, ◌++◌, length, All, Some, slice_get, slice_set}
+use Rattle.std.specs.Prelude.{◌≡◌, ℕ, ◌+◌, ◌<◌, ◌≤◌, Bool, true, false, List, [], ◌∷◌, ◌++◌, length, All, None, Some, slice_get, slice_set}
 use Rattle.std.specs.Bool.{MatchBool}
 use Rattle.sig_kinds.specs.declared.signal.Signal.{Signal}
 use Rattle.sig_kinds.specs.Counting.{IsCounting}
-use Rattle.sig_model.specs.Running.{Running}
+use Rattle.sig_model.specs.Running.{Running, exec_next}
+use Rattle.sig_process.specs.Standing.{Standing}
 use Rattle.sig_model.specs.Still.{IsStill}
 use Rattle.sig_model.specs.Accounts.{coming_from}
 use Rattle.sig_layout.specs.declared.via.Via.{Via}
@@ -58,3 +59,12 @@ pub record IsFetched (q : Queue) (v : Seated) (xs : List Signal) (w : Seated) : 
 -- there was an event; or there was none, and the process can do nothing
 abbrev pub HasMoved : Running → Running → Bool → Type 0
 HasMoved r t moved = MatchBool moved (length r.events < length t.events) ((length t.events ≡ length r.events) × IsStill t)
+
+-- signals were handled, each an event; or none was, and all is as before
+abbrev pub HaveHandled : Standing → Standing → Bool → Type 0
+HaveHandled p q moved = MatchBool moved (length p.running.events < length q.running.events) (q ≡ p)
+
+-- an instruction was executed; or none can be, and the saved place lies no earlier
+abbrev pub HaveExecuted : Standing → Standing → Bool → Type 0
+HaveExecuted p q moved = MatchBool moved (length p.running.events < length q.running.events)
+    ((q.running ≡ p.running) × (exec_next p.running ≡ None) × (p.saved ≤ q.saved))

@@ -12,7 +12,9 @@ use std::mem::drop;
 /// process is as before, and the signal is dropped, since the run is given up.
 pub(crate) fn arrive(process: &mut Process, signal: Signal) -> Result<(), AllocError>
     requires { IsArriving process.old.running.pid process.old.running.count signal }
-    ensures { MatchResult result (λ _. process.new ≡ record process.old { running = arrived process.old.running signal }) (λ _. process.new ≡ process.old) }
+    ensures { MatchResult result
+        (λ _. process.new ≡ record process.old { running = arrived process.old.running signal })
+        (λ _. process.new ≡ process.old) }
 {
     match process.arrive(signal) {
         Push::Added => Ok(()),

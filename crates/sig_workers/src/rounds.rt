@@ -85,8 +85,10 @@ pub fn run_rounds<R: Threads + Wait + Sync, G: Gate>(
     requires workers { (1 ≤ workers) × (workers ≤ 16) }
     requires quota { 1 ≤ quota }
     requires policy { IsPolicy policy }
-    ensures rounds { (script : Program) → IsLawfulCrew script (runnings_of crew) → IfOk result (λ r. IsRounds script policy (runnings_of crew) (runnings_of r.0) r.1) }
-    ensures settled { (script : Program) → IsLawfulCrew script (runnings_of crew) → IfOk result (λ r. HasSettled script (runnings_of r.0)) }
+    ensures rounds { (script : Program) → IsLawfulCrew script (runnings_of crew) →
+        IfOk result (λ r. IsRounds script policy (runnings_of crew) (runnings_of r.0) r.1) }
+    ensures settled { (script : Program) → IsLawfulCrew script (runnings_of crew) →
+        IfOk result (λ r. HasSettled script (runnings_of r.0)) }
     ensures still { IfOk result (λ r. IsStillCrew (runnings_of r.0)) }
 {
     let (mut now, mut receipts, mut moved) = round(rt, alloc, crew, workers, quota, policy, gate)?;

@@ -1,9 +1,8 @@
 //! A visit of one process by a worker.
-ghost use Rattle.std.specs.Prelude.{◌≡◌, ◌<◌, ◌≤◌, [], length, true, false, IfOk, OnOk, vec_len, None};
-ghost use Rattle.std.specs.Bool.{MatchBool};
-ghost use Rattle.sig_model.specs.Running.{can_handle, exec_next};
+ghost use Rattle.std.specs.Prelude.{◌≡◌, ◌<◌, [], length, true, false, IfOk, OnOk, vec_len};
+ghost use Rattle.sig_model.specs.Running.{can_handle};
 ghost use Rattle.sig_workers.specs.Gone.{IsReady, Goes};
-ghost use Rattle.sig_workers.specs.Visits.{HasMoved};
+ghost use Rattle.sig_workers.specs.Visits.{HasMoved, HaveHandled, HaveExecuted};
 ghost use Rattle.sig_workers.specs.Acting.{HasActed};
 
 use crate::fetching::fetch;
@@ -53,7 +52,7 @@ fn handle_all<R: Wait, G: Gate>(
     ensures goes { OnOk result (Goes queues.now me.pid process.old.running seats.old.items process.new.running seats.new.items) }
     ensures empty { OnOk result (process.new.running.outbox ≡ []) }
     ensures all { OnOk result (can_handle process.new.running ≡ false) }
-    ensures moved { IfOk result (λ moved. MatchBool moved (length process.old.running.events < length process.new.running.events) (process.new ≡ process.old)) }
+    ensures moved { IfOk result (HaveHandled process.old process.new) }
 {
     let mut moved = false;
     while process.can_handle() {
@@ -78,7 +77,7 @@ fn exec_one<R: Wait, G: Gate, L: Ledger>(
     requires clear { process.old.running.outbox ≡ [] }
     ensures goes { OnOk result (Goes queues.now me.pid process.old.running seats.old.items process.new.running seats.new.items) }
     ensures empty { OnOk result (process.new.running.outbox ≡ []) }
-    ensures moved { IfOk result (λ moved. MatchBool moved (length process.old.running.events < length process.new.running.events) ((process.new.running ≡ process.old.running) × (exec_next process.old.running ≡ None) × (process.old.saved ≤ process.new.saved))) }
+    ensures moved { IfOk result (HaveExecuted process.old process.new) }
 {
     if !process.can_exec() {
         return Ok(false);

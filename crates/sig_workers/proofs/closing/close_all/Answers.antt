@@ -1,5 +1,6 @@
 use Rattle.std.proofs.lemmas.Grind.{common_steps}
 use Rattle.std.proofs.Common.{◌≡◌, ◌<◌, ◌+◌, ◌++◌, [], ◌∷◌, List, length, None, slice_get, refl, sym, ap, ◌∙◌, arith, length-append, length-set}
+use Rattle.sig_model.specs.Running.{Running}
 use Rattle.sig_queue.specs.declared.account.Account.{Account}
 use Rattle.sig_workers.proofs.PartLemmas.{standing_at, running_at}
 use Rattle.sig_workers.proofs.CloseLemmas.{first_left, closed_rest, closed_more, kept_more}
@@ -48,7 +49,7 @@ loop-at-preserved c =
       count = ap (λ (z : List Account). length z) pushed ∙ length-append c.loop-at.receipts (c.in_ok-receipt.receipt ∷ []) ∙ ap (λ z. z + 1) inv.count;
       procs = length-set procs n c.close_one.new.process ∙ inv.procs;
       kept = kept_more c.args.procs.now.items procs n c.index_mut.result.now c.close_one.new.process (standing_at procs n c.index_mut.result.now lt c.index_mut.ensures.value)
-          (ap (λ z. z.events) c.in_ok-receipt.ensures.closed.given) c.in_ok-receipt.ensures.saved inv.kept;
+          (ap (λ (z : Running). z.events) c.in_ok-receipt.ensures.closed.given) c.in_ok-receipt.ensures.saved inv.kept;
       rest = closed_rest c.args.queues.items c.args.seats.items c.args.procs.now.items procs n c.remove-queue.result c.remove-seat.result c.index_mut.result.now c.close_one.new.process c.in_ok-receipt.receipt c.loop-at.receipts c.add_receipt.new.receipts queue.0 seat.0 there inv.count inv.rest c.in_ok-receipt.ensures.closed pushed;
       closed = closed_more c.args.queues.items c.args.seats.items c.args.procs.now.items procs n c.remove-queue.result c.remove-seat.result c.index_mut.result.now c.close_one.new.process c.in_ok-receipt.receipt c.loop-at.receipts c.add_receipt.new.receipts queue.0 seat.0 there inv.count inv.rest c.in_ok-receipt.ensures.closed pushed inv.closed;
     }

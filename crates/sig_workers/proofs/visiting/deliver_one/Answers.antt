@@ -9,9 +9,9 @@ arrive-requires c =
 pub returns-clause-procs : goal.returns-clause-procs
 returns-clause-procs c =
     if_arrived _ c.arrive.result c.arrive.ensures (λ same.
-    delivered c.args.procs.now.items c.args.signal c.index_mut.result.now c.requires.arriving.below.to c.index_mut.ensures.value c.arrive.new.self (ap (λ z. z.running) same))
+    delivered c.args.procs.now.items c.args.signal c.index_mut.result.now c.requires.arriving.below.to c.index_mut.ensures.value c.arrive.new.process (ap (λ z. z.running) same))
 
 pub returns-clause-placed : goal.returns-clause-placed
 returns-clause-placed c =
     if_arrived _ c.arrive.result c.arrive.ensures (λ same.
-    delivered_placed c.args.procs.now.items c.args.signal c.index_mut.result.now c.requires.arriving.below.to c.index_mut.ensures.value c.arrive.new.self (ap (λ z. z.running) same) c.requires.placed)
+    delivered_placed c.args.procs.now.items c.args.signal c.index_mut.result.now c.requires.arriving.below.to c.index_mut.ensures.value c.arrive.new.process (ap (λ z. z.running) same) c.requires.placed)
