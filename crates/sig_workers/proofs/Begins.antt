@@ -1,7 +1,6 @@
 -- A round begins: of the crew, of its queues, and of its parts.
 use Rattle.std.proofs.Common.{◌≡◌, ◌≤◌, List, length, sym, ap, ◌∙◌, subst, arith}
 use Rattle.sig_program.specs.Scripts.{Program, IsSound}
-use Rattle.sig_model.specs.Running.{Running}
 use Rattle.sig_model.specs.OneWorker.{IsClear}
 use Rattle.sig_model.specs.CrewLaw.{IsLawfulCrew}
 use Rattle.sig_process.specs.Standing.{Standing, runnings_of}
