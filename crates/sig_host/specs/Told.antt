@@ -1,8 +1,8 @@
 -- What a run tells of its end: a number, and a text on `err`.
 use Rattle.std.specs.Prelude.{ℕ, List, [], ◌++◌, Option, Some, None, option_map, codes, decimal, Vec}
 use Rattle.std.specs.Global.{Global}
-use Rattle.sig_script.specs.declared.fault.FaultKind.{FaultKind}
-use Rattle.sig_script.specs.declared.fault.FaultKind.TheVariants as kind
+use Rattle.sig_tokens.specs.declared.fault.FaultKind.{FaultKind}
+use Rattle.sig_tokens.specs.declared.fault.FaultKind.TheVariants as kind
 use Rattle.sig_record.specs.declared.summary.Summary.{Summary}
 use Rattle.sig_host.specs.declared.status.Status.{Status}
 use Rattle.sig_host.specs.declared.status.Status.TheVariants.{Done, BadScript, Usage, ReadFault, WriteFault, Memory}

@@ -1,7 +1,7 @@
 ghost use Rattle.std.specs.Prelude.{◌≡◌, ℕ, List, Some, Ok, map, true};
 ghost use Rattle.sig_program.specs.Scripts.{Program};
-ghost use Rattle.sig_script.specs.Grammar.{script_of};
-ghost use Rattle.sig_script.specs.Generated.{generated};
+ghost use Rattle.sig_reader.specs.Grammar.{script_of};
+ghost use Rattle.sig_canon.specs.Generated.{generated};
 ghost use Rattle.sig_runs.specs.Machine.{IsRun};
 ghost use Rattle.sig_runs.specs.Crew.{opening_machine, crew_machine};
 ghost use Rattle.sig_runs.specs.Settled.{IsSettled};

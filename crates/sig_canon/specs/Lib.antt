@@ -1,0 +1,5 @@
+pub mod ScriptText
+pub mod ReadableScript
+pub mod Printing
+pub mod Generated
+pub mod Putting
