@@ -1,7 +1,7 @@
 -- The scripts that a reader gives: those whose canonical text is read back as an equal script.
 use Rattle.std.specs.Prelude.{◌≡◌, ◌≢◌, ◌≤◌, ℕ, ◌+◌, List, [], ◌∷◌, length, map, sum, max, Bool, true, ◌&&◌, nat_lt, IsTrue, All, IfSome}
 use Rattle.std.specs.List.{list_all}
-use Rattle.sig_terms.specs.Words.{is_name, is_variable, is_atom}
+use Rattle.sig_terms.specs.Words.{is_variable, is_atom}
 use Rattle.sig_terms.specs.Nodes.{greatest}
 use Rattle.sig_terms.specs.Readable.{is_wide}
 use Rattle.sig_terms.specs.declared.bytes.TheConstants.{MOST_WORD_BYTES}
@@ -19,6 +19,7 @@ use Rattle.sig_program.specs.declared.label.Label.{Label}
 use Rattle.sig_program.specs.declared.instruction.Instr.{Instr}
 use Rattle.sig_program.specs.Parts.{exprs_of, vars_of, clauses_of, using_of}
 use Rattle.sig_program.specs.Scripts.{Declared, Program, IsWithin, IsSound}
+use Rattle.sig_tokens.specs.Tokens.{IsNameToken, IsVariableToken}
 
 -- how many nodes an expression has and how deep they lie, as of a term
 abbrev pub expr_count_step : Expr-F ℕ → ℕ

@@ -2,6 +2,7 @@
 use Rattle.std.specs.Prelude.{ℕ, ◌≤◌, ◌^◌, length, All}
 use Rattle.sig_reader.specs.declared.draft.Draft.{Draft}
 use Rattle.sig_program.specs.Scripts.{Declared}
+use Rattle.sig_tokens.specs.Names.{IsSmall}
 use Rattle.sig_reader.specs.Drafts.{all_procs}
 use Rattle.sig_program.specs.declared.script.TheConstants.{MOST_PROCESSES}
 

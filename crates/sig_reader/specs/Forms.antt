@@ -1,17 +1,16 @@
 -- What a line says: its word, and what stands behind it.
 use Rattle.std.specs.Prelude.{ℕ, List, [], ◌∷◌, Bool, true, false, not, is_some, is_none, codes, ok_or, length, if◌then◌else◌, Option, Some, None, option_map, Result, Ok, Err}
-use Rattle.std.specs.List.{list_all, find}
+use Rattle.std.specs.List.{find}
 use Rattle.std.specs.Str.{bytes_eq}
 use Rattle.sig_kinds.specs.declared.alias_mode.AliasMode.{AliasMode}
 use Rattle.sig_kinds.specs.declared.alias_mode.AliasMode.TheVariants as alias_mode
 use Rattle.sig_patterns.specs.declared.var.Var.{Var}
 use Rattle.sig_program.specs.declared.instruction.Instr.{Instr}
 use Rattle.sig_tokens.specs.declared.fault.FaultKind.{FaultKind}
-use Rattle.sig_tokens.specs.declared.fault.FaultKind.TheVariants.{Syntax, IntRange}
+use Rattle.sig_tokens.specs.declared.fault.FaultKind.TheVariants.{Syntax}
 use Rattle.sig_tokens.specs.declared.token.TokenKind.{TokenKind}
 use Rattle.sig_tokens.specs.declared.token.TokenKind.TheVariants.{Integer}
 use Rattle.sig_tokens.specs.declared.token.Token.{Token}
-use Rattle.sig_tokens.specs.declared.token.Cut.{Cut}
 use Rattle.sig_tokens.specs.declared.known.Known.{Known}
 use Rattle.sig_program.specs.declared.verb.Verb.{Verb}
 use Rattle.sig_program.specs.declared.verb.Verb.TheVariants as verb
@@ -25,9 +24,9 @@ use Rattle.sig_reader.specs.declared.form.Form.TheVariants as form
 use Rattle.sig_program.specs.Instructions.{Operand, an_expr, a_variable, a_label, a_switch, a_mode, a_flag, Said, AllSaid, verbs, word_of, operands_of, instr_by}
 use Rattle.sig_tokens.specs.Faults.{◌>>=◌, on_ok}
 use Rattle.sig_tokens.specs.Numbers.{count_of}
-use Rattle.sig_tokens.specs.Tokens.{text, cut_of, is_token_in_range}
+use Rattle.sig_tokens.specs.Tokens.{text, tokens_of}
 use Rattle.sig_tokens.specs.Signs.{is_arrow}
-use Rattle.sig_tokens.specs.Names.{label_of, name_at, variable_at}
+use Rattle.sig_tokens.specs.Names.{name_at, variable_at, target_at}
 use Rattle.sig_tokens.specs.Expressions.{expr_of}
 use Rattle.sig_tokens.specs.PatternTexts.{pattern_of}
 
