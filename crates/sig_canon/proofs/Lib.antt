@@ -21,3 +21,4 @@ pub mod PrintLemmas
 pub mod JoinedLemmas
 pub mod LabelTextLemmas
 pub mod GeneratedLemmas
+pub mod ScriptNames

@@ -9,7 +9,7 @@ use Rattle.sig_program.specs.Instructions.{Spoken, Says, Receives, spoken}
 use Rattle.sig_program.specs.Scripts.{Declared}
 use Rattle.sig_canon.specs.ScriptText.{spoken_lines, instr_lines, turns_line, procs_lines, script_lines, script_text, line_text}
 use Rattle.sig_canon.specs.Printing.{first_of, rest_of}
-use Rattle.sig_canon.specs.Putting.{IsPut}
+use Rattle.sig_terms.specs.Putting.{IsPut}
 
 -- the front of what stands in front
 pub kept_front : (a b c x : List ℕ) → b ≡ a ++ x → take (length b) c ≡ b → take (length a) c ≡ a

@@ -2,4 +2,3 @@ pub mod ScriptText
 pub mod ReadableScript
 pub mod Printing
 pub mod Generated
-pub mod Putting

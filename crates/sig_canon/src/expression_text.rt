@@ -2,7 +2,7 @@
 
 ghost use Rattle.std.specs.Prelude.{◌≡◌, ◌++◌, OnOk, OnErr, map, take, length};
 ghost use Rattle.sig_terms.specs.TermText.{joined};
-ghost use Rattle.sig_canon.specs.Putting.{IsPut};
+ghost use Rattle.sig_terms.specs.Putting.{IsPut};
 ghost use Rattle.sig_canon.specs.ScriptText.{names_of, process_text, expr_text};
 
 use crate::putting::{put, put_int};

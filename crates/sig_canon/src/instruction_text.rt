@@ -2,7 +2,7 @@
 
 ghost use Rattle.std.specs.Prelude.{◌≡◌, [], ◌∷◌, map, codes};
 ghost use Rattle.std.specs.List.{concat, flat_map};
-ghost use Rattle.sig_canon.specs.Putting.{IsPut};
+ghost use Rattle.sig_terms.specs.Putting.{IsPut};
 ghost use Rattle.sig_canon.specs.ScriptText.{
   name_of_place,
   names_of,

@@ -4,7 +4,7 @@ ghost use Rattle.std.specs.Prelude.{◌≡◌, ◌++◌, ◌+◌, ◌<◌, ◌�
 ghost use Rattle.std.specs.List.{flat_map};
 ghost use Rattle.sig_program.specs.declared.label.Label.{Label};
 ghost use Rattle.sig_program.specs.Scripts.{AreRising};
-ghost use Rattle.sig_canon.specs.Putting.{IsPut};
+ghost use Rattle.sig_terms.specs.Putting.{IsPut};
 ghost use Rattle.sig_canon.specs.Printing.{labels_from};
 ghost use Rattle.sig_canon.specs.ScriptText.{
   names_of,

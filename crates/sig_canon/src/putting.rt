@@ -2,7 +2,7 @@
 
 ghost use Rattle.std.specs.Prelude.{decimal};
 ghost use Rattle.std.specs.Fmt.{signed_decimal};
-ghost use Rattle.sig_canon.specs.Putting.{IsPut};
+ghost use Rattle.sig_terms.specs.Putting.{IsPut};
 ghost use Rattle.sig_canon.specs.ScriptText.{after_blank};
 
 use sig_terms::Term;

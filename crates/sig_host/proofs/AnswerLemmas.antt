@@ -10,7 +10,8 @@ use Rattle.sig_host.specs.declared.settings.Settings.{Settings}
 use Rattle.sig_host.specs.declared.status.Status.{Status}
 use Rattle.sig_host.specs.declared.status.Status.TheVariants.{Done, BadScript, Usage, ReadFault, WriteFault, Memory}
 use Rattle.sig_host.specs.Words.{AreSettings}
-use Rattle.sig_host.specs.Answers.{AskForWork, HasScript, IsAnswer, IsFine, IsRefused, IsRun, IsUnread, IsUnwritten, IsWellGiven, Reading, Writing}
+use Rattle.sig_edge.specs.Streams.{IsFine, IsRefused, IsUnread, IsUnwritten, Reading, Writing}
+use Rattle.sig_host.specs.Answers.{AskForWork, HasScript, IsAnswer, IsRun, IsWellGiven}
 use Rattle.sig_host.proofs.PlainLemmas.{plain_kept, plain_only}
 
 module _ (r : Reading) (w : Writing) (summary : Option (List ℕ)) where

@@ -8,7 +8,8 @@ use Rattle.sig_program.specs.Scripts.{Program}
 use Rattle.sig_reader.specs.Grammar.{script_of}
 use Rattle.sig_host.specs.declared.status.Status.{Status}
 use Rattle.sig_host.specs.declared.status.Status.TheVariants.{Done, BadScript, Usage, ReadFault, WriteFault, Memory}
-use Rattle.sig_host.specs.Answers.{IsReadToEnd, IsRefused, IsSourceRead, reading}
+use Rattle.sig_edge.specs.Streams.{IsReadToEnd, IsRefused, reading}
+use Rattle.sig_host.specs.Answers.{IsSourceRead}
 
 none : (xs : List ℕ) → length xs ≡ 0 → xs ≡ []
 none [] e = refl

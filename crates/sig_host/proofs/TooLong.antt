@@ -6,7 +6,7 @@ use Rattle.sig_base.specs.Flow.{Took}
 use Rattle.sig_tokens.specs.declared.fault.FaultKind.TheVariants.{TooLong}
 use Rattle.sig_reader.specs.declared.reader.TheConstants.{MOST_BYTES}
 use Rattle.sig_reader.specs.Grammar.{script_of}
-use Rattle.sig_host.specs.Answers.{IsRefused}
+use Rattle.sig_edge.specs.Streams.{IsRefused}
 
 above : (n : ℕ) → MOST_BYTES < n → nat_le n MOST_BYTES ≡ false
 above n h = grind (arith, nat_tests)

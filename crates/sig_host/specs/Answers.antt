@@ -1,8 +1,8 @@
 -- What each answer of a run says of the bytes that were read and written.
 use Rattle.std.specs.Prelude.{◌≡◌, ◌≢◌, ℕ, Bool, List, [], take, true, false, Option, Some, None, IfSome, Result, Ok, Err, ⊤}
 use Rattle.sig_base.specs.Flow.{Rose, Adds}
-use Rattle.sig_tokens.specs.declared.fault.FaultKind.{FaultKind}
 use Rattle.sig_tokens.specs.declared.fault.FaultKind.TheVariants.{TooLong}
+use Rattle.sig_edge.specs.Streams.{IsFine, IsReadToEnd, IsRefused, IsUnread, IsUnwritten, Reading, Spells, Writing}
 use Rattle.sig_program.specs.Scripts.{Program}
 use Rattle.sig_reader.specs.Grammar.{script_of}
 use Rattle.sig_kinds.specs.declared.signal.Signal.{Signal}
@@ -23,10 +23,6 @@ use Rattle.sig_host.specs.Told.{summary_text, text_in}
 use Rattle.sig_host.specs.Words.{AreRefused, AreSettings, plain_settings, settings_in}
 use Rattle.sig_host.specs.declared.status.Status.{Status}
 use Rattle.sig_host.specs.declared.status.Status.TheVariants.{Done, BadScript, Usage, ReadFault, WriteFault, Memory}
-
--- the bytes are no script: this line is the first that is refused, and this is why
-abbrev pub IsRefused : ℕ → FaultKind → List ℕ → Type 0
-IsRefused line kind bytes = script_of bytes ≡ Err (record { line = line; kind = kind })
 
 -- the reports are the record of the run of one worker on the script, of which it has one
 abbrev pub IsRecordAlone : Program → List Report → Type 0
@@ -52,38 +48,6 @@ abbrev pub AreTexts : ℕ → Program → Bool → Texts → Type 0
 AreTexts workers script asked t =
     (reports : List Report) × IsRecordOf workers script reports × (t.record.items ≡ record_text reports) × (text_in t.summary ≡ summary_for asked reports)
 
--- what a source had left and has, and its faults before and after
-pub record Reading : Type 0 where
-  pub left : Option (List ℕ)
-  pub rest : Option (List ℕ)
-  pub before : ℕ
-  pub after : ℕ
-
-abbrev pub reading : Option (List ℕ) → Option (List ℕ) → ℕ → ℕ → Reading
-reading left rest before after = record { left = left; rest = rest; before = before; after = after }
-
--- what a sink held and holds, and its faults before and after
-pub record Writing : Type 0 where
-  pub held : Option (List ℕ)
-  pub new : Option (List ℕ)
-  pub before : ℕ
-  pub after : ℕ
-
-abbrev pub writing : Option (List ℕ) → Option (List ℕ) → ℕ → ℕ → Writing
-writing held new before after = record { held = held; new = new; before = before; after = after }
-
--- no read failed
-abbrev pub IsFine : Reading → Type 0
-IsFine r = r.after ≡ r.before
-
--- the source wasn't read
-abbrev pub IsUnread : Reading → Type 0
-IsUnread r = (r.rest ≡ r.left) × IsFine r
-
--- the source has nothing left, where it tells its bytes
-abbrev pub IsReadToEnd : Reading → Type 0
-IsReadToEnd r = IfSome r.left (λ bytes. r.rest ≡ Some [])
-
 -- Reading the script: it is what the source spells, or this is why there is none. The source was read to its end, but for a script that
 -- is too long, a failed read, and want of memory.
 abbrev pub IsSourceRead : Reading → Result Program Status → Type 0
@@ -92,10 +56,6 @@ IsSourceRead r (Err (BadScript line kind)) = IfSome r.left (IsRefused line kind)
 IsSourceRead r (Err ReadFault) = Rose r.before r.after
 IsSourceRead r (Err Memory) = IsFine r
 IsSourceRead r (Err _) = ⊥
-
--- nothing was written
-abbrev pub IsUnwritten : Writing → Type 0
-IsUnwritten w = w.new ≡ w.held
 
 -- the whole text of the record of a run of the script with so many workers was written; this text of its summary, if one is asked for,
 -- is to be told
@@ -114,10 +74,6 @@ IsScriptRun workers script asked w Done summary = IsPrinted workers script asked
 IsScriptRun workers script asked w WriteFault summary = IsCutOff workers script w
 IsScriptRun workers script asked w Memory summary = IsUnwritten w
 IsScriptRun workers script asked w _ summary = ⊥
-
--- the source spells a script, of which this holds
-abbrev pub Spells : Reading → (Program → Type 0) → Type 0
-Spells r Holds = IfSome r.left (λ bytes. (script : Program) × (script_of bytes ≡ Ok script) × Holds script)
 
 -- running the script that the source spells, with so many workers
 abbrev pub IsSourceRun : ℕ → Reading → Writing → Status → Option (List ℕ) → Type 0

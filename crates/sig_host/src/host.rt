@@ -1,5 +1,6 @@
 ghost use Rattle.std.specs.Prelude.{◌≡◌, ◌≢◌, ◌≤◌, ◌⊎◌, ℕ, Bool, true, List, [], map, string_bytes, IfOk, Option, Some};
 ghost use Rattle.sig_base.specs.Flow.{Rose, Adds};
+ghost use Rattle.sig_edge.specs.Streams.{reading, writing};
 ghost use Rattle.sig_program.specs.Scripts.{Program, IsSound};
 ghost use Rattle.sig_canon.specs.Generated.{generated};
 ghost use Rattle.sig_model.specs.OneWorker.{IsClear, RunsTo};
@@ -14,9 +15,7 @@ ghost use Rattle.sig_host.specs.Answers.{
   IsSourceRead,
   IsSourceRun,
   IsWellGiven,
-  reading,
   summary_for,
-  writing,
 };
 ghost use Rattle.sig_host.specs.Told.{told_text, text_in};
 ghost use Rattle.sig_host.specs.Words.{IsInRange};

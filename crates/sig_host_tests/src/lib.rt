@@ -9,6 +9,8 @@ mod documents;
 #[cfg(test)]
 mod exits;
 #[cfg(test)]
+mod gates;
+#[cfg(test)]
 mod large;
 #[cfg(test)]
 mod links;

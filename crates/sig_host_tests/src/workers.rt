@@ -2,15 +2,15 @@
 
 use crate::large::PING_PONG;
 use crate::markers::SERVER_AND_CLIENTS;
-use crate::runs::{LINES, ONE_MESSAGE};
+use crate::runs::LINES;
 use crate::whole::{PLAIN, Ran, Setting, text_of};
 use itoa::Buffer;
 use sig_base::{Gate, OpenGate, Point};
 use sig_host::Status;
 use sig_record::read_record;
 use std::alloc::{AllocError, Global};
-use std::sync::atomic::{AtomicBool, AtomicU64, Ordering};
-use std::sync::{OnceLock, Wait};
+use std::sync::Wait;
+use std::sync::atomic::{AtomicBool, Ordering};
 use std::thread::Threads;
 
 /// How often a gate looks before it gives up.
@@ -28,9 +28,17 @@ pub(crate) fn count(text: &[u8], piece: &[u8]) -> usize {
 }
 
 /// The arguments with which ping-pong is played.
-const PLAYS: [&[&str]; 2] = [
+const PLAYS: [&[&str]; 3] = [
     &["--workers", "1"],
     &["--workers", "4", "--buffers", "churn:1"],
+    &["--workers", "16", "--quota", "1"],
+];
+
+/// The arguments with which the server serves its clients.
+const SERVINGS: [&[&str]; 3] = [
+    &["--workers", "4", "--buffers", "auto"],
+    &["--workers", "16", "--buffers", "always"],
+    &["--workers", "16", "--quota", "1000", "--buffers", "churn:2"],
 ];
 
 /// What stands in the record of ping-pong, and how often.
@@ -128,11 +136,11 @@ fn play_settles<R: Threads + Wait + Sync>(
 
 /// The first client that isn't served, or 0, which is the server, where the record is another
 /// otherwise.
-fn first_unserved_of_four<R: Threads + Wait + Sync>(
+fn first_unserved_with<R: Threads + Wait + Sync>(
     rt: &R,
     alloc: Global,
+    words: &[&str],
 ) -> Result<Option<u32>, AllocError> {
-    let words: &[&str] = &["--workers", "4", "--buffers", "auto"];
     let ran = run_of(rt, alloc, SERVER_AND_CLIENTS, words)?;
     let record = ran.out.held();
     if ran.status != Status::Done || !has_all(record, &SERVED) || count_ended(record) != 12 {
@@ -147,11 +155,14 @@ fn workers_settle(rt: HostRuntime) {
         let settles = play_settles(&rt, rt.alloc(), words);
         assert!(rt; settles == Ok(true), "{words:?}");
     }
-    assert_eq!(rt; first_unserved_of_four(&rt, rt.alloc()), Ok(None));
+    for words in SERVINGS {
+        let unserved = first_unserved_with(&rt, rt.alloc(), words);
+        assert!(rt; unserved == Ok(None), "{words:?}");
+    }
 }
 
 /// Looks until the flag is up. Whether it was, before the gate gave up.
-fn look(flag: &AtomicBool) -> bool {
+pub(crate) fn look(flag: &AtomicBool) -> bool {
     for _ in 0..LOOKS {
         if flag.load(Ordering::SeqCst) {
             return true;
@@ -161,7 +172,7 @@ fn look(flag: &AtomicBool) -> bool {
 }
 
 /// Whether a run of this text with these arguments and this gate, ends well.
-fn ends_well<R: Threads + Wait + Sync, G: Gate>(
+pub(crate) fn ends_well<R: Threads + Wait + Sync, G: Gate>(
     rt: &R,
     alloc: Global,
     words: &[&str],
@@ -233,44 +244,4 @@ fn workers_overlap(rt: HostRuntime) {
     assert!(rt; gate.held_first.load(Ordering::SeqCst));
     assert!(rt; gate.held_second.load(Ordering::SeqCst));
     assert!(rt; !gate.gave_up.load(Ordering::SeqCst));
-}
-
-/// A gate that keeps the first put, and counts all.
-#[derive(Drop)]
-struct Puts {
-    /// The sender, and the buffer that the signal went to.
-    first: OnceLock<(u32, Option<u8>)>,
-    count: AtomicU64,
-}
-
-impl Gate for Puts {
-    fn at(&self, _worker: u32, pid: u32, point: Point) {
-        if let Point::Put { buffer } = point {
-            self.count.fetch_add(1, Ordering::SeqCst);
-            let _ = self.first.try_set((pid, buffer));
-        }
-    }
-}
-
-/// Whether two workers with buffers of this policy put one signal, of process 0, into this buffer.
-fn put_into<R: Threads + Wait + Sync>(
-    rt: &R,
-    alloc: Global,
-    policy: &str,
-    buffer: Option<u8>,
-) -> bool {
-    let gate = Puts {
-        first: OnceLock::new(),
-        count: AtomicU64::new(0),
-    };
-    let words = ["--workers", "2", "--buffers", policy];
-    let ended = ends_well(rt, alloc, words.as_slice(), ONE_MESSAGE, &gate) == Ok(true);
-    let once = gate.count.load(Ordering::SeqCst) == 1;
-    ended && once && gate.first.get().copied() == Some((0, buffer))
-}
-
-#[test]
-fn workers_put_as_the_policy_says(rt: HostRuntime) {
-    assert!(rt; put_into(&rt, rt.alloc(), "always", Some(0)));
-    assert!(rt; put_into(&rt, rt.alloc(), "never", None));
 }

@@ -1,3 +1,4 @@
 pub mod Instructions
 pub mod Parts
 pub mod Scripts
+pub mod ScriptNames

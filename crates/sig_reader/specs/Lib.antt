@@ -5,3 +5,4 @@ pub mod Fitting
 pub mod Grammar
 pub mod Reading
 pub mod SameNames
+pub mod ErrorTexts

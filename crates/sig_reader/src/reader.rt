@@ -1,4 +1,5 @@
-ghost use Rattle.std.specs.Prelude.{◌≡◌, ◌+◌, ◌<◌, ◌^◌, length, IfOk, IfSome, Ok, drop, All};
+ghost use Rattle.std.specs.Prelude.{◌≡◌, ◌+◌, ◌<◌, ◌^◌, length, IfOk, IfSome, Ok, Some, drop, All};
+ghost use Rattle.sig_reader.specs.ErrorTexts.{error_text};
 ghost use Rattle.sig_tokens.specs.Lines.{lines_of};
 ghost use Rattle.sig_tokens.specs.Tokens.{AreWellSpelled, tokens_of};
 ghost use Rattle.sig_tokens.specs.Names.{IsFewKnown};
@@ -24,21 +25,33 @@ use sig_lists::Sequence;
 use sig_program::{Proc, Procs, Script};
 use sig_terms::bytes::equal_bytes;
 use std::alloc::{AllocError, Global};
-use thiserror::Error;
+use std::error::Error;
+use std::fmt;
 
 /// The most bytes of the text of a script.
 pub const MOST_BYTES: usize = 1048576;
 
 /// Why no script was read.
-#[derive(Clone, Copy, Debug, PartialEq, Eq, Error)]
+#[derive(Clone, Copy, Debug, PartialEq, Eq)]
 pub enum ScriptError {
     /// The text spells no script: its first line that is refused, and why.
-    #[error("line {line}: {kind:?}")]
     Fault { line: u64, kind: FaultKind },
     /// There was no memory.
-    #[error("out of memory")]
     Memory,
 }
+
+impl fmt::Display for ScriptError {
+    ghost output = { λ e. Some (error_text e) };
+
+    fn fmt<W: fmt::Write>(&self, f: &mut fmt::Formatter<W>) -> fmt::Result {
+        match self {
+            ScriptError::Fault { line, kind } => write!(f, "line {line}: {kind}"),
+            ScriptError::Memory => f.write_str("out of memory"),
+        }
+    }
+}
+
+impl Error for ScriptError {}
 
 impl From<AllocError> for ScriptError {
     ghost from_gives = { λ _ e. e ≡ Memory };

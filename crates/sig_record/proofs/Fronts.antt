@@ -3,7 +3,7 @@ use Rattle.std.proofs.Common.{◌≡◌, ℕ, ◌+◌, ◌<◌, ◌≤◌, List,
 use Rattle.std.specs.List.{flat_map}
 use Rattle.std.proofs.lemmas.List.{take-take, take_at, take_all, append-nil}
 use Rattle.std.proofs.lemmas.Grind.{take_at_read, flat_map-append}
-use Rattle.sig_canon.specs.Putting.{IsPut}
+use Rattle.sig_terms.specs.Putting.{IsPut}
 
 -- the front of what stands in front
 pub kept_front : (a b c x : List ℕ) → b ≡ a ++ x → take (length b) c ≡ b → take (length a) c ≡ a

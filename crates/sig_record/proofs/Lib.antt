@@ -30,4 +30,3 @@ pub mod EventSizes
 pub mod SizedCrews
 pub mod SizedReads
 pub mod Stored
-pub mod ScriptNames

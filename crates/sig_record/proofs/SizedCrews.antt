@@ -9,6 +9,7 @@ use Rattle.sig_terms.specs.Words.{is_name}
 use Rattle.sig_terms.specs.declared.term.Term.{Term}
 use Rattle.sig_kinds.specs.declared.signal.Signal.{Signal}
 use Rattle.sig_program.specs.Scripts.{Declared, Program}
+use Rattle.sig_program.specs.ScriptNames.{AreNames}
 use Rattle.sig_runs.specs.Machine.{Machine, At, IsRun}
 use Rattle.sig_runs.specs.Crew.{opening_machine}
 use Rattle.sig_runs.specs.Order.{events_by}
@@ -29,7 +30,7 @@ use Rattle.sig_record.specs.declared.merging.MergedAt.{MergedAt}
 use Rattle.sig_record.specs.Merging.{IsMerged}
 use Rattle.sig_record.specs.RecordOf.{left_of, report_of, record_of}
 use Rattle.sig_record.specs.RunRecord.{events_listed, queued_for}
-use Rattle.sig_record.specs.SizedRecord.{AreNames, IsSizedEvent, IsSizedLeft, IsSizedSignal, IsSizedState, IsSizedReport, IsSizedRecord}
+use Rattle.sig_record.specs.SizedRecord.{IsSizedEvent, IsSizedLeft, IsSizedSignal, IsSizedState, IsSizedReport, IsSizedRecord}
 use Rattle.sig_record.specs.Records.{IsRecord}
 use Rattle.sig_record.specs.RecordText.{record_text}
 use Rattle.sig_record.specs.RecordFronts.{record_in}

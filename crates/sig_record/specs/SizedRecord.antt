@@ -4,7 +4,6 @@ use Rattle.std.specs.Prelude.{◌≡◌, List, All, true}
 use Rattle.sig_terms.specs.Words.{is_name}
 use Rattle.sig_kinds.specs.declared.signal.Kind.{Kind}
 use Rattle.sig_kinds.specs.declared.signal.Signal.{Signal}
-use Rattle.sig_program.specs.Scripts.{Declared, Program}
 use Rattle.sig_model.specs.declared.event.Outcome.{Outcome}
 use Rattle.sig_model.specs.declared.event.Event.{Event}
 use Rattle.sig_model.specs.declared.state.State.{State}
@@ -14,10 +13,6 @@ use Rattle.sig_record.specs.declared.report.Report.{Report}
 use Rattle.sig_record.specs.Phrases.{Phrase, terms_of, Each}
 use Rattle.sig_record.specs.EventRows.{outcome_phrase, state_phrase}
 use Rattle.sig_record.specs.KindRows.{kind_phrase}
-
--- the name of each process of the script is a name token
-abbrev pub AreNames : Program → Type 0
-AreNames script = All (λ (d : Declared). is_name d.name ≡ true) script.procs
 
 abbrev pub IsSizedPhrase : Phrase → Type 0
 IsSizedPhrase p = Each IsKeptTerm (terms_of p.values)

@@ -27,8 +27,5 @@ pub use record::Record;
 pub use refusal::RecordError;
 pub use report::{Left, Lefts, Queued, Report};
 pub use rereading::reread;
-pub use runs::{
-    a_lawful_crew_tells_a_readable_record, a_lawful_crew_tells_a_run,
-    names_of_scripts_are_name_tokens,
-};
+pub use runs::{a_lawful_crew_tells_a_readable_record, a_lawful_crew_tells_a_run};
 pub use summary::{Summary, summarize};

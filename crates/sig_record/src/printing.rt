@@ -3,7 +3,7 @@ ghost use Rattle.std.specs.List.{flat_map};
 ghost use Rattle.sig_terms.specs.TermText.{term_text, reference_text};
 ghost use Rattle.sig_terms.specs.Readable.{IsTerm};
 ghost use Rattle.sig_terms.specs.Words.{is_token};
-ghost use Rattle.sig_canon.specs.Putting.{IsPut};
+ghost use Rattle.sig_terms.specs.Putting.{IsPut};
 ghost use Rattle.sig_record.specs.Phrases.{truth_text, link_text, IsNarrow, IsWide, IsStoredRef};
 ghost use Rattle.sig_record.specs.EventRows.{did_text, outcome_text};
 ghost use Rattle.sig_record.specs.KindRows.{kind_text};

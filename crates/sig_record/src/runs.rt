@@ -1,7 +1,6 @@
-ghost use Rattle.std.specs.Prelude.{◌≡◌, ℕ, List, Some, Ok, map, true};
+ghost use Rattle.std.specs.Prelude.{◌≡◌, List, Some, map, true};
 ghost use Rattle.sig_program.specs.Scripts.{Program};
-ghost use Rattle.sig_reader.specs.Grammar.{script_of};
-ghost use Rattle.sig_canon.specs.Generated.{generated};
+ghost use Rattle.sig_program.specs.ScriptNames.{AreNames};
 ghost use Rattle.sig_runs.specs.Machine.{IsRun};
 ghost use Rattle.sig_runs.specs.Crew.{opening_machine, crew_machine};
 ghost use Rattle.sig_runs.specs.Settled.{IsSettled};
@@ -18,7 +17,7 @@ ghost use Rattle.sig_record.specs.RunRecord.{events_listed, whole_rules, IsRecor
 ghost use Rattle.sig_record.specs.RecordText.{record_text};
 ghost use Rattle.sig_record.specs.RecordFronts.{record_in};
 ghost use Rattle.sig_record.specs.ReadableRecord.{IsReadableRecord};
-ghost use Rattle.sig_record.specs.SizedRecord.{AreNames, IsSizedRecord};
+ghost use Rattle.sig_record.specs.SizedRecord.{IsSizedRecord};
 ghost use Rattle.sig_record.specs.StoredRecord.{IsStoredRecord};
 
 /// The record of a lawful crew with empty outboxes is the record of a run of the script's plain
@@ -52,12 +51,4 @@ pub fn a_lawful_crew_tells_a_readable_record()
         IsStoredRecord (record_of crew) → IsReadableRecord (record_of crew) }
     ensures again { (script : Program) (crew : List Running) → IsLawfulCrew script crew → IsClear crew → AreNames script →
         IsStoredRecord (record_of crew) → record_in (record_text (record_of crew)) ≡ Some (record_of crew) }
-{}
-
-/// The processes of a script that was read have names that are name tokens, and so have those of a
-/// generated one. So the record of each run of such a script is read back from its text. (The
-/// language of scripts is this project's own.)
-pub fn names_of_scripts_are_name_tokens()
-    ensures read { (bytes : List ℕ) (script : Program) → script_of bytes ≡ Ok script → AreNames script }
-    ensures generated { (n : ℕ) → AreNames (generated n) }
 {}

@@ -2,7 +2,10 @@
 //! of.
 #![tactic(auto)]
 
-pub use sig_canon::{MOST_CALLS, a_printed_script_is_read_back, generate, print_script};
+pub use sig_canon::{
+    MOST_CALLS, a_printed_script_is_read_back, generate, names_of_scripts_are_name_tokens,
+    print_script,
+};
 pub use sig_program::{
     After, DEFAULT_TURNS, Instr, Instrs, Label, Labels, MOST_PROCESSES, MOST_TURNS, Proc, Procs,
     Script,

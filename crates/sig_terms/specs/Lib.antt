@@ -6,4 +6,5 @@ pub mod References
 pub mod Readable
 pub mod Tokens
 pub mod Fronts
+pub mod Putting
 pub mod Names

@@ -8,3 +8,4 @@ pub mod Phrases
 pub mod Expressions
 pub mod PatternTexts
 pub mod LabelPlaces
+pub mod FaultWords

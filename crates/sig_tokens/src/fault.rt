@@ -1,7 +1,9 @@
-ghost use Rattle.std.specs.Prelude.{◌≡◌};
+ghost use Rattle.std.specs.Prelude.{◌≡◌, Some};
+ghost use Rattle.sig_tokens.specs.FaultWords.{word_of};
 ghost use Rattle.sig_tokens.specs.declared.fault.Stop.TheVariants.{Memory};
 
 use std::alloc::AllocError;
+use std::fmt;
 
 /// Why a line of a text is no line of a script.
 #[derive(Clone, Copy, Debug, PartialEq, Eq)]
@@ -31,6 +33,36 @@ pub enum FaultKind {
     UnknownLabel,
     /// The text has more than 1,048,576 bytes.
     TooLong,
+}
+
+impl FaultKind {
+    /// The word for it, as a program tells it: `header`, `unknown_label` and so on.
+    pub fn word(self) -> &'static str
+        ensures { result.now ≡ word_of self }
+    {
+        match self {
+            FaultKind::Header => "header",
+            FaultKind::Syntax => "syntax",
+            FaultKind::IntRange => "int_range",
+            FaultKind::TermTooLarge => "term_too_large",
+            FaultKind::DuplicateName => "duplicate_name",
+            FaultKind::TooManyProcesses => "too_many_processes",
+            FaultKind::DuplicateLabel => "duplicate_label",
+            FaultKind::TooManyTurns => "too_many_turns",
+            FaultKind::MarkerNotInClause => "marker_not_in_clause",
+            FaultKind::UnknownProcess => "unknown_process",
+            FaultKind::UnknownLabel => "unknown_label",
+            FaultKind::TooLong => "too_long",
+        }
+    }
+}
+
+impl fmt::Display for FaultKind {
+    ghost output = { λ kind. Some (word_of kind) };
+
+    fn fmt<W: fmt::Write>(&self, f: &mut fmt::Formatter<W>) -> fmt::Result {
+        f.write_str(self.word())
+    }
 }
 
 /// Why a reader stops.

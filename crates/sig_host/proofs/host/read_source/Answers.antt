@@ -1,5 +1,6 @@
 use Rattle.std.proofs.Common.{List, ℕ, [], Some, refl, subst}
-use Rattle.sig_host.specs.Answers.{IsSourceRead, reading}
+use Rattle.sig_edge.specs.Streams.{reading}
+use Rattle.sig_host.specs.Answers.{IsSourceRead}
 use Rattle.sig_host.proofs.ReadLemmas.{read_whole}
 use Rattle.sig_host.proofs.TooLong.{too_long}
 use Rattle.sig_host.proofs.host.read_source.Goals as goal

@@ -1,7 +1,7 @@
 use Rattle.std.proofs.Common.{ℕ, List, ◌++◌, ap, ◌∙◌, append_assoc, subst}
 use Rattle.std.specs.List.{flat_map}
 use Rattle.sig_kinds.specs.declared.signal.Signal.{Signal}
-use Rattle.sig_canon.specs.Putting.{IsPut}
+use Rattle.sig_terms.specs.Putting.{IsPut}
 use Rattle.sig_record.specs.declared.report.Left.{Left}
 use Rattle.sig_record.specs.RecordText.{head_text, event_text, left_text, queued_text}
 use Rattle.sig_record.proofs.Fronts.{put_behind}

@@ -1,7 +1,7 @@
 use Rattle.std.proofs.Common.{ℕ, List, ◌++◌, ap, ◌∙◌, subst, append_assoc}
 use Rattle.std.specs.Prelude.{codes}
 use Rattle.sig_terms.specs.TermText.{term_text}
-use Rattle.sig_canon.specs.Putting.{IsPut}
+use Rattle.sig_terms.specs.Putting.{IsPut}
 use Rattle.sig_record.specs.Phrases.{link_text}
 use Rattle.sig_record.proofs.printing.put_spaced_kind.Goals as goal
 

@@ -3,10 +3,10 @@ use Rattle.std.proofs.Common.{◌≡◌, ℕ, List, [], ◌∷◌, map, All, Ok,
 use Rattle.std.proofs.lemmas.List.Elements.{All-nil, All-cons}
 use Rattle.sig_terms.specs.Words.{is_name}
 use Rattle.sig_program.specs.Scripts.{Declared, Program}
+use Rattle.sig_program.specs.ScriptNames.{AreNames}
 use Rattle.sig_reader.specs.Grammar.{script_of}
 use Rattle.sig_canon.specs.Generated.{hub, client, client_names, generated}
 use Rattle.sig_canon.proofs.ReadableLemmas.{readable}
-use Rattle.sig_record.specs.SizedRecord.{AreNames}
 
 pub read_names : (bytes : List ℕ) (s : Program) → script_of bytes ≡ Ok s → AreNames s
 read_names bytes s e i d lt = ((readable bytes s e).procs i d lt).name.1

@@ -1,5 +1,5 @@
-use Rattle.sig_record.proofs.ScriptNames.{read_names, generated_names}
-use Rattle.sig_record.proofs.runs.names_of_scripts_are_name_tokens.Goals as goal
+use Rattle.sig_canon.proofs.ScriptNames.{read_names, generated_names}
+use Rattle.sig_canon.proofs.laws.names_of_scripts_are_name_tokens.Goals as goal
 
 pub returns-clause-read : goal.returns-clause-read
 returns-clause-read c = read_names

@@ -1,0 +1,51 @@
+-- Pieces that are told one after another.
+use Rattle.std.proofs.Common.{◌≡◌, ℕ, ◌+◌, ◌<◌, ◌≤◌, List, [], ◌∷◌, ◌++◌, length, get_or, take, drop, Option, Result, Ok, Err, refl, sym, ap, ◌∙◌, subst, arith, append_assoc}
+use Rattle.std.specs.List.{flat_map}
+use Rattle.std.proofs.lemmas.List.{take-append-drop, take_at, take_more, append-nil}
+use Rattle.std.proofs.lemmas.Grind.{flat_map-append}
+use Rattle.std.specs.Prelude.{IsErr}
+use Rattle.sig_base.specs.Flow.{Rose, Adds}
+use Rattle.sig_base.proofs.Pieces.{Adds-more}
+use Rattle.sig_edge.specs.Streams.{writing}
+use Rattle.sig_edge.specs.Told.{IsTold}
+
+module _ {X : Type 0} (text : X → List ℕ) (pieces : List X) (i : ℕ) (d : X) (lt : i < length pieces) where
+  -- the texts so far, and that of one piece more
+  one_more : flat_map text (take (i + 1) pieces) ≡ flat_map text (take i pieces) ++ text (get_or pieces i d)
+  one_more =
+      ap (flat_map text) (take_more pieces i d lt)
+      ∙ flat_map-append text (take i pieces) (get_or pieces i d ∷ [])
+      ∙ ap (λ (xs : List ℕ). flat_map text (take i pieces) ++ xs) (append-nil (text (get_or pieces i d)))
+
+  -- all texts: those so far, that of one piece more, and the others
+  whole : flat_map text pieces ≡ (flat_map text (take i pieces) ++ text (get_or pieces i d)) ++ flat_map text (drop (i + 1) pieces)
+  whole =
+      ap (flat_map text) (sym (take-append-drop (i + 1) pieces))
+      ∙ flat_map-append text (take (i + 1) pieces) (drop (i + 1) pieces)
+      ∙ ap (λ (xs : List ℕ). xs ++ flat_map text (drop (i + 1) pieces)) one_more
+
+  -- the texts so far and the beginning of that of one piece more are the beginning of all texts
+  beginning : (n : ℕ) → (m : ℕ) × (flat_map text (take i pieces) ++ take n (text (get_or pieces i d)) ≡ take m (flat_map text pieces))
+  beginning n =
+      let done : List ℕ = flat_map text (take i pieces) in
+      let piece : List ℕ = text (get_or pieces i d) in
+      let rest : List ℕ = flat_map text (drop (i + 1) pieces) in
+      let part : List ℕ = done ++ take n piece in
+      let all : flat_map text pieces ≡ part ++ (drop n piece ++ rest) =
+      whole ∙ ap (λ (xs : List ℕ). (done ++ xs) ++ rest) (sym (take-append-drop n piece))
+      ∙ ap (λ (xs : List ℕ). xs ++ rest) (sym (append_assoc done (take n piece) (drop n piece)))
+      ∙ append_assoc part (drop n piece) rest in
+      (length part, sym (ap (take (length part)) all ∙ take_at part (drop n piece ++ rest) (length part) refl))
+
+  -- the piece is broken off, and so are all
+  pub broken_off : {T E : Type 0} (a b c : Option (List ℕ)) (first last end n : ℕ) (r : Result T E) → IsErr r → Adds a b (flat_map text (take i pieces)) → first ≤ last
+      → Rose last end → Adds b c (take n (text (get_or pieces i d))) → IsTold (writing a c first end) (flat_map text pieces) r
+  broken_off a b c first last end n (Ok t) failed h le rose more = absurd (cc)
+  broken_off a b c first last end n (Err e) failed h le rose more =
+      let begin = beginning n in (
+        omega (arith, rose, le),
+        (
+          begin.0,
+          subst (Adds a c) begin.1 (Adds-more a b c (flat_map text (take i pieces)) (take n (text (get_or pieces i d))) h more),
+        ),
+      )

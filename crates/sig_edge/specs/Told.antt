@@ -1,0 +1,24 @@
+-- What a program tells when it can't go on: one line, which begins with its name (the texts are this project's own).
+use Rattle.std.specs.Prelude.{ℕ, List, ◌++◌, take, codes, Result, Ok, Err}
+use Rattle.sig_base.specs.Flow.{Rose, Adds}
+use Rattle.sig_tokens.specs.declared.fault.FaultKind.{FaultKind}
+use Rattle.sig_tokens.specs.FaultWords.{fault_text}
+use Rattle.sig_edge.specs.Streams.{Writing}
+
+-- the line of a script that is refused, and why
+abbrev pub refusal_text : List ℕ → ℕ → FaultKind → List ℕ
+refusal_text program line kind = program ++ codes ": " ++ fault_text line kind ++ codes "\n"
+
+abbrev pub read_fault_text : List ℕ → List ℕ
+read_fault_text program = program ++ codes ": read fault\n"
+
+abbrev pub write_fault_text : List ℕ → List ℕ
+write_fault_text program = program ++ codes ": write fault\n"
+
+abbrev pub memory_text : List ℕ → List ℕ
+memory_text program = program ++ codes ": out of memory\n"
+
+-- the text was written whole; or a write failed, and the beginning of the text was written
+abbrev pub IsTold : {T E : Type 0} → Writing → List ℕ → Result T E → Type 0
+IsTold w text (Ok t) = Adds w.held w.new text
+IsTold w text (Err e) = Rose w.before w.after × ((n : ℕ) × Adds w.held w.new (take n text))

@@ -1,0 +1,9 @@
+//! The edge of a program that reads a script: what was read and written, as contracts see it, and
+//! what is told on the stream for errors when the program can't go on.
+#![tactic(auto)]
+
+mod telling;
+
+pub use telling::{
+    Untold, tell_memory, tell_piece, tell_read_fault, tell_refusal, tell_write_fault,
+};

@@ -1,0 +1,64 @@
+ghost use Rattle.std.specs.Prelude.{◌≤◌};
+
+use crate::host::run;
+use crate::status::Status;
+use sig_base::{OpenGate, StdSink, StdSource};
+use std::alloc::Global;
+use std::io::{Read, Write};
+use std::process::ExitCode;
+use std::rt::Env;
+use std::sync::Wait;
+use std::thread::Threads;
+use std::{env, io};
+
+/// How the program is called.
+const USAGE: &str =
+    "usage: sigrun [--workers N] [--quota N] [--buffers never|always|churn:N|auto] [--generate N]";
+
+/// The arguments after the program's name.
+fn arguments<R: Env + Alloc<A = Global>>(rt: &R) -> io::Result<Vec<String>> {
+    let mut arguments = Vec::new(rt.alloc());
+    for (i, argument) in env::args(rt)?.enumerate() {
+        if i > 0 {
+            arguments.push(argument)?;
+        }
+    }
+    Ok(arguments)
+}
+
+/// The status where the arguments can't be had, told on standard error. Nothing was run.
+fn refuse<W: Write>(stderr: &mut W, fault: io::Error) -> Status {
+    let (status, text) = match fault.kind() {
+        io::ErrorKind::OutOfMemory => (Status::Memory, "sigrun: out of memory"),
+        _ => (Status::Usage, USAGE),
+    };
+    let _ = writeln!(stderr, "{text}");
+    status
+}
+
+/// The program `sigrun`, on the arguments of its runtime and these streams: `run` of both, with a gate
+/// that holds nobody. Where the arguments can't be had, for want of memory or since one is no text, it
+/// tells so as `run` does of a want of memory or of arguments that the command doesn't take. The exit
+/// code is the number of the status, 0 to 5.
+pub fn program<R, I, O, E>(rt: &R, stdin: I, stdout: O, mut stderr: E) -> ExitCode
+where
+    R: Threads + Wait + Sync + Env + Alloc<A = Global>,
+    I: Read + Drop,
+    O: Write + Drop,
+    E: Write + Drop,
+    ensures { result.status ≤ 5 }
+{
+    let status = match arguments(rt) {
+        Ok(arguments) => run(
+            rt,
+            rt.alloc(),
+            arguments.as_slice(),
+            &mut StdSource::new(stdin),
+            &mut StdSink::new(stdout),
+            &mut StdSink::new(stderr),
+            &OpenGate,
+        ),
+        Err(fault) => refuse(&mut stderr, fault),
+    };
+    ExitCode::from(status.number())
+}

@@ -1,0 +1,237 @@
+//! What a gate sees of rounds: which workers worked, how many events a round gave them, and which way
+//! their signals went.
+
+use crate::workers::{ends_well, look};
+use sig_base::{Gate, Point};
+use std::alloc::Global;
+use std::sync::atomic::{AtomicBool, AtomicU64, Ordering};
+use std::sync::{OnceLock, Wait};
+use std::thread::Threads;
+
+/// A gate that keeps which workers executed an instruction: bit w is worker w's.
+#[derive(Drop)]
+struct Workers {
+    bits: AtomicU64,
+}
+
+impl Gate for Workers {
+    fn at(&self, worker: u32, _pid: u32, point: Point) {
+        if point == Point::Executed && worker < 64 {
+            self.bits.fetch_or(1 << worker, Ordering::SeqCst);
+        }
+    }
+}
+
+/// Sixteen processes, each of which executes one instruction.
+const SIXTEEN: &[u8] = b"sigscript 1\nprocess a\nset X 1\nprocess b\nset X 1\nprocess c\nset X 1\n\
+    process d\nset X 1\nprocess e\nset X 1\nprocess f\nset X 1\nprocess g\nset X 1\nprocess h\nset X 1\n\
+    process i\nset X 1\nprocess j\nset X 1\nprocess k\nset X 1\nprocess l\nset X 1\nprocess m\nset X 1\n\
+    process n\nset X 1\nprocess o\nset X 1\nprocess p\nset X 1\n";
+
+/// How many workers are asked for, and the bits of all of them.
+const CREWS: [(&str, u64); 4] = [("2", 0x3), ("3", 0x7), ("5", 0x1f), ("16", 0xffff)];
+
+/// The bits of the workers that worked at sixteen processes, or `None` where the run ends otherwise.
+fn workers_of<R: Threads + Wait + Sync>(rt: &R, alloc: Global, workers: &str) -> Option<u64> {
+    let gate = Workers {
+        bits: AtomicU64::new(0),
+    };
+    let words = ["--workers", workers];
+    let ended = ends_well(rt, alloc, words.as_slice(), SIXTEEN, &gate) == Ok(true);
+    ended.then(|| gate.bits.load(Ordering::SeqCst))
+}
+
+#[test]
+fn as_many_workers_work_as_are_asked_for(rt: HostRuntime) {
+    for (workers, bits) in CREWS {
+        assert_eq!(rt;
+            workers_of(&rt, rt.alloc(), workers),
+            Some(bits),
+            "{workers}"
+        );
+    }
+}
+
+/// A gate that holds process 0 at its first instruction until process 1 has executed as many as the
+/// quota says, and that sees whether one of the two was ever further ahead of the other than that.
+#[derive(Drop)]
+struct Ahead {
+    quota: u64,
+    /// How many instructions each has executed.
+    executed: [AtomicU64; 2],
+    /// Process 1 has executed as many as the quota says.
+    made: AtomicBool,
+    /// Process 0 was held.
+    held: AtomicBool,
+    /// The hold was given up.
+    gave_up: AtomicBool,
+    /// One was ahead of the other by more than the quota.
+    too_far: AtomicBool,
+}
+
+impl Ahead {
+    fn new(quota: u64) -> Ahead {
+        Ahead {
+            quota,
+            executed: [AtomicU64::new(0), AtomicU64::new(0)],
+            made: AtomicBool::new(false),
+            held: AtomicBool::new(false),
+            gave_up: AtomicBool::new(false),
+            too_far: AtomicBool::new(false),
+        }
+    }
+
+    /// Counts an instruction of the first one, and looks how far ahead of the other it is.
+    fn count(&self, own: &AtomicU64, other: &AtomicU64) {
+        let before = own.fetch_add(1, Ordering::SeqCst);
+        let most = other.load(Ordering::SeqCst).saturating_add(self.quota);
+        if before >= most {
+            self.too_far.store(true, Ordering::SeqCst);
+        }
+    }
+
+    /// Whether both executed so many, neither too far ahead, and the round gave process 1 its quota.
+    fn is_right(&self, instructions: u64) -> bool {
+        let [first, second] = &self.executed;
+        first.load(Ordering::SeqCst) == instructions
+            && second.load(Ordering::SeqCst) == instructions
+            && !self.gave_up.load(Ordering::SeqCst)
+            && !self.too_far.load(Ordering::SeqCst)
+    }
+}
+
+impl Gate for Ahead {
+    fn at(&self, _worker: u32, pid: u32, point: Point) {
+        let [first, second] = &self.executed;
+        match (pid, point) {
+            (0, Point::Executed) => {
+                self.count(first, second);
+                if !self.held.swap(true, Ordering::SeqCst) && !look(&self.made) {
+                    self.gave_up.store(true, Ordering::SeqCst);
+                }
+            }
+            (1, Point::Executed) => {
+                self.count(second, first);
+                if second.load(Ordering::SeqCst) >= self.quota {
+                    self.made.store(true, Ordering::SeqCst);
+                }
+            }
+            _ => (),
+        }
+    }
+}
+
+/// Two processes that execute 200 instructions each, and send nothing.
+const TWO_LOOPS: &[u8] =
+    b"sigscript 1\nturns 200\nprocess a\nlabel l\ngoto l\nprocess b\nlabel l\ngoto l\n";
+
+/// Whether rounds of two workers give each as many events as the quota says.
+fn keeps_quota<R: Threads + Wait + Sync>(
+    rt: &R,
+    alloc: Global,
+    quota: u32,
+    words: &[&str],
+) -> bool {
+    let gate = Ahead::new(quota as u64);
+    let ended = ends_well(rt, alloc, words, TWO_LOOPS, &gate) == Ok(true);
+    ended && gate.is_right(200)
+}
+
+/// The quota that is asked for, with the one that stands where none is.
+const QUOTAS: [(&[&str], u32); 4] = [
+    (&["--workers", "2", "--quota", "1"], 1),
+    (&["--workers", "2", "--quota", "10"], 10),
+    (&["--workers", "2"], 64),
+    (&["--workers", "2", "--quota", "200"], 200),
+];
+
+#[test]
+fn a_round_gives_the_quota(rt: HostRuntime) {
+    for (words, quota) in QUOTAS {
+        assert!(rt; keeps_quota(&rt, rt.alloc(), quota, words), "{words:?}");
+    }
+}
+
+/// A gate that keeps the first three puts, and holds process 1 at its first instruction until they
+/// have been made.
+#[derive(Drop)]
+struct Puts {
+    /// The sender of each, and the buffer that its signal went to.
+    made: [OnceLock<(u32, Option<u8>)>; 3],
+    count: AtomicU64,
+    /// All three have been made.
+    all: AtomicBool,
+    /// The hold was given up.
+    gave_up: AtomicBool,
+}
+
+impl Puts {
+    fn new() -> Puts {
+        Puts {
+            made: [OnceLock::new(), OnceLock::new(), OnceLock::new()],
+            count: AtomicU64::new(0),
+            all: AtomicBool::new(false),
+            gave_up: AtomicBool::new(false),
+        }
+    }
+
+    /// Whether process 0 made three puts, into these buffers.
+    fn are(&self, buffers: [Option<u8>; 3]) -> bool {
+        let mut right = self.count.load(Ordering::SeqCst) == 3;
+        for (put, buffer) in self.made.iter().zip(buffers) {
+            right &= put.get().copied() == Some((0, buffer));
+        }
+        right && !self.gave_up.load(Ordering::SeqCst)
+    }
+}
+
+impl Gate for Puts {
+    fn at(&self, _worker: u32, pid: u32, point: Point) {
+        match point {
+            Point::Put { buffer } => {
+                let at = self.count.fetch_add(1, Ordering::SeqCst);
+                if let Some(put) = self.made.get(at as usize) {
+                    let _ = put.try_set((pid, buffer));
+                }
+                self.all.store(at >= 2, Ordering::SeqCst);
+            }
+            Point::Executed if pid == 1 && !look(&self.all) => {
+                self.gave_up.store(true, Ordering::SeqCst);
+            }
+            _ => (),
+        }
+    }
+}
+
+/// A process sends three messages to one that executes an instruction of its own meanwhile.
+const THREE_MESSAGES: &[u8] =
+    b"sigscript 1\nprocess a\nsend @b x\nsend @b y\nsend @b z\nprocess b\nset X 1\nstop\n";
+
+/// The policy, and where the three puts of process 0 go: into its buffer, or into the outer queue.
+const POLICIES: [(&str, [Option<u8>; 3]); 5] = [
+    ("never", [None, None, None]),
+    ("auto", [None, None, None]),
+    ("always", [Some(0), Some(0), Some(0)]),
+    ("churn:1", [None, Some(0), Some(0)]),
+    ("churn:2", [None, None, Some(0)]),
+];
+
+/// Whether with this policy the three puts go so.
+fn put_into<R: Threads + Wait + Sync>(
+    rt: &R,
+    alloc: Global,
+    policy: &str,
+    buffers: [Option<u8>; 3],
+) -> bool {
+    let gate = Puts::new();
+    let words = ["--workers", "2", "--buffers", policy];
+    let ended = ends_well(rt, alloc, words.as_slice(), THREE_MESSAGES, &gate) == Ok(true);
+    ended && gate.are(buffers)
+}
+
+#[test]
+fn workers_put_as_the_policy_says(rt: HostRuntime) {
+    for (policy, buffers) in POLICIES {
+        assert!(rt; put_into(&rt, rt.alloc(), policy, buffers), "{policy}");
+    }
+}
