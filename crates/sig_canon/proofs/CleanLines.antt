@@ -108,13 +108,13 @@ after_clean names labels reads (Some a) within =
 
 receive_clean : (names labels : List (List ℕ)) → IsPlain names labels → (i : Instr) → is_receive i ≡ true → IsReadableInstr (length names) i → IsLawful (length labels) i → AreClean (instr_lines names labels i)
 unfolding instr_lines
-receive_clean names labels reads (instr.Receive using clauses after) it readable lawful =
+receive_clean names labels reads (instr.Receive r) it readable lawful =
     let targets = lawful.1 in
-    let after_ones : List ℕ = filter_map (λ (a : After). a.target) (option_to_list after) in (
-      line_clean Any 0 _ keyword.Receive _ (receive_form Any 0 using readable.using),
-      clean_on (map (clause_line names labels) clauses ++ after_lines labels after) (codes "end" ∷ [])
-          (clean_on (map (clause_line names labels) clauses) (after_lines labels after) (clauses_clean names labels reads clauses after_ones readable.clauses targets)
-          (after_clean names labels reads after (after_targets clauses after_ones (length labels) targets)))
+    let after_ones : List ℕ = filter_map (λ (a : After). a.target) (option_to_list r.after) in (
+      line_clean Any 0 _ keyword.Receive _ (receive_form Any 0 r.using readable.using),
+      clean_on (map (clause_line names labels) r.clauses ++ after_lines labels r.after) (codes "end" ∷ [])
+          (clean_on (map (clause_line names labels) r.clauses) (after_lines labels r.after) (clauses_clean names labels reads r.clauses after_ones readable.clauses targets)
+          (after_clean names labels reads r.after (after_targets r.clauses after_ones (length labels) targets)))
           (refl, tt),
     )
 receive_clean names labels reads instr.Stop it readable lawful = absurd cc

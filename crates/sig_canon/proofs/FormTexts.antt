@@ -120,7 +120,7 @@ pub record IsInstrLine (known : Known) (here : ℕ) (lines : List (List ℕ)) (i
 
 abbrev receives : Spoken → Bool
 receives (Says v x) = false
-receives (Receives using clauses after) = true
+receives (Receives r) = true
 
 abbrev pub is_receive : Instr → Bool
 is_receive i = receives (spoken i)
@@ -174,7 +174,7 @@ module _ (known : Known) (here : ℕ) (names labels : List (List ℕ)) (f g : �
               (λ line ts found. ap (on_ok form.Do) (instr_as known here v line ts ∙ ap (on_ok (instr_by v)) found));
         };
       }
-  spoken_form (Receives using clauses after) other es vs ls mode = absurd cc
+  spoken_form (Receives r) other es vs ls mode = absurd cc
 
   pub instr_form : (i : Instr) → is_receive i ≡ false → IsReadableInstr (length names) i → IsLawful (length labels) i → IsInstrLine known here (instr_lines names labels i) (instr_seen f g i)
   unfolding instr_lines

@@ -32,7 +32,7 @@ front_behind a b piece m c p e q =
 lines_split : (names labels : List (List ℕ)) (s : Spoken) →
     flat_map line_text (spoken_lines names labels s) ≡ line_text (first_of (spoken_lines names labels s)) ++ flat_map line_text (rest_of (spoken_lines names labels s))
 lines_split names labels (Says v x) = refl
-lines_split names labels (Receives using clauses after) = refl
+lines_split names labels (Receives r) = refl
 
 pub instr_split : (names labels : List (List ℕ)) (i : Instr) →
     flat_map line_text (instr_lines names labels i) ≡ line_text (first_of (instr_lines names labels i)) ++ flat_map line_text (rest_of (instr_lines names labels i))

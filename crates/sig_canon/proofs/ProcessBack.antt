@@ -15,7 +15,7 @@ use Rattle.sig_reader.specs.declared.draft.Section.TheVariants.{Outside, Inside}
 use Rattle.sig_reader.specs.declared.draft.Draft.{Draft}
 use Rattle.sig_reader.specs.declared.form.Form.TheVariants as form
 use Rattle.sig_program.specs.Scripts.{Declared, AreMarked, IsLawful, IsPlace, AreRising}
-use Rattle.sig_reader.specs.Drafts.{with_instr, is_marked, taken}
+use Rattle.sig_reader.specs.Drafts.{with_instr, received, is_marked, taken}
 use Rattle.sig_canon.specs.ScriptText.{spaced, marker_text, target_text, clause_line, after_lines, instr_lines, label_line, labels_there, placed_lines}
 use Rattle.sig_canon.specs.ReadableScript.{IsReadablePattern, IsReadableInstr, AreDistinct}
 use Rattle.sig_canon.proofs.DistinctLemmas.{all_before, all_after, name_free, distinct-before, distinct-front}
@@ -104,8 +104,8 @@ module _ (known : Known) (names : List (List ℕ)) (f g : ℕ → ℕ) (turns : 
   one-leads p i lines h =
       same_lines known (outside p) (outside (with_instr p (seen i))) lines (h.line ∷ []) h.is (one_line known (outside p) (outside (with_instr p (seen i))) h.line (form.Do (seen i)) h.said refl)
 
-  receive-leads : (p : Declared) (using : Option Var) (clauses : List Clause) (after : Option After) → IsFine (instr.Receive using clauses after) →
-      Leads known (outside p) (instr_lines names tags (instr.Receive using clauses after)) (outside (with_instr p (seen (instr.Receive using clauses after))))
+  receive-leads : (p : Declared) (using : Option Var) (clauses : List Clause) (after : Option After) → IsFine (received using clauses after) →
+      Leads known (outside p) (instr_lines names tags (received using clauses after)) (outside (with_instr p (seen (received using clauses after))))
   unfolding instr_lines
   receive-leads p using clauses after h =
       let targets = each-given (λ n. n < length tags) (λ (c : Clause). c.target) clauses (filter_map (λ (a : After). a.target) (option_to_list after)) h.1.1 in
@@ -114,9 +114,9 @@ module _ (known : Known) (names : List (List ℕ)) (f g : ℕ → ℕ) (turns : 
       let first = one_line known (outside p) (inside p using [] None) (spaced (codes "receive") (marker_text using)) (form.Receive using) (receive_said known (outside p) using refl h.0.using) refl in
       let middle = clauses-lead p using [] clauses h.0.clauses targets.0 (pinned using clauses h.1.3) in
       let next = after-leads p using all after (only after targets.1) in
-      let end = one_line known (inside p using all last) (outside (with_instr p (instr.Receive using all last))) (codes "end") form.End (end_said known (inside p using all last) refl) refl in
-      one_more known (outside p) (inside p using [] None) (outside (with_instr p (instr.Receive using all last))) (spaced (codes "receive") (marker_text using)) _ first
-      (lines_joined known (inside p using [] None) (inside p using all last) (outside (with_instr p (instr.Receive using all last))) (map (clause_line names tags) clauses ++ after_lines tags after) (codes "end" ∷ [])
+      let end = one_line known (inside p using all last) (outside (with_instr p (received using all last))) (codes "end") form.End (end_said known (inside p using all last) refl) refl in
+      one_more known (outside p) (inside p using [] None) (outside (with_instr p (received using all last))) (spaced (codes "receive") (marker_text using)) _ first
+      (lines_joined known (inside p using [] None) (inside p using all last) (outside (with_instr p (received using all last))) (map (clause_line names tags) clauses ++ after_lines tags after) (codes "end" ∷ [])
       (lines_joined known (inside p using [] None) (inside p using all None) (inside p using all last) (map (clause_line names tags) clauses) (after_lines tags after) middle next) end)
     where
       only : (after : Option After) → All (λ n. n < length tags) (filter_map (λ (a : After). a.target) (option_to_list after)) → IfSome after (λ (a : After). IsTarget (length tags) a.target)
@@ -124,7 +124,7 @@ module _ (known : Known) (names : List (List ℕ)) (f g : ℕ → ℕ) (turns : 
       only (Some a) h = first-given (λ n. n < length tags) a.target [] h
 
   instr-leads : (p : Declared) (i : Instr) → IsFine i → Leads known (outside p) (instr_lines names tags i) (outside (with_instr p (seen i)))
-  instr-leads p (instr.Receive using clauses after) h = receive-leads p using clauses after h
+  instr-leads p (instr.Receive r) h = receive-leads p r.using r.clauses r.after h
   instr-leads p i h = one-leads p i (instr_lines names tags i) (instr_said known (outside p) names tags f g reads p refl i refl h.0 h.1)
 
   -- labels at one place

@@ -11,7 +11,6 @@ use Rattle.sig_patterns.specs.declared.var.Var.{Var}
 use Rattle.sig_program.specs.declared.label.Label.{Label}
 use Rattle.sig_program.specs.declared.instruction.After.{After}
 use Rattle.sig_program.specs.declared.instruction.Instr.{Instr}
-use Rattle.sig_program.specs.declared.instruction.Instr.TheVariants as instr
 use Rattle.sig_tokens.specs.declared.known.Known.TheVariants.{Any, Among}
 use Rattle.sig_reader.specs.declared.draft.Section.{Section}
 use Rattle.sig_reader.specs.declared.draft.Section.TheVariants.{Before, Outside, Inside}
@@ -22,7 +21,7 @@ use Rattle.sig_program.specs.Scripts.{Declared, Program}
 use Rattle.sig_tokens.specs.Faults.{Fault, ◌>>=◌}
 use Rattle.sig_tokens.specs.Lines.{lines_of}
 use Rattle.sig_reader.specs.Forms.{said}
-use Rattle.sig_reader.specs.Drafts.{blank, open_proc, all_procs, begun, labelled, with_instr, is_marked, with_clause, taken_at}
+use Rattle.sig_reader.specs.Drafts.{blank, open_proc, all_procs, begun, labelled, with_instr, received, is_marked, with_clause, taken_at}
 use Rattle.sig_reader.specs.Grammar.{taken_if, line_taken, walk, walk_twice, is_header, script_of_lines, script_of}
 use Rattle.sig_canon.specs.ReadableScript.{IsReadablePattern, IsReadableInstr, AreDistinct, IsReadableScript}
 use Rattle.sig_program.specs.declared.script.TheConstants.{MOST_PROCESSES, MOST_TURNS}
@@ -118,7 +117,7 @@ module _ (count : ℕ) (turns : Option ℕ) (procs : List Declared) where
       (λ _. All-push (λ (c : Clause). IsReadablePattern count c.pattern) clauses (record { pattern = pattern; target = target }) h k) (λ _. tt)
 
   receive-good : (using : Option Var) (clauses : List Clause) (after : Option After) → All (λ (c : Clause). IsReadablePattern count c.pattern) clauses → IfSome using (λ x. IsVariableToken x.0) →
-      IsReadableInstr count (instr.Receive using clauses after)
+      IsReadableInstr count (received using clauses after)
   receive-good using clauses after h k = record { exprs = All-nil _; clauses = h; vars = All-nil IsVariableToken; using = k }
 
   taken_at-good : (section : Section) (f : Form) → AreDistinct (names (procs ++ open_proc section)) → All (IsGood count) (procs ++ open_proc section) → IsGoodReceive count section →
@@ -139,8 +138,8 @@ module _ (count : ℕ) (turns : Option ℕ) (procs : List Declared) where
       (with_clause-good using clauses pattern target k o.0) (λ more m. record { names = d; procs = h; receive = (m, o.1) })
   taken_at-good (Inside p using clauses after) (form.After next) d h o k = record { names = d; procs = h; receive = o }
   taken_at-good (Inside p using clauses after) form.End d h o k =
-      changed p (with_instr p (instr.Receive using clauses after)) d h refl
-      (instr-good count p (instr.Receive using clauses after) (receive-good using clauses after o.0 o.1) (all-last (IsGood count) procs p h))
+      changed p (with_instr p (received using clauses after)) d h refl
+      (instr-good count p (received using clauses after) (receive-good using clauses after o.0 o.1) (all-last (IsGood count) procs p h))
   taken_at-good (Inside p using clauses after) _ d h o k = tt
 
 taken_if-good : (count : ℕ) (d : Draft) (o : Option Form) → IsGoodDraft count d → IfSome o (IsReadableForm count) → Holds (IsGoodDraft count) (taken_if d o)

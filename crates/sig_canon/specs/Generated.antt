@@ -25,7 +25,7 @@ abbrev pub call_clause : Clause
 call_clause = record { pattern = pattern.Tuple call_parts; target = Some 1 }
 
 abbrev pub hub_receive : Instr
-hub_receive = instr.Receive None (call_clause ∷ []) None
+hub_receive = instr.Receive (record { using = None; clauses = call_clause ∷ []; after = None })
 
 abbrev pub answer_message : Expr
 answer_message = expr.Tuple (expr.Var (var_named (codes "R")) ∷ expr.Var (var_named (codes "V")) ∷ [])
@@ -74,7 +74,7 @@ down_clause = record {
 
 -- `receive using M`, the two clauses, `end`
 abbrev pub await_answer : Instr
-await_answer = instr.Receive (Some (var_named (codes "M"))) (answer_clause ∷ down_clause ∷ []) None
+await_answer = instr.Receive (record { using = Some (var_named (codes "M")); clauses = answer_clause ∷ down_clause ∷ []; after = None })
 
 -- call number k
 abbrev pub call : ℕ → List Instr

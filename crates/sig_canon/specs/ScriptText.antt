@@ -128,8 +128,8 @@ said_texts names labels (o ∷ os) x = said_text names labels o x.0 (said_texts 
 -- a receive has several lines, and any other instruction has one
 abbrev pub spoken_lines : List (List ℕ) → List (List ℕ) → Spoken → List (List ℕ)
 spoken_lines names labels (Says v x) = spaced (word_of v) (said_texts names labels (operands_of v) x) ∷ []
-spoken_lines names labels (Receives using clauses after) =
-    spaced (codes "receive") (marker_text using) ∷ map (clause_line names labels) clauses ++ after_lines labels after ++ codes "end" ∷ []
+spoken_lines names labels (Receives r) =
+    spaced (codes "receive") (marker_text r.using) ∷ map (clause_line names labels) r.clauses ++ after_lines labels r.after ++ codes "end" ∷ []
 
 -- the lines of an instruction, where the processes and the labels of its process have these names
 unfoldable pub instr_lines : List (List ℕ) → List (List ℕ) → Instr → List (List ℕ)

@@ -29,7 +29,7 @@ use sig_tokens::{atom_of, name_of};
 use sig_kinds::AliasMode;
 use sig_lists::Sequence;
 use sig_patterns::{Clause, Clauses, Expr, Exprs, Pattern, Patterns, Var};
-use sig_program::{Instr, Instrs, Label, Labels, MOST_TURNS, Proc, Procs, Script};
+use sig_program::{Instr, Instrs, Label, Labels, MOST_TURNS, Proc, Procs, Receiving, Script};
 use sig_terms::Pid;
 use std::alloc::{AllocError, Global};
 
@@ -99,11 +99,11 @@ fn add_hub_receive(alloc: Global, instrs: &mut Instrs) -> Result<(), AllocError>
         pattern: Pattern::Tuple(parts),
         target: Some(1),
     })?;
-    instrs.add(Instr::Receive {
+    instrs.add(Instr::Receive(Receiving {
         using: None,
         clauses,
         after: None,
-    })
+    }))
 }
 
 /// `{R,V}`
@@ -258,11 +258,11 @@ fn add_await(alloc: Global, instrs: &mut Instrs) -> Result<(), AllocError>
     add_answer_clause(alloc, &mut clauses)?;
     add_down_clause(alloc, &mut clauses)?;
     let using = var_of(alloc, b"M")?;
-    instrs.add(Instr::Receive {
+    instrs.add(Instr::Receive(Receiving {
         using: Some(using),
         clauses,
         after: None,
-    })
+    }))
 }
 
 /// The instructions of call number `k` behind these.

@@ -26,8 +26,8 @@ use crate::expression_text::put_expr;
 use crate::pattern_text::put_pattern;
 use crate::putting::{put, put_word};
 use sig_kinds::AliasMode;
-use sig_patterns::{Clause, Clauses, Expr, Var};
-use sig_program::{After, Instr, Label, Proc};
+use sig_patterns::{Clause, Expr, Var};
+use sig_program::{After, Instr, Label, Proc, Receiving};
 use std::alloc::AllocError;
 
 /// The name of the label at this place among the labels, from 0, in constant time.
@@ -241,7 +241,7 @@ fn put_first_line(
         Instr::Send { to, message } => put_two(into, procs, b"send", to, message),
         Instr::Set { var, value } => put_var_and(into, procs, b"set", var, value),
         Instr::MakeRef { var } => put_var(into, b"make_ref", var),
-        Instr::Receive { using, .. } => put_receive(into, using),
+        Instr::Receive(receiving) => put_receive(into, &receiving.using),
         Instr::Link { peer } => put_one(into, procs, b"link", peer),
         Instr::Unlink { peer } => put_one(into, procs, b"unlink", peer),
         Instr::Monitor { var, target, mode } => put_monitor(into, procs, var, target, mode),
@@ -264,13 +264,12 @@ fn put_inside(
     into: &mut Vec<u8>,
     procs: &[Proc],
     labels: &[Label],
-    clauses: &Clauses,
-    after: &Option<After>,
+    receiving: &Receiving,
 ) -> Result<(), AllocError>
-    ensures { IsPut into.old.items into.new.items (flat_map line_text (inside_lines (names_of procs.now) (map (λ (l : Label). l.name) labels.now) clauses.now after.now)) result }
+    ensures { IsPut into.old.items into.new.items (flat_map line_text (inside_lines (names_of procs.now) (map (λ (l : Label). l.name) labels.now) receiving.now.clauses receiving.now.after)) result }
 {
-    put_clauses(into, procs, labels, clauses.as_slice())?;
-    put_after(into, labels, after)?;
+    put_clauses(into, procs, labels, receiving.clauses.as_slice())?;
+    put_after(into, labels, &receiving.after)?;
     put(into, b"end\n")
 }
 
@@ -285,7 +284,7 @@ fn put_more_lines(
     ensures { IsPut into.old.items into.new.items (flat_map line_text (rest_of (instr_lines (names_of procs.now) (map (λ (l : Label). l.name) labels.now) instr.now))) result }
 {
     match instr {
-        Instr::Receive { clauses, after, .. } => put_inside(into, procs, labels, clauses, after),
+        Instr::Receive(receiving) => put_inside(into, procs, labels, receiving),
         _ => Ok(()),
     }
 }

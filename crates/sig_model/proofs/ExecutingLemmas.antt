@@ -351,7 +351,7 @@ module _ (L : Shown) (p : Declared) (s : ProcessState) (k : IsBefore L p s) (c :
     instr_row instr.Reserve h = reserving_row
     instr_row (instr.Bind var) h = binding_row var
     instr_row (instr.Clear var) h = clearing_row var
-    instr_row (instr.Receive using clauses after) h = scanning_row after (marked_start s using) clauses
+    instr_row (instr.Receive r) h = scanning_row r.after (marked_start s r.using) r.clauses
 
   body_row : (L.bounded → IsWithin p) → (o : Option Instr) → slice_get p.instrs (s.counts.place - 1) ≡ o → IfSome o (InstrNames L.name) → IfSome (exec_body from_mark p s o) Row
   body_row w None e h = ended (codes "normal")

@@ -55,7 +55,7 @@ module _ (pid : ℕ) (s : ProcessState) (k : HasSoundMarks pid s) where
 
   -- a receive through a marker skips no message that could match
   sound_at : (o : Option Instr) → SkipsNoneAt s o
-  sound_at (Some (instr.Receive using clauses after)) = by (using_ref s.tables.env using)
+  sound_at (Some (instr.Receive x)) = by (using_ref s.tables.env x.using)
     where
       by : (o : Option Ref) → IfSome o (λ r. All (λ (t : Term). holds r t ≡ false) (take (start_of s.tables.inbox o) (terms_of s.tables.inbox.messages)))
       by None = tt

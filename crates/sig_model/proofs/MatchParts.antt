@@ -1,6 +1,6 @@
 -- What holds of the values of the variables, and of the messages, holds of all that a match binds and of the message that a scan
 -- finds, where it holds of the parts of a term of which it holds: so of the names in terms, and of how large terms are.
-use Rattle.std.proofs.Common.{ℕ, List, [], ◌∷◌, map, All, IfSome, Option, Some, None, option_and_then, sym, subst}
+use Rattle.std.proofs.Common.{◌≡◌, refl, ℕ, List, [], ◌∷◌, map, All, IfSome, Option, Some, None, option_and_then, sym, subst}
 use Rattle.std.specs.Option.{option_map, option_or}
 use Rattle.std.specs.Ordering.{nat_cmp, eq_by_cmp}
 use Rattle.std.specs.Cmp.Lexicographic.{slice_cmp, nat_list_cmp_total}
@@ -22,7 +22,8 @@ use Rattle.sig_patterns.specs.declared.pattern.Pattern.TheOpen as pattern
 use Rattle.sig_patterns.specs.declared.pattern.Pattern.TheFolds.{fold-roll-Pattern, ind-Pattern}
 use Rattle.sig_patterns.specs.Environment.{Environment, value_of_var}
 use Rattle.sig_patterns.specs.Matching.{Bindings, Matcher, bound_to, asking, binding, match_each, match_cons, match_step, matching, overlaid, match_of, tuple_layer, list_layer, tuple_items, list_items}
-use Rattle.sig_patterns.specs.Scanning.{Hit, hit_by, behind_clause, behind_message, hit_here, hit}
+use Rattle.sig_patterns.specs.Scanning.{Hit, takes, hit_by, behind_clause, behind_message, hit_here, hit}
+use Rattle.sig_patterns.proofs.Taking.{takes_match}
 use Rattle.sig_model.specs.TermSizes.{IsKeptTerm, AllValues}
 use Rattle.sig_model.proofs.TermSizeLemmas.{AreWithin, PartsWithin, list_within, head_within, tail_within, parts_within}
 
@@ -132,11 +133,19 @@ module _ (P : Term → Type 0) where
           some_mapped AllBound (AllValues P) (overlaid env) (matching env p t []) (matching_binds p t [] k (All-nil (λ (b : List ℕ × Term). P b.1)))
           (λ bound h. overlaid_values env bound values h)
 
+      taken : (c : Clause) (message : Term) (o : Option Environment) → takes c env message ≡ o → IfSome (match_of c.pattern env message) (AllValues P) → IfSome o (AllValues P)
+      taken c message None e h = tt
+      taken c message (Some after) e h = subst (λ o. IfSome o (AllValues P)) (takes_match c env message after e) h
+
+      -- the environment after what a clause takes
+      taken_values : (c : Clause) (message : Term) → P message → IfSome (takes c env message) (AllValues P)
+      taken_values c message k = taken c message (takes c env message) refl (match_values c.pattern message k)
+
       here_values : (clauses : List Clause) (message : Term) → P message → IfSome (hit_here clauses env message) HitValues
       here_values [] message k = tt
       here_values (c ∷ clauses) message k =
-          some_or HitValues (option_map (hit_by c message) (match_of c.pattern env message)) (option_map behind_clause (hit_here clauses env message))
-          (some_mapped (AllValues P) HitValues (hit_by c message) (match_of c.pattern env message) (match_values c.pattern message k) (λ after g. record { env = g; message = k }))
+          some_or HitValues (option_map (hit_by c message) (takes c env message)) (option_map behind_clause (hit_here clauses env message))
+          (some_mapped (AllValues P) HitValues (hit_by c message) (takes c env message) (taken_values c message k) (λ after g. record { env = g; message = k }))
           (some_mapped HitValues HitValues behind_clause (hit_here clauses env message) (here_values clauses message k) (λ h g. record { env = g.env; message = g.message }))
 
       pub hit_values : (clauses : List Clause) (messages : List Term) → All P messages → IfSome (hit clauses env messages) HitValues

@@ -77,7 +77,7 @@ module _ (p : Declared) (s : ProcessState) where
     same_receive after marked none = ap (receiving p s after start 0) (skipped (using_ref s.tables.env using) refl marked none) ∙ same_row after start (hit_from start clauses s)
 
   same_body : (o : Option Instr) → IfSome o (IsLawful (length p.labels)) → SkipsNoneAt s o → exec_body from_oldest p s o ≡ exec_body from_mark p s o
-  same_body (Some (instr.Receive using clauses after)) lawful none = same_receive using clauses after lawful.3 none
+  same_body (Some (instr.Receive r)) lawful none = same_receive r.using r.clauses r.after lawful.3 none
   same_body _ lawful none = refl
 
   pub whole_same : IsWithin p → SkipsNone p s → executing_whole p s ≡ executing p s

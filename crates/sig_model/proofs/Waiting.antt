@@ -25,15 +25,18 @@ module _ (p : Declared) (s : ProcessState) where
   stuck None start from None e = (refl, refl)
 
   waits : (o : Option Instr) → slice_get p.instrs (s.counts.place - 1) ≡ o → exec_body from_mark p s o ≡ None → IsWaiting p s
-  waits (Some (instr.Receive using clauses after)) at e =
-      let start : ℕ = marked_start s using in
-      let w : IsStuck after (hit_from start clauses s) = stuck after start start (hit_from start clauses s) e in
-      record { using = using; clauses = clauses; at = at ∙ ap (λ a. Some (instr.Receive using clauses a)) w.0; none = w.1 }
+  waits (Some (instr.Receive r)) at e =
+      let start : ℕ = marked_start s r.using in
+      let w : IsStuck r.after (hit_from start r.clauses s) = stuck r.after start start (hit_from start r.clauses s) e in
+      record { receive = r; at = at; bare = w.0; none = w.1 }
   waits o at e = some_none (exec_body from_mark p s o) e refl
 
   blocked : IsWaiting p s → executing p s ≡ None
   unfolding executing
-  blocked w = let start : ℕ = marked_start s w.using in ap (exec_body from_mark p s) w.at ∙ ap (receiving p s None start start) w.none
+  blocked w =
+      let start : ℕ = marked_start s w.receive.using in
+      let found : Option Hit = hit_from start w.receive.clauses s in
+      ap (exec_body from_mark p s) w.at ∙ ap (λ after. receiving p s after start start found) w.bare ∙ ap (receiving p s None start start) w.none
 
   waiting : executing p s ≡ None → IsWaiting p s
   unfolding executing

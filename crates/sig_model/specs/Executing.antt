@@ -23,6 +23,7 @@ use Rattle.sig_patterns.specs.Scanning.{Hit, hit}
 use Rattle.sig_program.specs.declared.instruction.Instr.{Instr}
 use Rattle.sig_program.specs.declared.instruction.Instr.TheVariants as instr
 use Rattle.sig_program.specs.declared.instruction.After.{After}
+use Rattle.sig_program.specs.declared.instruction.Receiving.{Receiving}
 use Rattle.sig_program.specs.Scripts.{Declared}
 use Rattle.sig_model.specs.declared.event.Outcome.TheVariants as outcome
 use Rattle.sig_model.specs.declared.target.Target.{Target}
@@ -260,8 +261,8 @@ exec_body begin p s (Some instr.Stop) = Some (ending s normal)
 exec_body begin p s (Some instr.Reserve) = Some (reserving s)
 exec_body begin p s (Some (instr.Bind var)) = Some (binding s var)
 exec_body begin p s (Some (instr.Clear var)) = Some (clearing s var)
-exec_body begin p s (Some (instr.Receive using clauses after)) =
-    let from = begin (marked_start s using) in receiving p s after (marked_start s using) from (hit_from from clauses s)
+exec_body begin p s (Some (instr.Receive r)) =
+    let from = begin (marked_start s r.using) in receiving p s r.after (marked_start s r.using) from (hit_from from r.clauses s)
 
 -- what the next instruction of the process does, where it can be executed
 unfoldable pub executing : Declared → ProcessState → Option Body
@@ -271,18 +272,18 @@ executing p s = exec_body from_mark p s (slice_get p.instrs (s.counts.place - 1)
 unfoldable pub executing_whole : Declared → ProcessState → Option Body
 executing_whole p s = exec_body from_oldest p s (slice_get p.instrs (s.counts.place - 1))
 
--- The process waits: its instruction is a receive without `after`, and no clause matches a message from the mark's start on
+-- The process waits: its instruction is a receive without `after`, and no clause takes a message from the mark's start on
 -- (Expressions, Receive).
 pub record IsWaiting (p : Declared) (s : ProcessState) : Type 0 where
-  pub using : Option Var
-  pub clauses : List Clause
-  pub at : slice_get p.instrs (s.counts.place - 1) ≡ Some (instr.Receive using clauses None)
-  pub none : hit_from (marked_start s using) clauses s ≡ None
+  pub receive : Receiving
+  pub at : slice_get p.instrs (s.counts.place - 1) ≡ Some (instr.Receive receive)
+  pub bare : receive.after ≡ None
+  pub none : hit_from (marked_start s receive.using) receive.clauses s ≡ None
 
 -- Where the instruction is a receive with a marker, no message before its start holds its reference.
 abbrev pub SkipsNoneAt : ProcessState → Option Instr → Type 0
-SkipsNoneAt s (Some (instr.Receive using clauses after)) =
-    IfSome (using_ref s.tables.env using) (λ r. All (λ (t : Term). holds r t ≡ false) (take (marked_start s using) (terms_of s.tables.inbox.messages)))
+SkipsNoneAt s (Some (instr.Receive x)) =
+    IfSome (using_ref s.tables.env x.using) (λ r. All (λ (t : Term). holds r t ≡ false) (take (marked_start s x.using) (terms_of s.tables.inbox.messages)))
 SkipsNoneAt s _ = Unit {0}
 
 -- the same of the next instruction of the process: its scan skips no message that could match

@@ -9,8 +9,7 @@ use Rattle.sig_terms.specs.declared.term.Term.{Term}
 use Rattle.sig_patterns.specs.declared.clause.Clause.{Clause}
 use Rattle.sig_patterns.specs.declared.found.Found.{Found}
 use Rattle.sig_patterns.specs.Environment.{Environment}
-use Rattle.sig_patterns.specs.Matching.{match_of}
-use Rattle.sig_patterns.specs.Scanning.{Hit, hit_by, behind_clause, behind_message, hit_here, hit, places_of, scan, first_clause}
+use Rattle.sig_patterns.specs.Scanning.{Hit, takes, hit_by, behind_clause, behind_message, hit_here, hit, places_of, scan, first_clause}
 
 -- the front message by this clause, or else what is found behind it
 abbrev pub or_later : Option ℕ → Option Found → Option Found
@@ -28,19 +27,19 @@ place_at false q n = grind (arith, common_steps)
 position-cons : {A : Type 0} (p : A → Bool) (x : A) (xs : List A) → position p (x ∷ xs) ≡ cond (p x) (Some 0) (option_map (λ i. i + 1) (position p xs))
 position-cons p x xs = place_at (p x) (position_or_len p xs) (length xs)
 
--- a clause that does not match, at a place
+-- a clause that doesn't take the message, at a place
 one_further : (at : ℕ) (o : Option ℕ) → option_map (λ n. n + at) (option_map (λ i. i + 1) o) ≡ option_map (λ n. n + (at + 1)) o
 one_further at None = refl
 one_further at (Some n) = ap Some (omega arith)
 
-pub first_clause_next : (clauses : List Clause) (env : Environment) (message : Term) (at : ℕ) (d : Clause) → at < length clauses → is_some (match_of (get_or clauses at d).pattern env message) ≡ false
+pub first_clause_next : (clauses : List Clause) (env : Environment) (message : Term) (at : ℕ) (d : Clause) → at < length clauses → is_some (takes (get_or clauses at d) env message) ≡ false
     → option_map (λ n. n + at) (first_clause (drop at clauses) env message) ≡ option_map (λ n. n + (at + 1)) (first_clause (drop (at + 1) clauses) env message)
 first_clause_next clauses env message at d within fails =
     let rest = drop (at + 1) clauses in
     let later : Option ℕ = option_map (λ i. i + 1) (first_clause rest env message) in
     ap (option_map (λ n. n + at))
     (ap (λ (cs : List Clause). first_clause cs env message) (drop_more clauses at d within)
-    ∙ position-cons (λ c. is_some (match_of c.pattern env message)) (get_or clauses at d) rest
+    ∙ position-cons (λ c. is_some (takes c env message)) (get_or clauses at d) rest
     ∙ ap (λ (b : Bool). cond b (Some 0) later) fails)
     ∙ one_further at (first_clause rest env message)
 
@@ -66,8 +65,8 @@ module _ (env : Environment) (message : Term) where
   places_here : (clauses : List Clause) → option_map places_of (hit_here clauses env message) ≡ option_map at_front (first_clause clauses env message)
   places_here [] = refl
   places_here (c ∷ clauses) =
-      places_at c clauses (match_of c.pattern env message) (places_here clauses)
-      ∙ ap (option_map at_front) (sym (position-cons (λ d. is_some (match_of d.pattern env message)) c clauses))
+      places_at c clauses (takes c env message) (places_here clauses)
+      ∙ ap (option_map at_front) (sym (position-cons (λ d. is_some (takes d env message)) c clauses))
 
 next_places : (here : Option Hit) (first : Option ℕ) (later : Option Hit) → option_map places_of here ≡ option_map at_front first
     → option_map places_of (option_or here (option_map behind_message later)) ≡ or_later first (option_map places_of later)
@@ -85,9 +84,9 @@ module _ (clauses : List Clause) (env : Environment) where
   unfolding hit
   scan_next message messages = next_places (hit_here clauses env message) (first_clause clauses env message) (hit clauses env messages) (places_here env message clauses)
 
--- the clause of a hit, and its match
+-- the clause of a hit, and what it makes of the message
 abbrev pub IsByClause : List Clause → Environment → Hit → Type 0
-IsByClause clauses env h = (c : Clause) × ((slice_get clauses h.clause ≡ Some c) × (h.target ≡ c.target) × (match_of c.pattern env h.message ≡ Some h.env))
+IsByClause clauses env h = (c : Clause) × ((slice_get clauses h.clause ≡ Some c) × (h.target ≡ c.target) × (takes c env h.message ≡ Some h.env))
 
 abbrev IsHitHere : List Clause → Environment → Term → Hit → Type 0
 IsHitHere clauses env message h = (h.at ≡ 0) × (h.message ≡ message) × IsByClause clauses env h
@@ -96,7 +95,7 @@ abbrev IsHit : List Clause → Environment → List Term → Hit → Type 0
 IsHit clauses env messages h = (slice_get messages h.at ≡ Some h.message) × IsByClause clauses env h
 
 module _ (env : Environment) where
-  here_by : (message : Term) (c : Clause) (clauses : List Clause) (o : Option Environment) (later : Option Hit) → match_of c.pattern env message ≡ o → IfSome later (IsHitHere clauses env message)
+  here_by : (message : Term) (c : Clause) (clauses : List Clause) (o : Option Environment) (later : Option Hit) → takes c env message ≡ o → IfSome later (IsHitHere clauses env message)
       → IfSome (option_or (option_map (hit_by c message) o) (option_map behind_clause later)) (IsHitHere (c ∷ clauses) env message)
   here_by message c clauses (Some after) later e is = (refl, refl, (c, (refl, refl, e)))
   here_by message c clauses None None e is = tt
@@ -104,7 +103,7 @@ module _ (env : Environment) where
 
   hit_tells_here : (message : Term) (clauses : List Clause) → IfSome (hit_here clauses env message) (IsHitHere clauses env message)
   hit_tells_here message [] = tt
-  hit_tells_here message (c ∷ clauses) = here_by message c clauses (match_of c.pattern env message) (hit_here clauses env message) refl (hit_tells_here message clauses)
+  hit_tells_here message (c ∷ clauses) = here_by message c clauses (takes c env message) (hit_here clauses env message) refl (hit_tells_here message clauses)
 
   next_by : (clauses : List Clause) (message : Term) (messages : List Term) (here later : Option Hit) → IfSome here (IsHitHere clauses env message) → IfSome later (IsHit clauses env messages)
       → IfSome (option_or here (option_map behind_message later)) (IsHit clauses env (message ∷ messages))

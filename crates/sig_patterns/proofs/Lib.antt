@@ -12,3 +12,4 @@ pub mod HitLemmas
 pub mod OldestLemmas
 pub mod PinLemmas
 pub mod MarkLemmas
+pub mod Taking

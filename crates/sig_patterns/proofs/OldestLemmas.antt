@@ -1,4 +1,4 @@
--- No clause matches a message that is older than a hit's, and no earlier clause matches the hit's.
+-- No clause takes a message that is older than a hit's, and no earlier clause takes the hit's.
 use Rattle.std.proofs.Common.{◌≡◌, List, [], ◌∷◌, take, refl, sym, subst, Option, Some, None, add-one}
 use Rattle.std.specs.List.{All}
 use Rattle.std.specs.Option.{option_map, option_or}
@@ -6,10 +6,9 @@ use Rattle.std.proofs.lemmas.List.Elements.{All-nil, All-cons}
 use Rattle.sig_terms.specs.declared.term.Term.{Term}
 use Rattle.sig_patterns.specs.declared.clause.Clause.{Clause}
 use Rattle.sig_patterns.specs.Environment.{Environment}
-use Rattle.sig_patterns.specs.Matching.{match_of}
-use Rattle.sig_patterns.specs.Scanning.{Hit, NoneMatches, hit_by, behind_clause, behind_message, hit_here, hit}
+use Rattle.sig_patterns.specs.Scanning.{Hit, takes, NoneMatches, hit_by, behind_clause, behind_message, hit_here, hit}
 
--- all that comes before a hit is no match
+-- what comes before a hit takes nothing
 abbrev IsFirstHere : List Clause → Environment → Term → Hit → Type 0
 IsFirstHere clauses env message h = (h.at ≡ 0) × (h.message ≡ message) × NoneMatches (take h.clause clauses) env message
 
@@ -22,17 +21,17 @@ Tells P Q None = P
 Tells P Q (Some a) = Q a
 
 module _ (env : Environment) where
-  here_by : (message : Term) (c : Clause) (clauses : List Clause) (o : Option Environment) (later : Option Hit) → match_of c.pattern env message ≡ o
+  here_by : (message : Term) (c : Clause) (clauses : List Clause) (o : Option Environment) (later : Option Hit) → takes c env message ≡ o
       → Tells (NoneMatches clauses env message) (IsFirstHere clauses env message) later
       → Tells (NoneMatches (c ∷ clauses) env message) (IsFirstHere (c ∷ clauses) env message) (option_or (option_map (hit_by c message) o) (option_map behind_clause later))
-  here_by message c clauses (Some after) later e is = (refl, refl, All-nil (λ (c : Clause). match_of c.pattern env message ≡ None))
-  here_by message c clauses None None e is = All-cons (λ (c : Clause). match_of c.pattern env message ≡ None) c clauses e is
+  here_by message c clauses (Some after) later e is = (refl, refl, All-nil (λ (c : Clause). takes c env message ≡ None))
+  here_by message c clauses None None e is = All-cons (λ (c : Clause). takes c env message ≡ None) c clauses e is
   here_by message c clauses None (Some h) e is =
-      (is.0, is.1, rw add-one (All-cons (λ (c : Clause). match_of c.pattern env message ≡ None) c (take h.clause clauses) e is.2))
+      (is.0, is.1, rw add-one (All-cons (λ (c : Clause). takes c env message ≡ None) c (take h.clause clauses) e is.2))
 
   here : (message : Term) (clauses : List Clause) → Tells (NoneMatches clauses env message) (IsFirstHere clauses env message) (hit_here clauses env message)
-  here message [] = All-nil (λ (c : Clause). match_of c.pattern env message ≡ None)
-  here message (c ∷ clauses) = here_by message c clauses (match_of c.pattern env message) (hit_here clauses env message) refl (here message clauses)
+  here message [] = All-nil (λ (c : Clause). takes c env message ≡ None)
+  here message (c ∷ clauses) = here_by message c clauses (takes c env message) (hit_here clauses env message) refl (here message clauses)
 
   module _ (clauses : List Clause) where
     next_by : (message : Term) (messages : List Term) (first later : Option Hit) → Tells (NoneMatches clauses env message) (IsFirstHere clauses env message) first

@@ -28,7 +28,8 @@ use Rattle.sig_patterns.specs.declared.pattern.Pattern.TheFolds.{fold-roll-Patte
 use Rattle.sig_patterns.specs.Environment.{Environment, value_of_var}
 use Rattle.sig_patterns.specs.Matching.{Bindings, Matcher, asking, match_each, match_cons, match_step, matching, overlaid, match_of, tuple_layer, list_layer, tuple_items, list_items}
 use Rattle.sig_patterns.specs.Pinning.{pins_step, pins, AskFor}
-use Rattle.sig_patterns.specs.Scanning.{Hit, hit_by, behind_clause, behind_message, behind_messages, found_behind, hit_here, hit, places_of, scan}
+use Rattle.sig_patterns.proofs.Taking.{takes_none}
+use Rattle.sig_patterns.specs.Scanning.{Hit, takes, hit_by, behind_clause, behind_message, behind_messages, found_behind, hit_here, hit, places_of, scan}
 
 module _ (r : Ref) where
   -- what holds the reference: it itself, a tuple or a list with an element that holds it
@@ -134,13 +135,13 @@ module _ (r : Ref) where
     unmatched p t x None is pinned value without = refl
     unmatched p t x (Some e) is pinned value without = absurd (both_ways (holds r t) without (pinned_is_held p env t e x is pinned value))
 
-    -- no clause matches a message that doesn't hold the reference
+    -- no clause takes a message that doesn't hold the reference
     none_here : (clauses : List Clause) (t : Term) → AskFor env r clauses → holds r t ≡ false → hit_here clauses env t ≡ None
     none_here [] t asked without = refl
     none_here (c ∷ clauses) t asked without =
         let own = All-head (λ (d : Clause). (x : Var) × (pins d.pattern x ≡ true) × (value_of_var env x.0 ≡ term.Ref r)) c clauses asked in
         let others = All-tail (λ (d : Clause). (x : Var) × (pins d.pattern x ≡ true) × (value_of_var env x.0 ≡ term.Ref r)) c clauses asked in
-        let first : match_of c.pattern env t ≡ None = unmatched c.pattern t own.0 (match_of c.pattern env t) refl own.1 own.2 without in
+        let first : takes c env t ≡ None = takes_none c env t (unmatched c.pattern t own.0 (match_of c.pattern env t) refl own.1 own.2 without) in
         ap (λ (o : Option Environment). option_or (option_map (hit_by c t) o) (option_map behind_clause (hit_here clauses env t))) first
         ∙ ap (option_map behind_clause) (none_here clauses t others without)
 

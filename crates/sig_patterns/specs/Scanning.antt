@@ -1,5 +1,5 @@
--- The scan of a receive (Erlang Reference Manual, Expressions, Receive): the oldest message that some clause matches, and
--- the first clause that matches it.
+-- The scan of a receive (Erlang Reference Manual, Expressions, Receive): the oldest message that some clause takes, and the
+-- first clause that takes it.
 use Rattle.std.specs.Prelude.{◌≡◌, ℕ, ◌+◌, List, [], ◌∷◌, length, Option, None, is_some, position}
 use Rattle.std.specs.List.{All}
 use Rattle.std.specs.Option.{option_map, option_map_or, option_or}
@@ -8,6 +8,10 @@ use Rattle.sig_patterns.specs.declared.clause.Clause.{Clause}
 use Rattle.sig_patterns.specs.declared.found.Found.{Found}
 use Rattle.sig_patterns.specs.Environment.{Environment}
 use Rattle.sig_patterns.specs.Matching.{match_of}
+
+-- what a clause makes of a message: none where it doesn't take it, or the environment after its match
+abbrev pub takes : Clause → Environment → Term → Option Environment
+takes clause env message = match_of clause.pattern env message
 
 -- what a scan found: the place of the message, from 0; the clause, from 0; the message; where the clause goes on; and the
 -- environment after the match
@@ -18,7 +22,7 @@ pub record Hit : Type 0 where
   pub target : Option ℕ
   pub env : Environment
 
--- the hit of a clause that matches the message, both at the front
+-- the hit of a clause that takes the message, both at the front
 abbrev pub hit_by : Clause → Term → Environment → Hit
 hit_by clause message env = record { at = 0; clause = 0; message = message; target = clause.target; env = env }
 
@@ -37,17 +41,17 @@ behind_messages older h = record h { at = h.at + older }
 abbrev pub found_behind : ℕ → Found → Found
 found_behind older f = record f { at = f.at + older }
 
--- no clause matches the message
+-- no clause takes the message
 abbrev pub NoneMatches : List Clause → Environment → Term → Type 0
-NoneMatches clauses env message = All (λ (c : Clause). match_of c.pattern env message ≡ None) clauses
+NoneMatches clauses env message = All (λ (c : Clause). takes c env message ≡ None) clauses
 
--- the first clause that matches the message
+-- the first clause that takes the message
 abbrev pub hit_here : List Clause → Environment → Term → Option Hit
 hit_here [] env message = None
 hit_here (clause ∷ clauses) env message =
-    option_or (option_map (hit_by clause message) (match_of clause.pattern env message)) (option_map behind_clause (hit_here clauses env message))
+    option_or (option_map (hit_by clause message) (takes clause env message)) (option_map behind_clause (hit_here clauses env message))
 
--- the oldest message that some clause matches, and the first such clause
+-- the oldest message that some clause takes, and the first such clause
 unfoldable pub hit : List Clause → Environment → List Term → Option Hit
 hit clauses env [] = None
 hit clauses env (message ∷ messages) = option_or (hit_here clauses env message) (option_map behind_message (hit clauses env messages))
@@ -56,13 +60,13 @@ hit clauses env (message ∷ messages) = option_or (hit_here clauses env message
 abbrev pub places_of : Hit → Found
 places_of h = record { at = h.at; clause = h.clause }
 
--- the oldest message that some clause matches, and the first such clause, by their places
+-- the oldest message that some clause takes, and the first such clause, by their places
 abbrev pub scan : List Clause → Environment → List Term → Option Found
 scan clauses env messages = option_map places_of (hit clauses env messages)
 
--- the first clause that matches the message, from 0
+-- the first clause that takes the message, from 0
 abbrev pub first_clause : List Clause → Environment → Term → Option ℕ
-first_clause clauses env message = position (λ c. is_some (match_of c.pattern env message)) clauses
+first_clause clauses env message = position (λ c. is_some (takes c env message)) clauses
 
 -- how many messages a scan of the whole list looks at: up to the one that it finds, or all
 abbrev pub looked : List Term → Option Found → ℕ

@@ -17,7 +17,7 @@ ghost use Rattle.sig_patterns.specs.declared.pattern.Pattern.TheVariants as patt
 ghost use Rattle.sig_patterns.specs.Environment.{Environment, value_of_var};
 ghost use Rattle.sig_patterns.specs.Matching.{match_of};
 ghost use Rattle.sig_patterns.specs.Pinning.{pins, AskFor};
-ghost use Rattle.sig_patterns.specs.Scanning.{Hit, NoneMatches, behind_messages, found_behind, hit, scan};
+ghost use Rattle.sig_patterns.specs.Scanning.{Hit, NoneMatches, behind_messages, found_behind, hit, scan, takes};
 
 /// `[P1 | [P2, ..]]` matches as `[P1, P2, ..]` does.
 pub fn a_list_is_a_head_and_a_list()
@@ -39,15 +39,15 @@ pub fn a_pin_compares_with_the_value_before()
         ≡ (if same_term (value_of_var env x.0) u then Some (map.insert env x.0 t) else None) }
 {}
 
-/// A hit tells the oldest message that some clause matches, and the first clause that matches it: the message stands at the
-/// hit's place, and its clause matches it with the environment that the hit tells, and goes on where the hit says. No clause
-/// matches an older message, and no earlier clause this one. Where there is no hit, no clause matches any message.
+/// A hit tells the oldest message that some clause takes, and the first clause that takes it: the message stands at the
+/// hit's place, and its clause takes it with the environment that the hit tells, and goes on where the hit says. No clause
+/// takes an older message, and no earlier clause this one. Where there is no hit, no clause takes any message.
 pub fn a_hit_tells_its_match()
     ensures message { (clauses : List Clause) (env : Environment) (messages : List Term) (h : Hit) →
         hit clauses env messages ≡ Some h → slice_get messages h.at ≡ Some h.message }
     ensures clause { (clauses : List Clause) (env : Environment) (messages : List Term) (h : Hit) →
         hit clauses env messages ≡ Some h →
-        (c : Clause) × ((slice_get clauses h.clause ≡ Some c) × (h.target ≡ c.target) × (match_of c.pattern env h.message ≡ Some h.env)) }
+        (c : Clause) × ((slice_get clauses h.clause ≡ Some c) × (h.target ≡ c.target) × (takes c env h.message ≡ Some h.env)) }
     ensures oldest { (clauses : List Clause) (env : Environment) (messages : List Term) (h : Hit) →
         hit clauses env messages ≡ Some h → All (NoneMatches clauses env) (take h.at messages) }
     ensures first { (clauses : List Clause) (env : Environment) (messages : List Term) (h : Hit) →

@@ -1,5 +1,5 @@
-ghost use Rattle.std.specs.Prelude.{◌≡◌, ◌+◌, ◌<◌, ◌≤◌, length, IfSome};
-ghost use Rattle.sig_patterns.specs.Scanning.{first_clause};
+ghost use Rattle.std.specs.Prelude.{◌≡◌, ◌+◌, ◌<◌, ◌≤◌, is_some, length, IfSome};
+ghost use Rattle.sig_patterns.specs.Scanning.{takes, first_clause};
 
 use crate::clause::Clause;
 use crate::env::Env;
@@ -8,9 +8,16 @@ use sig_base::Steps;
 use sig_terms::Term;
 use std::sync::ledger::Ledger;
 
-/// The first of the clauses whose pattern matches the message, from 0. `None` exactly where none
-/// does. Counts one step for each pattern that it tries. (Erlang Reference Manual, Expressions,
-/// Receive.)
+/// Whether the clause takes the message. Counts one step.
+fn accepts<L: Ledger>(clause: &Clause, env: &Env, message: &Term, steps: &mut Steps<L>) -> bool
+    ensures taken { result ≡ is_some (takes clause.now env.now message.now) }
+    ensures ticks { steps.new ≡ steps.old + 1 }
+{
+    matches(&clause.pattern, env, message, steps)
+}
+
+/// The first of the clauses that takes the message, from 0. `None` exactly where none does. Counts
+/// one step for each clause that it tries. (Erlang Reference Manual, Expressions, Receive.)
 pub fn first_match<L: Ledger>(
     clauses: &[Clause],
     env: &Env,
@@ -23,7 +30,7 @@ pub fn first_match<L: Ledger>(
 {
     let mut at = 0;
     while at < clauses.len() {
-        if matches(&clauses[at].pattern, env, message, steps) {
+        if accepts(&clauses[at], env, message, steps) {
             return Some(at);
         }
         at += 1;

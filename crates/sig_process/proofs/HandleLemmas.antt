@@ -50,7 +50,7 @@ module _ (q : InnerQueue) (within : passed q.last ≤ length q.inbox.messages) (
   changed_passes _ using clauses env k = k
 
   passes_at : (c : Change) (env : Environment) (i : Option Instr) → HasPassedAt i q env → HasPassedAt i (queue_after q c) env
-  passes_at c env (Some (instr.Receive using clauses after)) k = changed_passes c (using_ref env using) clauses env k
+  passes_at c env (Some (instr.Receive r)) k = changed_passes c (using_ref env r.using) r.clauses env k
   passes_at c env _ k = tt
 
   kept : (o : Option Term) (n : ℕ) → n ≡ passed q.last → (IsSome o → passed q.last ≡ 0) → n ≡ (if is_some o then 0 else passed q.last)

@@ -8,16 +8,17 @@ use Rattle.sig_terms.specs.declared.reference.Ref.{Ref}
 use Rattle.sig_terms.specs.declared.term.Term.{Term}
 use Rattle.sig_patterns.specs.declared.clause.Clause.{Clause}
 use Rattle.sig_patterns.specs.declared.found.Found.{Found}
-use Rattle.sig_patterns.specs.declared.var.Var.{Var}
 use Rattle.sig_patterns.specs.Inbox.{terms_of, start_of}
 use Rattle.sig_patterns.specs.Matching.{match_of}
-use Rattle.sig_patterns.specs.Scanning.{Hit, places_of}
+use Rattle.sig_patterns.specs.Scanning.{Hit, takes, places_of}
 use Rattle.sig_patterns.proofs.HitLemmas.{IsByClause, hit_message, hit_clause}
+use Rattle.sig_patterns.proofs.Taking.{takes_match}
 use Rattle.sig_inner.specs.declared.last_scan.LastScan.TheVariants as last
 use Rattle.sig_inner.specs.InnerQueue.{InnerQueue, InnerTable, found_message}
 use Rattle.sig_inner.specs.Receiving.{scanned, left_by, after_scan, is_saved}
 use Rattle.sig_program.specs.declared.instruction.Instr.TheVariants as instr
 use Rattle.sig_program.specs.declared.instruction.After.{After}
+use Rattle.sig_program.specs.declared.instruction.Receiving.{Receiving}
 use Rattle.sig_program.specs.Scripts.{Declared}
 use Rattle.sig_runs.specs.Rules.{Effect}
 use Rattle.sig_kinds.specs.declared.signal.Signal.{Signal}
@@ -72,7 +73,7 @@ module _ (clauses : List Clause) (p : Progress) (number count start : ℕ) (hit 
     chosen_is = let same : Some by_clause.0 ≡ Some chosen = sym by_clause.1.0 ∙ ap (slice_get clauses) (sym place_is) ∙ there in cc
 
     chosen_binds : match_of chosen.pattern p.tables.env hit.message ≡ Some hit.env
-    chosen_binds = subst (λ (c : Clause). match_of c.pattern p.tables.env hit.message ≡ Some hit.env) chosen_is by_clause.1.2
+    chosen_binds = takes_match chosen p.tables.env hit.message hit.env (subst (λ (c : Clause). takes c p.tables.env hit.message ≡ Some hit.env) chosen_is by_clause.1.2)
 
     chosen_goes : hit.target ≡ chosen.target
     chosen_goes = by_clause.1.1 ∙ ap (λ (c : Clause). c.target) chosen_is
@@ -133,7 +134,7 @@ moved_on pid before mid after e u a = record {
 }
 
 -- a receive
-module _ (proc : Declared) (using : Option Var) (clauses : List Clause) (after : Option After) (p : Progress) (inner : InnerTable) (r : Option Ref) (named : r ≡ using_ref p.tables.env using) where
+module _ (proc : Declared) (receive : Receiving) (p : Progress) (inner : InnerTable) (r : Option Ref) (named : r ≡ using_ref p.tables.env receive.using) where
   abbrev queue : InnerQueue
   queue = p.tables.inner.queue
 
@@ -141,9 +142,9 @@ module _ (proc : Declared) (using : Option Var) (clauses : List Clause) (after :
   start = start_of queue.inbox r
 
   abbrev found : Option Found
-  found = scanned queue start clauses p.tables.env
+  found = scanned queue start receive.clauses p.tables.env
 
-  module _ (left : inner.queue ≡ after_scan queue start found) (here : slice_get proc.instrs (p.counts.place - 1) ≡ Some (instr.Receive using clauses after)) where
+  module _ (left : inner.queue ≡ after_scan queue start found) (here : slice_get proc.instrs (p.counts.place - 1) ≡ Some (instr.Receive receive)) where
     abbrev mid : Progress
     mid = with_inner p inner
 
@@ -152,10 +153,10 @@ module _ (proc : Declared) (using : Option Var) (clauses : List Clause) (after :
 
     -- what the scan finds is what the row says
     abbrev row : ProcessState → ℕ → Option Body
-    row s n = receiving proc s after n n (hit_from n clauses s)
+    row s n = receiving proc s receive.after n n (hit_from n receive.clauses s)
 
-    row_is : exec_body from_mark proc (state_of mid) (Some (instr.Receive using clauses after)) ≡ row (state_of mid) start
-    row_is = ap (λ (s : ProcessState). row (state_of mid) (marked_start s using)) unmoved.state ∙ ap (λ (o : Option Ref). row (state_of mid) (start_of queue.inbox o)) (sym named)
+    row_is : exec_body from_mark proc (state_of mid) (Some (instr.Receive receive)) ≡ row (state_of mid) start
+    row_is = ap (λ (s : ProcessState). row (state_of mid) (marked_start s receive.using)) unmoved.state ∙ ap (λ (o : Option Ref). row (state_of mid) (start_of queue.inbox o)) (sym named)
 
     executed_by : (pid : ℕ) (next : Progress) (body : Body) → row (state_of mid) start ≡ Some body →
         HasAdvanced pid mid next (finished_exec pid (state_of mid) body) → is_saved next.tables.inner.queue.last ≡ false → HasExecuted pid proc p next
@@ -166,25 +167,25 @@ module _ (proc : Declared) (using : Option Var) (clauses : List Clause) (after :
       unsaved = unsaved;
     }
 
-    hit_same : hit_from start clauses (state_of mid) ≡ hit_from start clauses (state_of p)
-    hit_same = ap (hit_from start clauses) unmoved.state
+    hit_same : hit_from start receive.clauses (state_of mid) ≡ hit_from start receive.clauses (state_of p)
+    hit_same = ap (hit_from start receive.clauses) unmoved.state
 
     no_hit : (o : Option Hit) → option_map places_of o ≡ None → o ≡ None
     no_hit None e = refl
     no_hit (Some h) e = cc
 
-    pub hit_none : found ≡ None → hit_from start clauses (state_of mid) ≡ None
-    hit_none e = hit_same ∙ no_hit (hit_from start clauses (state_of p)) e
+    pub hit_none : found ≡ None → hit_from start receive.clauses (state_of mid) ≡ None
+    hit_none e = hit_same ∙ no_hit (hit_from start receive.clauses (state_of p)) e
 
     -- the hit of what was found
     a_hit : (o : Option Hit) (f : Found) → option_map places_of o ≡ Some f → (h : Hit) × (o ≡ Some h) × (places_of h ≡ f)
     a_hit None f e = cc
     a_hit (Some h) f e = (h, refl, cc)
 
-    pub hit_is : (number count : ℕ) → found ≡ Some (record { at = count - 1; clause = number - 1 }) → 1 ≤ number → 1 ≤ count → (h : Hit) × IsHit clauses mid number count start h
+    pub hit_is : (number count : ℕ) → found ≡ Some (record { at = count - 1; clause = number - 1 }) → 1 ≤ number → 1 ≤ count → (h : Hit) × IsHit receive.clauses mid number count start h
     hit_is number count e numbered counted =
-        let w : (h : Hit) × (hit_from start clauses (state_of p) ≡ Some h) × (places_of h ≡ record { at = count - 1; clause = number - 1 }) =
-        a_hit (hit_from start clauses (state_of p)) (record { at = count - 1; clause = number - 1 }) e in
+        let w : (h : Hit) × (hit_from start receive.clauses (state_of p) ≡ Some h) × (places_of h ≡ record { at = count - 1; clause = number - 1 }) =
+        a_hit (hit_from start receive.clauses (state_of p)) (record { at = count - 1; clause = number - 1 }) e in
         let at : w.0.at ≡ count - 1 = ap (λ (f : Found). f.at) w.2 in
         let clause : w.0.clause ≡ number - 1 = ap (λ (f : Found). f.clause) w.2 in (
           w.0,
@@ -197,14 +198,14 @@ module _ (proc : Declared) (using : Option Var) (clauses : List Clause) (after :
         )
 
     -- it takes a message
-    pub takes : (pid number count : ℕ) (next : Progress) (h : Hit) → IsHit clauses mid number count start h →
+    pub takes_one : (pid number count : ℕ) (next : Progress) (h : Hit) → IsHit receive.clauses mid number count start h →
         HasAdvanced pid mid next (finished_exec pid (state_of mid) (taking proc (state_of mid) start (start + h.at) h)) →
         is_saved next.tables.inner.queue.last ≡ false → HasExecuted pid proc p next
-    takes pid number count next h is advanced unsaved =
-        executed_by pid next (taking proc (state_of mid) start (start + h.at) h) (ap (receiving proc (state_of mid) after start start) is.is) advanced unsaved
+    takes_one pid number count next h is advanced unsaved =
+        executed_by pid next (taking proc (state_of mid) start (start + h.at) h) (ap (receiving proc (state_of mid) receive.after start start) is.is) advanced unsaved
 
     -- it goes on with `after`
-    pub goes_by : (pid : ℕ) (next : Progress) (target : After) (looked : ℕ) → after ≡ Some target → found ≡ None → looked ≡ length queue.inbox.messages - start →
+    pub goes_by : (pid : ℕ) (next : Progress) (target : After) (looked : ℕ) → receive.after ≡ Some target → found ≡ None → looked ≡ length queue.inbox.messages - start →
         HasAdvanced pid mid next (finished_exec pid (state_of mid) (going_on (state_of mid) (place_after proc.labels target.target p.counts.place) (outcome.After looked))) →
         is_saved next.tables.inner.queue.last ≡ false → HasExecuted pid proc p next
     goes_by pid next target looked some none count advanced unsaved =

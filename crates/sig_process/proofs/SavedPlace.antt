@@ -20,5 +20,5 @@ unsaved_none (last.Passed count) e = cc
 
 -- whatever the instruction is
 pub unsaved_passes : (i : Option Instr) (q : InnerQueue) (env : Environment) → is_saved q.last ≡ false → HasPassedAt i q env
-unsaved_passes (Some (instr.Receive using clauses after)) q env e = passed_unsaved clauses env q (start_of q.inbox (using_ref env using)) e
+unsaved_passes (Some (instr.Receive r)) q env e = passed_unsaved r.clauses env q (start_of q.inbox (using_ref env r.using)) e
 unsaved_passes _ q env e = tt

@@ -1,5 +1,5 @@
 -- A process that has nothing to do. (Erlang Reference Manual, Expressions, Receive; Processes, Process Termination.)
-use Rattle.std.specs.Prelude.{◌≡◌, ◌==◌, ◌-◌, ◌&&◌, ◌||◌, not, nat_le, length, slice_get, [], Bool, true, false, Option, Some, None}
+use Rattle.std.specs.Prelude.{◌≡◌, ◌==◌, ◌-◌, ◌&&◌, ◌||◌, not, nat_le, length, slice_get, [], is_none, Bool, false, Option, Some}
 use Rattle.sig_program.specs.declared.instruction.Instr.{Instr}
 use Rattle.sig_program.specs.declared.instruction.Instr.TheVariants as instr
 use Rattle.sig_model.specs.Running.{Running, can_exec, exec_next}
@@ -7,7 +7,7 @@ use Rattle.sig_process.specs.Standing.{Standing}
 
 -- the instruction is a receive without `after`
 abbrev pub is_bare_receive : Option Instr → Bool
-is_bare_receive (Some (instr.Receive using clauses None)) = true
+is_bare_receive (Some (instr.Receive r)) = is_none r.after
 is_bare_receive _ = false
 
 -- no signal waits for the process or lies in its outbox, and it can't go on by itself

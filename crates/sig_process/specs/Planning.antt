@@ -41,5 +41,5 @@ noproc_answer (Some reference) = kind.Down reference noproc
 
 -- the instruction is a receive
 abbrev pub is_receive : Option Instr → Bool
-is_receive (Some (instr.Receive using clauses after)) = true
+is_receive (Some (instr.Receive r)) = true
 is_receive _ = false

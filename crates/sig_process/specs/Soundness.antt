@@ -12,10 +12,10 @@ use Rattle.sig_model.specs.Keeping.{IsKeeping}
 use Rattle.sig_process.specs.declared.progress.Progress.{Progress}
 use Rattle.sig_process.specs.Progressing.{running_of}
 
--- Where the instruction is a receive, none of its clauses matches a message from its mark's start up to the saved place. Where no
+-- Where the instruction is a receive, none of its clauses takes a message from its mark's start up to the saved place. Where no
 -- place is saved this holds of every instruction.
 abbrev pub HasPassedAt : Option Instr → InnerQueue → Environment → Type 0
-HasPassedAt (Some (instr.Receive using clauses after)) queue env = HasPassed queue (start_of queue.inbox (using_ref env using)) clauses env
+HasPassedAt (Some (instr.Receive r)) queue env = HasPassed queue (start_of queue.inbox (using_ref env r.using)) r.clauses env
 HasPassedAt _ queue env = Unit {0}
 
 -- the place that the last scan has saved

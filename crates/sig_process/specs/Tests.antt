@@ -11,10 +11,10 @@ use Rattle.sig_process.specs.Standing.{Standing}
 -- a receive makes at most as many as it has clauses, for each message from its mark's start on up to the one that it takes, but for
 -- those before its saved place; another instruction makes none
 abbrev pub tests_of : ProcessState → ℕ → Option Instr → ℕ
-tests_of s saved (Some (instr.Receive using clauses after)) =
-    let start = marked_start s using in
+tests_of s saved (Some (instr.Receive r)) =
+    let start = marked_start s r.using in
     let messages = drop start (terms_of s.tables.inbox.messages) in
-    length clauses * (looked messages (scan clauses s.tables.env messages) - (saved - start))
+    length r.clauses * (looked messages (scan r.clauses s.tables.env messages) - (saved - start))
 tests_of s saved _ = 0
 
 -- the instruction at the process's place

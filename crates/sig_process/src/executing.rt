@@ -47,13 +47,7 @@ impl Progress {
         ensures ticks { steps.new ≤ steps.old + tests_of (state_of self.old) (passed self.old.tables.inner.queue.last) (slice_get proc.now.instrs (self.old.counts.place - 1)) }
     {
         match proc.instr(self.counts.place) {
-            Some(
-                Instr::Receive {
-                    using,
-                    clauses,
-                    after,
-                },
-            ) => self.receive(pid, proc, using, clauses, after, steps),
+            Some(Instr::Receive(receiving)) => self.receive(pid, proc, receiving, steps),
             other => {
                 self.perform(pid, proc, other)?;
                 Ok(Exec::Stepped)

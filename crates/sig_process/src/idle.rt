@@ -17,13 +17,7 @@ fn is_bare_receive(instr: Option<&Instr>) -> bool
     ensures { result ≡ is_bare_receive (option_copied instr.entry) }
 {
     match instr {
-        Some(
-            Instr::Receive {
-                using: _,
-                clauses: _,
-                after,
-            },
-        ) => after.is_none(),
+        Some(Instr::Receive(receiving)) => receiving.after.is_none(),
         _ => false,
     }
 }

@@ -19,8 +19,8 @@ use crate::progress::Progress;
 use sig_base::Steps;
 use sig_inner::{Inner, Scan};
 use sig_model::{LAST_STAMP, Outcome};
-use sig_patterns::{Clauses, Env, Var};
-use sig_program::{After, Instr, Proc};
+use sig_patterns::{Clauses, Env};
+use sig_program::{Instr, Proc, Receiving};
 use sig_terms::{Pid, Ref};
 use std::alloc::AllocError;
 use std::sync::ledger::Ledger;
@@ -51,7 +51,7 @@ fn scan_messages<L: Ledger>(
 }
 
 impl Progress {
-    /// Takes the message of the last scan, with the first clause that matches it, and goes on where
+    /// Takes the message of the last scan, with the first clause that takes it, and goes on where
     /// the clause says.
     fn take_found(
         &mut self,
@@ -105,33 +105,32 @@ impl Progress {
         &mut self,
         pid: Pid,
         proc: &Proc,
-        using: &Option<Var>,
-        clauses: &Clauses,
-        after: &Option<After>,
+        receiving: &Receiving,
         steps: &mut Steps<L>,
     ) -> Result<Exec, AllocError>
         requires due { IsExecDue proc.now self.old }
-        requires few { length clauses.now < 2 ^ 32 }
-        requires marked { AreMarked «using».now clauses.now }
-        requires here { slice_get proc.now.instrs (self.old.counts.place - 1) ≡ Some (Instr.Receive «using».now clauses.now after.now) }
+        requires few { length receiving.now.clauses < 2 ^ 32 }
+        requires marked { AreMarked receiving.now.«using» receiving.now.clauses }
+        requires here { slice_get proc.now.instrs (self.old.counts.place - 1) ≡ Some (Instr.Receive receiving.now) }
         ensures gone { MatchResult result (HasGone pid.0 proc.now self.old self.new) (λ _. IsUnmoved self.old self.new) }
         ensures saved { IsSaved (slice_get proc.now.instrs (self.new.counts.place - 1)) self.new }
-        ensures ticks { steps.new ≤ steps.old + tests_of (state_of self.old) (passed self.old.tables.inner.queue.last) (Some (Instr.Receive «using».now clauses.now after.now)) }
+        ensures ticks { steps.new ≤ steps.old
+            + tests_of (state_of self.old) (passed self.old.tables.inner.queue.last) (Some (Instr.Receive receiving.now)) }
     {
         prove!(self.tables.inner.passed() <= self.tables.inner.len());
-        let using = self.using_ref(using);
+        let using = self.using_ref(&receiving.using);
         match scan_messages(
             &mut self.tables.inner,
-            clauses,
+            &receiving.clauses,
             &self.tables.env,
             using,
             steps,
         ) {
             Scan::Found { clause, looked } => {
-                self.take_found(pid, proc, clauses, clause, looked)?;
+                self.take_found(pid, proc, &receiving.clauses, clause, looked)?;
                 Ok(Exec::Stepped)
             }
-            Scan::None { looked } => match after {
+            Scan::None { looked } => match &receiving.after {
                 None => Ok(Exec::Waiting),
                 Some(after) => {
                     self.go_by(pid, proc, after.target, looked)?;

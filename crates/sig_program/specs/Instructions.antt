@@ -1,10 +1,8 @@
 -- The table of the instructions: of each that is no receive its word, the operands behind the word, and the instruction that they say.
 use Rattle.std.specs.Prelude.{ℕ, List, [], ◌∷◌, Bool, codes, Option}
 use Rattle.sig_kinds.specs.declared.alias_mode.AliasMode.{AliasMode}
-use Rattle.sig_patterns.specs.declared.clause.Clause.{Clause}
-use Rattle.sig_patterns.specs.declared.var.Var.{Var}
 use Rattle.sig_patterns.specs.declared.expression.Expr.{Expr}
-use Rattle.sig_program.specs.declared.instruction.After.{After}
+use Rattle.sig_program.specs.declared.instruction.Receiving.{Receiving}
 use Rattle.sig_program.specs.declared.instruction.Instr.{Instr}
 use Rattle.sig_program.specs.declared.instruction.Instr.TheVariants as instr
 use Rattle.sig_program.specs.declared.verb.Verb.{Verb}
@@ -73,7 +71,7 @@ instr_by v x = (row_of v).make x
 -- an instruction as its lines say it: a word and what its operands say, or a receive
 pub data Spoken : Type 0 where
   Says : (v : Verb) → AllSaid (operands_of v) → Spoken
-  Receives : Option Var → List Clause → Option After → Spoken
+  Receives : Receiving → Spoken
 
 abbrev pub spoken : Instr → Spoken
 spoken (instr.Send to message) = Says verb.Send (to, (message, tt))
@@ -93,7 +91,7 @@ spoken (instr.Bind x) = Says verb.Bind (x.0, tt)
 spoken (instr.Clear x) = Says verb.Clear (x.0, tt)
 spoken (instr.Goto label) = Says verb.Goto (label, tt)
 spoken instr.Stop = Says verb.Stop tt
-spoken (instr.Receive using clauses after) = Receives using clauses after
+spoken (instr.Receive r) = Receives r
 
 -- the verbs, each once
 abbrev pub verbs : List Verb

@@ -42,7 +42,7 @@ said_mode (_ ∷ os) x = said_mode os x.1
 
 abbrev pub exprs_in : Spoken → List Expr
 exprs_in (Says v x) = said_exprs (operands_of v) x
-exprs_in (Receives using clauses after) = []
+exprs_in (Receives r) = []
 
 -- the expressions of an instruction, in the order of its line
 abbrev pub exprs_of : Instr → List Expr
@@ -50,7 +50,7 @@ exprs_of i = exprs_in (spoken i)
 
 abbrev pub vars_in : Spoken → List (List ℕ)
 vars_in (Says v x) = said_vars (operands_of v) x
-vars_in (Receives using clauses after) = []
+vars_in (Receives r) = []
 
 -- the names of the variables that an instruction sets, makes or names; the variable of a marker is none of them
 abbrev pub vars_of : Instr → List (List ℕ)
@@ -58,7 +58,7 @@ vars_of i = vars_in (spoken i)
 
 abbrev pub using_in : Spoken → Option Var
 using_in (Says v x) = None
-using_in (Receives using clauses after) = using
+using_in (Receives r) = r.using
 
 -- the variable of a receive's marker
 abbrev pub using_of : Instr → Option Var
@@ -66,7 +66,7 @@ using_of i = using_in (spoken i)
 
 abbrev pub clauses_in : Spoken → List Clause
 clauses_in (Says v x) = []
-clauses_in (Receives using clauses after) = clauses
+clauses_in (Receives r) = r.clauses
 
 -- the clauses of a receive
 abbrev pub clauses_of : Instr → List Clause
@@ -74,8 +74,8 @@ clauses_of i = clauses_in (spoken i)
 
 abbrev pub targets_in : Spoken → List ℕ
 targets_in (Says v x) = said_labels (operands_of v) x
-targets_in (Receives using clauses after) =
-    filter_map (λ (c : Clause). c.target) clauses ++ filter_map (λ (a : After). a.target) (option_to_list after)
+targets_in (Receives r) =
+    filter_map (λ (c : Clause). c.target) r.clauses ++ filter_map (λ (a : After). a.target) (option_to_list r.after)
 
 -- the labels at which a process may go on behind an instruction, by their places among its labels
 abbrev pub targets_of : Instr → List ℕ
@@ -83,7 +83,7 @@ targets_of i = targets_in (spoken i)
 
 abbrev pub mode_by : Spoken → Option AliasMode
 mode_by (Says v x) = said_mode (operands_of v) x
-mode_by (Receives using clauses after) = None
+mode_by (Receives r) = None
 
 -- the mode of a monitor's alias
 abbrev pub mode_in : Instr → Option AliasMode

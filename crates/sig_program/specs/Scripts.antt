@@ -17,6 +17,10 @@ pub record Declared : Type 0 where
   pub labels : List Label
   pub instrs : List Instr
 
+-- one of this name that has no label and does nothing
+abbrev pub bare_process : List ℕ → Declared
+bare_process name = record { name = name; labels = []; instrs = [] }
+
 -- a script: how many instructions each process may execute, and the processes
 pub record Program : Type 0 where
   pub turns : ℕ

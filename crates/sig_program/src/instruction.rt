@@ -16,6 +16,18 @@ pub struct After {
     pub target: Option<u32>,
 }
 
+/// What a receive does.
+#[derive(Debug, Drop)]
+pub struct Receiving {
+    /// The variable of its marker. Each clause's pattern pins it, and the scan begins at the marker
+    /// of its value.
+    pub using: Option<Var>,
+    /// The clauses, in the order in which they are tried.
+    pub clauses: Clauses,
+    /// Where it goes on that finds no message. `None`: it waits for one.
+    pub after: Option<After>,
+}
+
 /// An instruction of a process.
 #[derive(Debug, Drop)]
 pub enum Instr {
@@ -34,14 +46,9 @@ pub enum Instr {
     MakeRef {
         var: Var,
     },
-    /// Takes the oldest message that a clause matches. Where `using` names a variable, each clause's
-    /// pattern pins it, and the scan begins at the marker of its value. (Erlang Reference Manual,
-    /// Expressions, Receive; the runtime's instruction `recv_marker_use`.)
-    Receive {
-        using: Option<Var>,
-        clauses: Clauses,
-        after: Option<After>,
-    },
+    /// Takes the oldest message that a clause takes. (Erlang Reference Manual, Expressions, Receive;
+    /// the runtime's instruction `recv_marker_use`.)
+    Receive(Receiving),
     /// Sets up a link. (Erlang Reference Manual, Processes, Links; module `erlang`, `link/1`.)
     Link {
         peer: Expr,
@@ -142,22 +149,20 @@ fn copy_after(after: &Option<After>) -> Option<After>
     }
 }
 
-fn copy_receive(
-    alloc: Global,
-    marker: &Option<Var>,
-    clauses: &Clauses,
-    after: &Option<After>,
-) -> Result<Instr, AllocError>
-    ensures { IfOk result (λ i. i ≡ instr.Receive marker.now clauses.now after.now) }
-{
-    let using = copy_marker(alloc, marker)?;
-    let clauses = copy_all(alloc, clauses)?;
-    let after = copy_after(after);
-    Ok(Instr::Receive {
-        using,
-        clauses,
-        after,
-    })
+impl Receiving {
+    /// An equal value. The error is want of memory.
+    pub fn copy(&self, alloc: Global) -> Result<Receiving, AllocError>
+        ensures { IfOk result (λ r. r ≡ self.now) }
+    {
+        let using = copy_marker(alloc, &self.using)?;
+        let clauses = copy_all(alloc, &self.clauses)?;
+        let after = copy_after(&self.after);
+        Ok(Receiving {
+            using,
+            clauses,
+            after,
+        })
+    }
 }
 
 fn copy_set(alloc: Global, var: &Var, value: &Expr) -> Result<Instr, AllocError>
@@ -269,11 +274,7 @@ impl Instr {
             | Instr::Bind { var }
             | Instr::Clear { var } => self.copy_with_var(alloc, var),
             Instr::Set { var, value } => copy_set(alloc, var, value),
-            Instr::Receive {
-                using,
-                clauses,
-                after,
-            } => copy_receive(alloc, using, clauses, after),
+            Instr::Receive(receiving) => receiving.copy(alloc).map(Instr::Receive),
             Instr::Monitor { var, target, mode } => copy_monitor(alloc, var, target, *mode),
             Instr::Trap { on } => Ok(Instr::Trap { on: *on }),
             Instr::Goto { label } => Ok(Instr::Goto { label: *label }),

@@ -8,7 +8,7 @@ mod process;
 mod script;
 mod verb;
 
-pub use instruction::{After, Instr, Instrs};
+pub use instruction::{After, Instr, Instrs, Receiving};
 pub use label::{Label, Labels};
 pub use process::{Proc, Procs};
 pub use script::{DEFAULT_TURNS, MOST_PROCESSES, MOST_TURNS, Script};

@@ -14,7 +14,6 @@ use Rattle.sig_patterns.specs.Pinning.{pins}
 use Rattle.sig_program.specs.declared.label.Label.{Label}
 use Rattle.sig_program.specs.declared.instruction.After.{After}
 use Rattle.sig_program.specs.declared.instruction.Instr.{Instr}
-use Rattle.sig_program.specs.declared.instruction.Instr.TheVariants as instr
 use Rattle.sig_tokens.specs.declared.fault.FaultKind.{FaultKind}
 use Rattle.sig_tokens.specs.declared.token.Token.{Token}
 use Rattle.sig_reader.specs.declared.keyword.Keyword.{Keyword}
@@ -35,7 +34,7 @@ use Rattle.sig_tokens.specs.Tokens.{text, tokens_of}
 use Rattle.sig_tokens.specs.Names.{labels_at, IsSmall, IsFewKnown}
 use Rattle.sig_tokens.specs.PatternTexts.{pattern_of}
 use Rattle.sig_reader.specs.Forms.{keyword_of, may_stand, ends, arrow_of, count_from, turns_of, whole_name, marker_of, on_of, instr_of, form_of, form_behind, said_by, said}
-use Rattle.sig_reader.specs.Drafts.{blank, open_proc, all_procs, program_of, begun, labelled, with_instr, is_marked, with_clause, taken_at}
+use Rattle.sig_reader.specs.Drafts.{blank, open_proc, all_procs, program_of, begun, labelled, with_instr, received, is_marked, with_clause, taken_at}
 use Rattle.sig_reader.specs.Grammar.{located, finished, taken_if, line_taken, body, walk}
 use Rattle.sig_reader.specs.Fitting.{IsFit}
 use Rattle.sig_reader.proofs.FitLemmas.{all-last}
@@ -114,8 +113,8 @@ fit_at n turns procs (Inside p using clauses after) (form.On pattern target) h =
     (anything (with_clause using clauses pattern target)) (λ more _. record { few = h.few; small = all-later n (procs ++ p ∷ []) h.small })
 fit_at n turns procs (Inside p using clauses after) (form.After next) h = record { few = h.few; small = all-later n (procs ++ p ∷ []) h.small }
 fit_at n turns procs (Inside p using clauses after) form.End h =
-    fit_last n turns procs p (with_instr p (instr.Receive using clauses after)) (record { few = h.few; small = h.small })
-    (small_instr n p (instr.Receive using clauses after) (all-last (IsSmall n) procs p h.small))
+    fit_last n turns procs p (with_instr p (received using clauses after)) (record { few = h.few; small = h.small })
+    (small_instr n p (received using clauses after) (all-last (IsSmall n) procs p h.small))
 fit_at n turns procs (Inside p using clauses after) _ h = tt
 
 fit_said : (n : ℕ) (d : Draft) (said : Option Form) → IsFit n d → Holds (IsFit (n + 1)) (taken_if d said)
@@ -329,7 +328,7 @@ taken_at-counted turns procs (Inside p using clauses after) (form.On pattern tar
     holds-on_ok (λ _. Unit {0}) (CountedAs (counts (procs ++ p ∷ []))) (λ more. record { turns = turns; procs = procs; section = Inside p using more after })
     (with_clause using clauses pattern target) (anything (with_clause using clauses pattern target)) (λ more _. refl)
 taken_at-counted turns procs (Inside p using clauses after) (form.After next) = refl
-taken_at-counted turns procs (Inside p using clauses after) form.End = counts-last procs p (with_instr p (instr.Receive using clauses after)) refl
+taken_at-counted turns procs (Inside p using clauses after) form.End = counts-last procs p (with_instr p (received using clauses after)) refl
 taken_at-counted turns procs (Inside p using clauses after) _ = tt
 
 taken_if-counted : (d : Draft) (o : Option Form) → Holds (CountedAs (counted_said o (counts (all_procs d)))) (taken_if d o)
@@ -477,7 +476,7 @@ all-kept P (Some x) h = All-cons P x [] h (All-nil P)
 
 -- the targets of a receive are those of its clauses and that of its `after`
 receive-targets : (labels : ℕ) (using : Option Var) (clauses : List Clause) (after : Option After) → All (λ (c : Clause). IsTarget labels c.target) clauses →
-    IfSome after (λ (a : After). IsTarget labels a.target) → All (λ t. t < labels) (targets_of (instr.Receive using clauses after))
+    IfSome after (λ (a : After). IsTarget labels a.target) → All (λ t. t < labels) (targets_of (received using clauses after))
 receive-targets labels using clauses after h k =
     let target : Clause → Option ℕ = λ c. c.target in
     let behind : After → Option ℕ = λ a. a.target in
@@ -527,12 +526,12 @@ module _ (s : Program) (n : ℕ) (turns : Option ℕ) (procs : List Declared) (b
       (λ m. clause-more p using clauses after (record { pattern = pattern; target = target }) h b t m) (λ _. tt)
 
   receive-more : (p : Declared) (using : Option Var) (clauses : List Clause) (after : Option After) → n < 2 ^ 32 → IsOpen s n (length procs) (Inside p using clauses after) →
-      IsMeant s (length procs) p → IsMeant s (length procs) (with_instr p (instr.Receive using clauses after))
+      IsMeant s (length procs) p → IsMeant s (length procs) (with_instr p (received using clauses after))
   receive-more p using clauses after lt h k =
       let few : length clauses < 2 ^ 32 = omega (arith, lt, h.0) in
-      let targets : All (λ t. t < length (labels_at (length procs) s.procs)) (targets_of (instr.Receive using clauses after)) =
+      let targets : All (λ t. t < length (labels_at (length procs) s.procs)) (targets_of (received using clauses after)) =
       receive-targets (length (labels_at (length procs) s.procs)) using clauses after h.1 h.3 in
-      instr-more s (length procs) p (instr.Receive using clauses after) (few, targets, no-mode, h.4) (All-nil (IsExprBelow (length s.procs)), h.2) k
+      instr-more s (length procs) p (received using clauses after) (few, targets, no-mode, h.4) (All-nil (IsExprBelow (length s.procs)), h.2) k
 
   taken_at-meant : (section : Section) (f : Form) → n < 2 ^ 32 → Each (IsMeant s) 0 (procs ++ open_proc section) → IsOpen s n (length procs) section →
       IsMeantForm (length s.procs) (length (labels_at (length procs) s.procs)) f →
@@ -566,7 +565,7 @@ module _ (s : Program) (n : ℕ) (turns : Option ℕ) (procs : List Declared) (b
       (with_clause-meant p using clauses after pattern target o k.0 k.1) (λ more m. record { turns = bounded; procs = h; receive = m })
   taken_at-meant (Inside p using clauses after) (form.After next) lt h o k = record { turns = bounded; procs = h; receive = (omega (arith, o.0), o.1, o.2, k, o.4) }
   taken_at-meant (Inside p using clauses after) form.End lt h o k =
-      changed p (with_instr p (instr.Receive using clauses after)) h (receive-more p using clauses after lt o (current p h))
+      changed p (with_instr p (received using clauses after)) h (receive-more p using clauses after lt o (current p h))
   taken_at-meant (Inside p using clauses after) _ lt h o k = tt
 
 taken_if-meant : (s : Program) (n : ℕ) (d : Draft) (o : Option Form) → n < 2 ^ 32 → IsMeantDraft s n d →

@@ -10,7 +10,6 @@ use Rattle.sig_patterns.specs.declared.pattern.Pattern.{Pattern}
 use Rattle.sig_patterns.specs.declared.var.Var.{Var}
 use Rattle.sig_program.specs.declared.label.Label.{Label}
 use Rattle.sig_program.specs.declared.instruction.Instr.{Instr}
-use Rattle.sig_program.specs.declared.instruction.Instr.TheVariants as instr
 use Rattle.sig_tokens.specs.declared.fault.FaultKind.{FaultKind}
 use Rattle.sig_tokens.specs.declared.fault.FaultKind.TheVariants.{DuplicateName, TooManyProcesses, UnknownProcess, UnknownLabel}
 use Rattle.sig_tokens.specs.declared.known.Known.{Known}
@@ -25,7 +24,7 @@ use Rattle.sig_program.specs.Scripts.{Declared, Program, IsWithin, IsSound}
 use Rattle.sig_tokens.specs.Faults.{Fault, ◌>>=◌}
 use Rattle.sig_tokens.specs.Names.{pid_of, labels_at, label_of}
 use Rattle.sig_reader.specs.Forms.{said}
-use Rattle.sig_reader.specs.Drafts.{blank, open_proc, all_procs, begun, labelled, with_instr, is_marked, with_clause, taken_at}
+use Rattle.sig_reader.specs.Drafts.{blank, open_proc, all_procs, begun, labelled, with_instr, received, is_marked, with_clause, taken_at}
 use Rattle.sig_reader.specs.Grammar.{located, finished, taken_if, line_taken, body, walk, walk_twice}
 use Rattle.sig_reader.proofs.BoundLemmas.{procs_within, script_sound}
 use Rattle.sig_tokens.proofs.LabelLemmas.{next, position-cons}
@@ -150,7 +149,7 @@ module _ (f g : ℕ → ℕ) where
       (with_clause using clauses pattern target) (with_clause using (map (clause_seen f g) clauses) (pattern_seen f pattern) (option_map g target)) (clause-sees using clauses pattern target) (λ more. refl)
   taken_at-sees turns procs (Inside p using clauses after) (form.After next) = refl
   taken_at-sees turns procs (Inside p using clauses after) form.End =
-      ap (λ (q : Declared). Ok (record { turns = turns; procs = map (proc_seen f g) procs; section = Outside q })) (instr-more p (instr.Receive using clauses after))
+      ap (λ (q : Declared). Ok (record { turns = turns; procs = map (proc_seen f g) procs; section = Outside q })) (instr-more p (received using clauses after))
   taken_at-sees turns procs (Inside p using clauses after) _ = tt
 
   taken_if-sees : (d : Draft) (o : Option Form) → Sees (draft_seen f g) (taken_if d o) (taken_if (draft_seen f g d) (option_map (form_seen f g) o))

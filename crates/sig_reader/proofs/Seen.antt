@@ -69,7 +69,7 @@ all_seen f g (o ∷ os) x = (said_seen f g o x.0, all_seen f g os x.1)
 
 abbrev pub spoken_seen : (ℕ → ℕ) → (ℕ → ℕ) → Spoken → Spoken
 spoken_seen f g (Says v x) = Says v (all_seen f g (operands_of v) x)
-spoken_seen f g (Receives using clauses after) = Receives using (map (clause_seen f g) clauses) (option_map (after_seen g) after)
+spoken_seen f g (Receives r) = Receives (record r { clauses = map (clause_seen f g) r.clauses; after = option_map (after_seen g) r.after })
 
 abbrev pub instr_seen : (ℕ → ℕ) → (ℕ → ℕ) → Instr → Instr
 instr_seen f g i = made_of (spoken_seen f g (spoken i))

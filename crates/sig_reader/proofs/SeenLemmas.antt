@@ -81,7 +81,7 @@ all_kept (o ∷ os) x = rw (said_kept o x.0, all_kept os x.1) refl
 
 spoken_kept : (s : Spoken) → spoken_seen kept kept s ≡ s
 spoken_kept (Says v x) = ap (Says v) (all_kept (operands_of v) x)
-spoken_kept (Receives using clauses after) = rw (clauses_kept clauses, after_kept after) refl
+spoken_kept (Receives r) = rw (clauses_kept r.clauses, after_kept r.after) refl
 
 pub instr_kept : (i : Instr) → instr_seen kept kept i ≡ i
 instr_kept i = ap made_of (spoken_kept (spoken i)) ∙ made_again i

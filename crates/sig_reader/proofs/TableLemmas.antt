@@ -18,7 +18,7 @@ use Rattle.sig_tokens.specs.Tokens.{IsNameToken}
 -- the instruction that is said so
 abbrev pub made_of : Spoken → Instr
 made_of (Says v x) = instr_by v x
-made_of (Receives using clauses after) = instr.Receive using clauses after
+made_of (Receives r) = instr.Receive r
 
 pub made_again : (i : Instr) → made_of (spoken i) ≡ i
 made_again instr.Stop = refl

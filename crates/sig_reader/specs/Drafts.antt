@@ -63,6 +63,10 @@ labelled p name =
 abbrev pub with_instr : Declared → Instr → Declared
 with_instr p i = record p { instrs = p.instrs ++ i ∷ [] }
 
+-- a receive of these parts
+abbrev pub received : Option Var → List Clause → Option After → Instr
+received using clauses after = instr.Receive (record { using = using; clauses = clauses; after = after })
+
 -- the marker's variable is pinned in the pattern; a receive without a marker asks for none
 abbrev pub is_marked : Option Var → Pattern → Bool
 is_marked None pattern = true
@@ -84,7 +88,7 @@ taken_at d (Outside p) (form.Receive using) = Ok (record d { section = Inside p 
 taken_at d (Inside p using clauses after) (form.On pattern target) =
     on_ok (λ more. record d { section = Inside p using more after }) (with_clause using clauses pattern target)
 taken_at d (Inside p using clauses after) (form.After next) = Ok (record d { section = Inside p using clauses (Some next) })
-taken_at d (Inside p using clauses after) form.End = Ok (record d { section = Outside (with_instr p (instr.Receive using clauses after)) })
+taken_at d (Inside p using clauses after) form.End = Ok (record d { section = Outside (with_instr p (received using clauses after)) })
 taken_at d _ _ = Err Syntax
 
 abbrev pub taken : Draft → Form → Result Draft FaultKind

@@ -28,7 +28,7 @@ use crate::reader::ScriptError;
 use sig_tokens::{DraftProc, DraftProcs, DraftScript, FaultKind, Known, LabelTable, Stop, Tokens, place_of_proc};
 use sig_lists::Sequence;
 use sig_patterns::{Clause, Clauses, Pattern, Var, pins};
-use sig_program::{After, DEFAULT_TURNS, Instr, Label, MOST_PROCESSES, MOST_TURNS};
+use sig_program::{After, DEFAULT_TURNS, Instr, Label, MOST_PROCESSES, MOST_TURNS, Receiving};
 use sig_terms::Name;
 use std::alloc::Global;
 use std::mem::{drop, replace};
@@ -319,12 +319,12 @@ fn outside(section: Section) -> Result<Section, Stop>
 {
     match section {
         Section::Inside(proc, using, clauses, after) => {
-            let receive = Instr::Receive {
+            let receiving = Receiving {
                 using,
                 clauses,
                 after,
             };
-            longer(proc, receive).map(Section::Outside)
+            longer(proc, Instr::Receive(receiving)).map(Section::Outside)
         }
         other => Ok(other),
     }
