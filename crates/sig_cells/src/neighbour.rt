@@ -3,7 +3,7 @@ ghost use Rattle.sig_cells.specs.declared.neighbour.TheConstants.{MOST_CELLS};
 
 use std::marker::Model;
 
-/// How many cells a list has at most: each has a number of its own in 32 bits, new_end that for none.
+/// How many cells a list has at most: each has a number of its own in 32 bits, and one is for none.
 pub const MOST_CELLS: usize = 4_294_967_295;
 
 /// The key of a neighbouring cell, or none, in 32 bits: 0 for none, and else the key and one.
