@@ -5,8 +5,8 @@ mod command_line;
 mod ending;
 mod host;
 mod option_values;
-mod program;
 mod settings;
+mod standard;
 mod status;
 mod summing;
 mod telling;
@@ -15,7 +15,7 @@ mod words_error;
 
 pub use command_line::words;
 pub use host::run;
-pub use program::program;
 pub use settings::{MOST_CHURN, MOST_QUOTA, MOST_WORKERS, Settings};
+pub use standard::program;
 pub use status::Status;
 pub use words_error::WordsError;
