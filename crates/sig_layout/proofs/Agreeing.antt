@@ -11,11 +11,11 @@ use Rattle.sig_layout.specs.declared.via.Via.TheVariants as via
 use Rattle.sig_layout.specs.declared.item.Item.{Item}
 use Rattle.sig_layout.specs.declared.outer.Outer.{Outer}
 use Rattle.sig_layout.specs.Sets.{least}
-use Rattle.sig_layout.specs.declared.part.Part.{Part}
+use Rattle.sig_layout.specs.declared.held_buffer.HeldBuffer.{HeldBuffer}
 use Rattle.sig_layout.specs.declared.knows.Knows.{Knows}
-use Rattle.sig_layout.specs.Views.{number, filled_at, with_bit, flag, tail, holding, turned_away, after_put, after_same, with_bits, after_fetch, switched_on, switched_off, after_remove, saw, counted, gains, part, turned_away_at, saw_under, marked, given_back, loses, put_aside, took_part, passed, left_of, right_of, note_of, joined, spent, first_seat}
+use Rattle.sig_layout.specs.Views.{number, filled_at, with_bit, flag, tail, holding, turned_away, after_put, after_same, with_bits, after_fetch, switched_on, switched_off, after_remove, saw, counted, gains, part, turned_away_at, saw_under, marked, given_back, loses, put_to_buffer, took_part, passed, left_of, right_of, note_of, joined, spent, first_seat}
 use Rattle.sig_layout.specs.Outers.{added, behind}
-use Rattle.sig_layout.specs.Core.{Cell, QState, put, opened_with, Idle, CanTakeOuter, take_outer, refuse_outer, refused, CanPut, leave_put, CanLeave, leave_same, CanTakeBits, take_bits, CanFetch, leave_fetch, makes_due, CanSwitchOn, mode_on, CanSwitchOff, mode_off, CanRemove, leave_remove, load_mode, load_filled, CanTakeBuffer, take_buffer, refuse_buffer, CanSetBack, set_back, load_under, set_bit, buffer_put, buffer_same, CanTakePart, buffer_fetched, CanPass, buffer_passed, CanSplit, split, note, CanJoin, join, Reached, opened, by_take_outer, by_refuse_outer, by_put, by_leave, by_take_bits, by_fetch, by_mode_on, by_mode_off, by_remove, by_load_mode, by_load_filled, by_take_buffer, by_refuse_buffer, by_set_back, by_load_under, by_set_bit, by_put_aside, by_leave_buffer, by_take_part, by_pass, by_split, by_note, by_join}
+use Rattle.sig_layout.specs.Core.{Cell, QState, put, opened_with, Idle, CanTakeOuter, take_outer, refuse_outer, refused, CanPut, leave_put, CanLeave, leave_same, CanTakeBits, take_bits, CanFetch, leave_fetch, makes_due, CanSwitchOn, mode_on, CanSwitchOff, mode_off, CanRemove, leave_remove, load_mode, load_filled, CanTakeBuffer, take_buffer, refuse_buffer, CanSetBack, set_back, load_under, set_bit, buffer_put, buffer_same, CanTakePart, buffer_fetched, CanPass, buffer_passed, CanSplit, split, note, CanJoin, join, Reached, opened, by_take_outer, by_refuse_outer, by_put, by_leave, by_take_bits, by_fetch, by_mode_on, by_mode_off, by_remove, by_load_mode, by_load_filled, by_take_buffer, by_refuse_buffer, by_set_back, by_load_under, by_set_bit, by_put_to_buffer, by_leave_buffer, by_take_part, by_pass, by_split, by_note, by_join}
 use Rattle.sig_layout.specs.Agree.{Apart, Among, HeldBy, HoldsAll, Doing, Nothing, SeatAgrees, Turn, HasOuter, HasBuffer, Agrees}
 use Rattle.sig_layout.proofs.Sending.{not_both, none_some, some_none, some_same}
 use Rattle.sig_layout.proofs.Putting.{put_here, put_else, at_each, get_table}
@@ -28,10 +28,10 @@ pub record SameHeld (x y : Cell) : Type 0 where
   pub set : y.set ≡ x.set
   pub sure : y.sure ≡ x.sure
 
-still_held : (i : ℕ) (p : Part) (x y : Cell) → SameHeld x y → HeldBy i p x → HeldBy i p y
+still_held : (i : ℕ) (p : HeldBuffer) (x y : Cell) → SameHeld x y → HeldBy i p x → HeldBy i p y
 still_held i p x y s h = record { holder = s.holder ∙ h.holder; list = s.list ∙ h.list; set = s.set ∙ h.set; sure = s.sure ∙ h.sure }
 
-all_same : (cells cells' : ℕ → Cell) (i : ℕ) (ps : List Part) → ((c : ℕ) → SameHeld (cells c) (cells' c)) → HoldsAll cells i ps
+all_same : (cells cells' : ℕ → Cell) (i : ℕ) (ps : List HeldBuffer) → ((c : ℕ) → SameHeld (cells c) (cells' c)) → HoldsAll cells i ps
     → HoldsAll cells' i ps
 all_same cells cells' i [] s h = tt
 all_same cells cells' i (p ∷ ps) s h = (
@@ -41,7 +41,7 @@ all_same cells cells' i (p ∷ ps) s h = (
   all_same cells cells' i ps s h.2,
 )
 
-pub unchanged : (cells : ℕ → Cell) (i c : ℕ) (x : Cell) (ps : List Part) → Apart c ps → HoldsAll cells i ps
+pub unchanged : (cells : ℕ → Cell) (i c : ℕ) (x : Cell) (ps : List HeldBuffer) → Apart c ps → HoldsAll cells i ps
     → HoldsAll (put cells c x) i ps
 unchanged cells i c x [] a h = tt
 unchanged cells i c x (p ∷ ps) a h = (
@@ -51,24 +51,24 @@ unchanged cells i c x (p ∷ ps) a h = (
   unchanged cells i c x ps a.1 h.2,
 )
 
-pub apart_of : (cells : ℕ → Cell) (i c : ℕ) (ps : List Part) → ((cells c).holder ≡ Some i → ⊥) → HoldsAll cells i ps → Apart c ps
+pub apart_of : (cells : ℕ → Cell) (i c : ℕ) (ps : List HeldBuffer) → ((cells c).holder ≡ Some i → ⊥) → HoldsAll cells i ps → Apart c ps
 apart_of cells i c [] n h = tt
 apart_of cells i c (p ∷ ps) n h = ((λ e. n (ap (λ (z : ℕ). (cells z).holder) (sym e) ∙ h.0.holder)), apart_of cells i c ps n h.2)
 
-apart_more : (d : ℕ) (p : Part) (ps : List Part) → p.number ≢ d → Apart d ps → Apart d (ps ++ p ∷ [])
+apart_more : (d : ℕ) (p : HeldBuffer) (ps : List HeldBuffer) → p.number ≢ d → Apart d ps → Apart d (ps ++ p ∷ [])
 apart_more d p [] n a = (n, tt)
 apart_more d p (q ∷ ps) n a = (a.0, apart_more d p ps n a.1)
 
-holds_more : (cells : ℕ → Cell) (i : ℕ) (p : Part) (ps : List Part) → HoldsAll cells i ps → Apart p.number ps
+holds_more : (cells : ℕ → Cell) (i : ℕ) (p : HeldBuffer) (ps : List HeldBuffer) → HoldsAll cells i ps → Apart p.number ps
     → HeldBy i p (cells p.number) → HoldsAll cells i (ps ++ p ∷ [])
 holds_more cells i p [] h a here = (here, tt, tt)
 holds_more cells i p (q ∷ ps) h a here = (h.0, apart_more q.number p ps (λ e. a.0 (sym e)) h.1, holds_more cells i p ps h.2 a.1 here)
 
-among_more : (c : ℕ) (p : Part) (ps : List Part) → Among c ps → Among c (ps ++ p ∷ [])
+among_more : (c : ℕ) (p : HeldBuffer) (ps : List HeldBuffer) → Among c ps → Among c (ps ++ p ∷ [])
 among_more c p [] a = absurd a
 among_more c p (q ∷ ps) a = ⊎_elim (λ (e : q.number ≡ c). inl e) (λ (m : Among c ps). inr (among_more c p ps m)) a
 
-among_last : (p : Part) (ps : List Part) → Among p.number (ps ++ p ∷ [])
+among_last : (p : HeldBuffer) (ps : List HeldBuffer) → Among p.number (ps ++ p ∷ [])
 among_last p [] = inl refl
 among_last p (q ∷ ps) = inr (among_last p ps)
 
@@ -421,7 +421,7 @@ module _ (m : QState) (ok : Agrees m) (i : ℕ) (v : Knows) (at : get_elem? m.se
       (λ e. busy o can.held e) (outer_kept w same refl) (λ e. not_idle o can.held e)
 
   -- a step of a seat on one buffer, which leaves the outer turn and the mask as they are
-  buffer_changes : (lg : List Item) (so : ℕ → Bool) (fl c : ℕ) (x : Cell) (b : Bool) (ps : List Part) (pt : List Item)
+  buffer_changes : (lg : List Item) (so : ℕ → Bool) (fl c : ℕ) (x : Cell) (b : Bool) (ps : List HeldBuffer) (pt : List Item)
       (ls ts : List (ℕ × ℕ)) → x.mask ≡ (m.cells c).mask
       → ((j : ℕ) → j ≢ i → so j ≡ m.saw_off j) → so i ≡ b → ((j : ℕ) → j ≢ i → (m.cells c).holder ≡ Some j → ⊥)
       → HoldsAll (put m.cells c x) i ps
@@ -474,7 +474,7 @@ module _ (m : QState) (ok : Agrees m) (i : ℕ) (v : Knows) (at : get_elem? m.se
     holder = Some i;
     set = false;
     sure = false;
-  } in let p : Part = part c (m.cells c).list in let w : Knows = gains v c (m.cells c).list in
+  } in let p : HeldBuffer = part c (m.cells c).list in let w : Knows = gains v c (m.cells c).list in
       let none = free_of m.seats (m.cells c).word (m.cells c).holder (HasBuffer c) (ok.cells c) can.free in
       let no_one : (j : ℕ) → (m.cells c).holder ≡ Some j → ⊥ = (λ j e. none_some j (sym none ∙ e)) in
       let apart : Apart c v.parts = apart_of m.cells i c v.parts (no_one i) own.parts in
@@ -494,7 +494,7 @@ module _ (m : QState) (ok : Agrees m) (i : ℕ) (v : Knows) (at : get_elem? m.se
       (λ d _ a. among_more d p v.parts a)
 
   -- the buffer that the seat took first
-  module _ (p : Part) (ps : List Part) (first : v.parts ≡ p ∷ ps) where
+  module _ (p : HeldBuffer) (ps : List HeldBuffer) (first : v.parts ≡ p ∷ ps) where
     all : HoldsAll m.cells i (p ∷ ps)
     all = subst (HoldsAll m.cells i) first own.parts
 
@@ -521,14 +521,14 @@ module _ (m : QState) (ok : Agrees m) (i : ℕ) (v : Knows) (at : get_elem? m.se
         (subst (HoldsAll (put m.cells c x) i) (sym tail_is) (unchanged m.cells i c x ps all.1 all.2))
         (open_turn (With (loses v)) (HasBuffer c)) others_stay
 
-    pub agrees_put_aside : (y : Signal) → Agrees (buffer_put m i v p y)
-    agrees_put_aside y = let c : ℕ = p.number in let x : Cell = record (m.cells c) {
+    pub agrees_put_to_buffer : (y : Signal) → Agrees (buffer_put m i v p y)
+    agrees_put_to_buffer y = let c : ℕ = p.number in let x : Cell = record (m.cells c) {
       list = (m.cells c).list ++ y ∷ [];
       word = 0;
       holder = None;
       set = false;
       sure = false;
-    } in let w : Knows = put_aside v (p.list ++ y ∷ []) in
+    } in let w : Knows = put_to_buffer v (p.list ++ y ∷ []) in
         buffer_changes (m.log ++ record { signal = y; via = via.Buffer p.number } ∷ []) m.saw_off m.filled c x v.saw_off
         (tail v.parts) w.put v.loads v.tries refl (λ j n. refl) own.saw no_other
         (subst (HoldsAll (put m.cells c x) i) (sym tail_is) (unchanged m.cells i c x ps all.1 all.2))
@@ -541,7 +541,7 @@ module _ (m : QState) (ok : Agrees m) (i : ℕ) (v : Knows) (at : get_elem? m.se
         → ((o' : Outer) → w.held ≡ Some o' → Doing m' i w o') → (w.held ≡ None → ⊥) → Turn (With w) m'.turn m'.holder HasOuter
         → (m'.holder ≡ None → ⊥) → Agrees (Set m' w)
     left_first m' w x o held cells saws nil gone same parts sees doing not_none turn not_free = let c : ℕ = p.number in
-        let holds : (j : ℕ) (ps : List Part) → HoldsAll (put m.cells c x) j ps
+        let holds : (j : ℕ) (ps : List HeldBuffer) → HoldsAll (put m.cells c x) j ps
         → HoldsAll m'.cells j ps = (λ j ps h. subst (λ (z : ℕ → Cell). HoldsAll z j ps) (sym cells) h) in
         agrees_step m' w (λ j n. saws j)
         (solo m' w (alone o held) (λ j n. saws j)
@@ -600,7 +600,7 @@ module _ (m : QState) (ok : Agrees m) (i : ℕ) (v : Knows) (at : get_elem? m.se
         (λ e. not_idle o can.held e)
 
   -- the one buffer that a sender has
-  module _ (p : Part) (one : v.parts ≡ p ∷ []) where
+  module _ (p : HeldBuffer) (one : v.parts ≡ p ∷ []) where
     only : (d : ℕ) → d ≢ p.number → Among d v.parts → ⊥
     only d n a = ⊎_elim (λ (e : p.number ≡ d). n (sym e)) (λ (z : ⊥). z) (subst (Among d) one a)
 
@@ -719,7 +719,7 @@ agrees z _ (by_refuse_buffer q i v c can r) = agrees_refuse_buffer q (agrees z q
 agrees z _ (by_set_back q i v c o can r) = agrees_set_back q (agrees z q r) i v can.at c o can
 agrees z _ (by_load_under q i v p can r) = agrees_load_under q (agrees z q r) i v can.at p can.one
 agrees z _ (by_set_bit q i v p can r) = agrees_set_bit q (agrees z q r) i v can.at p can.one
-agrees z _ (by_put_aside q i v p x can r) = agrees_put_aside q (agrees z q r) i v can.at p [] can.one x
+agrees z _ (by_put_to_buffer q i v p x can r) = agrees_put_to_buffer q (agrees z q r) i v can.at p [] can.one x
 agrees z _ (by_leave_buffer q i v p ps can r) = agrees_leave_buffer q (agrees z q r) i v can.at p ps can.first
 agrees z _ (by_take_part q i v p ps o can r) = agrees_take_part q (agrees z q r) i v can.at p ps can.first o can
 agrees z _ (by_pass q i v p ps o can r) = agrees_pass q (agrees z q r) i v can.at p ps can.first o can

@@ -22,7 +22,7 @@ use Rattle.sig_layout.specs.Sent.{sender, putter, of, signals}
 use Rattle.sig_layout.specs.Policies.{first_journal, direct_count}
 use Rattle.sig_layout.specs.Outers.{put_entries}
 use Rattle.sig_layout.specs.Openings.{first_of, IsCarried, IsNext}
-use Rattle.sig_layout.specs.Core.{QState, Reached, opened, by_take_outer, by_refuse_outer, by_put, by_leave, by_take_bits, by_fetch, by_mode_on, by_mode_off, by_remove, by_load_mode, by_load_filled, by_take_buffer, by_refuse_buffer, by_set_back, by_load_under, by_set_bit, by_put_aside, by_leave_buffer, by_take_part, by_pass, by_split, by_note, by_join, refused}
+use Rattle.sig_layout.specs.Core.{QState, Reached, opened, by_take_outer, by_refuse_outer, by_put, by_leave, by_take_bits, by_fetch, by_mode_on, by_mode_off, by_remove, by_load_mode, by_load_filled, by_take_buffer, by_refuse_buffer, by_set_back, by_load_under, by_set_bit, by_put_to_buffer, by_leave_buffer, by_take_part, by_pass, by_split, by_note, by_join, refused}
 use Rattle.sig_layout.specs.Carried.{CarriedAs, Carried, one_outer, outer_count, Ways}
 use Rattle.sig_layout.proofs.Sending.{of-append, of_own, of_other, of_signals, signals-append}
 use Rattle.sig_layout.proofs.Agreeing.{agrees}
@@ -140,7 +140,7 @@ module _ (z : Setup) where
   carried _ (by_set_back q i v c o can r) = carried q r
   carried _ (by_load_under q i v p can r) = carried q r
   carried _ (by_set_bit q i v p can r) = carried q r
-  carried _ (by_put_aside q i v p x can r) = carried_put q.setup q.log v.put record {
+  carried _ (by_put_to_buffer q i v p x can r) = carried_put q.setup q.log v.put record {
     signal = x;
     via = via.Buffer p.number;
   } (carried q r) can.next (((lists z q r).each i v can.at).own x.from.0 can.from)
@@ -180,7 +180,7 @@ module _ (z : Setup) where
   ways _ (by_set_back q i v c o can r) = ways q r
   ways _ (by_load_under q i v p can r) = ways q r
   ways _ (by_set_bit q i v p can r) = ways q r
-  ways _ (by_put_aside q i v p x can r) = ways q r ∙ sym (outer_same q.log x p.number)
+  ways _ (by_put_to_buffer q i v p x can r) = ways q r ∙ sym (outer_same q.log x p.number)
   ways _ (by_leave_buffer q i v p ps can r) = ways q r
   ways _ (by_take_part q i v p ps o can r) = sym (ap (λ (y : Outer). direct_count y.journal) (held_is q r i v o can.at can.held))
       ∙ ways q r

@@ -12,8 +12,8 @@ use Rattle.sig_layout.specs.Summaries.{due_at, is_install, is_remove}
 use Rattle.sig_layout.specs.Policies.{IsPolicy, fetch_count}
 use Rattle.sig_layout.proofs.Summing.{put_allowed, put_installed, put_due, fetch_allowed, fetch_installed, remove_allowed, remove_installed, remove_due, first_allowed, first_installed, first_due, put_counted, fetch_counted, remove_counted, first_counted}
 use Rattle.sig_layout.specs.declared.knows.Knows.{Knows}
-use Rattle.sig_layout.specs.Views.{holding, turned_away, after_put, after_same, with_bits, after_fetch, switched_on, switched_off, after_remove, saw, counted, gains, turned_away_at, saw_under, marked, given_back, loses, put_aside, took_part, passed, left_of, right_of, note_of, joined, spent, first_seat}
-use Rattle.sig_layout.specs.Core.{QState, opened_with, refused, leave_put, leave_fetch, makes_due, leave_remove, buffer_fetched, buffer_passed, Reached, opened, by_take_outer, by_refuse_outer, by_put, by_leave, by_take_bits, by_fetch, by_mode_on, by_mode_off, by_remove, by_load_mode, by_load_filled, by_take_buffer, by_refuse_buffer, by_set_back, by_load_under, by_set_bit, by_put_aside, by_leave_buffer, by_take_part, by_pass, by_split, by_note, by_join}
+use Rattle.sig_layout.specs.Views.{holding, turned_away, after_put, after_same, with_bits, after_fetch, switched_on, switched_off, after_remove, saw, counted, gains, turned_away_at, saw_under, marked, given_back, loses, put_to_buffer, took_part, passed, left_of, right_of, note_of, joined, spent, first_seat}
+use Rattle.sig_layout.specs.Core.{QState, opened_with, refused, leave_put, leave_fetch, makes_due, leave_remove, buffer_fetched, buffer_passed, Reached, opened, by_take_outer, by_refuse_outer, by_put, by_leave, by_take_bits, by_fetch, by_mode_on, by_mode_off, by_remove, by_load_mode, by_load_filled, by_take_buffer, by_refuse_buffer, by_set_back, by_load_under, by_set_bit, by_put_to_buffer, by_leave_buffer, by_take_part, by_pass, by_split, by_note, by_join}
 use Rattle.sig_layout.specs.Agree.{Doing}
 use Rattle.sig_layout.specs.Lists.{Lists}
 use Rattle.sig_layout.specs.Journals.{Owes, JournalAs, Journals}
@@ -129,7 +129,7 @@ module _ (z : Setup) where
   same_setup _ (by_set_back q i v c o can r) = same_setup q r
   same_setup _ (by_load_under q i v p can r) = same_setup q r
   same_setup _ (by_set_bit q i v p can r) = same_setup q r
-  same_setup _ (by_put_aside q i v p x can r) = same_setup q r
+  same_setup _ (by_put_to_buffer q i v p x can r) = same_setup q r
   same_setup _ (by_leave_buffer q i v p ps can r) = same_setup q r
   same_setup _ (by_take_part q i v p ps o can r) = same_setup q r
   same_setup _ (by_pass q i v p ps o can r) = same_setup q r
@@ -236,8 +236,8 @@ module _ (z : Setup) (proper : IsPolicy z.policy) where
   journals _ (by_set_back q i v c o can r) = let l = journals q r in set_with q l i v (given_back v c) can.at (l.owes i v can.at)
   journals _ (by_load_under q i v p can r) = let l = journals q r in set_with q l i v (saw_under v p q.mode) can.at (l.owes i v can.at)
   journals _ (by_set_bit q i v p can r) = let l = journals q r in set_with q l i v (marked v p) can.at (l.owes i v can.at)
-  journals _ (by_put_aside q i v p x can r) = let l = journals q r in
-      set_with q l i v (put_aside v (p.list ++ x ∷ [])) can.at (l.owes i v can.at)
+  journals _ (by_put_to_buffer q i v p x can r) = let l = journals q r in
+      set_with q l i v (put_to_buffer v (p.list ++ x ∷ [])) can.at (l.owes i v can.at)
   journals _ (by_leave_buffer q i v p ps can r) = let l = journals q r in set_with q l i v (loses v) can.at (l.owes i v can.at)
   journals _ (by_take_part q i v p ps o can r) = let l = journals q r in let out = outer_of q r i v o can.at can.held in
       subst (λ (o' : Outer). JournalAs q.setup.policy o'.journal q.mode q.removing q.switched

@@ -14,11 +14,11 @@ use Rattle.sig_layout.specs.declared.outer.Outer.{Outer}
 use Rattle.sig_layout.specs.Sets.{has}
 use Rattle.sig_layout.specs.Sent.{sender, of, signals, Prefix}
 use Rattle.sig_layout.proofs.Sending.{not_both, none_some, some_same, of-append, of_other, prefix_longer, prefix_of_same, bool_cases, signals-append}
-use Rattle.sig_layout.specs.declared.part.Part.{Part}
+use Rattle.sig_layout.specs.declared.held_buffer.HeldBuffer.{HeldBuffer}
 use Rattle.sig_layout.specs.declared.knows.Knows.{Knows}
 use Rattle.sig_layout.specs.Views.{filled_at, with_bit}
 use Rattle.sig_layout.specs.Outers.{behind}
-use Rattle.sig_layout.specs.Core.{Cell, QState, put, buffer_of, opened_with, take_outer, leave_put, leave_same, take_bits, leave_fetch, mode_on, mode_off, leave_remove, set_back, buffer_fetched, buffer_passed, Reached, opened, by_take_outer, by_refuse_outer, by_put, by_leave, by_take_bits, by_fetch, by_mode_on, by_mode_off, by_remove, by_load_mode, by_load_filled, by_take_buffer, by_refuse_buffer, by_set_back, by_load_under, by_set_bit, by_put_aside, by_leave_buffer, by_take_part, by_pass, by_split, by_note, by_join}
+use Rattle.sig_layout.specs.Core.{Cell, QState, put, buffer_of, opened_with, take_outer, leave_put, leave_same, take_bits, leave_fetch, mode_on, mode_off, leave_remove, set_back, buffer_fetched, buffer_passed, Reached, opened, by_take_outer, by_refuse_outer, by_put, by_leave, by_take_bits, by_fetch, by_mode_on, by_mode_off, by_remove, by_load_mode, by_load_filled, by_take_buffer, by_refuse_buffer, by_set_back, by_load_under, by_set_bit, by_put_to_buffer, by_leave_buffer, by_take_part, by_pass, by_split, by_note, by_join}
 use Rattle.sig_layout.specs.Agree.{HeldBy, HoldsAll, Agrees}
 use Rattle.sig_layout.specs.Law.{Ahead, CellOk, Law}
 use Rattle.sig_layout.proofs.Putting.{put_here, put_else, at_each}
@@ -375,7 +375,7 @@ module _ (small : (s : ℕ) → buffer_of s < 64) (q : QState) (law : Law q) whe
         grown = law.grown;
       }
 
-  pub keeps_put_aside : (i c : ℕ) (x : Signal) (seats : List Knows) → (q.cells c).sure ≡ true → (q.cells c).set ≡ true
+  pub keeps_put_to_buffer : (i c : ℕ) (x : Signal) (seats : List Knows) → (q.cells c).sure ≡ true → (q.cells c).set ≡ true
       → q.owner x.from.0 ≡ i → buffer_of x.from.0 ≡ c → q.saw_off i ≡ false
       → Law (record q {
         log = q.log ++ record { signal = x; via = via.Buffer c } ∷ [];
@@ -388,7 +388,7 @@ module _ (small : (s : ℕ) → buffer_of s < 64) (q : QState) (law : Law q) whe
         });
         seats = seats;
       })
-  keeps_put_aside i c x seats sure is_set own home blind = let new : Item = record { signal = x; via = via.Buffer c } in
+  keeps_put_to_buffer i c x seats sure is_set own home blind = let new : Item = record { signal = x; via = via.Buffer c } in
       let ok = law.each c in let y : Cell = q.cells c in
       let z : Cell = record y { list = y.list ++ x ∷ []; word = 0; holder = None; set = false; sure = false } in
       let stranger : (s : ℕ) → buffer_of s ≢ c → of sender s (x ∷ []) ≡ [] =
@@ -576,7 +576,7 @@ module _ (z : Setup) where
     grown = λ h. not_both false h refl;
   }
 
-  part_of : (q : QState) (r : Reached z q) (i : ℕ) (v : Knows) (p : Part) (ps : List Part) → get_elem? q.seats i ≡ some v
+  part_of : (q : QState) (r : Reached z q) (i : ℕ) (v : Knows) (p : HeldBuffer) (ps : List HeldBuffer) → get_elem? q.seats i ≡ some v
       → v.parts ≡ p ∷ ps → HeldBy i p (q.cells p.number)
   part_of q r i v p ps at first = (subst (HoldsAll q.cells i) first ((agrees z q r).each i v at).parts).0
 
@@ -617,8 +617,8 @@ module _ (z : Setup) where
       (no_remover q (agrees z q r) i v can.at can.idle)
   lawful _ (by_set_bit q i v p can r) = keeps_set_bit mod_small q (lawful q r) p.number _ can.low
       ((part_of q r i v p [] can.at can.one).sure ∙ can.sure)
-  lawful _ (by_put_aside q i v p x can r) = let h = part_of q r i v p [] can.at can.one in
-      keeps_put_aside mod_small q (lawful q r) i p.number x _ (h.sure ∙ can.sure) (h.set ∙ can.is_set)
+  lawful _ (by_put_to_buffer q i v p x can r) = let h = part_of q r i v p [] can.at can.one in
+      keeps_put_to_buffer mod_small q (lawful q r) i p.number x _ (h.sure ∙ can.sure) (h.set ∙ can.is_set)
       (((lists z q r).each i v can.at).owns x.from.0 can.from) can.home (((agrees z q r).each i v can.at).saw ∙ can.blind)
   lawful _ (by_leave_buffer q i v p ps can r) = keeps_turn mod_small q (lawful q r) p.number 0 None _
   lawful _ (by_take_part q i v p ps o can r) = let h = part_of q r i v p ps can.at can.first in

@@ -11,11 +11,11 @@ use Rattle.sig_layout.specs.Sets.{has}
 use Rattle.sig_layout.specs.Sent.{putter, of, Within}
 use Rattle.sig_layout.proofs.Sending.{not_both, drop_front, bool_cases, and_left, and_right, not_true, or_cases, or_neither, prefix_of_same, prefix_of_none, of-append, of_other, keep_all, keep_none, all_longer, all_joined}
 use Rattle.sig_layout.proofs.Members.{not_none, has_minus, has_plus}
-use Rattle.sig_layout.specs.declared.part.Part.{Part}
+use Rattle.sig_layout.specs.declared.held_buffer.HeldBuffer.{HeldBuffer}
 use Rattle.sig_layout.specs.declared.knows.Knows.{Knows}
-use Rattle.sig_layout.specs.Views.{signals_of, first_list, buffer_in, put_by, holding, turned_away, after_put, after_same, with_bits, after_fetch, switched_on, switched_off, after_remove, saw, counted, gains, turned_away_at, saw_under, marked, given_back, loses, put_aside, took_part, passed, left_of, right_of, note_of, joined, spent, first_seat}
+use Rattle.sig_layout.specs.Views.{signals_of, first_list, buffer_in, put_by, holding, turned_away, after_put, after_same, with_bits, after_fetch, switched_on, switched_off, after_remove, saw, counted, gains, turned_away_at, saw_under, marked, given_back, loses, put_to_buffer, took_part, passed, left_of, right_of, note_of, joined, spent, first_seat}
 use Rattle.sig_layout.specs.Outers.{added}
-use Rattle.sig_layout.specs.Core.{QState, opened_with, refused, take_bits, CanFetch, leave_fetch, makes_due, CanSplit, split, note, CanJoin, join, Reached, opened, by_take_outer, by_refuse_outer, by_put, by_leave, by_take_bits, by_fetch, by_mode_on, by_mode_off, by_remove, by_load_mode, by_load_filled, by_take_buffer, by_refuse_buffer, by_set_back, by_load_under, by_set_bit, by_put_aside, by_leave_buffer, by_take_part, by_pass, by_split, by_note, by_join}
+use Rattle.sig_layout.specs.Core.{QState, opened_with, refused, take_bits, CanFetch, leave_fetch, makes_due, CanSplit, split, note, CanJoin, join, Reached, opened, by_take_outer, by_refuse_outer, by_put, by_leave, by_take_bits, by_fetch, by_mode_on, by_mode_off, by_remove, by_load_mode, by_load_filled, by_take_buffer, by_refuse_buffer, by_set_back, by_load_under, by_set_bit, by_put_to_buffer, by_leave_buffer, by_take_part, by_pass, by_split, by_note, by_join}
 use Rattle.sig_layout.specs.Agree.{Agrees}
 use Rattle.sig_layout.specs.Lists.{SeatListsAs, SeatLists, Lists}
 use Rattle.sig_layout.proofs.Agreeing.{other_seat, seat_set, seat_more, one_seat, agrees}
@@ -32,14 +32,14 @@ if_or false b = refl
 pub gained : (v : Knows) (o : Outer) (x : Signal) → v.held ≡ Some o → drop (length (signals_of v.held)) (o.signals ++ x ∷ []) ≡ x ∷ []
 gained v o x is = ap (λ (h : Option Outer). drop (length (signals_of h)) (o.signals ++ x ∷ [])) is ∙ drop_front o.signals (x ∷ [])
 
-pub gained_aside : (v : Knows) (p : Part) (ps : List Part) (x : Signal) → v.parts ≡ p ∷ ps
+pub gained_to_buffer : (v : Knows) (p : HeldBuffer) (ps : List HeldBuffer) (x : Signal) → v.parts ≡ p ∷ ps
     → drop (length (first_list v.parts)) (p.list ++ x ∷ []) ≡ x ∷ []
-gained_aside v p ps x is = ap (λ (h : List Part). drop (length (first_list h)) (p.list ++ x ∷ [])) is ∙ drop_front p.list (x ∷ [])
+gained_to_buffer v p ps x is = ap (λ (h : List HeldBuffer). drop (length (first_list h)) (p.list ++ x ∷ [])) is ∙ drop_front p.list (x ∷ [])
 
-pub put_there : (v : Knows) (p : Part) (ps : List Part) (x : Signal) → v.parts ≡ p ∷ ps
-    → (put_aside v (p.list ++ x ∷ [])).put ≡ v.put ++ record { signal = x; via = via.Buffer p.number } ∷ []
-put_there v p ps x is = ap (λ (l : List Signal). v.put ++ put_by (via.Buffer (buffer_in v.parts)) l) (gained_aside v p ps x is)
-    ∙ ap (λ (h : List Part). v.put ++ record { signal = x; via = via.Buffer (buffer_in h) } ∷ []) is
+pub put_there : (v : Knows) (p : HeldBuffer) (ps : List HeldBuffer) (x : Signal) → v.parts ≡ p ∷ ps
+    → (put_to_buffer v (p.list ++ x ∷ [])).put ≡ v.put ++ record { signal = x; via = via.Buffer p.number } ∷ []
+put_there v p ps x is = ap (λ (l : List Signal). v.put ++ put_by (via.Buffer (buffer_in v.parts)) l) (gained_to_buffer v p ps x is)
+    ∙ ap (λ (h : List HeldBuffer). v.put ++ record { signal = x; via = via.Buffer (buffer_in h) } ∷ []) is
 
 module _ (q : QState) (law : Lists q) where
   -- what seats put and were told is within what was put
@@ -370,7 +370,7 @@ module _ (z : Setup) where
   lists _ (by_set_back q i v c o can r) = let l = lists q r in lists_set q l i v can.at (given_back v c) (l.each i v can.at)
   lists _ (by_load_under q i v p can r) = let l = lists q r in lists_set q l i v can.at (saw_under v p q.mode) (l.each i v can.at)
   lists _ (by_set_bit q i v p can r) = let l = lists q r in lists_set q l i v can.at (marked v p) (l.each i v can.at)
-  lists _ (by_put_aside q i v p x can r) = lists_put q (lists q r) i v can.at (put_aside v (p.list ++ x ∷ [])) (record {
+  lists _ (by_put_to_buffer q i v p x can r) = lists_put q (lists q r) i v can.at (put_to_buffer v (p.list ++ x ∷ [])) (record {
     signal = x;
     via = via.Buffer p.number;
   }) can.from refl refl (put_there v p [] x can.one) refl refl

@@ -10,7 +10,7 @@ use Rattle.sig_layout.specs.declared.setup.Setup.{Setup}
 use Rattle.sig_layout.specs.declared.via.Via.TheVariants as via
 use Rattle.sig_layout.specs.Summaries.{due_of, is_install, is_remove}
 use Rattle.sig_layout.specs.Policies.{IsPolicy, begins_on, AllowsMode, AllowsWay}
-use Rattle.sig_layout.specs.Core.{Cell, QState, put, Reached, opened, by_take_outer, by_refuse_outer, by_put, by_leave, by_take_bits, by_fetch, by_mode_on, by_mode_off, by_remove, by_load_mode, by_load_filled, by_take_buffer, by_refuse_buffer, by_set_back, by_load_under, by_set_bit, by_put_aside, by_leave_buffer, by_take_part, by_pass, by_split, by_note, by_join}
+use Rattle.sig_layout.specs.Core.{Cell, QState, put, Reached, opened, by_take_outer, by_refuse_outer, by_put, by_leave, by_take_bits, by_fetch, by_mode_on, by_mode_off, by_remove, by_load_mode, by_load_filled, by_take_buffer, by_refuse_buffer, by_set_back, by_load_under, by_set_bit, by_put_to_buffer, by_leave_buffer, by_take_part, by_pass, by_split, by_note, by_join}
 use Rattle.sig_layout.specs.Agree.{HoldsAll}
 use Rattle.sig_layout.specs.Steady.{SteadyAs, Steady}
 use Rattle.sig_layout.proofs.Agreeing.{agrees}
@@ -116,7 +116,7 @@ module _ (z : Setup) (proper : IsPolicy z.policy) where
       buffer _ _ _ q.cells _ (seen _ _ _ q.cells _ s i (not q.mode) (seen_off q.setup.policy q.mode s.allowed)) p.number _
       (seen_on q.setup.policy q.mode s.allowed)
   steady _ (by_set_bit q i v p can r) = let s = steady q r in buffer _ _ _ q.cells _ s p.number _ (s.on p.number)
-  steady _ (by_put_aside q i v p x can r) = let s = steady q r in
+  steady _ (by_put_to_buffer q i v p x can r) = let s = steady q r in
       let its = (subst (HoldsAll q.cells i) can.one ((agrees z q r).each i v can.at).parts).0 in
       leaves _ _ _ q.cells _ (more _ _ _ q.cells _ s record { signal = x; via = via.Buffer p.number }
       (s.on p.number (its.sure ∙ can.sure))) p.number _ refl

@@ -1,5 +1,5 @@
 -- The running summary of a journal.
-use Rattle.std.proofs.Common.{◌≡◌, ◌≢◌, ℕ, suc, ◌+◌, ◌<◌, ◌≤◌, ◌^◌, ◌||◌, ltb, subst, Bool, true, false, if◌then◌else◌, List, [], ◌∷◌, ◌++◌, length, sym, refl, ap, ◌∙◌, arith, append_assoc}
+use Rattle.std.proofs.Common.{◌≡◌, ◌≢◌, ℕ, suc, ◌+◌, ◌<◌, ◌≤◌, ◌^◌, ◌||◌, ltb, leb, subst, Bool, true, false, if◌then◌else◌, List, [], ◌∷◌, ◌++◌, length, sym, refl, ap, ◌∙◌, arith, append_assoc}
 use Rattle.sig_layout.specs.declared.entry.Entry.{Entry}
 use Rattle.sig_layout.specs.declared.entry.Entry.TheVariants.{Direct, Fetch, Install, Remove}
 use Rattle.sig_layout.specs.declared.summary.Summary.{Summary}
@@ -92,11 +92,11 @@ fetch_keeps (Churn n) s m h = elim s.installed as
           → ⊥) [ true ↦ (λ z. absurd cc) | false ↦ (λ z. absurd cc) ] e)
       | false ↦ (λ k. k)
     ] h
-fetch_keeps Auto s m h = elim s.installed as (λ b. ((if b then (if s.sixteen then due.Remove else due.Nothing) else
+fetch_keeps Auto s m h = elim s.installed as (λ b. ((if b then (if s.whole_run then due.Remove else due.Nothing) else
     (if s.reached then due.Install else due.Nothing)) ≡ due.Install → ⊥)
-    → (if b then (if (s.sixteen || ltb 15 (run_on s.run m)) then due.Remove else due.Nothing) else
+    → (if b then (if (s.whole_run || leb 16 (run_on s.run m)) then due.Remove else due.Nothing) else
     (if s.reached then due.Install else due.Nothing)) ≡ due.Install → ⊥) [
-      | true ↦ (λ k e. elim (s.sixteen || ltb 15 (run_on s.run m)) as (λ b. (if b then due.Remove else due.Nothing) ≡ due.Install
+      | true ↦ (λ k e. elim (s.whole_run || leb 16 (run_on s.run m)) as (λ b. (if b then due.Remove else due.Nothing) ≡ due.Install
           → ⊥) [ true ↦ (λ z. absurd cc) | false ↦ (λ z. absurd cc) ] e)
       | false ↦ (λ k. k)
     ] h
@@ -117,13 +117,13 @@ put_keeps (Churn n) s r h = elim s.installed as (λ b. (if b then (if ltb s.fetc
                 (λ z. absurd cc)
           ] k)
     ] h
-put_keeps Auto s r h = elim s.installed as (λ b. (if b then (if s.sixteen then due.Remove else due.Nothing) else
+put_keeps Auto s r h = elim s.installed as (λ b. (if b then (if s.whole_run then due.Remove else due.Nothing) else
     (if s.reached then due.Install else due.Nothing)) ≡ due.Remove
-    → (if b then (if s.sixteen then due.Remove else due.Nothing) else
-    (if (s.reached || ltb 63 (scored s.score r)) then due.Install else due.Nothing)) ≡ due.Remove) [
+    → (if b then (if s.whole_run then due.Remove else due.Nothing) else
+    (if (s.reached || leb 64 (scored s.score r)) then due.Install else due.Nothing)) ≡ due.Remove) [
       | true ↦ (λ k. k)
       | false ↦ (λ k. elim s.reached as (λ b. (if b then due.Install else due.Nothing) ≡ due.Remove
-          → (if (b || ltb 63 (scored s.score r)) then due.Install else due.Nothing) ≡ due.Remove) [
+          → (if (b || leb 64 (scored s.score r)) then due.Install else due.Nothing) ≡ due.Remove) [
             | true ↦ (λ z. absurd cc)
             | false ↦
                 (λ z. absurd cc)
@@ -181,10 +181,10 @@ remove_kept (Churn n) s r = elim s.installed as (λ b. is_remove
     (if ltb (s.directs + 1) n then due.Nothing else due.Install)) ≡ is_remove
     (if b then (if ltb s.fetches n then due.Nothing else due.Remove) else (if ltb s.directs n then due.Nothing else due.Install)))
     [ true ↦ refl | false ↦ no_remove_by (ltb (s.directs + 1) n) ∙ sym (no_remove_by (ltb s.directs n)) ]
-remove_kept Auto s r = elim s.installed as (λ b. is_remove (if b then (if s.sixteen then due.Remove else due.Nothing) else
-    (if (s.reached || ltb 63 (scored s.score r)) then due.Install else due.Nothing)) ≡ is_remove
-    (if b then (if s.sixteen then due.Remove else due.Nothing) else (if s.reached then due.Install else due.Nothing)))
-    [ true ↦ refl | false ↦ no_remove_of (s.reached || ltb 63 (scored s.score r)) ∙ sym (no_remove_of s.reached) ]
+remove_kept Auto s r = elim s.installed as (λ b. is_remove (if b then (if s.whole_run then due.Remove else due.Nothing) else
+    (if (s.reached || leb 64 (scored s.score r)) then due.Install else due.Nothing)) ≡ is_remove
+    (if b then (if s.whole_run then due.Remove else due.Nothing) else (if s.reached then due.Install else due.Nothing)))
+    [ true ↦ refl | false ↦ no_remove_of (s.reached || leb 64 (scored s.score r)) ∙ sym (no_remove_of s.reached) ]
 
 fresh_off : (p : Policy) → is_remove (due_of p (fresh false)) ≡ false
 fresh_off Never = refl

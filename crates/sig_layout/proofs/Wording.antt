@@ -1,8 +1,8 @@
 -- The running summary says of a journal what the table of the policies asks, and a journal whose entries were allowed one by one
 -- is lawful.
-use Rattle.std.proofs.Common.{◌≡◌, ◌≢◌, ◌⊎◌, ℕ, ◌+◌, ◌-◌, ◌<◌, ◌≤◌, ltb, subst, Bool, true, false, if◌then◌else◌, List, [], ◌∷◌, ◌++◌, sym, refl, ap, ◌∙◌, arith, append_assoc, append-nil, inl, inr, ⊎_elim}
+use Rattle.std.proofs.Common.{◌≡◌, ◌≢◌, ◌⊎◌, ℕ, ◌+◌, ◌-◌, ◌<◌, ◌≤◌, ltb, leb, subst, Bool, true, false, if◌then◌else◌, List, [], ◌∷◌, ◌++◌, sym, refl, ap, ◌∙◌, arith, append_assoc, append-nil, inl, inr, ⊎_elim}
 use Rattle.std.specs.List.{All}
-use Rattle.std.proofs.lemmas.Bool.{ltb-true, ltb-false}
+use Rattle.std.proofs.lemmas.Bool.{ltb-true, ltb-false, leb-true, leb-false}
 use Rattle.std.proofs.lemmas.List.Elements.{All-append, All-nil, All-cons, All-head, All-tail}
 use Rattle.sig_layout.specs.declared.entry.Entry.{Entry}
 use Rattle.sig_layout.specs.declared.entry.Entry.TheVariants.{Direct, Fetch, Install, Remove}
@@ -143,9 +143,9 @@ pub record Tells (j : Entries) (s : Summary) : Type 0 where
   pub reached : s.reached ≡ true → HasReached p
   pub unreached : s.reached ≡ false → HasReached p → ⊥
   pub row : RowIs p s.run
-  pub idled : s.sixteen ≡ true → HasIdled p
-  pub busy : s.sixteen ≡ false → HasIdled p → ⊥
-  pub low : s.sixteen ≡ false → s.run < 16
+  pub idled : s.whole_run ≡ true → HasIdled p
+  pub busy : s.whole_run ≡ false → HasIdled p → ⊥
+  pub low : s.whole_run ≡ false → s.run < 16
 
 module _ (p : Entries) (e : Entry) where
   abbrev More : Entries
@@ -176,7 +176,7 @@ module _ (p : Entries) (e : Entry) where
     is = ap (λ (z : Entries). z ++ e ∷ []) h.is ∙ (append_assoc h.front (h.row ++ h.rest) (e ∷ [])
         ∙ ap (λ (z : Entries). h.front ++ z) (append_assoc h.row h.rest (e ∷ [])));
     little = h.little;
-    sixteen = h.sixteen;
+    whole_run = h.whole_run;
   }
 
   busy_more : (HasIdled p → ⊥) → ((r : Entries) → Row More r → fetch_count r < 16) → HasIdled More → ⊥
@@ -185,14 +185,14 @@ module _ (p : Entries) (e : Entry) where
         front = h.front;
         is = sym t.1;
         little = h.little;
-      } in let l = h.sixteen in absurd (omega arith))
+      } in let l = h.whole_run in absurd (omega arith))
       (λ (t : LaterCut p (h.front ++ h.row) h.rest e). never record {
         front = h.front;
         row = h.row;
         rest = t.middle;
         is = t.is ∙ append_assoc h.front h.row t.middle;
         little = h.little;
-        sixteen = h.sixteen;
+        whole_run = h.whole_run;
       })
       (cut p (h.front ++ h.row) h.rest e (h.is ∙ sym (append_assoc h.front h.row h.rest)))
 
@@ -227,7 +227,7 @@ idled_now p r h k = record {
   rest = [];
   is = h.is ∙ ap (λ (z : Entries). h.front ++ z) (sym (append-nil r));
   little = h.little;
-  sixteen = k;
+  whole_run = k;
 }
 
 row_direct : (p : Entries) (n : ℕ) (b : Bool) → RowIs p n → RowIs (p ++ Direct b ∷ []) n
@@ -308,7 +308,7 @@ tells_fresh j b h = record {
     most = λ r w. let k = no_row w.front r w.is in omega arith;
   };
   idled = λ k. absurd cc;
-  busy = λ _ r. none_idled r.front r.row r.rest r.is r.sixteen;
+  busy = λ _ r. none_idled r.front r.row r.rest r.is r.whole_run;
   low = λ _. omega arith;
 }
 
@@ -321,9 +321,9 @@ tells_direct j s r t = let score = score_direct t.p s.score r t.score in let row
   score = score;
   reached = λ h. ⊎_elim
       (λ (k : s.reached ≡ true). reached_more t.p (Direct r) (t.reached k))
-      (λ (k : ltb 63 (scored s.score r) ≡ true). let l = ltb-true 63 (scored s.score r) k in
-      reached_now t.p (Direct r) (omega arith)) (or_cases s.reached (ltb 63 (scored s.score r)) h);
-  unreached = λ h. let off = or_neither s.reached (ltb 63 (scored s.score r)) h in let l = ltb-false 63 (scored s.score r) off.1 in
+      (λ (k : leb 64 (scored s.score r) ≡ true). let l = leb-true 64 (scored s.score r) k in
+      reached_now t.p (Direct r) (omega arith)) (or_cases s.reached (leb 64 (scored s.score r)) h);
+  unreached = λ h. let off = or_neither s.reached (leb 64 (scored s.score r)) h in let l = leb-false 64 (scored s.score r) off.1 in
       unreached_more t.p (Direct r) (t.unreached off.0) (omega arith);
   row = row;
   idled = λ h. idled_more t.p (Direct r) (t.idled h);
@@ -342,12 +342,12 @@ tells_fetch j s m t = let row = row_fetch t.p s.run m t.row in let n : ℕ = run
   unreached = λ h r. unreached_fetch t.p m (t.unreached h) r;
   row = row;
   idled = λ h. ⊎_elim
-      (λ (k : s.sixteen ≡ true). idled_more t.p (Fetch m) (t.idled k))
-      (λ (k : ltb 15 n ≡ true). let l = ltb-true 15 n k in let c = row.count in
-      idled_now (t.p ++ Fetch m ∷ []) row.row row.ends (omega arith)) (or_cases s.sixteen (ltb 15 n) h);
-  busy = λ h. let off = or_neither s.sixteen (ltb 15 n) h in let l = ltb-false 15 n off.1 in
+      (λ (k : s.whole_run ≡ true). idled_more t.p (Fetch m) (t.idled k))
+      (λ (k : leb 16 n ≡ true). let l = leb-true 16 n k in let c = row.count in
+      idled_now (t.p ++ Fetch m ∷ []) row.row row.ends (omega arith)) (or_cases s.whole_run (leb 16 n) h);
+  busy = λ h. let off = or_neither s.whole_run (leb 16 n) h in let l = leb-false 16 n off.1 in
       busy_more t.p (Fetch m) (t.busy off.0) (λ x w. let k = row.most x w in omega arith);
-  low = λ h. let off = or_neither s.sixteen (ltb 15 n) h in let l = ltb-false 15 n off.1 in omega arith;
+  low = λ h. let off = or_neither s.whole_run (leb 16 n) h in let l = leb-false 16 n off.1 in omega arith;
 }
 
 tells_after : (j : Entries) (s : Summary) (e : Entry) → Tells j s → Tells (j ++ e ∷ []) (after s e)
@@ -396,7 +396,7 @@ module _ (j : Entries) (s : Summary) (t : Tells j s) where
   )
   churn_by n false f false h k g = (t.p, is_on false h, (let l = ltb-false s.directs n g in let c = t.directs in omega arith))
 
-  auto_by : (b f d : Bool) → s.installed ≡ b → s.sixteen ≡ f → s.reached ≡ d
+  auto_by : (b f d : Bool) → s.installed ≡ b → s.whole_run ≡ f → s.reached ≡ d
       → IsDue Auto j (if b then (if f then due.Remove else due.Nothing) else (if d then due.Install else due.Nothing))
   auto_by true true d h f g = (t.p, is_on true h, t.idled f)
   auto_by true false d h f g = (
@@ -415,7 +415,7 @@ module _ (j : Entries) (s : Summary) (t : Tells j s) where
   due_by Never = ((λ d. d.2), (λ d. d.2))
   due_by Always = always_by s.installed refl
   due_by (Churn n) = churn_by n s.installed (ltb s.fetches n) (ltb s.directs n) refl refl refl
-  due_by Auto = auto_by s.installed s.sixteen s.reached refl refl refl
+  due_by Auto = auto_by s.installed s.whole_run s.reached refl refl refl
 
 pub due_table : (policy : Policy) (j : List Entry) → IsDue policy j (due_at policy j)
 due_table policy j = due_by j (summed j) (tells j) policy

@@ -2,30 +2,31 @@
 use Rattle.std.specs.Prelude.{◌≡◌, ◌≢◌, ◌⊎◌, ℕ, suc, ◌<◌, ◌≤◌, Bool, true, false, List, [], ◌∷◌, length, Option, Some, None}
 use mathlib.Core.Option.{some}
 use lib.ListN.{get_elem?}
+use Rattle.sig_layout.specs.declared.layout.TheConstants.{BUFFERS}
 use Rattle.sig_layout.specs.declared.outer.Outer.{Outer}
-use Rattle.sig_layout.specs.declared.part.Part.{Part}
+use Rattle.sig_layout.specs.declared.held_buffer.HeldBuffer.{HeldBuffer}
 use Rattle.sig_layout.specs.declared.knows.Knows.{Knows}
 use Rattle.sig_layout.specs.Views.{number, IsSomebody, flag}
 use Rattle.sig_layout.specs.Core.{Cell, QState}
 
 -- the buffer c is none of these, or one of them
-abbrev pub Apart : ℕ → List Part → Type 0
+abbrev pub Apart : ℕ → List HeldBuffer → Type 0
 Apart c [] = Unit {0}
 Apart c (p ∷ ps) = (p.number ≢ c) × Apart c ps
 
-abbrev pub Among : ℕ → List Part → Type 0
+abbrev pub Among : ℕ → List HeldBuffer → Type 0
 Among c [] = ⊥
 Among c (p ∷ ps) = (p.number ≡ c) ⊎ Among c ps
 
 -- the seat i has the turn of this buffer, and knows what lies there and what it did under the turn
-pub record HeldBy (i : ℕ) (p : Part) (x : Cell) : Type 0 where
+pub record HeldBy (i : ℕ) (p : HeldBuffer) (x : Cell) : Type 0 where
   pub holder : x.holder ≡ Some i
   pub list : x.list ≡ p.list
   pub set : x.set ≡ p.set
   pub sure : x.sure ≡ p.sure
 
 -- the seat i holds each of these, once, with this list
-abbrev pub HoldsAll : (ℕ → Cell) → ℕ → List Part → Type 0
+abbrev pub HoldsAll : (ℕ → Cell) → ℕ → List HeldBuffer → Type 0
 HoldsAll cells i [] = Unit {0}
 HoldsAll cells i (p ∷ ps) = HeldBy i p (cells p.number) × Apart p.number ps × HoldsAll cells i ps
 
@@ -38,7 +39,7 @@ pub record DoingAs (holder : Option ℕ) (outer : Outer) (fetching : Bool) (cell
   pub mine : holder ≡ Some i
   pub value : outer ≡ o
   pub fetch : fetching ≡ v_fetching
-  pub masks : fetching ≡ true → (c : ℕ) → c < 64 → (cells c).mask ≡ flag v_mask c
+  pub masks : fetching ≡ true → (c : ℕ) → c < BUFFERS → (cells c).mask ≡ flag v_mask c
   pub given : fetching ≡ true → back ≡ v_back
   pub remove : removing ≡ v_removing
   pub passed : removing ≡ true → progress ≡ v_progress

@@ -5,21 +5,22 @@ use Rattle.std.specs.Prelude.{◌≡◌, ◌≢◌, ℕ, suc, ◌+◌, ◌%◌, 
 use mathlib.Core.Option.{some}
 use lib.ListN.{get_elem?}
 use Rattle.sig_kinds.specs.declared.signal.Signal.{Signal}
+use Rattle.sig_layout.specs.declared.layout.TheConstants.{BUFFERS}
 use Rattle.sig_layout.specs.declared.entry.Entry.TheVariants.{Direct}
 use Rattle.sig_layout.specs.declared.via.Via.TheVariants as via
 use Rattle.sig_layout.specs.declared.item.Item.{Item}
 use Rattle.sig_layout.specs.declared.setup.Setup.{Setup}
 use Rattle.sig_layout.specs.declared.outer.Outer.{Outer}
-use Rattle.sig_layout.specs.declared.part.Part.{Part}
+use Rattle.sig_layout.specs.declared.held_buffer.HeldBuffer.{HeldBuffer}
 use Rattle.sig_layout.specs.declared.knows.Knows.{Knows}
 use Rattle.sig_layout.specs.Sets.{has}
 use Rattle.sig_layout.specs.Policies.{begins_on, first_journal}
 use Rattle.sig_layout.specs.Summaries.{due_at, is_install, is_remove}
 use Rattle.sig_layout.specs.Openings.{IsNext}
 use Rattle.sig_layout.specs.Outers.{added, emptied, removed, behind}
-use Rattle.sig_layout.specs.Views.{number, IsSomebody, filled_at, with_bit, flag, holding, turned_away, after_put, after_same, with_bits, after_fetch, switched_on, switched_off, after_remove, saw, counted, gains, turned_away_at, saw_under, marked, given_back, loses, put_aside, took_part, passed, left_of, right_of, note_of, joined, spent, first_seat}
+use Rattle.sig_layout.specs.Views.{number, IsSomebody, filled_at, with_bit, flag, holding, turned_away, after_put, after_same, with_bits, after_fetch, switched_on, switched_off, after_remove, saw, counted, gains, turned_away_at, saw_under, marked, given_back, loses, put_to_buffer, took_part, passed, left_of, right_of, note_of, joined, spent, first_seat}
 
--- one of the 64 buffers
+-- one of the buffers
 pub record Cell : Type 0 where
   pub list : List Signal
   -- the word of the turn: 0, or 1 more than the holder's number
@@ -69,7 +70,7 @@ put f b x c = if c == b then x else f c
 
 -- the buffer of a sender
 abbrev pub buffer_of : ℕ → ℕ
-buffer_of s = s % 64
+buffer_of s = s % BUFFERS
 
 -- whether the count of refusals is not 0
 abbrev pub some_refused : ℕ → Bool
@@ -122,7 +123,7 @@ pub record Begins (v : Knows) (o : Outer) : Type 0 where
   pub switched : v.switched ≡ false
 
 abbrev pub Unmasked : Knows → Type 0
-Unmasked v = (c : ℕ) → c < 64 → flag v.mask c ≡ false
+Unmasked v = (c : ℕ) → c < BUFFERS → flag v.mask c ≡ false
 
 -- The kinds of step of the seat i with the view v: what each asks, and the state after it.
 module _ (q : QState) (i : ℕ) (v : Knows) where
@@ -266,7 +267,7 @@ module _ (q : QState) (i : ℕ) (v : Knows) where
     pub switched : v.switched ≡ false
     pub role : v.role ≡ true
     pub is_due : v.due ≡ true
-    pub whole : v.progress ≡ 64
+    pub whole : v.progress ≡ BUFFERS
 
   abbrev pub leave_remove : Outer → QState
   leave_remove o = record q {
@@ -293,7 +294,7 @@ module _ (q : QState) (i : ℕ) (v : Knows) where
   module _ (c : ℕ) where
     pub record CanTakeBuffer : Type 0 where
       pub at : At
-      pub low : c < 64
+      pub low : c < BUFFERS
       pub free : (q.cells c).word ≡ 0
       pub somebody : IsSomebody v
 
@@ -310,7 +311,7 @@ module _ (q : QState) (i : ℕ) (v : Knows) where
 
     pub record CanRefuseBuffer : Type 0 where
       pub at : At
-      pub low : c < 64
+      pub low : c < BUFFERS
       pub busy : (q.cells c).word ≢ 0
 
     abbrev pub refuse_buffer : QState
@@ -319,7 +320,7 @@ module _ (q : QState) (i : ℕ) (v : Knows) where
     -- a fetch sets the bit of c again, which it had taken
     pub record CanSetBack (o : Outer) : Type 0 where
       pub at : At
-      pub low : c < 64
+      pub low : c < BUFFERS
       pub held : v.held ≡ Some o
       pub fetching : v.fetching ≡ true
       pub masked : flag v.mask c ≡ true
@@ -333,14 +334,14 @@ module _ (q : QState) (i : ℕ) (v : Knows) where
     }
 
   -- the buffer that the seat took first: the mode is loaded under its turn, and its bit is set
-  module _ (p : Part) where
+  module _ (p : HeldBuffer) where
     abbrev pub cell : Cell
     cell = q.cells p.number
 
     pub record CanLoadUnder : Type 0 where
       pub at : At
       pub one : v.parts ≡ p ∷ []
-      pub low : p.number < 64
+      pub low : p.number < BUFFERS
       pub idle : v.held ≡ None
 
     abbrev pub load_under : QState
@@ -353,7 +354,7 @@ module _ (q : QState) (i : ℕ) (v : Knows) where
     pub record CanSetBit : Type 0 where
       pub at : At
       pub one : v.parts ≡ p ∷ []
-      pub low : p.number < 64
+      pub low : p.number < BUFFERS
       pub sure : p.sure ≡ true
 
     abbrev pub set_bit : QState
@@ -364,7 +365,7 @@ module _ (q : QState) (i : ℕ) (v : Knows) where
     }
 
     -- its turn is left in one of three ways, here with one more signal
-    pub record CanPutAside (x : Signal) : Type 0 where
+    pub record CanPutToBuffer (x : Signal) : Type 0 where
       pub at : At
       pub one : v.parts ≡ p ∷ []
       pub idle : v.held ≡ None
@@ -379,10 +380,10 @@ module _ (q : QState) (i : ℕ) (v : Knows) where
     buffer_put x = record q {
       log = q.log ++ record { signal = x; via = via.Buffer p.number } ∷ [];
       cells = put q.cells p.number (record cell { list = cell.list ++ x ∷ []; word = 0; holder = None; set = false; sure = false });
-      seats = seats_with (put_aside v (p.list ++ x ∷ []));
+      seats = seats_with (put_to_buffer v (p.list ++ x ∷ []));
     }
 
-    module _ (ps : List Part) where
+    module _ (ps : List HeldBuffer) where
       -- unchanged
       pub record CanLeaveBuffer : Type 0 where
         pub at : At
@@ -478,15 +479,16 @@ pub data Reached (z : Setup) : QState → Type 0 where
       → Reached z (refuse_buffer q i v c)
   by_set_back : (q : QState) (i : ℕ) (v : Knows) (c : ℕ) (o : Outer) → CanSetBack q i v c o → Reached z q
       → Reached z (set_back q i v c)
-  by_load_under : (q : QState) (i : ℕ) (v : Knows) (p : Part) → CanLoadUnder q i v p → Reached z q → Reached z (load_under q i v p)
-  by_set_bit : (q : QState) (i : ℕ) (v : Knows) (p : Part) → CanSetBit q i v p → Reached z q → Reached z (set_bit q i v p)
-  by_put_aside : (q : QState) (i : ℕ) (v : Knows) (p : Part) (x : Signal) → CanPutAside q i v p x → Reached z q
+  by_load_under : (q : QState) (i : ℕ) (v : Knows) (p : HeldBuffer) → CanLoadUnder q i v p → Reached z q → Reached z (load_under q i v p)
+  by_set_bit : (q : QState) (i : ℕ) (v : Knows) (p : HeldBuffer) → CanSetBit q i v p → Reached z q → Reached z (set_bit q i v p)
+  by_put_to_buffer : (q : QState) (i : ℕ) (v : Knows) (p : HeldBuffer) (x : Signal) → CanPutToBuffer q i v p x → Reached z q
       → Reached z (buffer_put q i v p x)
-  by_leave_buffer : (q : QState) (i : ℕ) (v : Knows) (p : Part) (ps : List Part) → CanLeaveBuffer q i v p ps → Reached z q
+  by_leave_buffer : (q : QState) (i : ℕ) (v : Knows) (p : HeldBuffer) (ps : List HeldBuffer) → CanLeaveBuffer q i v p ps → Reached z q
       → Reached z (buffer_same q i v p ps)
-  by_take_part : (q : QState) (i : ℕ) (v : Knows) (p : Part) (ps : List Part) (o : Outer) → CanTakePart q i v p ps o → Reached z q
+  by_take_part : (q : QState) (i : ℕ) (v : Knows) (p : HeldBuffer) (ps : List HeldBuffer) (o : Outer)
+      → CanTakePart q i v p ps o → Reached z q
       → Reached z (buffer_fetched q i v p ps o)
-  by_pass : (q : QState) (i : ℕ) (v : Knows) (p : Part) (ps : List Part) (o : Outer) → CanPass q i v p ps o → Reached z q
+  by_pass : (q : QState) (i : ℕ) (v : Knows) (p : HeldBuffer) (ps : List HeldBuffer) (o : Outer) → CanPass q i v p ps o → Reached z q
       → Reached z (buffer_passed q i v p ps o)
   by_split : (q : QState) (i : ℕ) (v : Knows) (given : List ℕ) (role : Bool) → CanSplit q i v given role → Reached z q
       → Reached z (split q i v given role)

@@ -1,5 +1,6 @@
 -- The buffers, the bits and the mode are in order.
 use Rattle.std.specs.Prelude.{◌≡◌, ◌≢◌, ◌⊎◌, ℕ, ◌≤◌, Bool, true, false, [], ◌++◌, Some}
+use Rattle.sig_layout.specs.declared.layout.TheConstants.{BUFFERS}
 use Rattle.sig_layout.specs.Sent.{sender, of, signals, Prefix}
 use Rattle.sig_layout.specs.Views.{filled_at}
 use Rattle.sig_layout.specs.Core.{Cell, QState, buffer_of}
@@ -9,7 +10,7 @@ abbrev pub Ahead : Bool → ℕ → ℕ → Type 0
 Ahead removing progress c = (removing ≡ true) × (progress ≤ c)
 
 pub record CellOk (mode fetching removing : Bool) (progress c : ℕ) (filled : Bool) (x : Cell) : Type 0 where
-  pub far : 64 ≤ c → (x.list ≡ []) × (x.set ≡ false) × (x.sure ≡ false)
+  pub far : BUFFERS ≤ c → (x.list ≡ []) × (x.set ≡ false) × (x.sure ≡ false)
   -- a buffer has the signals of its own senders
   pub near : (s : ℕ) → buffer_of s ≢ c → of sender s x.list ≡ []
   -- while the mode is off, a buffer is empty, or a removal has yet to pass it

@@ -1,6 +1,7 @@
 -- When buffers are to be installed and removed, and which journals are lawful. (This project's own. The runtime's notes on parallel
 -- signal sending tell of a policy of that kind.)
 use Rattle.std.specs.Prelude.{◌≡◌, ◌⊎◌, ℕ, suc, ◌+◌, ◌-◌, ◌<◌, ◌≤◌, Bool, true, false, List, [], ◌∷◌, ◌++◌, All}
+use Rattle.sig_layout.specs.declared.policy.TheConstants.{AUTO_SCORE, AUTO_RUN, AUTO_FEW}
 use Rattle.sig_layout.specs.declared.entry.Entry.{Entry}
 use Rattle.sig_layout.specs.declared.entry.Entry.TheVariants.{Direct, Fetch, Install, Remove}
 use Rattle.sig_layout.specs.declared.policy.Policy.{Policy}
@@ -54,10 +55,10 @@ IsDirect (Fetch m) = ⊥
 IsDirect Install = ⊥
 IsDirect Remove = ⊥
 
--- a fetch that moved less than 4 signals out of buffers, or a direct put, which isn't counted
+-- a fetch that moved fewer signals than AUTO_FEW out of buffers, or a direct put, which isn't counted
 abbrev pub IsLittle : Entry → Type 0
 IsLittle (Direct r) = Unit {0}
-IsLittle (Fetch m) = m < 4
+IsLittle (Fetch m) = m < AUTO_FEW
 IsLittle Install = ⊥
 IsLittle Remove = ⊥
 
@@ -91,21 +92,21 @@ score_from n (Fetch m ∷ es) = score_from n es
 score_from n (Install ∷ es) = score_from n es
 score_from n (Remove ∷ es) = score_from n es
 
--- the score was 64 after some front of the period
+-- the score was AUTO_SCORE after some front of the period
 pub record HasReached (p : List Entry) : Type 0 where
   pub front : List Entry
   pub rest : List Entry
   pub is : p ≡ front ++ rest
-  pub score : 64 ≤ score_from 0 front
+  pub score : AUTO_SCORE ≤ score_from 0 front
 
--- somewhere in the period 16 fetches in a row moved little
+-- somewhere in the period AUTO_RUN fetches in a row moved little
 pub record HasIdled (p : List Entry) : Type 0 where
   pub front : List Entry
   pub row : List Entry
   pub rest : List Entry
   pub is : p ≡ front ++ (row ++ rest)
   pub little : All IsLittle row
-  pub sixteen : 16 ≤ fetch_count row
+  pub whole_run : AUTO_RUN ≤ fetch_count row
 
 -- what asks for an Install in a period that isn't installed
 abbrev pub AsksInstall : Policy → List Entry → Type 0

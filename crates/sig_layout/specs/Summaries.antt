@@ -1,5 +1,6 @@
 -- The running summary of a journal, entry by entry. What it is for is said on whole journals beside the policies.
-use Rattle.std.specs.Prelude.{◌≡◌, ◌≢◌, ℕ, ◌+◌, ◌-◌, ◌||◌, ltb, Bool, true, false, if◌then◌else◌, List, [], ◌∷◌}
+use Rattle.std.specs.Prelude.{◌≡◌, ◌≢◌, ℕ, ◌+◌, ◌-◌, ◌||◌, ltb, leb, Bool, true, false, if◌then◌else◌, List, [], ◌∷◌}
+use Rattle.sig_layout.specs.declared.policy.TheConstants.{AUTO_SCORE, AUTO_RUN, AUTO_FEW}
 use Rattle.sig_layout.specs.declared.entry.Entry.{Entry}
 use Rattle.sig_layout.specs.declared.entry.Entry.TheVariants.{Direct, Fetch, Install, Remove}
 use Rattle.sig_layout.specs.declared.policy.Policy.{Policy}
@@ -9,18 +10,19 @@ use Rattle.sig_layout.specs.declared.decision.Due.{Due}
 use Rattle.sig_layout.specs.declared.decision.Due.TheVariants as due
 
 abbrev pub fresh : Bool → Summary
-fresh on = record { installed = on; directs = 0; fetches = 0; score = 0; reached = false; run = 0; sixteen = false }
+fresh on = record { installed = on; directs = 0; fetches = 0; score = 0; reached = false; run = 0; whole_run = false }
 
 abbrev pub scored : ℕ → Bool → ℕ
 scored n true = n + 1
 scored n false = n - 1
 
 abbrev pub run_on : ℕ → ℕ → ℕ
-run_on n moved = if ltb moved 4 then n + 1 else 0
+run_on n moved = if ltb moved AUTO_FEW then n + 1 else 0
 
 abbrev pub after : Summary → Entry → Summary
-after s (Direct r) = record s { directs = s.directs + 1; score = scored s.score r; reached = s.reached || ltb 63 (scored s.score r) }
-after s (Fetch m) = record s { fetches = s.fetches + 1; run = run_on s.run m; sixteen = s.sixteen || ltb 15 (run_on s.run m) }
+after s (Direct r) = record s { directs = s.directs + 1; score = scored s.score r;
+    reached = s.reached || leb AUTO_SCORE (scored s.score r) }
+after s (Fetch m) = record s { fetches = s.fetches + 1; run = run_on s.run m; whole_run = s.whole_run || leb AUTO_RUN (run_on s.run m) }
 after s Install = fresh true
 after s Remove = fresh false
 
@@ -36,7 +38,7 @@ due_of Never s = due.Nothing
 due_of Always s = if s.installed then due.Nothing else due.Install
 due_of (Churn n) s = if s.installed then (if ltb s.fetches n then due.Nothing else due.Remove) else
     (if ltb s.directs n then due.Nothing else due.Install)
-due_of Auto s = if s.installed then (if s.sixteen then due.Remove else due.Nothing) else
+due_of Auto s = if s.installed then (if s.whole_run then due.Remove else due.Nothing) else
     (if s.reached then due.Install else due.Nothing)
 
 -- what is due after a journal

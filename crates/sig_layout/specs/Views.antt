@@ -2,23 +2,25 @@
 use Rattle.std.specs.Prelude.{ℕ, suc, zero, ◌≡◌, ◌+◌, ◌*◌, ◌%◌, ◌^◌, ◌&&◌, ◌||◌, Bool, true, false, not, if◌then◌else◌, ◌==◌, List, [], ◌∷◌, ◌++◌, length, drop, slice_index_or, slice_set, bit_or, Option, Some, None}
 use Rattle.std.specs.Int.{bit_at}
 use Rattle.sig_kinds.specs.declared.signal.Signal.{Signal}
+use Rattle.sig_layout.specs.declared.layout.TheConstants.{BUFFERS}
+use Rattle.sig_layout.specs.declared.senders.TheConstants.{PIDS}
 use Rattle.sig_layout.specs.declared.via.Via.{Via}
 use Rattle.sig_layout.specs.declared.via.Via.TheVariants as via
 use Rattle.sig_layout.specs.declared.item.Item.{Item}
 use Rattle.sig_layout.specs.declared.outer.Outer.{Outer}
-use Rattle.sig_layout.specs.declared.part.Part.{Part}
+use Rattle.sig_layout.specs.declared.held_buffer.HeldBuffer.{HeldBuffer}
 use Rattle.sig_layout.specs.declared.knows.Knows.{Knows}
 use Rattle.sig_layout.specs.Sets.{has, least, no_senders, minus, plus}
 use Rattle.sig_layout.specs.Sent.{putter, keep}
 use Rattle.sig_layout.specs.Outers.{behind}
 
--- the number of a seat: its least sender, or 256
+-- the number of a seat: its least sender, or PIDS
 abbrev pub number : Knows → ℕ
 number v = least v.senders
 
 -- the seat has a sender or the role
 abbrev pub IsSomebody : Knows → Type 0
-IsSomebody v = (number v ≡ 256) → v.role ≡ true
+IsSomebody v = (number v ≡ PIDS) → v.role ≡ true
 
 abbrev pub signals_of : Option Outer → List Signal
 signals_of (Some o) = o.signals
@@ -35,7 +37,7 @@ filled_at n c = bit_at n c == 1
 
 -- the flags of a word of bits
 abbrev pub flags_of : ℕ → List Bool
-flags_of n = table_from 0 64 (filled_at n)
+flags_of n = table_from 0 BUFFERS (filled_at n)
 
 -- the word n with the bit of buffer c set
 abbrev pub with_bit : ℕ → ℕ → ℕ
@@ -59,16 +61,16 @@ tail [] = []
 tail (x ∷ xs) = xs
 
 -- the list and the number of the buffer that was taken first
-abbrev pub first_list : List Part → List Signal
+abbrev pub first_list : List HeldBuffer → List Signal
 first_list [] = []
 first_list (p ∷ ps) = p.list
 
-abbrev pub buffer_in : List Part → ℕ
+abbrev pub buffer_in : List HeldBuffer → ℕ
 buffer_in [] = 0
 buffer_in (p ∷ ps) = p.number
 
 -- a buffer that was just taken
-abbrev pub part : ℕ → List Signal → Part
+abbrev pub part : ℕ → List Signal → HeldBuffer
 part c l = record { number = c; list = l; set = false; sure = false }
 
 -- the outer turn is taken, refused with the value n found, and left; between these the bits are taken and the mode is stored
@@ -130,10 +132,10 @@ abbrev pub turned_away_at : Knows → ℕ → ℕ → Knows
 turned_away_at v word n = record v { tries = v.tries ++ (word, n) ∷ []; saw_off = false }
 
 -- under the turn of a buffer the mode is loaded and the bit is set; a fetch gives a bit back
-abbrev pub saw_under : Knows → Part → Bool → Knows
+abbrev pub saw_under : Knows → HeldBuffer → Bool → Knows
 saw_under v p on = record v { saw_off = not on; loads = v.loads ++ (1, mode_word on) ∷ []; parts = record p { sure = on } ∷ [] }
 
-abbrev pub marked : Knows → Part → Knows
+abbrev pub marked : Knows → HeldBuffer → Knows
 marked v p = record v { parts = record p { set = true } ∷ [] }
 
 abbrev pub given_back : Knows → ℕ → Knows
@@ -143,14 +145,14 @@ given_back v c = record v { mask = slice_set v.mask c false; back = with_bit v.b
 abbrev pub loses : Knows → Knows
 loses v = record v { parts = tail v.parts }
 
-abbrev pub put_aside : Knows → List Signal → Knows
-put_aside v l = record v {
+abbrev pub put_to_buffer : Knows → List Signal → Knows
+put_to_buffer v l = record v {
   parts = tail v.parts;
   put = v.put ++ put_by (via.Buffer (buffer_in v.parts))
       (drop (length (first_list v.parts)) l);
 }
 
-abbrev pub took_part : Knows → Outer → Part → Knows
+abbrev pub took_part : Knows → Outer → HeldBuffer → Knows
 took_part v o p = record v {
   parts = tail v.parts;
   mask = slice_set v.mask p.number false;
@@ -159,7 +161,7 @@ took_part v o p = record v {
   emptied = v.emptied ++ p ∷ [];
 }
 
-abbrev pub passed : Knows → Outer → Part → Knows
+abbrev pub passed : Knows → Outer → HeldBuffer → Knows
 passed v o p = record v { parts = tail v.parts; progress = suc v.progress; held = Some (behind o p.list) }
 
 -- a seat with these senders and maybe the role is cut off: what is left, and the new one

@@ -13,6 +13,9 @@ use sig_lists::Pushed;
 use std::alloc::{AllocError, Global};
 use std::marker::Model;
 
+/// A journal has no more entries than this, so that no count of its summary comes to 2^63.
+pub const MOST_ENTRIES: usize = 1 << 62;
+
 /// What happened to a queue under its outer turn, the oldest entry first, with a running summary of
 /// what the policies read of it. Contracts see the entries.
 #[derive(Debug, Drop)]
@@ -68,7 +71,7 @@ impl Journal {
     pub fn push(&mut self, entry: Entry) -> Pushed<Entry>
         ensures { IsPushed self.old self.new entry result }
     {
-        if self.entries.len() >= 1 << 62 {
+        if self.entries.len() >= MOST_ENTRIES {
             return Pushed::Memory { item: entry };
         }
         if self.entries.reserve(1).is_err() {
@@ -86,7 +89,7 @@ impl Journal {
         ensures ok { IfOk result (λ switched. self.new ≡ self.old ++ put_entries refused switched) }
         ensures err { OnErr result (self.new ≡ self.old) }
     {
-        if self.entries.len() >= 1 << 62 {
+        if self.entries.len() >= MOST_ENTRIES {
             return Err(AllocError);
         }
         self.entries.reserve(2)?;

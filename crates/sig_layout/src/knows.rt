@@ -1,6 +1,6 @@
+use crate::held_buffer::HeldBuffer;
 use crate::item::Item;
 use crate::outer::Outer;
-use crate::part::Part;
 use crate::senders::Senders;
 use sig_kinds::Signal;
 use sig_lists::Sequence;
@@ -33,7 +33,7 @@ pub struct Knows {
     /// It saw the mode off, and nothing happened since that makes that worthless.
     pub saw_off: bool,
     /// The buffers whose turns it holds, the one that it took first in front.
-    pub parts: Sequence<Part>,
+    pub parts: Sequence<HeldBuffer>,
     /// What was put for its senders.
     pub put: Sequence<Item>,
     /// What it was told to have been put, by each note that it learned.
@@ -46,7 +46,7 @@ pub struct Knows {
     pub bits: u64,
     /// The buffers that the last fetch emptied, each with what lay there, the one that it emptied
     /// first in front, where it has the role.
-    pub emptied: Sequence<Part>,
+    pub emptied: Sequence<HeldBuffer>,
     /// How many tries of the outer turn were refused since its last put into the outer list.
     pub refused: u64,
     /// Each try of a turn, with the word's number and the value found there: 0 where the turn was

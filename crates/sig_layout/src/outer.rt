@@ -40,7 +40,8 @@ impl Outer {
         moved: u64,
         more: usize,
     ) -> Result<usize, AllocError>
-        ensures ok { OnOk result ((self.new ≡ emptied self.old moved) × (into.new.items ≡ into.old.items ++ self.old.signals) × (more ≤ into.new.spare)) }
+        ensures ok { OnOk result ((self.new ≡ emptied self.old moved)
+            × (into.new.items ≡ into.old.items ++ self.old.signals) × (more ≤ into.new.spare)) }
         ensures count { IfOk result (λ n. n ≡ length self.old.signals + more) }
         ensures err { OnErr result ((self.new ≡ self.old) × (into.new.items ≡ into.old.items)) }
     {

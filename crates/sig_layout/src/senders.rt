@@ -4,7 +4,10 @@ ghost use Rattle.sig_layout.specs.Sets.{has, least, no_senders, minus, plus};
 use sig_terms::Pid;
 use std::marker::Model;
 
-/// A set of pids below 256. Contracts see its four words of bits: those of pids 0 to 63, of 64 to
+/// The pids of senders are below this number. Where a seat has no sender, it is the seat's number.
+pub const PIDS: u32 = 256;
+
+/// A set of pids below [`PIDS`]. Contracts see its four words of bits: those of pids 0 to 63, of 64 to
 /// 127, and so on.
 #[derive(Clone, Copy, Debug, PartialEq, Eq)]
 pub struct Senders([u64; 4]);
@@ -29,9 +32,9 @@ impl Senders {
 
     /// The set with this pid too.
     ///
-    /// Asks that the pid is below 256.
+    /// Asks that the pid is below [`PIDS`].
     pub fn with(self, pid: Pid) -> Senders
-        requires { pid.0 < 256 }
+        requires { pid.0 < PIDS }
         ensures { (s : ℕ) → has result s ≡ (has self s || (s == pid.0)) }
     {
         let mut words = self.0;
@@ -43,7 +46,7 @@ impl Senders {
     pub fn has(self, pid: Pid) -> bool
         ensures { result ≡ has self pid.0 }
     {
-        pid.0 < 256 && self.0[(pid.0 / 64) as usize] >> (pid.0 % 64) & 1 == 1
+        pid.0 < PIDS && self.0[(pid.0 / 64) as usize] >> (pid.0 % 64) & 1 == 1
     }
 
     /// The pids that the other set has not.
@@ -70,23 +73,23 @@ impl Senders {
         ])
     }
 
-    /// The least pid of the set, or 256 where it has none.
+    /// The least pid of the set, or [`PIDS`] where it has none.
     pub fn least(self) -> u64
         ensures least { result ≡ least self }
-        ensures most { result ≤ 256 }
+        ensures most { result ≤ PIDS }
     {
-        for pid in 0..256u32 {
+        for pid in 0..PIDS {
             if self.has(Pid(pid)) {
                 return pid as u64;
             }
         }
-        256
+        PIDS as u64
     }
 
     /// Whether the set has no pid.
     pub fn is_empty(self) -> bool
-        ensures { IsTrue result ↔ (least self ≡ 256) }
+        ensures { IsTrue result ↔ (least self ≡ PIDS) }
     {
-        self.least() == 256
+        self.least() == PIDS as u64
     }
 }

@@ -5,7 +5,7 @@ ghost use Rattle.sig_layout.specs.declared.policy.Policy.TheVariants.{Churn, Aut
 
 use crate::decision::Due;
 use crate::entry::Entry;
-use crate::policy::Policy;
+use crate::policy::{AUTO_FEW, AUTO_RUN, AUTO_SCORE, Policy};
 
 /// What the policies read of the part of a journal behind the last switch.
 #[derive(Clone, Copy, Debug)]
@@ -19,12 +19,12 @@ pub(crate) struct Summary {
     /// One more for each put into the outer list after a refused try, and one less, but never below
     /// 0, for each other one.
     pub(crate) score: u64,
-    /// The score has been 64 or more.
+    /// The score has been `AUTO_SCORE` or more.
     pub(crate) reached: bool,
-    /// The fetches in a row that moved less than 4, up to here.
+    /// The fetches in a row that moved less than `AUTO_FEW`, up to here.
     pub(crate) run: u64,
-    /// There were 16 of them in a row.
-    pub(crate) sixteen: bool,
+    /// There were `AUTO_RUN` of them in a row.
+    pub(crate) whole_run: bool,
 }
 
 impl Summary {
@@ -39,7 +39,7 @@ impl Summary {
             score: 0,
             reached: false,
             run: 0,
-            sixteen: false,
+            whole_run: false,
         }
     }
 
@@ -57,9 +57,9 @@ impl Summary {
             directs: self.directs + 1,
             fetches: self.fetches,
             score,
-            reached: self.reached || score > 63,
+            reached: self.reached || score >= AUTO_SCORE,
             run: self.run,
-            sixteen: self.sixteen,
+            whole_run: self.whole_run,
         }
     }
 
@@ -67,7 +67,7 @@ impl Summary {
         requires { (self.fetches < 2 ^ 63) × (self.run < 2 ^ 63) }
         ensures { result ≡ after self (Fetch moved) }
     {
-        let run = if moved < 4 { self.run + 1 } else { 0 };
+        let run = if moved < AUTO_FEW { self.run + 1 } else { 0 };
         Summary {
             installed: self.installed,
             directs: self.directs,
@@ -75,7 +75,7 @@ impl Summary {
             score: self.score,
             reached: self.reached,
             run,
-            sixteen: self.sixteen || run > 15,
+            whole_run: self.whole_run || run >= AUTO_RUN,
         }
     }
 
@@ -120,7 +120,7 @@ impl Summary {
     fn judged(self) -> Due
         ensures { result ≡ due_of Auto self }
     {
-        match (self.installed, self.sixteen, self.reached) {
+        match (self.installed, self.whole_run, self.reached) {
             (true, true, _) => Due::Remove,
             (false, _, true) => Due::Install,
             _ => Due::Nothing,

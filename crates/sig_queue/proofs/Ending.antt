@@ -35,7 +35,8 @@ use Rattle.sig_layout.proofs.Carrying.{all_of, all_each, all_rest, carried, ways
 use Rattle.sig_layout.proofs.Steadying.{steady}
 use Rattle.sig_layout.proofs.Wording.{lawful_of}
 use Rattle.sig_queue.specs.Tied.{apart, home, cell_home, homes_of, Tied, list_or}
-use Rattle.sig_queue.specs.Ends.{zeros, first_words, first_outer, all_buffers, lists_in, EndsAs}
+use Rattle.sig_queue.specs.Tables.{zeros, first_words, first_outer, all_buffers, lists_in}
+use Rattle.sig_queue.specs.Ends.{EndsAs}
 use Rattle.sig_queue.proofs.Owning.{own_alone}
 use Rattle.sig_queue.proofs.Ways.{outer_by_sender}
 use Rattle.sig_queue.proofs.Fetches.{flag_dropped}

@@ -12,7 +12,7 @@ use Rattle.sig_layout.specs.declared.outer.Outer.{Outer}
 use Rattle.sig_layout.specs.Outers.{behind}
 use Rattle.sig_queue.specs.declared.slot.Slot.{Slot}
 use Rattle.sig_queue.specs.declared.slot.Slot.TheVariants as slot
-use Rattle.sig_layout.specs.declared.part.Part.{Part}
+use Rattle.sig_layout.specs.declared.held_buffer.HeldBuffer.{HeldBuffer}
 use Rattle.sig_layout.specs.declared.knows.Knows.{Knows}
 use Rattle.sig_layout.specs.Views.{filled_at, with_bit, flag, flags_of, tail, part, with_bits, gains, turned_away_at, given_back, took_part, loses}
 use Rattle.sig_layout.specs.Core.{put}
@@ -20,7 +20,7 @@ use Rattle.sig_layout.specs.Agree.{Apart}
 use Rattle.sig_layout.proofs.Putting.{put_here, put_else, get_table}
 use Rattle.sig_layout.proofs.Sending.{not_both}
 use Rattle.sig_layout.proofs.Lawful.{bit_now, bit_else, no_bit}
-use Rattle.sig_queue.specs.declared.found.Found.{Found}
+use Rattle.sig_queue.specs.declared.fetch_find.Caught.{Caught}
 use Rattle.sig_queue.specs.Tied.{Held, Foreign}
 use Rattle.sig_queue.specs.Parts.{first_part, held_or, IsFirst, OfBuffer}
 use Rattle.sig_queue.specs.Fetching.{picked, same_number, numbers, all_of, slots_of, outer_out, each_try, EachOwn, kept_of, Finding, Standing, Emptying, Leaving}
@@ -74,27 +74,27 @@ unfolding picked
 picked_below p k zero b h = tt
 picked_below p k (suc n) b h = let r = picked_below p (suc k) n b (omega arith) in elim (p k) as (λ c. Below b (if c then k ∷ picked same_number p (suc k) n else picked same_number p (suc k) n)) [ true ↦ (omega arith, r) | false ↦ r ]
 
-apart_below : (ps : List Part) (b c : ℕ) → b ≤ c → Below b (numbers ps) → Apart c ps
+apart_below : (ps : List HeldBuffer) (b c : ℕ) → b ≤ c → Below b (numbers ps) → Apart c ps
 apart_below [] b c h l = tt
 apart_below (p ∷ ps) b c h l = let x = l.0 in ((λ e. omega arith), apart_below ps b c h l.1)
 
-numbers_more : (ps : List Part) (p : Part) → numbers (ps ++ p ∷ []) ≡ numbers ps ++ p.number ∷ []
+numbers_more : (ps : List HeldBuffer) (p : HeldBuffer) → numbers (ps ++ p ∷ []) ≡ numbers ps ++ p.number ∷ []
 numbers_more [] p = refl
 numbers_more (q ∷ ps) p = ap (λ (l : List ℕ). q.number ∷ l) (numbers_more ps p)
 
-numbers_length : (ps : List Part) → length (numbers ps) ≡ length ps
+numbers_length : (ps : List HeldBuffer) → length (numbers ps) ≡ length ps
 numbers_length [] = refl
 numbers_length (p ∷ ps) = ap suc (numbers_length ps)
 
-slots_more : (ps : List Part) (p : Part) → slots_of (ps ++ p ∷ []) ≡ (p.number + 1, slot.List p.list) ∷ slots_of ps
+slots_more : (ps : List HeldBuffer) (p : HeldBuffer) → slots_of (ps ++ p ∷ []) ≡ (p.number + 1, slot.List p.list) ∷ slots_of ps
 slots_more [] p = refl
 slots_more (q ∷ ps) p = ap (λ (l : List (ℕ × Slot)). l ++ (q.number + 1, slot.List q.list) ∷ []) (slots_more ps p)
 
-pub slots_length : (ps : List Part) → length (slots_of ps) ≡ length ps
+pub slots_length : (ps : List HeldBuffer) → length (slots_of ps) ≡ length ps
 slots_length [] = refl
 slots_length (p ∷ ps) = length-append (slots_of ps) ((p.number + 1, slot.List p.list) ∷ []) ∙ (let e = slots_length ps in omega arith)
 
-all_more : (ps : List Part) (p : Part) → length (all_of (ps ++ p ∷ [])) ≡ length (all_of ps) + length p.list
+all_more : (ps : List HeldBuffer) (p : HeldBuffer) → length (all_of (ps ++ p ∷ [])) ≡ length (all_of ps) + length p.list
 all_more [] p = let e = ap length (append-nil p.list) in omega arith
 all_more (q ∷ ps) p = length-append q.list (all_of (ps ++ p ∷ [])) ∙ (let e = all_more ps p in let f = length-append q.list (all_of ps) in omega arith)
 
@@ -121,10 +121,10 @@ flag_dropped (x ∷ xs) zero = refl
 flag_dropped (x ∷ xs) (suc c) = flag_dropped xs c
 
 -- the first buffer
-pub finding_starts : (v : Knows) (n : ℕ) (me : Held) (z : Found) → me ≡ (with_bits v n, outer_out ∷ []) → v.parts ≡ [] → z.held ≡ 0 → z.skipped ≡ 0 → z.count ≡ 0 → z.total ≡ Some 0 → Finding (with_bits v n) n 0 me z
+pub finding_starts : (v : Knows) (n : ℕ) (me : Held) (z : Caught) → me ≡ (with_bits v n, outer_out ∷ []) → v.parts ≡ [] → z.held ≡ 0 → z.skipped ≡ 0 → z.count ≡ 0 → z.total ≡ Some 0 → Finding (with_bits v n) n 0 me z
 finding_starts v n me z is no_parts none_held none_skipped none_counted no_total = let w : Knows = with_bits v n in subst (λ (m : Held). Finding w n 0 m z) (sym is) record {
   view = refl;
-  slots = ap (λ (ps : List Part). slots_of ps ++ outer_out ∷ []) (sym no_parts);
+  slots = ap (λ (ps : List HeldBuffer). slots_of ps ++ outer_out ∷ []) (sym no_parts);
   numbers_are = ap numbers no_parts ∙ sym (picked_none same_number (filled_at z.held) 0);
   count = none_counted ∙ ap length (sym no_parts);
   to_come = λ c low _. flag_of_bits n c low;
@@ -136,13 +136,13 @@ finding_starts v n me z is no_parts none_held none_skipped none_counted no_total
   free = λ c _. refl;
   none_held = λ c _. ap (λ (k : ℕ). filled_at k c) none_held ∙ no_bit c;
   none_skipped = λ c _. ap (λ (k : ℕ). filled_at k c) none_skipped ∙ no_bit c;
-  total = subst (λ (t : Option ℕ). IfSome t (λ t. t ≡ length (all_of v.parts))) (sym no_total) (ap (λ (ps : List Part). length (all_of ps)) (sym no_parts));
-  own = subst EachOwn (sym no_parts) (All-nil (λ (p : Part). OfBuffer p.number p.list));
+  total = subst (λ (t : Option ℕ). IfSome t (λ t. t ≡ length (all_of v.parts))) (sym no_total) (ap (λ (ps : List HeldBuffer). length (all_of ps)) (sym no_parts));
+  own = subst EachOwn (sym no_parts) (All-nil (λ (p : HeldBuffer). OfBuffer p.number p.list));
   parted = λ c h. absurd (omega arith);
   had = λ c h. not_both (filled_at z.skipped c) h (ap (λ (k : ℕ). filled_at k c) none_skipped ∙ no_bit c);
 }
 
-module _ (v : Knows) (n k : ℕ) (me : Held) (z : Found) (f : Finding v n k me z) (low : k < 64) where
+module _ (v : Knows) (n k : ℕ) (me : Held) (z : Caught) (f : Finding v n k me z) (low : k < 64) where
   below_next : (c : ℕ) → c < k + 1 → (c < k) ⊎ (c ≡ k)
   below_next c h = dite (ℕ_discrete c k) (λ e. inr e) (λ e. inl (omega arith))
 
@@ -194,9 +194,9 @@ module _ (v : Knows) (n k : ℕ) (me : Held) (z : Found) (f : Finding v n k me z
       ∙ (sym (picked_yes (λ c. (c + 3, values c)) (filled_at n) 0 k (ap (filled_at n) next_is ∙ bit)) ∙ ap (each_try values n) one_more))))
 
   -- its turn was free, and is held now
-  pub finding_held : (l : List Signal) (me' : Held) (z' : Found) → filled_at n k ≡ true → me' ≡ (gains me.0 k l, (k + 1, slot.List l) ∷ me.1) → z'.held ≡ with_bit z.held k → z'.skipped ≡ z.skipped → z'.count ≡ z.count + 1
+  pub finding_held : (l : List Signal) (me' : Held) (z' : Caught) → filled_at n k ≡ true → me' ≡ (gains me.0 k l, (k + 1, slot.List l) ∷ me.1) → z'.held ≡ with_bit z.held k → z'.skipped ≡ z.skipped → z'.count ≡ z.count + 1
       → IfSome z'.total (λ t. t ≡ length (all_of me.0.parts) + length l) → OfBuffer k l → Finding v n (k + 1) me' z'
-  finding_held l me' z' bit is held skipped count total mine = let ps : List Part = me.0.parts ++ part k l ∷ [] in let held' : ℕ = with_bit z.held k in
+  finding_held l me' z' bit is held skipped count total my_word = let ps : List HeldBuffer = me.0.parts ++ part k l ∷ [] in let held' : ℕ = with_bit z.held k in
       subst (λ (m : Held). Finding v n (k + 1) m z') (sym is) record {
         view = ap (λ (w : Knows). record w { parts = ps; tries = me.0.tries ++ (k + 3, 0) ∷ [] }) f.view;
         slots = ap (λ (s : List (ℕ × Slot)). (k + 1, slot.List l) ∷ s) f.slots ∙ ap (λ (s : List (ℕ × Slot)). s ++ outer_out ∷ []) (sym (slots_more me.0.parts (part k l)));
@@ -215,7 +215,7 @@ module _ (v : Knows) (n k : ℕ) (me : Held) (z : Found) (f : Finding v n k me z
         none_held = λ c h. ap (λ (m : ℕ). filled_at m c) held ∙ (bit_else z.held k c low (λ e. omega arith) ∙ f.none_held c (omega arith));
         none_skipped = λ c h. ap (λ (m : ℕ). filled_at m c) skipped ∙ f.none_skipped c (omega arith);
         total = subst (λ (t : ℕ). IfSome z'.total (λ s. s ≡ t)) (sym (all_more me.0.parts (part k l))) total;
-        own = All-append (λ (p : Part). OfBuffer p.number p.list) me.0.parts (part k l ∷ []) f.own (All-cons (λ (p : Part). OfBuffer p.number p.list) (part k l) [] mine (All-nil (λ (p : Part). OfBuffer p.number p.list)));
+        own = All-append (λ (p : HeldBuffer). OfBuffer p.number p.list) me.0.parts (part k l ∷ []) f.own (All-cons (λ (p : HeldBuffer). OfBuffer p.number p.list) (part k l) [] my_word (All-nil (λ (p : HeldBuffer). OfBuffer p.number p.list)));
         parted = λ c h. ⊎_elim (λ (b : c < k). ap (λ (m : ℕ). filled_at m c) held ∙ (bit_on z.held c b ∙ (f.parted c b ∙ ap (λ (m : ℕ). kept_of n m c) (sym skipped))))
             (λ (e : c ≡ k). subst (λ (d : ℕ). filled_at z'.held d ≡ kept_of n z'.skipped d) (sym e)
             (ap (λ (m : ℕ). filled_at m k) held ∙ (bit_now z.held k low ∙ sym (λ i. bit i && not ((ap (λ (m : ℕ). filled_at m k) skipped ∙ f.none_skipped k (omega arith)) i))))) (below_next c h);
@@ -223,7 +223,7 @@ module _ (v : Knows) (n k : ℕ) (me : Held) (z : Found) (f : Finding v n k me z
       }
 
   -- its turn is another's, and its bit is set again
-  pub finding_skipped : (x : ℕ) (me' : Held) (z' : Found) → me' ≡ (given_back (turned_away_at me.0 (k + 3) x) k, me.1) → Foreign me.0 x → v.saw_off ≡ false → z'.held ≡ z.held → z'.skipped ≡ with_bit z.skipped k → z'.count ≡ z.count → z'.total ≡ z.total → filled_at n k ≡ true → Finding v n (k + 1) me' z'
+  pub finding_skipped : (x : ℕ) (me' : Held) (z' : Caught) → me' ≡ (given_back (turned_away_at me.0 (k + 3) x) k, me.1) → Foreign me.0 x → v.saw_off ≡ false → z'.held ≡ z.held → z'.skipped ≡ with_bit z.skipped k → z'.count ≡ z.count → z'.total ≡ z.total → filled_at n k ≡ true → Finding v n (k + 1) me' z'
   finding_skipped x me' z' is other blind held skipped count total bit = let skipped' : ℕ = with_bit z.skipped k in let values' : ℕ → ℕ = put f.values k x in
       subst (λ (m : Held). Finding v n (k + 1) m z') (sym is) record {
         view = ap (λ (w : Knows). given_back (turned_away_at w (k + 3) x) k) f.view ∙ (λ j. record v { parts = me.0.parts; mask = set me.0.mask k false; back = with_bit me.0.back k; tries = me.0.tries ++ (k + 3, x) ∷ []; saw_off = sym blind j });
@@ -270,11 +270,11 @@ pub total_more : (total result : Option ℕ) (n before : ℕ) → IfSome result 
 total_more total None n before h k = tt
 total_more total (Some t) n before h k = let u : h.0 ≡ before = subst (λ (z : Option ℕ). IfSome z (λ t. t ≡ before)) h.1 k in let g = h.2 in omega arith
 
-front_parts : (ps : List Part) (k : ℕ) (xs : List ℕ) → numbers ps ≡ k ∷ xs → (ps ≡ first_part ps ∷ tail ps) × ((first_part ps).number ≡ k) × (numbers (tail ps) ≡ xs)
+front_parts : (ps : List HeldBuffer) (k : ℕ) (xs : List ℕ) → numbers ps ≡ k ∷ xs → (ps ≡ first_part ps ∷ tail ps) × ((first_part ps).number ≡ k) × (numbers (tail ps) ≡ xs)
 front_parts [] k xs e = absurd cc
 front_parts (p ∷ ps) k xs e = (refl, (let a : p.number ≡ k = cc in a), (let b : numbers ps ≡ xs = cc in b))
 
-no_parts : (ps : List Part) → numbers ps ≡ [] → ps ≡ []
+no_parts : (ps : List HeldBuffer) → numbers ps ≡ [] → ps ≡ []
 no_parts [] e = refl
 no_parts (p ∷ ps) e = absurd cc
 
@@ -293,9 +293,9 @@ module _ (held k : ℕ) (me : Held) (count : ℕ) (s : Standing held k me count)
   front_numbers bit = s.numbers_are (suc (63 - k)) (omega arith) ∙ picked_first same_number (filled_at held) k (63 - k) bit
 
   pub front_of : filled_at held k ≡ true → Front k me count
-  front_of bit = let f = front_parts me.0.parts k (picked same_number (filled_at held) (suc k) (63 - k)) (front_numbers bit) in let p : Part = first_part me.0.parts in let ps : List Part = tail me.0.parts in
+  front_of bit = let f = front_parts me.0.parts k (picked same_number (filled_at held) (suc k) (63 - k)) (front_numbers bit) in let p : HeldBuffer = first_part me.0.parts in let ps : List HeldBuffer = tail me.0.parts in
       let long : length me.0.parts ≡ suc (length ps) = ap length f.0 in let c = s.counted in
-      let slots : me.1 ≡ (outer_out ∷ slots_of ps) ++ (p.number + 1, slot.List p.list) ∷ [] = s.slots ∙ ap (λ (z : List Part). outer_out ∷ slots_of z) f.0 in let size = slots_length ps in record {
+      let slots : me.1 ≡ (outer_out ∷ slots_of ps) ++ (p.number + 1, slot.List p.list) ∷ [] = s.slots ∙ ap (λ (z : List HeldBuffer). outer_out ∷ slots_of z) f.0 in let size = slots_length ps in record {
         first = (f.0, f.1);
         counted = omega arith;
         round = rounds (outer_out ∷ slots_of ps) ((p.number + 1, slot.List p.list) ∷ []) me.1 count slots (omega arith) ∙ ap (λ (n : ℕ). (n + 1, slot.List p.list) ∷ outer_out ∷ slots_of ps) f.1;
@@ -304,7 +304,7 @@ module _ (held k : ℕ) (me : Held) (count : ℕ) (s : Standing held k me count)
 
   pub standing_next : (me' : Held) → filled_at held k ≡ true → me'.0.parts ≡ tail me.0.parts → me'.0.mask ≡ set me.0.mask k false → me'.1 ≡ outer_out ∷ slots_of (tail me.0.parts) → Standing held (k + 1) me' (count - 1)
   standing_next me' bit parts mask slots = let f = front_parts me.0.parts k (picked same_number (filled_at held) (suc k) (63 - k)) (front_numbers bit) in let g = front_of bit in record {
-    slots = slots ∙ ap (λ (z : List Part). outer_out ∷ slots_of z) (sym parts);
+    slots = slots ∙ ap (λ (z : List HeldBuffer). outer_out ∷ slots_of z) (sym parts);
     numbers_are = λ m e. let n : 63 - k ≡ m = omega arith in ap numbers parts ∙ (f.2 ∙ (ap (picked same_number (filled_at held) (suc k)) n ∙ ap (λ (c : ℕ). picked same_number (filled_at held) c m) next_k));
     counted = let c = g.counted in let e = ap length parts in omega arith;
     masks = λ c l h. ap (λ (fs : List Bool). flag fs c) mask ∙ (get_or-set_other me.0.mask k c false false (λ e. omega arith) ∙ s.masks c l (omega arith));
@@ -320,7 +320,7 @@ module _ (held k : ℕ) (me : Held) (count : ℕ) (s : Standing held k me count)
     dropped = λ c h. dite (ℕ_discrete c k) (λ e. ap (flag me.0.mask) e ∙ (s.masks k low (omega arith) ∙ none)) (λ n. s.dropped c (omega arith));
   }
 
-pub standing_starts : (v : Knows) (n : ℕ) (me me' : Held) (z : Found) → Finding v n 64 me z → me'.0 ≡ me.0 → me'.1 ≡ drop z.count me.1 ++ take z.count me.1 → Standing z.held 0 me' z.count
+pub standing_starts : (v : Knows) (n : ℕ) (me me' : Held) (z : Caught) → Finding v n 64 me z → me'.0 ≡ me.0 → me'.1 ≡ drop z.count me.1 ++ take z.count me.1 → Standing z.held 0 me' z.count
 standing_starts v n me me' z f view round = let size = slots_length me.0.parts in let c = f.count in subst (λ (m : Held). Standing z.held 0 m z.count) (λ i. (sym view i, me'.1)) record {
   slots = round ∙ rounds (slots_of me.0.parts) (outer_out ∷ []) me.1 z.count f.slots (omega arith);
   numbers_are = λ m e. f.numbers_are ∙ ap (picked same_number (filled_at z.held) 0) (omega arith);
@@ -330,15 +330,15 @@ standing_starts v n me me' z f view round = let size = slots_length me.0.parts i
 }
 
 -- the outer slot comes to the front by so many turns
-pub outer_within : (v : Knows) (n : ℕ) (me : Held) (z : Found) → Finding v n 64 me z → z.count < length me.1
+pub outer_within : (v : Knows) (n : ℕ) (me : Held) (z : Caught) → Finding v n 64 me z → z.count < length me.1
 outer_within v n me z f = let e = ap length f.slots in let g = length-append (slots_of me.0.parts) (outer_out ∷ []) in let s = slots_length me.0.parts in let c = f.count in omega arith
 
 pub standing_ends : (held : ℕ) (me : Held) (count : ℕ) → Standing held 64 me count → (me.0.parts ≡ []) × (me.1 ≡ outer_out ∷ [])
-standing_ends held me count s = let none = no_parts me.0.parts (s.numbers_are 0 refl ∙ picked_none same_number (filled_at held) 64) in (none, s.slots ∙ ap (λ (z : List Part). outer_out ∷ slots_of z) none)
+standing_ends held me count s = let none = no_parts me.0.parts (s.numbers_are 0 refl ∙ picked_none same_number (filled_at held) 64) in (none, s.slots ∙ ap (λ (z : List HeldBuffer). outer_out ∷ slots_of z) none)
 
 -- the first list comes behind the outer list
 pub emptying_next : (u : Knows) (me me' : Held) (k : ℕ) → Emptying u me → IsFirst me.0.parts k → me'.0 ≡ took_part me.0 (held_or me.0.held) (first_part me.0.parts) → Emptying u me'
-emptying_next u me me' k e first is = let p : Part = first_part me.0.parts in let ps : List Part = tail me.0.parts in let x : Knows = took_part me.0 (held_or me.0.held) p in
+emptying_next u me me' k e first is = let p : HeldBuffer = first_part me.0.parts in let ps : List HeldBuffer = tail me.0.parts in let x : Knows = took_part me.0 (held_or me.0.held) p in
     let o_is : held_or me.0.held ≡ e.outer = ap held_or e.holds in
     let all : all_of me.0.parts ≡ p.list ++ all_of ps = ap all_of first.0 in
     subst (λ (w : Knows). Emptying u (w, me'.1)) (sym is) record {
@@ -348,7 +348,7 @@ emptying_next u me me' k e first is = let p : Part = first_part me.0.parts in le
       signals = ap (λ (o : Outer). (o.signals ++ p.list) ++ all_of ps) o_is ∙ (append_assoc e.outer.signals p.list (all_of ps) ∙ (ap (λ (l : List Signal). e.outer.signals ++ l) (sym all) ∙ e.signals));
       journal = ap (λ (o : Outer). o.journal) o_is ∙ e.journal;
       moved = let g = ap length all ∙ length-append p.list (all_of ps) in let m = e.moved in omega arith;
-      emptied = append_assoc me.0.emptied (p ∷ []) ps ∙ (ap (λ (z : List Part). me.0.emptied ++ z) (sym first.0) ∙ e.emptied);
+      emptied = append_assoc me.0.emptied (p ∷ []) ps ∙ (ap (λ (z : List HeldBuffer). me.0.emptied ++ z) (sym first.0) ∙ e.emptied);
     }
 
 pub leaving_next : (u : Knows) (me : Held) (w : Knows) (xs : List (ℕ × Slot)) (k : ℕ) → Leaving u me → w ≡ given_back (loses me.0) k → Leaving u (w, xs)
@@ -385,8 +385,8 @@ module _ (me m : Held) (k count : ℕ) (f : Front k me count) (is : m ≡ (me.0,
   pub fits_one : (l : List Signal) (spare : ℕ) → l ≡ (first_part me.0.parts).list → length (all_of me.0.parts) ≤ spare → length l ≤ spare
   fits_one l spare e h = let g = ap length all_parted ∙ length-append (first_part me.0.parts).list (all_of (tail me.0.parts)) in let j = ap length e in omega arith
 
-  pub room_one : (l : List Signal) (ps : List Part) (before now : ℕ) → l ≡ (first_part me.0.parts).list → ps ≡ tail me.0.parts → length (all_of me.0.parts) ≤ before → before ≤ now + length l → length (all_of ps) ≤ now
-  room_one l ps before now e t h r = let g = ap length all_parted ∙ length-append (first_part me.0.parts).list (all_of (tail me.0.parts)) in let j = ap length e in let s = ap (λ (z : List Part). length (all_of z)) t in omega arith
+  pub room_one : (l : List Signal) (ps : List HeldBuffer) (before now : ℕ) → l ≡ (first_part me.0.parts).list → ps ≡ tail me.0.parts → length (all_of me.0.parts) ≤ before → before ≤ now + length l → length (all_of ps) ≤ now
+  room_one l ps before now e t h r = let g = ap length all_parted ∙ length-append (first_part me.0.parts).list (all_of (tail me.0.parts)) in let j = ap length e in let s = ap (λ (z : List HeldBuffer). length (all_of z)) t in omega arith
 
-  pub moved_one : (l : List Signal) (ps : List Part) (into : List Signal) → l ≡ (first_part me.0.parts).list → ps ≡ tail me.0.parts → (into ++ l) ++ all_of ps ≡ into ++ all_of me.0.parts
+  pub moved_one : (l : List Signal) (ps : List HeldBuffer) (into : List Signal) → l ≡ (first_part me.0.parts).list → ps ≡ tail me.0.parts → (into ++ l) ++ all_of ps ≡ into ++ all_of me.0.parts
   moved_one l ps into e t = append_assoc into l (all_of ps) ∙ ap (λ (z : List Signal). into ++ z) ((λ i. e i ++ all_of (t i)) ∙ sym all_parted)

@@ -9,7 +9,7 @@ use Rattle.sig_layout.specs.Core.{buffer_of}
 use Rattle.sig_layout.proofs.Sending.{of_own}
 use Rattle.sig_queue.specs.Parts.{OfBuffer}
 
-others_none : (mine : Bool) (x : Signal) (l : List Signal) → (if mine then x ∷ l else l) ≡ [] → l ≡ []
+others_none : (my_word : Bool) (x : Signal) (l : List Signal) → (if my_word then x ∷ l else l) ≡ [] → l ≡ []
 others_none true x l e = absurd cc
 others_none false x l e = e
 

@@ -108,5 +108,5 @@ module _ (x : Signal) (u w : Knows) where
   put_list (via.Buffer b) k = went_list ((b + 3, 0) ∷ []) (ap (λ (z : Knows). z.tries) k.1)
 
   pub put_count : (way : Via) → sent.Put way ≢ sent.Put via.Outer → PutBy x u way w → w.refused ≡ u.refused
-  put_count via.Outer aside k = absurd (aside refl)
-  put_count (via.Buffer b) aside k = ap (λ (z : Knows). z.refused) k.1
+  put_count via.Outer to_buffer k = absurd (to_buffer refl)
+  put_count (via.Buffer b) to_buffer k = ap (λ (z : Knows). z.refused) k.1

@@ -8,15 +8,15 @@ use Rattle.sig_layout.specs.declared.setup.Setup.{Setup}
 use Rattle.sig_layout.specs.Outers.{emptied}
 use Rattle.sig_queue.specs.declared.slot.Slot.{Slot}
 use Rattle.sig_queue.specs.declared.slot.Slot.TheVariants as slot
-use Rattle.sig_layout.specs.declared.part.Part.{Part}
+use Rattle.sig_layout.specs.declared.held_buffer.HeldBuffer.{HeldBuffer}
 use Rattle.sig_layout.specs.declared.knows.Knows.{Knows}
 use Rattle.sig_layout.specs.Core.{Idle, some_refused}
 use Rattle.sig_layout.specs.Views.{number, filled_at, signals_of, holding, with_bits, after_same, after_fetch}
 use Rattle.sig_queue.specs.declared.kept.Kept.{Kept}
-use Rattle.sig_queue.specs.declared.found.Found.{Found}
+use Rattle.sig_queue.specs.declared.fetch_find.Caught.{Caught}
 use Rattle.sig_queue.specs.declared.fetch.Fetch.{Fetch}
 use Rattle.sig_queue.specs.declared.fetch.Fetch.TheVariants as fetch
-use Rattle.sig_queue.specs.declared.taken.Taken.{Taken}
+use Rattle.sig_queue.specs.declared.fetch_settle.Taken.{Taken}
 use Rattle.sig_queue.specs.Tied.{Held, FreshBut, TookCarried}
 use Rattle.sig_queue.specs.Seats.{Keeps, IsSeat}
 use Rattle.sig_queue.specs.Parts.{tried}
@@ -44,7 +44,7 @@ module _ (me m : Held) (outer : Outer) (held n : ℕ) (st : Standing held 64 me 
 
   module _ (u : Knows) (o : Outer) (em : Emptying u me) (at : u.held ≡ Some o) (is : outer ≡ emptied o (length (all_of u.parts))) (none : u.moved ≡ 0) where
     moved_is : length (all_of u.parts) ≡ m.0.moved
-    moved_is = let e = em.moved in let p = ap (λ (z : List Part). length (all_of z)) none_left in let s = ap (λ (x : Knows). x.moved) seat_is in omega arith
+    moved_is = let e = em.moved in let p = ap (λ (z : List HeldBuffer). length (all_of z)) none_left in let s = ap (λ (x : Knows). x.moved) seat_is in omega arith
 
     pub outer_is : outer ≡ emptied em.outer m.0.moved
     outer_is = is ∙ (λ i. record { signals = []; journal = (sym (em.journal ∙ ap journal_of at)) i ++ entry.Fetch (moved_is i) ∷ [] })
@@ -56,10 +56,10 @@ module _ (me m : Held) (outer : Outer) (held n : ℕ) (st : Standing held 64 me 
     slots_are = slot_is ∙ ap (λ (x : Outer). (0, slot.Outer x) ∷ rest m.1) outer_is
 
     signals_are : signals_of me.0.held ≡ taken_by u
-    signals_are = ap signals_of em.holds ∙ (sym (append-nil em.outer.signals) ∙ (ap (λ (z : List Part). em.outer.signals ++ all_of z) (sym none_left) ∙ em.signals))
+    signals_are = ap signals_of em.holds ∙ (sym (append-nil em.outer.signals) ∙ (ap (λ (z : List HeldBuffer). em.outer.signals ++ all_of z) (sym none_left) ∙ em.signals))
 
     emptied_is : me.0.emptied ≡ u.emptied ++ u.parts
-    emptied_is = sym (append-nil me.0.emptied) ∙ (ap (λ (z : List Part). me.0.emptied ++ z) (sym none_left) ∙ em.emptied)
+    emptied_is = sym (append-nil me.0.emptied) ∙ (ap (λ (z : List HeldBuffer). me.0.emptied ++ z) (sym none_left) ∙ em.emptied)
 
     pub finished_view : (w : Knows) (due : Bool) → w ≡ after_fetch m.0 due → w ≡ record (bare u) { taken = u.taken ++ taken_by u; fetches = u.fetches + 1; due = due; emptied = u.emptied ++ u.parts }
     finished_view w due e = e ∙ (ap (λ (x : Knows). after_fetch x due) (seat_is ∙ em.view) ∙ (λ i. record (bare u) { parts = none_left i; taken = u.taken ++ signals_are i; fetches = u.fetches + 1; due = due; emptied = emptied_is i }))
@@ -67,15 +67,15 @@ module _ (me m : Held) (outer : Outer) (held n : ℕ) (st : Standing held 64 me 
     pub finished : (z : Setup) (w : Knows) (t : Taken) → w ≡ after_fetch m.0 t.due → FreshBut m.0.back (after_fetch m.0 t.due) → TookCarried z (after_fetch m.0 t.due) → Finished z u t w
     finished z w t e fresh carried = (finished_view w t.due e, subst (λ (n : ℕ). FreshBut n w) (ap (λ (x : Knows). x.back) (seat_is ∙ em.view)) (subst (FreshBut m.0.back) (sym e) fresh), subst (TookCarried z) (sym e) carried)
 
-pub all_moved_in : (now before : List Signal) (ps : List Part) (more : List Signal) → ps ≡ [] → now ++ all_of ps ≡ before ++ more → now ≡ before ++ more
-all_moved_in now before ps more none e = sym (append-nil now) ∙ (ap (λ (z : List Part). now ++ all_of z) (sym none) ∙ e)
+pub all_moved_in : (now before : List Signal) (ps : List HeldBuffer) (more : List Signal) → ps ≡ [] → now ++ all_of ps ≡ before ++ more → now ≡ before ++ more
+all_moved_in now before ps more none e = sym (append-nil now) ∙ (ap (λ (z : List HeldBuffer). now ++ all_of z) (sym none) ∙ e)
 
 -- the value in front of the slots is one value
 pub same_outer : (a b : Outer) (xs ys zs : List (ℕ × Slot)) → zs ≡ (0, slot.Outer a) ∷ xs → zs ≡ (0, slot.Outer b) ∷ ys → a ≡ b
 same_outer a b xs ys zs e g = ap Rattle.sig_queue.specs.Tied.outer_in (sym e ∙ g)
 
 -- a fetch that found its buffers, from a view v with which it took the bits
-module _ (z : Setup) (before now : List Signal) (v taking u w : Knows) (bits : ℕ) (me : Held) (found : Found) (f : Finding taking bits 64 me found) (took : taking ≡ with_bits v bits) (same : u ≡ me.0) where
+module _ (z : Setup) (before now : List Signal) (v taking u w : Knows) (bits : ℕ) (me : Held) (found : Caught) (f : Finding taking bits 64 me found) (took : taking ≡ with_bits v bits) (same : u ≡ me.0) where
   abbrev tries_made : List (ℕ × ℕ)
   tries_made = each_try f.values bits 64
 
@@ -105,7 +105,7 @@ module _ (z : Setup) (before now : List Signal) (v taking u w : Knows) (bits : �
           s.2.2,
           record {
             outer = signals_of u.held;
-            is = ap (λ (ps : List Part). signals_of u.held ++ all_of ps) (sym parts_are);
+            is = ap (λ (ps : List HeldBuffer). signals_of u.held ++ all_of ps) (sym parts_are);
             ascending = ap numbers (parts_are ∙ ap (λ (k : Knows). k.parts) same) ∙ (f.numbers_are ∙ (picked_same same_number same_number (filled_at found.held) (kept_of bits found.skipped) 0 64 (λ c _. refl) (λ c h. f.parted c (omega (arith, h))) ∙ ap (λ (n : ℕ). picked same_number (kept_of n found.skipped) 0 64) (sym bits_are)));
             own = subst EachOwn (sym (parts_are ∙ ap (λ (k : Knows). k.parts) same)) f.own;
             had = λ c bit. ap (λ (n : ℕ). filled_at n c) bits_are ∙ f.had c bit;
@@ -135,7 +135,7 @@ module _ (z : Setup) (before now : List Signal) (v w : Knows) (o : Outer) where
   fetched_by fetch.Memory h = (h.0, (h.1.0, h.1.1, h.1.2, same_tries h.1.0 h.1.1 h.1.3))
 
   module _ (i : Idle v) (kept : Kept) (h : Keeps v kept) (xs : List (ℕ × Slot)) (free : xs ≡ []) where
-    seat_after : (taken : List Signal) (fetches : ℕ) (due : Bool) (tries : List (ℕ × ℕ)) (emptied : List Part) → w ≡ record v { held = None; taken = taken; fetches = fetches; due = due; tries = tries; bits = w.bits; emptied = emptied } → IsSeat (w, xs) (record kept { due = due })
+    seat_after : (taken : List Signal) (fetches : ℕ) (due : Bool) (tries : List (ℕ × ℕ)) (emptied : List HeldBuffer) → w ≡ record v { held = None; taken = taken; fetches = fetches; due = due; tries = tries; bits = w.bits; emptied = emptied } → IsSeat (w, xs) (record kept { due = due })
     seat_after taken fetches due tries emptied e = record {
       idle = subst Idle (sym e) (record { held = refl; parts = i.parts; saw = i.saw; fetching = i.fetching; removing = i.removing; switched = i.switched; mask = i.mask; back = i.back; moved = i.moved; progress = i.progress });
       bare = free;

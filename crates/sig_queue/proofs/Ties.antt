@@ -21,16 +21,16 @@ use Rattle.sig_layout.proofs.Sending.{prefix_through, prefix_signals}
 use Rattle.sig_layout.proofs.Members.{has_below, least_has}
 use Rattle.sig_queue.specs.declared.slot.Slot.{Slot}
 use Rattle.sig_queue.specs.declared.slot.Slot.TheVariants as slot
-use Rattle.sig_layout.specs.declared.part.Part.{Part}
+use Rattle.sig_layout.specs.declared.held_buffer.HeldBuffer.{HeldBuffer}
 use Rattle.sig_layout.specs.declared.knows.Knows.{Knows}
 use Rattle.sig_layout.specs.declared.policy.Policy.{Policy}
 use Rattle.sig_layout.specs.Policies.{IsPolicy, AllowsMode}
 use Rattle.sig_layout.specs.Summaries.{due_at, is_install, is_remove}
 use Rattle.sig_layout.specs.Openings.{IsNext}
-use Rattle.sig_layout.specs.Views.{number, IsSomebody, table_from, mode_word, flag, filled_at, signals_of, holding, turned_away, after_put, after_same, with_bits, after_fetch, switched_on, switched_off, after_remove, saw, counted, gains, turned_away_at, saw_under, marked, given_back, loses, put_aside, took_part, passed, left_of, right_of, note_of, joined, spent}
+use Rattle.sig_layout.specs.Views.{number, IsSomebody, table_from, mode_word, flag, filled_at, signals_of, holding, turned_away, after_put, after_same, with_bits, after_fetch, switched_on, switched_off, after_remove, saw, counted, gains, turned_away_at, saw_under, marked, given_back, loses, put_to_buffer, took_part, passed, left_of, right_of, note_of, joined, spent}
 use Rattle.sig_layout.specs.Outers.{added, emptied, removed, behind}
 use Rattle.sig_layout.specs.Core as core
-use Rattle.sig_layout.specs.Core.{Cell, QState, put, buffer_of, Idle, Begins, Unmasked, Reached, by_take_outer, by_refuse_outer, by_put, by_leave, by_take_bits, by_fetch, by_mode_on, by_mode_off, by_remove, by_load_mode, by_load_filled, by_take_buffer, by_refuse_buffer, by_set_back, by_load_under, by_set_bit, by_put_aside, by_leave_buffer, by_take_part, by_pass, by_split, by_note, by_join}
+use Rattle.sig_layout.specs.Core.{Cell, QState, put, buffer_of, Idle, Begins, Unmasked, Reached, by_take_outer, by_refuse_outer, by_put, by_leave, by_take_bits, by_fetch, by_mode_on, by_mode_off, by_remove, by_load_mode, by_load_filled, by_take_buffer, by_refuse_buffer, by_set_back, by_load_under, by_set_bit, by_put_to_buffer, by_leave_buffer, by_take_part, by_pass, by_split, by_note, by_join}
 use Rattle.sig_layout.specs.Agree.{Apart, Among, HeldBy, HoldsAll, Turn, HasOuter, HasBuffer, Agrees}
 use Rattle.sig_layout.specs.Lists.{Lists}
 use Rattle.sig_layout.specs.Law.{Law}
@@ -44,7 +44,7 @@ use Rattle.sig_queue.proofs.Taking.{took_carried}
 use Rattle.sig_layout.proofs.Carrying.{carried}
 use Rattle.sig_layout.proofs.Journaling.{same_setup}
 use Rattle.sig_layout.proofs.Steadying.{steady}
-use Rattle.sig_queue.specs.Tied.{HasTaken, apart, home, cell_home, words_of, homes_of, shown, Tied, Held, Foreign, tried_outer, tried_buffer, loaded_mode, loaded_under, loaded_filled, bit_set, bits_taken, bit_back, stored_on, stored_off, left_put, left_same, left_fetch, left_remove, left_aside, left_buffer, left_part, left_passed, looked_only}
+use Rattle.sig_queue.specs.Tied.{HasTaken, apart, home, cell_home, words_of, homes_of, shown, Tied, Held, Foreign, tried_outer, tried_buffer, loaded_mode, loaded_under, loaded_filled, bit_set, bits_taken, bit_back, stored_on, stored_off, left_put, left_same, left_fetch, left_remove, left_buffer_put, left_buffer, left_part, left_passed, looked_only}
 
 -- a list whose place is set to what was found there
 set_found : (xs : List ℕ) (i : ℕ) → set xs i (get_or xs i 0) ≡ xs
@@ -114,7 +114,7 @@ foreign q law id v at word holder Has (inr h) idle n = let ok = law.each id v at
           apart (sym (its.reads (h.somebody num)) ∙ ok.reads role);
     }
 
-pub among_not : (c : ℕ) (ps : List Part) → Apart c ps → Among c ps → ⊥
+pub among_not : (c : ℕ) (ps : List HeldBuffer) → Apart c ps → Among c ps → ⊥
 among_not c [] a m = m
 among_not c (p ∷ ps) a m = ⊎_elim (λ (e : p.number ≡ c). a.0 e) (λ (k : Among c ps). among_not c ps a.1 k) m
 
@@ -126,14 +126,14 @@ taken_word : (seats : List Knows) (word i : ℕ) (holder : Option ℕ) (Has : Kn
 taken_word seats word i holder Has (inl f) e = let z : None ≡ Some i = sym f.none ∙ e in absurd cc
 taken_word seats word i holder Has (inr h) e = (number h.view, h.word_is)
 
-abbrev front : Part → List Part → Part
+abbrev front : HeldBuffer → List HeldBuffer → HeldBuffer
 front d [] = d
 front d (p ∷ ps) = p
 
-heads : (p p' : Part) (ps ps' : List Part) → p ∷ ps ≡ p' ∷ ps' → p ≡ p'
+heads : (p p' : HeldBuffer) (ps ps' : List HeldBuffer) → p ∷ ps ≡ p' ∷ ps' → p ≡ p'
 heads p p' ps ps' e = ap (front p) e
 
-first_is : (p p' : Part) → p ∷ [] ≡ p' ∷ [] → p ≡ p'
+first_is : (p p' : HeldBuffer) → p ∷ [] ≡ p' ∷ [] → p ≡ p'
 first_is p p' e = ap (front p) e
 
 module _ (z : Setup) where
@@ -161,10 +161,10 @@ module _ (z : Setup) where
       (allows slots id (me.0, x ∷ rest me.1) i f (told (me.0, x ∷ rest me.1)) (each (rest me.1)))
 
   -- the outer turn
-  pub takes_outer : (slots id mine : ℕ) (me : Held) → me.0.held ≡ None → IsSomebody me.0 → mine ≡ number me.0 + 1
-      → Allows (Tied z) slots id me 0 (λ n. either (n == 0) mine n) (tried_outer (step slots 0 0 mine none) me)
-  takes_outer slots id mine me idle somebody is = allows slots id me 0 (λ n. either (n == 0) mine n) (tried_outer (step slots 0 0 mine none) me) (λ q st at. let v : Knows = me.0 in dite (ℕ_discrete q.turn 0)
-      (λ free. let word : either (q.turn == 0) mine q.turn ≡ suc (number v) = ap (λ (b : Bool). either b mine q.turn) (eq-eqb q.turn 0 free) ∙ (omega arith) in let q' : QState = core.take_outer q id v in (
+  pub takes_outer : (slots id my_word : ℕ) (me : Held) → me.0.held ≡ None → IsSomebody me.0 → my_word ≡ number me.0 + 1
+      → Allows (Tied z) slots id me 0 (λ n. either (n == 0) my_word n) (tried_outer (step slots 0 0 my_word none) me)
+  takes_outer slots id my_word me idle somebody is = allows slots id me 0 (λ n. either (n == 0) my_word n) (tried_outer (step slots 0 0 my_word none) me) (λ q st at. let v : Knows = me.0 in dite (ℕ_discrete q.turn 0)
+      (λ free. let word : either (q.turn == 0) my_word q.turn ≡ suc (number v) = ap (λ (b : Bool). either b my_word q.turn) (eq-eqb q.turn 0 free) ∙ (omega arith) in let q' : QState = core.take_outer q id v in (
         holding v q.outer,
         takes 0 (slot.Outer q.outer),
         ap (λ (n : ℕ). some (home n (slot.Outer q.outer))) free,
@@ -176,7 +176,7 @@ module _ (z : Setup) where
         },
         ((λ e. (q.outer, refl)), (λ n. absurd (n free))),
       ))
-      (λ n. let word : either (q.turn == 0) mine q.turn ≡ q.turn = ap (λ (b : Bool). either b mine q.turn) (ne_eqb q.turn 0 n) in let q' : QState = core.refuse_outer q id v in (
+      (λ n. let word : either (q.turn == 0) my_word q.turn ≡ q.turn = ap (λ (b : Bool). either b my_word q.turn) (ne_eqb q.turn 0 n) in let q' : QState = core.refuse_outer q id v in (
         turned_away v q.turn,
         keeps,
         tt,
@@ -296,7 +296,7 @@ module _ (z : Setup) where
     refl,
   ))
 
-  pub sets_bit : (slots id k : ℕ) (me : Held) (p : Part) → k ≡ 1 * 2 ^ p.number % 2 ^ 64 → me.0.parts ≡ p ∷ [] → p.number < 64 → p.sure ≡ true → Allows (Tied z) slots id me 16 (λ n. bit_or n k) (bit_set (step slots 16 k 0 none) me)
+  pub sets_bit : (slots id k : ℕ) (me : Held) (p : HeldBuffer) → k ≡ 1 * 2 ^ p.number % 2 ^ 64 → me.0.parts ≡ p ∷ [] → p.number < 64 → p.sure ≡ true → Allows (Tied z) slots id me 16 (λ n. bit_or n k) (bit_set (step slots 16 k 0 none) me)
   sets_bit slots id k me p is one low sure = let v : Knows = me.0 in allows slots id me 16 (λ n. bit_or n k) (bit_set (step slots 16 k 0 none) me) (λ q st at. let q' : QState = core.set_bit q id v p in let c : ℕ = p.number in let x : Cell = record (q.cells c) { set = true } in (
     marked v p,
     keeps,
@@ -311,7 +311,7 @@ module _ (z : Setup) where
       };
       proper = st.proper;
     },
-    (λ p' one'. ap (λ (r : Part). let m : Held = (marked v r, me.1) in m) (first_is p p' (sym one ∙ one'))),
+    (λ p' one'. ap (λ (r : HeldBuffer). let m : Held = (marked v r, me.1) in m) (first_is p p' (sym one ∙ one'))),
   ))
 
   -- the mode
@@ -327,7 +327,7 @@ module _ (z : Setup) where
     (q.mode, refl, refl, allowed policy same q st),
   ))
 
-  pub loads_under : (slots id : ℕ) (me : Held) (p : Part) (policy : Policy) → policy ≡ z.policy → me.0.held ≡ None → me.0.parts ≡ p ∷ [] → p.number < 64 → Allows (Tied z) slots id me 8 (λ n. n) (loaded_under policy (step slots 8 0 0 none) me)
+  pub loads_under : (slots id : ℕ) (me : Held) (p : HeldBuffer) (policy : Policy) → policy ≡ z.policy → me.0.held ≡ None → me.0.parts ≡ p ∷ [] → p.number < 64 → Allows (Tied z) slots id me 8 (λ n. n) (loaded_under policy (step slots 8 0 0 none) me)
   loads_under slots id me p policy same idle one low = let v : Knows = me.0 in allows slots id me 8 (λ n. n) (loaded_under policy (step slots 8 0 0 none) me) (λ q st at. let q' : QState = core.load_under q id v p in let c : ℕ = p.number in let x : Cell = record (q.cells c) { sure = q.mode } in (
     saw_under v p q.mode,
     keeps,
@@ -342,7 +342,7 @@ module _ (z : Setup) where
       };
       proper = st.proper;
     },
-    (λ p' one'. (q.mode, refl, ap (λ (r : Part). let m : Held = (saw_under v r q.mode, me.1) in m) (first_is p p' (sym one ∙ one')), allowed policy same q st)),
+    (λ p' one'. (q.mode, refl, ap (λ (r : HeldBuffer). let m : Held = (saw_under v r q.mode, me.1) in m) (first_is p p' (sym one ∙ one')), allowed policy same q st)),
   ))
 
   pub loads_filled : (slots id : ℕ) (me : Held) → Allows (Tied z) slots id me 16 (λ n. n) (loaded_filled (step slots 16 0 0 none) me)
@@ -373,13 +373,13 @@ module _ (z : Setup) where
   ))
 
   -- the turn of buffer b
-  pub takes_buffer : (slots id b i mine : ℕ) (me : Held) → b < 64 → i ≡ 8 * (b + 3) → Apart b me.0.parts → IsSomebody me.0 → mine ≡ number me.0 + 1 → Allows (Tied z) slots id me i (λ n. either (n == 0) mine n) (tried_buffer (step slots i 0 mine none) me)
-  takes_buffer slots id b i mine me low is apart somebody mine_is = allows slots id me i (λ n. either (n == 0) mine n) (tried_buffer (step slots i 0 mine none) me) (λ q st at. let v : Knows = me.0 in let x : Cell = q.cells b in
+  pub takes_buffer : (slots id b i my_word : ℕ) (me : Held) → b < 64 → i ≡ 8 * (b + 3) → Apart b me.0.parts → IsSomebody me.0 → my_word ≡ number me.0 + 1 → Allows (Tied z) slots id me i (λ n. either (n == 0) my_word n) (tried_buffer (step slots i 0 my_word none) me)
+  takes_buffer slots id b i my_word me low is apart somebody mine_is = allows slots id me i (λ n. either (n == 0) my_word n) (tried_buffer (step slots i 0 my_word none) me) (λ q st at. let v : Knows = me.0 in let x : Cell = q.cells b in
       let found : get_or (words_of q) i 0 ≡ x.word = word_at q.turn (mode_word q.mode) q.filled q.cells b low i is in
       let word : ℕ = get_or (words_of q) i 0 in dite (ℕ_discrete word 0)
       (λ free. let free_cell : x.word ≡ 0 = sym found ∙ free in
       let y : Cell = record x { word = suc (number v); holder = Some id; set = false; sure = false } in
-      let new : either (word == 0) mine word ≡ y.word = ap (λ (c : Bool). either c mine word) (eq-eqb word 0 free) ∙ (omega arith) in let q' : QState = core.take_buffer q id v b in (
+      let new : either (word == 0) my_word word ≡ y.word = ap (λ (c : Bool). either c my_word word) (eq-eqb word 0 free) ∙ (omega arith) in let q' : QState = core.take_buffer q id v b in (
         gains v b x.list,
         takes (b + 1) (slot.List x.list),
         home_at (home q.turn (slot.Outer q.outer)) q.cells b low (b + 1) refl ∙ ap (λ (n : ℕ). some (home n (slot.List x.list))) free_cell,
@@ -395,7 +395,7 @@ module _ (z : Setup) where
         },
         (λ c e. let same : b ≡ c = omega arith in ((λ _. (x.list, ap (λ (r : ℕ). let m : Held = (gains v r x.list, (r + 1, slot.List x.list) ∷ me.1) in m) same, subst (λ (r : ℕ). OfBuffer r x.list) same (own_alone b x.list (λ s other. (st.law.each b).near s (λ e. other (sym e)))))), (λ n. absurd (n free)))),
       ))
-      (λ n. let new : either (word == 0) mine word ≡ word = ap (λ (c : Bool). either c mine word) (ne_eqb word 0 n) in let q' : QState = core.refuse_buffer q id v b in (
+      (λ n. let new : either (word == 0) my_word word ≡ word = ap (λ (c : Bool). either c my_word word) (ne_eqb word 0 n) in let q' : QState = core.refuse_buffer q id v b in (
         turned_away_at v (b + 3) x.word,
         keeps,
         tt,
@@ -415,7 +415,7 @@ module _ (z : Setup) where
       )))
 
   -- the buffer that the seat took first is left, and its cell becomes y
-  module _ (slots id i : ℕ) (me : Held) (p : Part) (ps : List Part) (low : p.number < 64) (is : i ≡ 8 * (p.number + 3)) (first : me.0.parts ≡ p ∷ ps) where
+  module _ (slots id i : ℕ) (me : Held) (p : HeldBuffer) (ps : List HeldBuffer) (low : p.number < 64) (is : i ≡ 8 * (p.number + 3)) (first : me.0.parts ≡ p ∷ ps) where
     held_part : (q : QState) → Agrees q → get_elem? q.seats id ≡ some me.0 → HeldBy id p (q.cells p.number)
     held_part q agree at = (subst (HoldsAll q.cells id) first (agree.each id me.0 at).parts).0
 
@@ -442,7 +442,7 @@ module _ (z : Setup) where
     outer_moves : (q : QState) → Stands q → (o : Outer) → me.0.held ≡ Some o → get_elem? q.seats id ≡ some me.0 → (x : Outer) → home q.turn (slot.Outer q.outer) ≡ home q.turn (slot.Outer x)
     outer_moves q st o held at x = let w = taken_word q.seats q.turn id q.holder HasOuter st.agrees.turn ((st.agrees.each id me.0 at).outer o held).mine in home_out q.turn w.0 (slot.Outer q.outer) (slot.Outer x) w.1
 
-    same_first : (p' : Part) (ps' : List Part) (o o' : Outer) → me.0.held ≡ Some o → me.0.parts ≡ p' ∷ ps' → me.0.held ≡ Some o' → (p ≡ p') × (o ≡ o')
+    same_first : (p' : HeldBuffer) (ps' : List HeldBuffer) (o o' : Outer) → me.0.held ≡ Some o → me.0.parts ≡ p' ∷ ps' → me.0.held ≡ Some o' → (p ≡ p') × (o ≡ o')
     same_first p' ps' o o' held first' held' = (heads p p' ps ps' (sym first ∙ first'), (let e : Some o ≡ Some o' = sym held ∙ held' in cc))
 
     pub takes_part : (o : Outer) → me.0.held ≡ Some o → me.0.fetching ≡ true → flag me.0.mask p.number ≡ true → me.1 ≡ (p.number + 1, slot.List []) ∷ rest me.1 → Allows (Tied z) slots id me i (λ _. 0) (λ _. left_part (step slots i 0 0 none) me 0)
@@ -483,17 +483,17 @@ module _ (z : Setup) where
           (λ p' ps' o' first' held'. let same = same_first p' ps' o o' held first' held' in λ k. (passed v (same.1 k) (same.0 k), xs)),
         ))
 
-  pub puts_aside : (slots id i : ℕ) (me : Held) (p : Part) (x : Signal) → p.number < 64 → i ≡ 8 * (p.number + 3) → me.0.parts ≡ p ∷ [] → me.0.held ≡ None → p.sure ≡ true → p.set ≡ true → me.0.saw_off ≡ false → has me.0.senders x.from.0 ≡ true → IsNext z me.0.put x → buffer_of x.from.0 ≡ p.number
-      → me.1 ≡ (p.number + 1, slot.List (p.list ++ x ∷ [])) ∷ rest me.1 → Allows (Tied z) slots id me i (λ _. 0) (λ _. left_aside (step slots i 0 0 none) me 0)
-  puts_aside slots id i me p x low is one idle sure is_set blind from next here out = let v : Knows = me.0 in allows_with slots id me (p.number + 1, slot.List (p.list ++ x ∷ [])) i (λ _. 0) (λ m _. left_aside (step slots i 0 0 none) m 0) out (λ xs q st at. let q' : QState = core.buffer_put q id v p x in
+  pub puts_to_buffer : (slots id i : ℕ) (me : Held) (p : HeldBuffer) (x : Signal) → p.number < 64 → i ≡ 8 * (p.number + 3) → me.0.parts ≡ p ∷ [] → me.0.held ≡ None → p.sure ≡ true → p.set ≡ true → me.0.saw_off ≡ false → has me.0.senders x.from.0 ≡ true → IsNext z me.0.put x → buffer_of x.from.0 ≡ p.number
+      → me.1 ≡ (p.number + 1, slot.List (p.list ++ x ∷ [])) ∷ rest me.1 → Allows (Tied z) slots id me i (λ _. 0) (λ _. left_buffer_put (step slots i 0 0 none) me 0)
+  puts_to_buffer slots id i me p x low is one idle sure is_set blind from next here out = let v : Knows = me.0 in allows_with slots id me (p.number + 1, slot.List (p.list ++ x ∷ [])) i (λ _. 0) (λ m _. left_buffer_put (step slots i 0 0 none) m 0) out (λ xs q st at. let q' : QState = core.buffer_put q id v p x in
       let h = held_part slots id i me p [] low is one q st.agrees at in
       let y : Cell = record (q.cells p.number) { list = (q.cells p.number).list ++ x ∷ []; word = 0; holder = None; set = false; sure = false } in (
-        put_aside v (p.list ++ x ∷ []),
+        put_to_buffer v (p.list ++ x ∷ []),
         gives,
         tt,
         record {
           core = q';
-          reached = by_put_aside q id v p x (record { at = at; one = one; idle = idle; sure = sure; is_set = is_set; blind = blind; from = from; next = subst (λ (y : Setup). IsNext y v.put x) (sym (same_setup z q st.reached)) next; home = here }) st.reached;
+          reached = by_put_to_buffer q id v p x (record { at = at; one = one; idle = idle; sure = sure; is_set = is_set; blind = blind; from = from; next = subst (λ (y : Setup). IsNext y v.put x) (sym (same_setup z q st.reached)) next; home = here }) st.reached;
           is = λ k. record {
             words = words_put q.turn (mode_word q.mode) q.filled q.cells p.number low i y is k;
             homes = homes_put (home q.turn (slot.Outer q.outer)) q.cells p.number low (p.number + 1) y (some (slot.List (p.list ++ x ∷ []))) refl (ap (λ (l : List Signal). some (slot.List (l ++ x ∷ []))) (sym h.list)) k;
@@ -540,7 +540,7 @@ module _ (z : Setup) where
   ))
 
 -- where the word of a buffer stands
-pub word_is : {a : ℕ} (b : ℕ) → a ≡ b → (b + 3) * 8 ≡ 8 * (a + 3)
+pub word_is : {a : ℕ} (b : ℕ) → a ≡ b → 24 + b * 8 ≡ 8 * (a + 3)
 word_is b e = omega (arith, e)
 
 -- the word of the mode is 1 exactly where the mode is on

@@ -2,6 +2,7 @@
 use Rattle.std.specs.Prelude.{◌≡◌, ◌⊎◌, ℕ, ◌+◌, Bool, true, false, List, [], ◌∷◌, ◌++◌, length, Option, Some, None}
 use Rattle.atomic_table.specs.Seated.{TableId}
 use Rattle.sig_kinds.specs.declared.signal.Signal.{Signal}
+use Rattle.sig_layout.specs.declared.layout.TheConstants.{BUFFERS}
 use Rattle.sig_layout.specs.declared.policy.Policy.{Policy}
 use Rattle.sig_layout.specs.declared.setup.Setup.{Setup}
 use Rattle.sig_layout.specs.Policies.{AllowsMode}
@@ -10,8 +11,8 @@ use Rattle.sig_layout.specs.declared.via.Via.{Via}
 use Rattle.sig_layout.specs.declared.via.Via.TheVariants as via
 use Rattle.sig_queue.specs.declared.offer.Offer.{Offer}
 use Rattle.sig_queue.specs.declared.offer.Offer.TheVariants as offer
-use Rattle.sig_queue.specs.declared.aside.Aside.{Aside}
-use Rattle.sig_queue.specs.declared.aside.Aside.TheVariants as aside
+use Rattle.sig_queue.specs.declared.to_buffer.ToBuffer.{ToBuffer}
+use Rattle.sig_queue.specs.declared.to_buffer.ToBuffer.TheVariants as to_buffer
 use Rattle.sig_queue.specs.declared.sent.Sent.{Sent}
 use Rattle.sig_queue.specs.declared.sent.Sent.TheVariants as sent
 use Rattle.sig_queue.specs.declared.hold.Hold.{Hold}
@@ -20,7 +21,7 @@ use Rattle.sig_layout.specs.Views.{holding, turned_away}
 use Rattle.sig_layout.specs.declared.outer.Outer.{Outer}
 use Rattle.sig_queue.specs.declared.fetch.Fetch.{Fetch}
 use Rattle.sig_queue.specs.declared.fetch.Fetch.TheVariants as fetch
-use Rattle.sig_queue.specs.declared.taken.Taken.{Taken}
+use Rattle.sig_queue.specs.declared.fetch_settle.Taken.{Taken}
 use Rattle.sig_layout.specs.Views.{filled_at, signals_of, buffer_in}
 use Rattle.sig_layout.specs.Core.{buffer_of}
 use Rattle.sig_queue.specs.Fetching.{each_try, all_of, numbers, picked, same_number, EachOwn, kept_of}
@@ -28,26 +29,35 @@ use Rattle.sig_queue.specs.Tied.{Foreign, FreshBut, TookCarried}
 use Rattle.sig_queue.specs.Parts.{item, looked, tried, went, looks_off, tries_off}
 
 -- under the turn of a buffer
-abbrev pub Under : Signal → Knows → Aside → Knows → Type 0
-Under x v (aside.Off y) w = (y ≡ x) × (w ≡ record (looked v (false ∷ [])) { saw_off = true; parts = [] })
-Under x v aside.Put w = w ≡ record (looked v (true ∷ [])) { saw_off = false; parts = []; put = v.put ++ item (via.Buffer (buffer_in v.parts)) x ∷ [] }
-Under x v (aside.Busy y n) w = ⊥
-Under x v (aside.Memory y) w = (y ≡ x) × (w ≡ record (looked v (true ∷ [])) { saw_off = false; parts = [] })
+abbrev pub Under : Signal → Knows → ToBuffer → Knows → Type 0
+Under x v (to_buffer.Off y) w = (y ≡ x) × (w ≡ record (looked v (false ∷ [])) { saw_off = true; parts = [] })
+Under x v to_buffer.Put w = w ≡ record (looked v (true ∷ [])) {
+  saw_off = false;
+  parts = [];
+  put = v.put
+      ++ item (via.Buffer (buffer_in v.parts)) x ∷ [];
+}
+Under x v (to_buffer.Busy y n) w = ⊥
+Under x v (to_buffer.Memory y) w = (y ≡ x) × (w ≡ record (looked v (true ∷ [])) { saw_off = false; parts = [] })
 
 -- an offer to buffer b. It was off only where the last look at the mode gave 0, and put only where both gave 1. The turn of the
 -- buffer is tried once, where the first look gave 1
-abbrev pub OfferedAside : ℕ → Signal → Knows → Aside → Knows → Type 0
-OfferedAside b x v (aside.Off y) w = (y ≡ x) × ((again : Bool) × (w ≡ record (went v (looks_off again) (tries_off b again)) { saw_off = true }))
-OfferedAside b x v aside.Put w = w ≡ record (went v (true ∷ true ∷ []) ((b + 3, 0) ∷ [])) { put = v.put ++ item (via.Buffer b) x ∷ [] }
-OfferedAside b x v (aside.Busy y n) w = (y ≡ x) × (w ≡ went v (true ∷ []) ((b + 3, n) ∷ [])) × Foreign v n
-OfferedAside b x v (aside.Memory y) w = (y ≡ x) × (w ≡ went v (true ∷ true ∷ []) ((b + 3, 0) ∷ []))
+abbrev pub OfferedToBuffer : ℕ → Signal → Knows → ToBuffer → Knows → Type 0
+OfferedToBuffer b x v (to_buffer.Off y) w = (y ≡ x)
+    × ((again : Bool) × (w ≡ record (went v (looks_off again) (tries_off b again)) { saw_off = true }))
+OfferedToBuffer b x v to_buffer.Put w = w ≡ record (went v (true ∷ true ∷ []) ((b + 3, 0) ∷ [])) {
+  put = v.put
+      ++ item (via.Buffer b) x ∷ [];
+}
+OfferedToBuffer b x v (to_buffer.Busy y n) w = (y ≡ x) × (w ≡ went v (true ∷ []) ((b + 3, n) ∷ [])) × Foreign v n
+OfferedToBuffer b x v (to_buffer.Memory y) w = (y ≡ x) × (w ≡ went v (true ∷ true ∷ []) ((b + 3, 0) ∷ []))
 
 -- it was off, and put, only where the policy allows the mode to be so
-abbrev pub AllowsAside : Policy → Aside → Type 0
-AllowsAside p (aside.Off y) = AllowsMode p false
-AllowsAside p aside.Put = AllowsMode p true
-AllowsAside p (aside.Busy y n) = Unit {0}
-AllowsAside p (aside.Memory y) = Unit {0}
+abbrev pub AllowsToBuffer : Policy → ToBuffer → Type 0
+AllowsToBuffer p (to_buffer.Off y) = AllowsMode p false
+AllowsToBuffer p to_buffer.Put = AllowsMode p true
+AllowsToBuffer p (to_buffer.Busy y n) = Unit {0}
+AllowsToBuffer p (to_buffer.Memory y) = Unit {0}
 
 -- under the outer turn
 abbrev pub PutHeld : Signal → Knows → Offer → Knows → Type 0
@@ -57,24 +67,29 @@ PutHeld x v (offer.Busy y n) w = ⊥
 PutHeld x v (offer.Memory y) w = (y ≡ x) × (w ≡ record v { held = None; saw_off = false })
 
 -- an offer to the outer list, with one try of the outer turn
-abbrev pub OfferedOut : Signal → Knows → Offer → Knows → Type 0
-OfferedOut x v (offer.Put via.Outer) w = w ≡ record (tried v 0 0) { saw_off = false; put = v.put ++ item via.Outer x ∷ []; refused = 0 }
-OfferedOut x v (offer.Put (via.Buffer b)) w = ⊥
-OfferedOut x v (offer.Busy y n) w = (y ≡ x) × (w ≡ record (tried v 0 n) { saw_off = false; refused = v.refused + 1 }) × Foreign v n
-OfferedOut x v (offer.Memory y) w = (y ≡ x) × (w ≡ record (tried v 0 0) { saw_off = false })
+abbrev pub OfferedToOuter : Signal → Knows → Offer → Knows → Type 0
+OfferedToOuter x v (offer.Put via.Outer) w = w ≡ record (tried v 0 0) { saw_off = false; put = v.put ++ item via.Outer x ∷ []; refused = 0 }
+OfferedToOuter x v (offer.Put (via.Buffer b)) w = ⊥
+OfferedToOuter x v (offer.Busy y n) w = (y ≡ x) × (w ≡ record (tried v 0 n) { saw_off = false; refused = v.refused + 1 }) × Foreign v n
+OfferedToOuter x v (offer.Memory y) w = (y ≡ x) × (w ≡ record (tried v 0 0) { saw_off = false })
 
 -- The way of a put: to the outer list only where the last look at the mode in this call gave 0, and to the sender's buffer only
 -- where it gave 1. The turn of the list was tried once and found free, and before the outer turn that of the buffer where the
 -- mode was on at first
 abbrev pub PutBy : Signal → Knows → Via → Knows → Type 0
 PutBy x v via.Outer w = (again : Bool)
-    × (w ≡ record (went v (looks_off again) (tries_off (buffer_of x.from.0) again ++ (0, 0) ∷ [])) { put = v.put ++ item via.Outer x ∷ []; refused = 0 })
+    × (w ≡ record (went v (looks_off again) (tries_off (buffer_of x.from.0) again ++ (0, 0) ∷ [])) {
+      put = v.put
+          ++ item via.Outer x ∷ [];
+      refused = 0;
+    })
 PutBy x v (via.Buffer b) w = (b ≡ buffer_of x.from.0)
     × (w ≡ record (went v (true ∷ true ∷ []) ((b + 3, 0) ∷ [])) { put = v.put ++ item (via.Buffer b) x ∷ [] })
 
 -- the last try was refused: on the outer turn, or on the turn of the sender's buffer. None was refused before it
 abbrev pub RefusedOne : Signal → Knows → ℕ → Knows → Type 0
-RefusedOne x v n w = ((again : Bool) × (w ≡ record (went v (looks_off again) (tries_off (buffer_of x.from.0) again ++ (0, n) ∷ [])) { refused = v.refused + 1 }))
+RefusedOne x v n w = ((again : Bool)
+    × (w ≡ record (went v (looks_off again) (tries_off (buffer_of x.from.0) again ++ (0, n) ∷ [])) { refused = v.refused + 1 }))
     ⊎ (w ≡ went v (true ∷ []) ((buffer_of x.from.0 + 3, n) ∷ []))
 
 -- no try was refused, and nothing was put
@@ -95,7 +110,12 @@ abbrev pub bare : Knows → Knows
 bare u = record u { held = None; fetching = false; saw_off = false; mask = []; back = 0; moved = 0; parts = [] }
 
 abbrev pub Finished : Setup → Knows → Taken → Knows → Type 0
-Finished z u t w = (w ≡ record (bare u) { taken = u.taken ++ taken_by u; fetches = u.fetches + 1; due = t.due; emptied = u.emptied ++ u.parts }) × FreshBut u.back w × TookCarried z w
+Finished z u t w = (w ≡ record (bare u) {
+  taken = u.taken ++ taken_by u;
+  fetches = u.fetches + 1;
+  due = t.due;
+  emptied = u.emptied ++ u.parts;
+}) × FreshBut u.back w × TookCarried z w
 
 -- a fetch that found its buffers takes all, or leaves all as it was
 abbrev pub Settled : Setup → List Signal → List Signal → Knows → Option Taken → Knows → Type 0
@@ -107,7 +127,7 @@ Settled z before now u None w = (now ≡ before) × (w ≡ bare u)
 pub record InOrder (new : List Signal) (skipped : ℕ) (w : Knows) : Type 0 where
   pub outer : List Signal
   pub is : new ≡ outer ++ all_of w.emptied
-  pub ascending : numbers w.emptied ≡ picked same_number (kept_of w.bits skipped) 0 64
+  pub ascending : numbers w.emptied ≡ picked same_number (kept_of w.bits skipped) 0 BUFFERS
   pub own : EachOwn w.emptied
   pub had : (c : ℕ) → filled_at skipped c ≡ true → filled_at w.bits c ≡ true
 
@@ -118,12 +138,27 @@ TriedAs v skipped values = ((c : ℕ) → filled_at skipped c ≡ true → Forei
 
 abbrev pub FetchedAs : Setup → List Signal → List Signal → Knows → ℕ → Bool → ℕ → Knows → Type 0
 FetchedAs z before now v count due skipped w = (new : List Signal) × (values : ℕ → ℕ) × (now ≡ before ++ new) × (count ≡ length new)
-    × (w ≡ record v { held = None; taken = v.taken ++ new; fetches = v.fetches + 1; due = due; tries = v.tries ++ each_try values w.bits 64; bits = w.bits; emptied = w.emptied })
+    × (w ≡ record v {
+      held = None;
+      taken = v.taken ++ new;
+      fetches = v.fetches + 1;
+      due = due;
+      tries = v.tries
+          ++ each_try values w.bits BUFFERS;
+      bits = w.bits;
+      emptied = w.emptied;
+    })
     × TriedAs v skipped values × FreshBut skipped w × TookCarried z w × InOrder new skipped w
 
 abbrev pub Left : List Signal → List Signal → Knows → Knows → Type 0
 Left before now v w = (now ≡ before)
-    × ((skipped : ℕ) × (values : ℕ → ℕ) × (w ≡ record v { held = None; tries = v.tries ++ each_try values w.bits 64; bits = w.bits; emptied = [] }) × TriedAs v skipped values)
+    × ((skipped : ℕ) × (values : ℕ → ℕ) × (w ≡ record v {
+      held = None;
+      tries = v.tries
+          ++ each_try values w.bits BUFFERS;
+      bits = w.bits;
+      emptied = [];
+    }) × TriedAs v skipped values)
 
 -- under the outer turn
 abbrev pub FetchedHeld : Setup → List Signal → List Signal → Knows → Fetch → Knows → Type 0
@@ -158,8 +193,10 @@ pub record Tried (v w : Knows) : Type 0 where
   pub is : w ≡ refused_as v loads w
 
 abbrev pub SentBy : Signal → Knows → Via → Knows → Type 0
-SentBy x v via.Outer w = (bs : List Bool) × (w ≡ record (looked v (bs ++ false ∷ [])) { put = v.put ++ item via.Outer x ∷ []; refused = 0; tries = w.tries })
-SentBy x v (via.Buffer b) w = (b ≡ buffer_of x.from.0) × ((bs : List Bool) × (w ≡ record (looked v (bs ++ true ∷ [])) { put = v.put ++ item (via.Buffer b) x ∷ []; refused = w.refused; tries = w.tries }))
+SentBy x v via.Outer w = (bs : List Bool)
+    × (w ≡ record (looked v (bs ++ false ∷ [])) { put = v.put ++ item via.Outer x ∷ []; refused = 0; tries = w.tries })
+SentBy x v (via.Buffer b) w = (b ≡ buffer_of x.from.0) × ((bs : List Bool)
+    × (w ≡ record (looked v (bs ++ true ∷ [])) { put = v.put ++ item (via.Buffer b) x ∷ []; refused = w.refused; tries = w.tries }))
 
 abbrev pub SentAs : Signal → Knows → Sent → Knows → Type 0
 SentAs x v (sent.Put way) w = SentBy x v way w

@@ -1,62 +1,32 @@
--- The table at the start and at the end.
-use Rattle.std.specs.Prelude.{◌≡◌, ℕ, true, All, List, [], ◌∷◌, ◌++◌, replicate, slice_index_or}
+-- How a queue is opened and how it ends, as its callers see it.
+use Rattle.std.specs.Prelude.{◌≡◌, ℕ, All, List, ◌++◌}
 use mathlib.Core.Option.{some}
 use lib.ListN.{get_elem?}
 use Rattle.sig_kinds.specs.declared.signal.Signal.{Signal}
+use Rattle.sig_layout.specs.declared.layout.TheConstants.{BUFFERS}
 use Rattle.sig_layout.specs.declared.policy.Policy.{Policy}
 use Rattle.sig_layout.specs.declared.item.Item.{Item}
-use Rattle.sig_layout.specs.declared.outer.Outer.{Outer}
 use Rattle.sig_layout.specs.declared.entry.Entry.{Entry}
 use Rattle.sig_layout.specs.declared.opening.Opening.{Opening}
 use Rattle.sig_layout.specs.declared.setup.Setup.{Setup}
 use Rattle.sig_layout.specs.declared.knows.Knows.{Knows}
-use Rattle.sig_layout.specs.Policies.{begins_on, first_journal, AllowsWay, IsLawfulJournal, direct_count, fetch_count}
+use Rattle.sig_layout.specs.Policies.{AllowsWay, IsLawfulJournal, direct_count, fetch_count}
 use Rattle.sig_layout.specs.Openings.{IsCarried, IsCounted}
 use Rattle.sig_layout.specs.Carried.{outer_count}
 use Rattle.sig_layout.specs.Sets.{has}
 use Rattle.sig_layout.specs.Sent.{sender, of, signals}
-use Rattle.sig_layout.specs.Core.{QState, Reached, Idle}
+use Rattle.sig_layout.specs.Core.{QState, Reached}
 use Rattle.sig_layout.specs.Rooms.{all_pieces}
-use Rattle.sig_queue.specs.declared.slot.Slot.{Slot}
-use Rattle.sig_queue.specs.declared.slot.Slot.TheVariants as slot
-use Rattle.sig_layout.specs.Views.{mode_word, table_from}
-use Rattle.sig_queue.specs.Tied.{Held, apart, list_or}
+use Rattle.sig_layout.specs.Views.{table_from}
 use Rattle.sig_queue.specs.Parts.{OfBuffer}
 
 -- what a queue is opened with
 abbrev pub setup_of : Policy → List ℕ → Opening → Setup
 setup_of policy senders opening = record { policy = policy; senders = senders; opening = opening }
 
-unfoldable pub zeros : List ℕ
-zeros = replicate 64 0
-
-abbrev pub first_words : Policy → List ℕ
-first_words p = apart (0 ∷ mode_word (begins_on p) ∷ 0 ∷ zeros)
-
-abbrev pub first_outer : Policy → Outer
-first_outer p = record { signals = []; journal = first_journal p }
-
--- so many empty buffers
-abbrev pub buffers : ℕ → List Slot
-buffers n = replicate n (slot.List [])
-
-unfoldable pub all_buffers : List Slot
-all_buffers = buffers 64
-
--- the lists of the slots from k on, n of them
-abbrev pub lists_in : List Slot → ℕ → ℕ → List (List Signal)
-lists_in xs k n = table_from k n (λ c. list_or (slice_index_or xs c slot.Out))
-
--- a seat that may end its queue: it has all senders and the role, and holds nothing
-pub record IsEnding (z : Setup) (me : Held) : Type 0 where
-  pub idle : Idle me.0
-  pub bare : me.1 ≡ []
-  pub role : me.0.role ≡ true
-  pub every : (s : ℕ) → has z.senders s ≡ true → has me.0.senders s ≡ true
-
 -- what lies in a state of the core: the outer list, and then buffers 0 to 63
 abbrev pub left_in : QState → List Signal
-left_in q = q.outer.signals ++ all_pieces (table_from 0 64 (λ c. (q.cells c).list))
+left_in q = q.outer.signals ++ all_pieces (table_from 0 BUFFERS (λ c. (q.cells c).list))
 
 -- The end of a queue that was opened with z, by a seat that had the view v
 pub record EndsAs (z : Setup) (v : Knows) (rest : List Signal) (journal : List Entry) : Type 0 where

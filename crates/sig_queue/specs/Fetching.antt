@@ -1,14 +1,15 @@
 -- What a seat has while it fetches many buffers at once.
 use Rattle.std.specs.Prelude.{◌≡◌, ℕ, zero, suc, ◌+◌, ◌<◌, ◌≤◌, ◌&&◌, Bool, true, false, not, if◌then◌else◌, All, List, [], ◌∷◌, ◌++◌, length, Option, Some, None, IfSome}
 use Rattle.sig_kinds.specs.declared.signal.Signal.{Signal}
+use Rattle.sig_layout.specs.declared.layout.TheConstants.{BUFFERS}
 use Rattle.sig_layout.specs.declared.entry.Entry.{Entry}
 use Rattle.sig_layout.specs.declared.outer.Outer.{Outer}
 use Rattle.sig_queue.specs.declared.slot.Slot.{Slot}
 use Rattle.sig_queue.specs.declared.slot.Slot.TheVariants as slot
-use Rattle.sig_layout.specs.declared.part.Part.{Part}
+use Rattle.sig_layout.specs.declared.held_buffer.HeldBuffer.{HeldBuffer}
 use Rattle.sig_layout.specs.declared.knows.Knows.{Knows}
 use Rattle.sig_layout.specs.Views.{filled_at, flag, signals_of}
-use Rattle.sig_queue.specs.declared.found.Found.{Found}
+use Rattle.sig_queue.specs.declared.fetch_find.Caught.{Caught}
 use Rattle.sig_queue.specs.Tied.{Held, Foreign}
 use Rattle.sig_queue.specs.Parts.{OfBuffer}
 
@@ -20,24 +21,24 @@ picked f p k (suc n) = if p k then f k ∷ picked f p (suc k) n else picked f p 
 abbrev pub same_number : ℕ → ℕ
 same_number c = c
 
-abbrev pub numbers : List Part → List ℕ
+abbrev pub numbers : List HeldBuffer → List ℕ
 numbers [] = []
 numbers (p ∷ ps) = p.number ∷ numbers ps
 
-abbrev pub all_of : List Part → List Signal
+abbrev pub all_of : List HeldBuffer → List Signal
 all_of [] = []
 all_of (p ∷ ps) = p.list ++ all_of ps
 
 -- each has signals of its own senders alone
-abbrev pub EachOwn : List Part → Type 0
-EachOwn = All (λ (p : Part). OfBuffer p.number p.list)
+abbrev pub EachOwn : List HeldBuffer → Type 0
+EachOwn = All (λ (p : HeldBuffer). OfBuffer p.number p.list)
 
 -- of the bits n, the buffer c has one, and wasn't skipped
 abbrev pub kept_of : ℕ → ℕ → ℕ → Bool
 kept_of n skipped c = filled_at n c && not (filled_at skipped c)
 
 -- the slots that are out with the seat: the one that it took last stands first
-abbrev pub slots_of : List Part → List (ℕ × Slot)
+abbrev pub slots_of : List HeldBuffer → List (ℕ × Slot)
 slots_of [] = []
 slots_of (p ∷ ps) = slots_of ps ++ (p.number + 1, slot.List p.list) ∷ []
 
@@ -57,12 +58,12 @@ abbrev pub fetching_as : Knows → Knows → Knows
 fetching_as v w = record v { parts = w.parts; mask = w.mask; back = w.back; tries = w.tries }
 
 -- A fetch that took the bits n has tried the buffers below k. The seat had the view v before the first
-pub record Finding (v : Knows) (n k : ℕ) (me : Held) (z : Found) : Type 0 where
+pub record Finding (v : Knows) (n k : ℕ) (me : Held) (z : Caught) : Type 0 where
   pub view : me.0 ≡ fetching_as v me.0
   pub slots : me.1 ≡ slots_of me.0.parts ++ outer_out ∷ []
   pub numbers_are : numbers me.0.parts ≡ picked same_number (filled_at z.held) 0 k
   pub count : z.count ≡ length me.0.parts
-  pub to_come : (c : ℕ) → c < 64 → k ≤ c → flag me.0.mask c ≡ filled_at n c
+  pub to_come : (c : ℕ) → c < BUFFERS → k ≤ c → flag me.0.mask c ≡ filled_at n c
   pub kept : (c : ℕ) → c < k → flag me.0.mask c ≡ filled_at z.held c
   pub back : me.0.back ≡ z.skipped
   pub values : ℕ → ℕ
@@ -79,9 +80,9 @@ pub record Finding (v : Knows) (n k : ℕ) (me : Held) (z : Found) : Type 0 wher
 -- the buffers of `held` from k on are still held, with their slots, and are in the mask. No other buffer is
 pub record Standing (held k : ℕ) (me : Held) (count : ℕ) : Type 0 where
   pub slots : me.1 ≡ outer_out ∷ slots_of me.0.parts
-  pub numbers_are : (m : ℕ) → k + m ≡ 64 → numbers me.0.parts ≡ picked same_number (filled_at held) k m
+  pub numbers_are : (m : ℕ) → k + m ≡ BUFFERS → numbers me.0.parts ≡ picked same_number (filled_at held) k m
   pub counted : count ≡ length me.0.parts
-  pub masks : (c : ℕ) → c < 64 → k ≤ c → flag me.0.mask c ≡ filled_at held c
+  pub masks : (c : ℕ) → c < BUFFERS → k ≤ c → flag me.0.mask c ≡ filled_at held c
   pub dropped : (c : ℕ) → c < k → flag me.0.mask c ≡ false
 
 -- the lists of buffers below k came behind the outer list. The seat had the view u before the first

@@ -4,12 +4,12 @@ use Rattle.sig_kinds.specs.declared.signal.Signal.{Signal}
 use Rattle.sig_layout.specs.declared.via.Via.{Via}
 use Rattle.sig_layout.specs.declared.item.Item.{Item}
 use Rattle.sig_layout.specs.declared.outer.Outer.{Outer}
-use Rattle.sig_layout.specs.declared.part.Part.{Part}
+use Rattle.sig_layout.specs.declared.held_buffer.HeldBuffer.{HeldBuffer}
 use Rattle.sig_layout.specs.declared.knows.Knows.{Knows}
 use Rattle.sig_layout.specs.Views.{part, tail, mode_word}
 use Rattle.sig_layout.specs.Core.{buffer_of}
 
-abbrev pub first_part : List Part → Part
+abbrev pub first_part : List HeldBuffer → HeldBuffer
 first_part [] = part 0 []
 first_part (p ∷ ps) = p
 
@@ -18,13 +18,13 @@ held_or (Some o) = o
 held_or None = record { signals = []; journal = [] }
 
 -- the first of these is buffer b, and there are no others
-abbrev pub IsOne : List Part → ℕ → Type 0
+abbrev pub IsOne : List HeldBuffer → ℕ → Type 0
 IsOne ps b = (ps ≡ first_part ps ∷ []) × ((first_part ps).number ≡ b)
 
-abbrev pub IsFirst : List Part → ℕ → Type 0
+abbrev pub IsFirst : List HeldBuffer → ℕ → Type 0
 IsFirst ps b = (ps ≡ first_part ps ∷ tail ps) × ((first_part ps).number ≡ b)
 
--- the signals of buffer b alone: of senders whose pid is b modulo 64
+-- the signals of buffer b alone: of senders whose pid is b modulo BUFFERS
 abbrev pub OfBuffer : ℕ → List Signal → Type 0
 OfBuffer b = All (λ (x : Signal). buffer_of x.from.0 ≡ b)
 

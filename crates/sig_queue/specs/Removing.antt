@@ -1,6 +1,7 @@
 -- What a seat has while it removes the buffers.
 use Rattle.std.specs.Prelude.{◌≡◌, ℕ, ◌+◌, ◌≤◌, List, [], ◌∷◌, Some}
 use Rattle.sig_kinds.specs.declared.signal.Signal.{Signal}
+use Rattle.sig_layout.specs.declared.layout.TheConstants.{BUFFERS}
 use Rattle.sig_layout.specs.Rooms.{Roomy}
 use Rattle.sig_layout.specs.declared.knows.Knows.{Knows}
 use Rattle.sig_layout.specs.Sent.{Prefix}
@@ -27,4 +28,4 @@ pub record Passing (u : Knows) (k : ℕ) (me : Held) (out : List Signal) : Type 
 
 -- room for the lists of buffers from k on
 abbrev pub WithRoom : ℕ → Roomy → Type 0
-WithRoom k g = 64 ≤ g.spare + k
+WithRoom k g = BUFFERS ≤ g.spare + k

@@ -1,6 +1,7 @@
 -- What contracts see of queues and of the tokens of one queue, and what is true of each.
 use Rattle.std.specs.Prelude.{◌≡◌, ◌≤◌, false, [], ◌∷◌}
 use Rattle.atomic_table.specs.Seated.{TableId}
+use Rattle.sig_layout.specs.declared.senders.TheConstants.{PIDS}
 use Rattle.sig_layout.specs.declared.setup.Setup.{Setup}
 use Rattle.sig_queue.specs.declared.kept.Kept.{Kept}
 use Rattle.sig_queue.specs.declared.slot.Slot.TheVariants as slot
@@ -24,8 +25,8 @@ pub record Seated : Type 0 where
 -- what the running seat keeps is what contracts see
 pub record Keeps (v : Knows) (k : Kept) : Type 0 where
   pub senders_are : v.senders ≡ k.senders
-  pub number_is : number v ≡ k.least
-  pub low : k.least ≤ 256
+  pub number_is : number v ≡ k.number
+  pub low : k.number ≤ PIDS
   pub role_is : v.role ≡ k.role
   pub due_is : v.due ≡ k.due
   pub refused_is : k.refused ≡ some_refused v.refused

@@ -4,6 +4,8 @@ use mathlib.Core.Option as maybe
 use mathlib.Core.Option.{none, some}
 use Rattle.atomic_table.specs.Table.{State, Me, Step, rest}
 use Rattle.sig_kinds.specs.declared.signal.Signal.{Signal}
+use Rattle.sig_layout.specs.declared.layout.TheConstants.{BUFFERS}
+use Rattle.sig_layout.specs.declared.senders.TheConstants.{PIDS}
 use Rattle.sig_layout.specs.declared.setup.Setup.{Setup}
 use Rattle.sig_layout.specs.declared.outer.Outer.{Outer}
 use Rattle.sig_layout.specs.declared.item.Item.{Item}
@@ -15,9 +17,9 @@ use Rattle.sig_layout.specs.Sets.{has}
 use Rattle.sig_layout.specs.Sent.{sender, of, signals, Prefix}
 use Rattle.sig_queue.specs.declared.slot.Slot.{Slot}
 use Rattle.sig_queue.specs.declared.slot.Slot.TheVariants as slot
-use Rattle.sig_layout.specs.declared.part.Part.{Part}
+use Rattle.sig_layout.specs.declared.held_buffer.HeldBuffer.{HeldBuffer}
 use Rattle.sig_layout.specs.declared.knows.Knows.{Knows}
-use Rattle.sig_layout.specs.Views.{table_from, filled_at, mode_word, holding, turned_away, after_put, after_same, with_bits, after_fetch, switched_on, switched_off, after_remove, saw, counted, gains, turned_away_at, saw_under, marked, given_back, loses, put_aside, took_part, passed}
+use Rattle.sig_layout.specs.Views.{table_from, filled_at, mode_word, holding, turned_away, after_put, after_same, with_bits, after_fetch, switched_on, switched_off, after_remove, saw, counted, gains, turned_away_at, saw_under, marked, given_back, loses, put_to_buffer, took_part, passed}
 use Rattle.sig_layout.specs.Core.{Cell, QState, Reached, buffer_of}
 use Rattle.sig_queue.specs.Parts.{OfBuffer}
 
@@ -35,10 +37,10 @@ apart [] = []
 apart (w ∷ ws) = w ∷ 0 ∷ 0 ∷ 0 ∷ 0 ∷ 0 ∷ 0 ∷ 0 ∷ apart ws
 
 abbrev pub words_of : QState → List ℕ
-words_of q = apart (q.turn ∷ mode_word q.mode ∷ q.filled ∷ table_from 0 64 (λ c. (q.cells c).word))
+words_of q = apart (q.turn ∷ mode_word q.mode ∷ q.filled ∷ table_from 0 BUFFERS (λ c. (q.cells c).word))
 
 abbrev pub homes_of : QState → List (maybe.Option Slot)
-homes_of q = home q.turn (slot.Outer q.outer) ∷ table_from 0 64 (λ c. cell_home (q.cells c))
+homes_of q = home q.turn (slot.Outer q.outer) ∷ table_from 0 BUFFERS (λ c. cell_home (q.cells c))
 
 -- the words, the values at home and the views of a state
 abbrev pub shown : QState → State Slot Knows
@@ -58,7 +60,7 @@ Held = Me Slot Knows
 pub record Foreign (v : Knows) (n : ℕ) : Type 0 where
   pub taken : n ≢ 0
   pub other : (s : ℕ) → has v.senders s ≡ true → n ≢ s + 1
-  pub not_role : v.role ≡ true → n ≢ 257
+  pub not_role : v.role ≡ true → n ≢ PIDS + 1
 
 -- of the sender s, the seat took all of these
 abbrev pub HasTaken : Knows → ℕ → List Item → Type 0
@@ -101,22 +103,26 @@ abbrev pub Tells : Type 1
 Tells = Step Slot → Held → ℕ → Held → Type 0
 
 abbrev pub tried_outer : Tells
-tried_outer st m n m' = (n ≡ 0 → (o : Outer) × (m' ≡ (holding m.0 o, (0, slot.Outer o) ∷ m.1))) × (n ≢ 0 → (m' ≡ (turned_away m.0 n, m.1)) × Foreign m.0 n)
+tried_outer st m n m' = (n ≡ 0 → (o : Outer) × (m' ≡ (holding m.0 o, (0, slot.Outer o) ∷ m.1)))
+    × (n ≢ 0 → (m' ≡ (turned_away m.0 n, m.1)) × Foreign m.0 n)
 
 abbrev pub tried_buffer : Tells
-tried_buffer st m n m' = (b : ℕ) → st.word ≡ 8 * (b + 3) → (n ≡ 0 → (l : List Signal) × (m' ≡ (gains m.0 b l, (b + 1, slot.List l) ∷ m.1)) × OfBuffer b l) × (n ≢ 0 → (m' ≡ (turned_away_at m.0 (b + 3) n, m.1)) × Foreign m.0 n)
+tried_buffer st m n m' = (b : ℕ) → st.word ≡ 8 * (b + 3)
+    → (n ≡ 0 → (l : List Signal) × (m' ≡ (gains m.0 b l, (b + 1, slot.List l) ∷ m.1)) × OfBuffer b l)
+    × (n ≢ 0 → (m' ≡ (turned_away_at m.0 (b + 3) n, m.1)) × Foreign m.0 n)
 
 abbrev pub loaded_mode : Policy → Tells
 loaded_mode policy st m n m' = (on : Bool) × (n ≡ mode_word on) × (m' ≡ (saw m.0 on, m.1)) × AllowsMode policy on
 
 abbrev pub loaded_under : Policy → Tells
-loaded_under policy st m n m' = (p : Part) → m.0.parts ≡ p ∷ [] → (on : Bool) × (n ≡ mode_word on) × (m' ≡ (saw_under m.0 p on, m.1)) × AllowsMode policy on
+loaded_under policy st m n m' = (p : HeldBuffer) → m.0.parts ≡ p ∷ [] → (on : Bool) × (n ≡ mode_word on)
+    × (m' ≡ (saw_under m.0 p on, m.1)) × AllowsMode policy on
 
 abbrev pub loaded_filled : Tells
 loaded_filled st m n m' = m' ≡ (counted m.0 n, m.1)
 
 abbrev pub bit_set : Tells
-bit_set st m n m' = (p : Part) → m.0.parts ≡ p ∷ [] → m' ≡ (marked m.0 p, m.1)
+bit_set st m n m' = (p : HeldBuffer) → m.0.parts ≡ p ∷ [] → m' ≡ (marked m.0 p, m.1)
 
 abbrev pub bits_taken : Tells
 bits_taken st m n m' = m' ≡ (with_bits m.0 n, m.1)
@@ -137,22 +143,25 @@ abbrev pub left_same : Tells
 left_same st m n m' = m' ≡ (after_same m.0, rest m.1)
 
 abbrev pub left_fetch : Setup → Bool → Tells
-left_fetch z due st m n m' = (m' ≡ (after_fetch m.0 due, rest m.1)) × FreshBut m.0.back (after_fetch m.0 due) × TookCarried z (after_fetch m.0 due)
+left_fetch z due st m n m' = (m' ≡ (after_fetch m.0 due, rest m.1)) × FreshBut m.0.back (after_fetch m.0 due)
+    × TookCarried z (after_fetch m.0 due)
 
 abbrev pub left_remove : Tells
 left_remove st m n m' = m' ≡ (after_remove m.0, rest m.1)
 
-abbrev pub left_aside : Tells
-left_aside st m n m' = m' ≡ (put_aside m.0 (list_in m.1), rest m.1)
+abbrev pub left_buffer_put : Tells
+left_buffer_put st m n m' = m' ≡ (put_to_buffer m.0 (list_in m.1), rest m.1)
 
 abbrev pub left_buffer : Tells
 left_buffer st m n m' = m' ≡ (loses m.0, rest m.1)
 
 abbrev pub left_part : Tells
-left_part st m n m' = (p : Part) (ps : List Part) (o : Outer) → m.0.parts ≡ p ∷ ps → m.0.held ≡ Some o → m' ≡ (took_part m.0 o p, rest m.1)
+left_part st m n m' = (p : HeldBuffer) (ps : List HeldBuffer) (o : Outer) → m.0.parts ≡ p ∷ ps → m.0.held ≡ Some o
+    → m' ≡ (took_part m.0 o p, rest m.1)
 
 abbrev pub left_passed : Tells
-left_passed st m n m' = (p : Part) (ps : List Part) (o : Outer) → m.0.parts ≡ p ∷ ps → m.0.held ≡ Some o → m' ≡ (passed m.0 o p, rest m.1)
+left_passed st m n m' = (p : HeldBuffer) (ps : List HeldBuffer) (o : Outer) → m.0.parts ≡ p ∷ ps → m.0.held ≡ Some o
+    → m' ≡ (passed m.0 o p, rest m.1)
 
 abbrev pub looked_only : Tells
 looked_only st m n m' = m' ≡ m

@@ -3,18 +3,20 @@ ghost use Rattle.std.specs.Prelude.{◌≡◌, ℕ, ◌+◌, ◌<◌, ◌≤◌,
 ghost use mathlib.Core.Option.{some};
 ghost use lib.ListN.{get_elem?};
 ghost use Rattle.sig_kinds.specs.declared.signal.Signal.{Signal};
+ghost use Rattle.sig_layout.specs.declared.layout.TheConstants.{SLOTS};
 ghost use Rattle.sig_layout.specs.Sets.{has};
-ghost use Rattle.sig_queue.specs.Ends.{lists_in, IsEnding, EndsAs};
+ghost use Rattle.sig_queue.specs.Tables.{lists_in, IsEnding};
+ghost use Rattle.sig_queue.specs.Ends.{EndsAs};
 ghost use Rattle.sig_queue.specs.Accounts.{account_of};
 
 use crate::closed::Closed;
 use crate::qseat::QSeat;
 use crate::receipt::Receipt;
 use crate::rest::Rest;
-use crate::rule::Place;
+use crate::rule::SeatAt;
 use crate::sig_queue::SigQueue;
 use crate::slot::Slot;
-use sig_layout::{Batch, Journal, Outer};
+use sig_layout::{BUFFERS, Batch, Journal, Outer};
 use std::alloc::Global;
 
 type Table = atomic_table::Closed<Slot, Global>;
@@ -24,7 +26,8 @@ fn take_one(closed: &mut Table, slot: usize) -> Batch
     requires there { (slot < closed.old.slots.len) × (slice_index_or closed.old.slots.filled slot false ≡ true) }
     requires list { (l : List Signal) × (get_elem? (closed.old.slots.items) slot ≡ some (Slot.List l)) }
     ensures list { get_elem? (closed.old.slots.items) slot ≡ some (Slot.List result) }
-    ensures same { (closed.new.slots.items ≡ closed.old.slots.items) × (closed.new.slots.len ≡ closed.old.slots.len) × (closed.new.words ≡ closed.old.words) }
+    ensures same { (closed.new.slots.items ≡ closed.old.slots.items) × (closed.new.slots.len ≡ closed.old.slots.len)
+        × (closed.new.words ≡ closed.old.words) }
     ensures taken { closed.new.slots.filled ≡ slice_set closed.old.slots.filled slot false }
 {
     match closed.take(slot) {
@@ -35,16 +38,16 @@ fn take_one(closed: &mut Table, slot: usize) -> Batch
 
 // The lists of all buffers. There is room for them.
 fn take_lists(closed: &mut Table, lists: &mut Vec<Batch>)
-    requires size { closed.old.slots.len ≡ 65 }
-    requires filled { (k : ℕ) → k < 65 → slice_index_or closed.old.slots.filled k false ≡ true }
-    requires held { (k : ℕ) → k < 64 → (l : List Signal) × (get_elem? (closed.old.slots.items) (k + 1) ≡ some (Slot.List l)) }
-    requires room { (lists.old.items ≡ []) × (64 ≤ vec_capacity lists.old) }
-    ensures lists { lists.new.items ≡ lists_in closed.old.slots.items 1 64 }
+    requires size { closed.old.slots.len ≡ SLOTS }
+    requires filled { (k : ℕ) → k < SLOTS → slice_index_or closed.old.slots.filled k false ≡ true }
+    requires held { (k : ℕ) → k < BUFFERS → (l : List Signal) × (get_elem? (closed.old.slots.items) (k + 1) ≡ some (Slot.List l)) }
+    requires room { (lists.old.items ≡ []) × (BUFFERS ≤ vec_capacity lists.old) }
+    ensures lists { lists.new.items ≡ lists_in closed.old.slots.items 1 BUFFERS }
     ensures same { (closed.new.slots.items ≡ closed.old.slots.items) × (closed.new.slots.len ≡ closed.old.slots.len) }
     ensures first { slice_index_or closed.new.slots.filled 0 false ≡ true }
-    ensures empty { (k : ℕ) → 0 < k → k < 65 → slice_index_or closed.new.slots.filled k false ≡ false }
+    ensures empty { (k : ℕ) → 0 < k → k < SLOTS → slice_index_or closed.new.slots.filled k false ≡ false }
 {
-    for buffer in 0..64usize {
+    for buffer in 0..BUFFERS {
         let list = take_one(closed, buffer + 1);
         lists.push_reserved(list);
     }
@@ -52,7 +55,7 @@ fn take_lists(closed: &mut Table, lists: &mut Vec<Batch>)
 
 impl SigQueue {
     // What is left, and the journal.
-    fn end(self, place: Place) -> (Rest, Journal)
+    fn end(self, place: SeatAt) -> (Rest, Journal)
         requires own { place.table_id ≡ self.id }
         requires idle { IsEnding self.setup place.me }
         ensures ends { EndsAs self.setup place.me.0 result.0 result.1 }

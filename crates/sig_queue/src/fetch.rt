@@ -3,14 +3,15 @@ ghost use Rattle.sig_layout.specs.declared.outer.Outer.{Outer};
 ghost use Rattle.sig_layout.specs.Views.{number, IsSomebody};
 ghost use Rattle.sig_layout.specs.Core.{Begins};
 ghost use Rattle.sig_queue.specs.Calls.{due_of, FetchedHeld, Fetched};
+ghost use Rattle.sig_queue.specs.SeatWords.{IsOf, IsSameSeat};
 
-use crate::found::{bring_front, find_all};
+use crate::fetch_find::{bring_front, find_all};
+use crate::fetch_settle::settle;
 use crate::qseat::QSeat;
-use crate::rule::{Place, Words};
+use crate::rule::{SeatAt, Words};
 use crate::sig_queue::SigQueue;
 use crate::slot::Slot;
 use crate::steps::{take_bits, take_value, try_outer};
-use crate::taken::settle;
 use sig_kinds::Signals;
 use sig_layout::Policy;
 
@@ -30,22 +31,27 @@ pub enum Fetch {
 // Under the outer turn: the bits are taken, each buffer of theirs is tried, and what was found is taken.
 fn fetch_held(
     words: &Words,
-    place: &mut Place,
-    mine: u64,
+    place: &mut SeatAt,
+    my_word: u64,
     into: &mut Signals,
     policy: Policy,
 ) -> Fetch
-    requires table { (place.old.table_id ≡ words.now.table_id) × (words.now.table_id.words ≡ 536) × (words.now.key.policy ≡ policy) }
+    requires table { IsOf place.old words.now }
+    requires policy { words.now.key.policy ≡ policy }
     requires begins { (o : Outer) × Begins place.old.me.0 o × (place.old.me.1 ≡ (0, Slot.Outer o) ∷ []) }
-    requires idle { (place.old.me.0.parts ≡ []) × (place.old.me.0.saw_off ≡ false) × (place.old.me.0.mask ≡ []) × (place.old.me.0.back ≡ 0) × (place.old.me.0.moved ≡ 0) }
+    requires idle { (place.old.me.0.parts ≡ []) × (place.old.me.0.saw_off ≡ false) × (place.old.me.0.mask ≡ [])
+        × (place.old.me.0.back ≡ 0) × (place.old.me.0.moved ≡ 0) }
     requires role { (place.old.me.0.role ≡ true) × (place.old.me.0.due ≡ false) }
-    requires somebody { IsSomebody place.old.me.0 × (mine ≡ number place.old.me.0 + 1) }
-    ensures same { (place.new.table_id ≡ place.old.table_id) × (place.new.id ≡ place.old.id) × (place.new.me.1 ≡ []) }
+    requires somebody { IsSomebody place.old.me.0 × (my_word ≡ number place.old.me.0 + 1) }
+    ensures same { IsSameSeat place.new place.old }
+    ensures bare { place.new.me.1 ≡ [] }
     ensures fetched { FetchedHeld words.now.key into.old.items into.new.items place.old.me.0 result place.new.me.0 }
 {
     let outer = take_value(words, place);
+    // The bits are taken before the lists. Taken after them, the bit of a signal that came in between
+    // would be gone, and no later fetch would look for it.
     let bits = take_bits(words, place);
-    let found = find_all(words, place, bits, mine);
+    let found = find_all(words, place, bits, my_word);
     bring_front(place, found.count);
     match settle(words, place, &found, outer, into, policy) {
         Some(taken) => Fetch::Took {
@@ -81,13 +87,13 @@ impl SigQueue {
         ensures fetched { Fetched self.now.setup into.old.items into.new.items seat.old.knows result seat.new.knows }
     {
         let words = &self.table.shared;
-        let mine = seat.kept.least + 1;
-        let found = try_outer(words, &mut seat.place, mine);
+        let my_word = seat.kept.number + 1;
+        let found = try_outer(words, &mut seat.place, my_word);
         if found != 0 {
             seat.kept.refused = true;
             return Fetch::Busy { found };
         }
-        let fetch = fetch_held(words, &mut seat.place, mine, into, self.policy);
+        let fetch = fetch_held(words, &mut seat.place, my_word, into, self.policy);
         seat.kept.due = is_removal_due(&fetch);
         fetch
     }

@@ -1,12 +1,12 @@
 use crate::kept::Kept;
-use crate::rule::Place;
+use crate::rule::SeatAt;
 use std::marker::Model;
 
 /// A seat that holds the outer turn, for tests. Contracts see of which queue it is, and what it knows.
 #[derive(Drop)]
 pub struct HeldSeat {
     /// The seat at the table of the queue.
-    pub(crate) place: Place,
+    pub(crate) place: SeatAt,
     /// What the running code has of what it knows.
     pub(crate) kept: Kept,
 }

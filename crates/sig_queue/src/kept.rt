@@ -5,8 +5,8 @@ use sig_layout::Senders;
 pub(crate) struct Kept {
     /// Those for which it puts.
     pub(crate) senders: Senders,
-    /// The least sender, or 256.
-    pub(crate) least: u64,
+    /// The number of the seat: its least sender, or `PIDS`.
+    pub(crate) number: u64,
     /// It is the receiver's: it fetches and removes.
     pub(crate) role: bool,
     /// Its last fetch made a removal due.

@@ -1,4 +1,5 @@
-//! A seat that holds the outer turn between two calls, for tests.
+//! Two calls for tests alone: a seat that holds the outer turn between two calls. (The laws of the queue
+//! are theorems of sig_layout: `rule` there.)
 ghost use Rattle.std.specs.Prelude.{◌≡◌, None};
 ghost use Rattle.sig_layout.specs.Views.{IsSomebody};
 ghost use Rattle.sig_queue.specs.Calls.{Holds};
@@ -21,7 +22,7 @@ pub fn hold(queue: &SigQueue, seat: QSeat) -> Hold
         mut place,
         mut kept,
     } = seat;
-    let found = try_outer(&queue.table.shared, &mut place, kept.least + 1);
+    let found = try_outer(&queue.table.shared, &mut place, kept.number + 1);
     if found != 0 {
         kept.refused = true;
         let seat = QSeat { place, kept };

@@ -1,11 +1,11 @@
-use crate::rule::Place;
+use crate::rule::SeatAt;
 use std::marker::Model;
 
 /// What a seat knew to have been put. Contracts see of which queue it is, and what it knows.
 #[derive(Drop)]
 pub struct Note {
     /// A seat at the table of the queue, which has no sender and no role.
-    pub(crate) place: Place,
+    pub(crate) place: SeatAt,
 }
 
 impl Model for Note {

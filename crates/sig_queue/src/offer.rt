@@ -5,14 +5,15 @@ ghost use Rattle.sig_layout.specs.Openings.{IsNext};
 ghost use Rattle.sig_layout.specs.Core.{Idle, some_refused};
 ghost use Rattle.sig_layout.specs.Views.{number, IsSomebody};
 ghost use Rattle.sig_queue.specs.Calls.{Offered};
+ghost use Rattle.sig_queue.specs.SeatWords.{IsOf, IsSameSeat};
 
-use crate::aside::{Aside, offer_aside};
-use crate::outward::offer_outer;
 use crate::qseat::QSeat;
-use crate::rule::{Place, Words};
+use crate::rule::{SeatAt, Words};
 use crate::sig_queue::SigQueue;
+use crate::to_buffer::{ToBuffer, offer_to_buffer};
+use crate::to_outer::offer_outer;
 use sig_kinds::Signal;
-use sig_layout::{Policy, Via};
+use sig_layout::{BUFFERS, Policy, Via};
 
 /// What `offer` gives.
 #[derive(Drop)]
@@ -29,33 +30,35 @@ pub enum Offer {
 // Offers where the seat holds no turn. `refused`: the outer turn was refused since the last put to the outer list.
 fn offer_at(
     words: &Words,
-    place: &mut Place,
-    mine: u64,
+    place: &mut SeatAt,
+    my_word: u64,
     signal: Signal,
     refused: &mut bool,
     policy: Policy,
 ) -> Offer
-    requires table { (place.old.table_id ≡ words.now.table_id) × (words.now.table_id.words ≡ 536) × (words.now.key.policy ≡ policy) }
+    requires table { IsOf place.old words.now }
+    requires policy { words.now.key.policy ≡ policy }
     requires idle { Idle place.old.me.0 × (place.old.me.1 ≡ []) }
-    requires somebody { IsSomebody place.old.me.0 × (mine ≡ number place.old.me.0 + 1) }
+    requires somebody { IsSomebody place.old.me.0 × (my_word ≡ number place.old.me.0 + 1) }
     requires from { has place.old.me.0.senders signal.from.0 ≡ true }
     requires next { IsNext words.now.key place.old.me.0.put signal }
     requires refused { refused.old ≡ some_refused place.old.me.0.refused }
-    ensures same { (place.new.table_id ≡ place.old.table_id) × (place.new.id ≡ place.old.id) × (place.new.me.1 ≡ []) }
+    ensures same { IsSameSeat place.new place.old }
+    ensures bare { place.new.me.1 ≡ [] }
     ensures offered { Offered signal place.old.me.0 result place.new.me.0 }
     ensures refused { refused.new ≡ some_refused place.new.me.0.refused }
     ensures never { words.now.key.policy ≡ Never → (b : ℕ) → result ≢ Offer.Put (Via.Buffer b) }
     ensures always { words.now.key.policy ≡ Always → result ≢ Offer.Put Via.Outer }
 {
-    let buffer = signal.from.0 % 64;
-    let aside = offer_aside(words, place, buffer as usize, mine, signal);
-    match aside {
-        Aside::Put => Offer::Put {
+    let buffer = signal.from.0 % BUFFERS as u32;
+    let offered = offer_to_buffer(words, place, buffer as usize, my_word, signal);
+    match offered {
+        ToBuffer::Put => Offer::Put {
             via: Via::Buffer(buffer as u8),
         },
-        Aside::Busy(signal, found) => Offer::Busy { signal, found },
-        Aside::Memory(signal) => Offer::Memory { signal },
-        Aside::Off(signal) => offer_outer(words, place, mine, signal, refused, policy),
+        ToBuffer::Busy(signal, found) => Offer::Busy { signal, found },
+        ToBuffer::Memory(signal) => Offer::Memory { signal },
+        ToBuffer::Off(signal) => offer_outer(words, place, my_word, signal, refused, policy),
     }
 }
 
@@ -79,12 +82,12 @@ impl SigQueue {
         ensures always { self.now.setup.policy ≡ Always → result ≢ Offer.Put Via.Outer }
     {
         let words = &self.table.shared;
-        let mine = seat.kept.least + 1;
+        let my_word = seat.kept.number + 1;
         let mut refused = seat.kept.refused;
         let offer = offer_at(
             words,
             &mut seat.place,
-            mine,
+            my_word,
             signal,
             &mut refused,
             self.policy,

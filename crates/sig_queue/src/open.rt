@@ -3,16 +3,20 @@ ghost use Rattle.std.specs.Prelude.{◌≡◌, ◌≤◌, ◌+◌, ◌++◌, [],
 ghost use Rattle.sig_layout.specs.Policies.{begins_on, first_journal as first_entries};
 ghost use Rattle.sig_layout.specs.Openings.{IsSetup};
 ghost use Rattle.sig_layout.specs.Views.{first_seat, mode_word};
-ghost use Rattle.sig_queue.specs.Ends.{first_words as words_at_first, first_outer, all_buffers, setup_of};
+ghost use Rattle.sig_queue.specs.Tables.{first_words as words_at_first, first_outer, all_buffers};
+ghost use Rattle.sig_queue.specs.Ends.{setup_of};
 
 use crate::kept::Kept;
 use crate::outer_box::OuterBox;
 use crate::qseat::QSeat;
-use crate::rule::{Place, QueueTable};
+use crate::rule::{QueueTable, SeatAt};
 use crate::sig_queue::SigQueue;
 use crate::slot::Slot;
 use atomic_table::Table;
-use sig_layout::{Batch, Entry, Journal, Opening, Outer, Pieces, Policy, Senders, Setup};
+use sig_layout::{
+    BUFFERS, Batch, Entry, Journal, MODE, Opening, Outer, Pieces, Policy, SLOTS, Senders, Setup,
+    WORDS,
+};
 use sig_lists::Pushed;
 use std::alloc::{AllocError, Global};
 
@@ -26,11 +30,11 @@ fn first_mode(policy: Policy) -> u64
     }
 }
 
-fn first_words(policy: Policy) -> [u64; 536]
+fn first_words(policy: Policy) -> [u64; WORDS]
     ensures { result ≡ words_at_first policy }
 {
-    let mut words = [0u64; 536];
-    words[8] = first_mode(policy);
+    let mut words = [0u64; WORDS];
+    words[MODE] = first_mode(policy);
     words
 }
 
@@ -59,10 +63,10 @@ fn first_box(alloc: Global, policy: Policy) -> Result<OuterBox, AllocError>
 
 // Empty buffers come behind what is there. There is room for them.
 fn add_buffers(alloc: Global, slots: &mut Vec<Slot>)
-    requires { vec_len slots.old + 64 ≤ vec_capacity slots.old }
+    requires { vec_len slots.old + BUFFERS ≤ vec_capacity slots.old }
     ensures { slots.new.items ≡ slots.old.items ++ all_buffers }
 {
-    for _ in 0..64usize {
+    for _ in 0..BUFFERS {
         slots.push_reserved(Slot::List(Batch::new(alloc)));
     }
 }
@@ -72,18 +76,18 @@ fn first_slots(alloc: Global, policy: Policy) -> Result<Vec<Slot>, AllocError>
 {
     let outer = first_box(alloc, policy)?;
     let mut slots = Vec::new(alloc);
-    slots.reserve(65)?;
+    slots.reserve(SLOTS)?;
     slots.push_reserved(Slot::Outer(outer));
     add_buffers(alloc, &mut slots);
     Ok(slots)
 }
 
-// Room for 64 lists.
+// Room for the lists of all buffers.
 fn room_for_lists(alloc: Global) -> Result<Vec<Batch>, AllocError>
-    ensures { IfOk result (λ v. (v.items ≡ []) × (64 ≤ vec_capacity v)) }
+    ensures { IfOk result (λ v. (v.items ≡ []) × (BUFFERS ≤ vec_capacity v)) }
 {
     let mut lists = Vec::new(alloc);
-    lists.reserve(64)?;
+    lists.reserve(BUFFERS)?;
     Ok(lists)
 }
 
@@ -93,9 +97,10 @@ fn first_table(
     policy: Policy,
     senders: Senders,
     opening: &Opening,
-) -> Result<(QueueTable, Place), AllocError>
+) -> Result<(QueueTable, SeatAt), AllocError>
     requires { IsSetup (setup_of policy senders opening.now) }
-    ensures table { IfOk result (λ r. (r.0.shared.table_id.words ≡ 536) × (r.0.shared.table_id.slots ≡ 65) × (r.0.shared.key ≡ setup_of policy senders opening.now)) }
+    ensures table { IfOk result (λ r. (r.0.shared.table_id.words ≡ WORDS) × (r.0.shared.table_id.slots ≡ SLOTS)
+        × (r.0.shared.key ≡ setup_of policy senders opening.now)) }
     ensures seat { IfOk result (λ r. (r.1.table_id ≡ r.0.shared.table_id) × (r.1.me ≡ (first_seat senders, []))) }
 {
     let setup = Setup {
@@ -138,7 +143,7 @@ impl SigQueue {
         };
         let kept = Kept {
             senders,
-            least: senders.least(),
+            number: senders.least(),
             role: true,
             due: false,
             refused: false,

@@ -55,7 +55,8 @@ impl OuterBox {
         Box::into_inner(self.value)
     }
 
-    // The signals come out, with room for so many batches more, and the entry of a removal is added. Where memory is wanting, all is as before.
+    // The signals come out, with room for so many batches more, and the entry of a removal is
+    // added. Where memory is wanting, all is as before.
     pub(crate) fn grow(&mut self, alloc: Global, more: usize) -> Result<Growing, AllocError>
         ensures signals { IfOk result (λ g. (g.list ≡ self.old.signals) × (more ≤ g.spare)) }
         ensures journal { OnOk result (self.new.journal ≡ (removed self.old).journal) }
@@ -97,7 +98,8 @@ impl OuterBox {
         moved: u64,
         more: usize,
     ) -> Result<usize, AllocError>
-        ensures ok { OnOk result ((self.new ≡ emptied self.old moved) × (into.new.items ≡ into.old.items ++ self.old.signals) × (more ≤ into.new.spare)) }
+        ensures ok { OnOk result ((self.new ≡ emptied self.old moved)
+            × (into.new.items ≡ into.old.items ++ self.old.signals) × (more ≤ into.new.spare)) }
         ensures count { IfOk result (λ n. n ≡ length self.old.signals + more) }
         ensures err { OnErr result ((self.new ≡ self.old) × (into.new.items ≡ into.old.items)) }
     {

@@ -5,7 +5,7 @@ ghost use Rattle.sig_layout.specs.declared.policy.Policy.{Policy};
 ghost use Rattle.sig_layout.specs.declared.policy.Policy.TheVariants.{Never};
 ghost use Rattle.std.specs.Prelude.{Bool, ℕ, List, false};
 ghost use Rattle.sig_layout.specs.Sets.{no_senders};
-ghost use Rattle.sig_queue.specs.Tied.{no_setup, tried_outer, tried_buffer, loaded_mode, loaded_under, loaded_filled, bit_set, bits_taken, bit_back, stored_on, stored_off, left_put, left_same, left_fetch, left_remove, left_aside, left_buffer, left_part, left_passed, looked_only};
+ghost use Rattle.sig_queue.specs.Tied.{no_setup, tried_outer, tried_buffer, loaded_mode, loaded_under, loaded_filled, bit_set, bits_taken, bit_back, stored_on, stored_off, left_put, left_same, left_fetch, left_remove, left_buffer_put, left_buffer, left_part, left_passed, looked_only};
 
 use crate::slot::Slot;
 use atomic_table::{Join, Play, Split};
@@ -136,10 +136,10 @@ impl Play<Slot, Knows> for LeaveRemove {
     ghost then = { left_remove };
 }
 
-pub(crate) struct LeaveAside;
+pub(crate) struct LeaveBufferPut;
 
-impl Play<Slot, Knows> for LeaveAside {
-    ghost then = { left_aside };
+impl Play<Slot, Knows> for LeaveBufferPut {
+    ghost then = { left_buffer_put };
 }
 
 pub(crate) struct LeaveBuffer;

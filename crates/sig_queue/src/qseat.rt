@@ -1,12 +1,12 @@
 use crate::kept::Kept;
-use crate::rule::Place;
+use crate::rule::SeatAt;
 use std::marker::Model;
 
 /// A caller's token of one queue, which holds no turn. Contracts see of which queue it is, and what it knows.
 #[derive(Drop)]
 pub struct QSeat {
     /// The seat at the table of the queue.
-    pub(crate) place: Place,
+    pub(crate) place: SeatAt,
     /// What the running code has of what it knows.
     pub(crate) kept: Kept,
 }

@@ -3,7 +3,7 @@ ghost use Rattle.sig_queue.specs.declared.account.Account.{Account};
 ghost use Rattle.sig_queue.specs.Accounts.{no_account, account_of, followed, MayFollow};
 
 use crate::account::Account;
-use crate::rule::{Place, Words};
+use crate::rule::{SeatAt, Words};
 use crate::slot::Slot;
 use atomic_table::{Mark, PerchRule, RuledPerch};
 use sig_layout::Knows;
@@ -33,7 +33,7 @@ impl<G: Says> PerchRule<Account> for Stated<G> {
 #[derive(Drop)]
 pub struct Receipt {
     /// A seat at the table of the queue, from which a further mark is made.
-    like: Place,
+    like: SeatAt,
     /// What the receipt says.
     mark: Mark<Account>,
 }
@@ -51,21 +51,21 @@ impl Model for Receipt {
 }
 
 // A mark that says what the proof picks. The perch is let go at once.
-fn state<G: Says>(like: &Place) -> Mark<Account>
+fn state<G: Says>(like: &SeatAt) -> Mark<Account>
     ensures { result.view ≡ G.account }
 {
     let (_perch, mark) = RuledPerch::<Slot, Knows, Account, Stated<G>>::new(like, 0);
     mark
 }
 
-fn state_of<G: Says>(like: &Place, _words: &Words) -> Mark<Account>
+fn state_of<G: Says>(like: &SeatAt, _words: &Words) -> Mark<Account>
     ensures { result.view ≡ G.account }
 {
     state::<G>(like)
 }
 
 fn state_both<G: Says>(
-    like: &Place,
+    like: &SeatAt,
     _first: &Mark<Account>,
     _later: &Mark<Account>,
 ) -> Mark<Account>
@@ -76,7 +76,7 @@ fn state_both<G: Says>(
 
 impl Receipt {
     // What the seat put into the queue with these words. The other place is any of this queue.
-    pub(crate) fn of(seat: &Place, like: Place, words: &Words) -> Receipt
+    pub(crate) fn of(seat: &SeatAt, like: SeatAt, words: &Words) -> Receipt
         ensures { result ≡ account_of words.now.key seat.now.me.0.put }
     {
         let mark = state_of::<Brand>(seat, words);

@@ -9,15 +9,16 @@ ghost use Rattle.sig_layout.specs.declared.knows.Knows.{Knows};
 ghost use Rattle.sig_layout.specs.Views.{number, IsSomebody, part, after_same};
 ghost use Rattle.sig_queue.specs.Fetching.{outer_out};
 ghost use Rattle.sig_queue.specs.Removing.{waited, waits, Passing, WithRoom};
+ghost use Rattle.sig_queue.specs.SeatWords.{IsOf, IsBufferOf, IsSameSeat};
 
+use crate::buffer_steps::{leave_passed, put_list, take_list, try_buffer};
 use crate::outer_box::OuterBox;
 use crate::qseat::QSeat;
-use crate::rule::{Place, Words};
+use crate::rule::{SeatAt, Words};
 use crate::sig_queue::SigQueue;
 use crate::slot::Slot;
 use crate::steps::{leave_remove, leave_same, mode_off, put_value, take_value, try_outer};
-use crate::turns::{leave_passed, put_list, take_list, try_buffer};
-use sig_layout::{Batch, Growing};
+use sig_layout::{BUFFERS, Batch, Growing};
 use std::alloc::{AllocError, Global};
 use std::sync::Wait;
 use std::thread;
@@ -26,21 +27,22 @@ use std::thread;
 fn wait_outer<R: Wait>(
     rt: &R,
     words: &Words,
-    place: &mut Place,
-    mine: u64,
+    place: &mut SeatAt,
+    my_word: u64,
     mut refused: bool,
 ) -> bool
-    requires table { (place.old.table_id ≡ words.now.table_id) × (words.now.table_id.words ≡ 536) }
+    requires table { IsOf place.old words.now }
     requires idle { (place.old.me.0.held ≡ None) × (place.old.me.0.saw_off ≡ false) }
-    requires somebody { IsSomebody place.old.me.0 × (mine ≡ number place.old.me.0 + 1) }
+    requires somebody { IsSomebody place.old.me.0 × (my_word ≡ number place.old.me.0 + 1) }
     requires refused { refused ≡ some_refused place.old.me.0.refused }
-    ensures same { (place.new.table_id ≡ place.old.table_id) × (place.new.id ≡ place.old.id) }
-    ensures took { (o : Outer) × (place.new.me ≡ (record (waited place.old.me.0 place.new.me.0) { held = Some o }, (0, Slot.Outer o) ∷ place.old.me.1)) }
+    ensures same { IsSameSeat place.new place.old }
+    ensures took { (o : Outer)
+        × (place.new.me ≡ (record (waited place.old.me.0 place.new.me.0) { held = Some o }, (0, Slot.Outer o) ∷ place.old.me.1)) }
     ensures refused { (result ≡ some_refused place.new.me.0.refused) × (place.old.me.0.refused ≤ place.new.me.0.refused) }
     ensures tries { Prefix place.old.me.0.tries place.new.me.0.tries }
 {
     for _ in rt.forever() {
-        if try_outer(words, place, mine) == 0 {
+        if try_outer(words, place, my_word) == 0 {
             return refused;
         }
         refused = true;
@@ -50,16 +52,22 @@ fn wait_outer<R: Wait>(
 }
 
 // Takes the turn of a buffer, however long that takes.
-fn wait_buffer<R: Wait>(rt: &R, words: &Words, place: &mut Place, buffer: usize, mine: u64)
-    requires table { (place.old.table_id ≡ words.now.table_id) × (words.now.table_id.words ≡ 536) × (buffer < 64) }
+fn wait_buffer<R: Wait>(rt: &R, words: &Words, place: &mut SeatAt, buffer: usize, my_word: u64)
+    requires table { IsBufferOf place.old words.now buffer }
     requires bare { (place.old.me.0.parts ≡ []) × (place.old.me.0.saw_off ≡ false) }
-    requires somebody { IsSomebody place.old.me.0 × (mine ≡ number place.old.me.0 + 1) }
-    ensures same { (place.new.table_id ≡ place.old.table_id) × (place.new.id ≡ place.old.id) }
-    ensures took { (l : List Signal) × (place.new.me ≡ (record (waits place.old.me.0 place.new.me.0) { parts = place.old.me.0.parts ++ part buffer l ∷ [] }, (buffer + 1, Slot.List l) ∷ place.old.me.1)) }
+    requires somebody { IsSomebody place.old.me.0 × (my_word ≡ number place.old.me.0 + 1) }
+    ensures same { IsSameSeat place.new place.old }
+    ensures took { (l : List Signal) × (place.new.me ≡ (
+      record (waits place.old.me.0 place.new.me.0) {
+        parts = place.old.me.0.parts
+            ++ part buffer l ∷ [];
+      },
+      (buffer + 1, Slot.List l) ∷ place.old.me.1,
+    )) }
     ensures tries { Prefix place.old.me.0.tries place.new.me.0.tries }
 {
     for _ in rt.forever() {
-        if try_buffer(words, place, buffer, mine) == 0 {
+        if try_buffer(words, place, buffer, my_word) == 0 {
             return;
         }
         thread::yield_now();
@@ -72,20 +80,22 @@ fn pass_one<R: Wait>(
     rt: &R,
     alloc: Global,
     words: &Words,
-    place: &mut Place,
+    place: &mut SeatAt,
     buffer: usize,
-    mine: u64,
+    my_word: u64,
     growing: &mut Growing,
 )
-    requires table { (place.old.table_id ≡ words.now.table_id) × (words.now.table_id.words ≡ 536) × (buffer < 64) }
-    requires passing { (u : Knows) × Passing u buffer place.old.me growing.old.list × (u.parts ≡ []) × (u.saw_off ≡ false) × (u.fetching ≡ false) × (u.removing ≡ true) }
-    requires somebody { IsSomebody place.old.me.0 × (mine ≡ number place.old.me.0 + 1) }
+    requires table { IsBufferOf place.old words.now buffer }
+    requires passing { (u : Knows) × Passing u buffer place.old.me growing.old.list × (u.parts ≡ [])
+        × (u.saw_off ≡ false) × (u.fetching ≡ false) × (u.removing ≡ true) }
+    requires somebody { IsSomebody place.old.me.0 × (my_word ≡ number place.old.me.0 + 1) }
     requires room { WithRoom buffer growing.old }
-    ensures same { (place.new.table_id ≡ place.old.table_id) × (place.new.id ≡ place.old.id) }
-    ensures passing { (u : Knows) → Passing u buffer place.old.me growing.old.list → u.parts ≡ [] → Passing u (buffer + 1) place.new.me growing.new.list }
+    ensures same { IsSameSeat place.new place.old }
+    ensures passing { (u : Knows) → Passing u buffer place.old.me growing.old.list → u.parts ≡ []
+        → Passing u (buffer + 1) place.new.me growing.new.list }
     ensures room { WithRoom (buffer + 1) growing.new }
 {
-    wait_buffer(rt, words, place, buffer, mine);
+    wait_buffer(rt, words, place, buffer, my_word);
     let list = take_list(words, place, buffer);
     growing.take(list);
     put_list(words, place, buffer, Batch::new(alloc));
@@ -97,20 +107,21 @@ fn pass_all<R: Wait>(
     rt: &R,
     alloc: Global,
     words: &Words,
-    place: &mut Place,
-    mine: u64,
+    place: &mut SeatAt,
+    my_word: u64,
     growing: &mut Growing,
 )
-    requires table { (place.old.table_id ≡ words.now.table_id) × (words.now.table_id.words ≡ 536) }
+    requires table { IsOf place.old words.now }
     requires passing { Passing place.old.me.0 0 place.old.me growing.old.list }
-    requires begins { (place.old.me.0.parts ≡ []) × (place.old.me.0.saw_off ≡ false) × (place.old.me.0.fetching ≡ false) × (place.old.me.0.removing ≡ true) }
-    requires somebody { IsSomebody place.old.me.0 × (mine ≡ number place.old.me.0 + 1) }
+    requires begins { (place.old.me.0.parts ≡ []) × (place.old.me.0.saw_off ≡ false)
+        × (place.old.me.0.fetching ≡ false) × (place.old.me.0.removing ≡ true) }
+    requires somebody { IsSomebody place.old.me.0 × (my_word ≡ number place.old.me.0 + 1) }
     requires room { WithRoom 0 growing.old }
-    ensures same { (place.new.table_id ≡ place.old.table_id) × (place.new.id ≡ place.old.id) }
-    ensures passing { Passing place.old.me.0 64 place.new.me growing.new.list }
+    ensures same { IsSameSeat place.new place.old }
+    ensures passing { Passing place.old.me.0 BUFFERS place.new.me growing.new.list }
 {
-    for buffer in 0..64usize {
-        pass_one(rt, alloc, words, place, buffer, mine, growing);
+    for buffer in 0..BUFFERS {
+        pass_one(rt, alloc, words, place, buffer, my_word, growing);
     }
 }
 
@@ -119,24 +130,33 @@ fn remove_with_room<R: Wait>(
     rt: &R,
     alloc: Global,
     words: &Words,
-    place: &mut Place,
-    mine: u64,
+    place: &mut SeatAt,
+    my_word: u64,
     mut outer: OuterBox,
     mut growing: Growing,
 )
-    requires table { (place.old.table_id ≡ words.now.table_id) × (words.now.table_id.words ≡ 536) }
+    requires table { IsOf place.old words.now }
     requires begins { (o : Outer) × Begins place.old.me.0 o × (growing.list ≡ o.signals) × (outer.journal ≡ (removed o).journal) }
     requires slots { place.old.me.1 ≡ outer_out ∷ [] }
     requires bare { (place.old.me.0.parts ≡ []) × (place.old.me.0.saw_off ≡ false) }
     requires due { (place.old.me.0.role ≡ true) × (place.old.me.0.due ≡ true) }
-    requires somebody { IsSomebody place.old.me.0 × (mine ≡ number place.old.me.0 + 1) }
-    requires room { 64 ≤ growing.spare }
-    ensures same { (place.new.table_id ≡ place.old.table_id) × (place.new.id ≡ place.old.id) × (place.new.me.1 ≡ []) }
-    ensures removed { place.new.me.0 ≡ record (waits place.old.me.0 place.new.me.0) { held = None; removing = false; progress = 0; due = false } }
+    requires somebody { IsSomebody place.old.me.0 × (my_word ≡ number place.old.me.0 + 1) }
+    requires room { BUFFERS ≤ growing.spare }
+    ensures same { IsSameSeat place.new place.old }
+    ensures bare { place.new.me.1 ≡ [] }
+    ensures removed { place.new.me.0 ≡ record (waits place.old.me.0 place.new.me.0) {
+      held = None;
+      removing = false;
+      progress = 0;
+      due = false;
+    } }
     ensures tries { Prefix place.old.me.0.tries place.new.me.0.tries }
 {
+    // The mode goes off before the first buffer is passed. Were it on, a sender could append to a buffer
+    // behind the removal, and its later puts into the outer list would come out first. And it stays off
+    // until all 64 are passed: `the_removal_ends_early`.
     mode_off(words, place);
-    pass_all(rt, alloc, words, place, mine, &mut growing);
+    pass_all(rt, alloc, words, place, my_word, &mut growing);
     outer.fill(growing.into_pieces());
     put_value(words, place, outer);
     leave_remove(words, place);
@@ -147,23 +167,29 @@ fn remove_held<R: Wait>(
     rt: &R,
     alloc: Global,
     words: &Words,
-    place: &mut Place,
-    mine: u64,
+    place: &mut SeatAt,
+    my_word: u64,
 ) -> Result<(), AllocError>
-    requires table { (place.old.table_id ≡ words.now.table_id) × (words.now.table_id.words ≡ 536) }
+    requires table { IsOf place.old words.now }
     requires begins { (o : Outer) × Begins place.old.me.0 o × (place.old.me.1 ≡ (0, Slot.Outer o) ∷ []) }
     requires bare { (place.old.me.0.parts ≡ []) × (place.old.me.0.saw_off ≡ false) }
     requires due { (place.old.me.0.role ≡ true) × (place.old.me.0.due ≡ true) }
-    requires somebody { IsSomebody place.old.me.0 × (mine ≡ number place.old.me.0 + 1) }
-    ensures same { (place.new.table_id ≡ place.old.table_id) × (place.new.id ≡ place.old.id) × (place.new.me.1 ≡ []) }
-    ensures ok { OnOk result (place.new.me.0 ≡ record (waits place.old.me.0 place.new.me.0) { held = None; removing = false; progress = 0; due = false }) }
+    requires somebody { IsSomebody place.old.me.0 × (my_word ≡ number place.old.me.0 + 1) }
+    ensures same { IsSameSeat place.new place.old }
+    ensures bare { place.new.me.1 ≡ [] }
+    ensures ok { OnOk result (place.new.me.0 ≡ record (waits place.old.me.0 place.new.me.0) {
+      held = None;
+      removing = false;
+      progress = 0;
+      due = false;
+    }) }
     ensures err { OnErr result (place.new.me.0 ≡ after_same place.old.me.0) }
     ensures tries { Prefix place.old.me.0.tries place.new.me.0.tries }
 {
     let mut outer = take_value(words, place);
-    match outer.grow(alloc, 64) {
+    match outer.grow(alloc, BUFFERS) {
         Ok(growing) => {
-            remove_with_room(rt, alloc, words, place, mine, outer, growing);
+            remove_with_room(rt, alloc, words, place, my_word, outer, growing);
             Ok(())
         }
         Err(error) => {
@@ -198,9 +224,9 @@ impl SigQueue {
         ensures refused { seat.old.knows.refused ≤ seat.new.knows.refused }
     {
         let words = &self.table.shared;
-        let mine = seat.kept.least + 1;
-        seat.kept.refused = wait_outer(rt, words, &mut seat.place, mine, seat.kept.refused);
-        remove_held(rt, self.alloc, words, &mut seat.place, mine)?;
+        let my_word = seat.kept.number + 1;
+        seat.kept.refused = wait_outer(rt, words, &mut seat.place, my_word, seat.kept.refused);
+        remove_held(rt, self.alloc, words, &mut seat.place, my_word)?;
         seat.kept.due = false;
         Ok(())
     }

@@ -15,7 +15,7 @@ impl TableRule<Slot, Knows, Setup> for QueueRule {
     ghost first = { λ z. first_seat z.senders };
 }
 
-pub(crate) type Place = Seat<Slot, Knows>;
+pub(crate) type SeatAt = Seat<Slot, Knows>;
 
 pub(crate) type Words = Shared<Slot, Knows, Setup, QueueRule>;
 

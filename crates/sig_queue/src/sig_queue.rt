@@ -6,6 +6,32 @@ use std::alloc::Global;
 use std::marker::Model;
 
 /// One queue, which threads share. Contracts see which queue it is, and what it was opened with.
+///
+/// One thread puts a signal, and another fetches what there is. docs/QUEUE.md has a whole example,
+/// with its threads.
+///
+/// ```text
+/// let (queue, mut receiver) = SigQueue::open(alloc, Policy::Never, senders, &opening)?;
+/// let mut sender = queue.split(&mut receiver, senders, false);
+///
+/// // one thread
+/// match queue.offer(&mut sender, signal) {
+///     Offer::Put { .. } => {}
+///     // another seat held a turn, or memory is wanting: the signal is back
+///     Offer::Busy { signal, .. } | Offer::Memory { signal } => later.push(signal),
+/// }
+///
+/// // the other
+/// let mut taken = Signals::new(alloc);
+/// if SigQueue::removal_due(&receiver) {
+///     queue.remove(rt, &mut receiver)?;
+/// }
+/// let fetch = queue.try_fetch(&mut receiver, &mut taken);
+///
+/// // at the end, one seat has all senders and the role again
+/// queue.join(&mut receiver, sender);
+/// let closed = queue.close(receiver);
+/// ```
 #[derive(Drop)]
 pub struct SigQueue {
     /// The words of the turns, the mode and the bits, and the lists in slots.
@@ -20,6 +46,7 @@ pub struct SigQueue {
 
 impl Model for SigQueue {
     ghost use Rattle.std.specs.Prelude.{◌≡◌, ◌≤◌, [], vec_capacity};
+    ghost use Rattle.sig_layout.specs.declared.layout.TheConstants.{BUFFERS, SLOTS, WORDS};
     ghost use Rattle.sig_queue.specs.Seats.{Queue};
 
     ghost Value = { Queue };
@@ -29,5 +56,7 @@ impl Model for SigQueue {
       setup = q.table.shared.key;
     } };
 
-    ghost invariant = { λ q. (q.lists.items ≡ []) × (64 ≤ vec_capacity q.lists) × (q.table.shared.table_id.words ≡ 536) × (q.table.shared.table_id.slots ≡ 65) × (q.table.shared.key.policy ≡ q.policy) };
+    ghost invariant = { λ q. (q.lists.items ≡ []) × (BUFFERS ≤ vec_capacity q.lists)
+        × (q.table.shared.table_id.words ≡ WORDS) × (q.table.shared.table_id.slots ≡ SLOTS)
+        × (q.table.shared.key.policy ≡ q.policy) };
 }

@@ -1,6 +1,6 @@
 use Rattle.std.proofs.Common.{◌≡◌, ◌<◌, ◌≤◌, ◌+◌, ℕ, get_or, false, true}
 use Rattle.std.specs.Prelude.{vec_capacity}
-use Rattle.sig_queue.specs.Ends.{lists_in}
+use Rattle.sig_queue.specs.Tables.{lists_in}
 use Rattle.sig_queue.proofs.close.take_lists.Given as goal
 
 abbrev pub invariant-loop-buffer : goal.invariant-loop-buffer

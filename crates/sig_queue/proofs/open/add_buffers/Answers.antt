@@ -1,7 +1,7 @@
 use Rattle.std.proofs.Common.{◌++◌, ◌∷◌, [], List, ap, ◌∙◌, append_assoc, arith, rules}
 use Rattle.sig_queue.specs.declared.slot.Slot.{Slot}
 use Rattle.sig_queue.specs.declared.slot.Slot.TheVariants as slot
-use Rattle.sig_queue.specs.Ends.{all_buffers, buffers}
+use Rattle.sig_queue.specs.Tables.{all_buffers, buffers}
 use Rattle.sig_queue.proofs.Ending.{replicate_more}
 use Rattle.sig_queue.proofs.open.add_buffers.Goals as goal
 

@@ -1,6 +1,6 @@
 use Rattle.std.proofs.Common.{◌≡◌, ◌≤◌, ◌+◌, ◌++◌}
 use Rattle.std.specs.Prelude.{vec_len, vec_capacity}
-use Rattle.sig_queue.specs.Ends.{buffers}
+use Rattle.sig_queue.specs.Tables.{buffers}
 use Rattle.sig_queue.proofs.open.add_buffers.Given as goal
 
 abbrev pub invariant-loop : goal.invariant-loop

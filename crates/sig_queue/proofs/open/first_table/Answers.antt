@@ -1,6 +1,6 @@
 use Rattle.std.proofs.Common.{rules, ap, ◌∙◌, length}
 use Rattle.sig_queue.specs.declared.slot.Slot.TheVariants as slot
-use Rattle.sig_queue.specs.Ends.{first_outer}
+use Rattle.sig_queue.specs.Tables.{first_outer}
 use Rattle.sig_queue.proofs.Ending.{starts, words_counted, slots_counted}
 use Rattle.sig_queue.proofs.open.first_table.Goals as goal
 

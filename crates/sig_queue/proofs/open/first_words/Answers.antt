@@ -1,5 +1,5 @@
 use Rattle.std.proofs.Common.{rules}
-use Rattle.sig_queue.specs.Ends.{zeros}
+use Rattle.sig_queue.specs.Tables.{zeros}
 use Rattle.sig_queue.proofs.open.first_words.Goals as goal
 
 pub returns : goal.returns

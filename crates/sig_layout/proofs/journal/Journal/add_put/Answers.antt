@@ -8,7 +8,7 @@ use Rattle.sig_layout.proofs.Summing.{small, goes_on, summed_more}
 use Rattle.sig_layout.proofs.journal.Journal.add_put.Goals as goal
 
 pub after-summary-requires : goal.after-summary-requires
-after-summary-requires c = let l = c.len.ensures in let t = c.if-len.false in let short : length c.self.inside.entries.items < 2 ^ 62 = omega arith in small _ _ c.self.inside.is_summed short
+after-summary-requires c = let l = c.len.ensures in let t = c.if-len-ge-MOST_ENTRIES.false in let short : length c.self.inside.entries.items < 2 ^ 62 = omega arith in small _ _ c.self.inside.is_summed short
 
 pub invariant_of-self-inside-2 : goal.invariant_of-self-inside-2
 invariant_of-self-inside-2 c = let before : List Entry = c.self.inside.entries.items in let items : c.push_reserved.new.self.items ≡ before ++ Direct c.args.refused ∷ [] = search rules in

@@ -5,7 +5,7 @@ use Rattle.sig_layout.proofs.Summing.{small, goes_on}
 use Rattle.sig_layout.proofs.journal.Journal.push.Goals as goal
 
 pub after-self-inside-requires : goal.after-self-inside-requires
-after-self-inside-requires c = let l = c.len.ensures in let t = c.if-len.false in let short : length c.self.inside.entries.items < 2 ^ 62 = omega arith in small _ _ c.self.inside.is_summed short
+after-self-inside-requires c = let l = c.len.ensures in let t = c.if-len-ge-MOST_ENTRIES.false in let short : length c.self.inside.entries.items < 2 ^ 62 = omega arith in small _ _ c.self.inside.is_summed short
 
 pub invariant_of-self-inside-2 : goal.invariant_of-self-inside-2
 invariant_of-self-inside-2 c = let before : List Entry = c.self.inside.entries.items in let items : c.push_reserved.new.self.items ≡ before ++ c.args.entry ∷ [] = search rules in

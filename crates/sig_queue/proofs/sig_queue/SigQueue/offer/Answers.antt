@@ -6,7 +6,7 @@ use Rattle.sig_queue.proofs.sig_queue.SigQueue.offer.Goals as goal
 
 pub offer_at-offer-requires-clause-somebody : goal.offer_at-offer-requires-clause-somebody
 offer_at-offer-requires-clause-somebody c = let from = ap (λ (x : Seated). has x.knows.senders c.args.signal.from.0) c.seat.view_is ∙ c.requires.from in
-    somebody c.seat.inside.place.me.0 c.args.signal.from.0 c.seat.inside.kept.least from c.seat.invariant.keeps.number_is
+    somebody c.seat.inside.place.me.0 c.args.signal.from.0 c.seat.inside.kept.number from c.seat.invariant.keeps.number_is
 
 pub invariant_of-seat : goal.invariant_of-seat
 invariant_of-seat c = let o = c.offer_at-offer.ensures in

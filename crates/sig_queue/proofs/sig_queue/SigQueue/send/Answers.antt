@@ -15,7 +15,7 @@ pub returns-in-Put-clause-tries : goal.returns-in-Put-clause-tries
 returns-in-Put-clause-tries g c = prefix_through _ _ _ c.loop.invariant.tries (put_list c.loop.signal c.loop.seat.knows c.offer.new.seat.knows c.in-Put.via c.in-Put.ensures.offered)
 
 pub returns-in-Put-clause-refused : goal.returns-in-Put-clause-refused
-returns-in-Put-clause-refused g c = λ aside. let same = put_count c.loop.signal c.loop.seat.knows c.offer.new.seat.knows c.in-Put.via aside c.in-Put.ensures.offered in omega (arith, same, c.loop.invariant.refused)
+returns-in-Put-clause-refused g c = λ to_buffer. let same = put_count c.loop.signal c.loop.seat.knows c.offer.new.seat.knows c.in-Put.via to_buffer c.in-Put.ensures.offered in omega (arith, same, c.loop.invariant.refused)
 
 pub returns-in-Memory-clause-sent : goal.returns-in-Memory-clause-sent
 returns-in-Memory-clause-sent g c = let inv = c.loop.invariant in let o = c.in-Memory.ensures.offered in (o.0 ∙ inv.signal, tried_free c.loop.signal c.args.seat.now.knows c.loop.seat.knows c.offer.new.seat.knows inv.tried o.1)

@@ -1,5 +1,0 @@
-use Rattle.sig_queue.proofs.aside.under_turn.Given as goal
-
--- the policy of the queue
-abbrev pub ghosts-load_under : goal.ghosts-load_under
-ghosts-load_under a = record { policy = a.words.now.key.policy }

@@ -1,5 +1,0 @@
-use Rattle.sig_queue.proofs.found.find_one.Given as goal
-
--- the buffer whose bit is set again
-abbrev pub ghosts-set_back : goal.ghosts-set_back
-ghosts-set_back a = record { buffer = a.buffer }

@@ -1,5 +1,0 @@
-use Rattle.sig_queue.proofs.taken.finish.Given as goal
-
--- whether a removal is due, and what the queue was opened with
-abbrev pub ghosts-leave_fetch : goal.ghosts-leave_fetch
-ghosts-leave_fetch a = record { due = a.due; setup = a.words.now.key }

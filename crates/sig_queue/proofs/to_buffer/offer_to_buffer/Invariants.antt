@@ -1,0 +1,5 @@
+use Rattle.sig_queue.proofs.to_buffer.offer_to_buffer.Given as goal
+
+-- the policy of the queue
+abbrev pub ghosts-load_mode : goal.ghosts-load_mode
+ghosts-load_mode a = record { policy = a.words.now.key.policy }

@@ -1,0 +1,5 @@
+use Rattle.sig_queue.proofs.to_buffer.under_turn.Given as goal
+
+-- the policy of the queue
+abbrev pub ghosts-load_under : goal.ghosts-load_under
+ghosts-load_under a = record { policy = a.words.now.key.policy }
