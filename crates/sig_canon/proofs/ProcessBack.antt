@@ -14,7 +14,7 @@ use Rattle.sig_tokens.specs.declared.known.Known.{Known}
 use Rattle.sig_reader.specs.declared.draft.Section.TheVariants.{Outside, Inside}
 use Rattle.sig_reader.specs.declared.draft.Draft.{Draft}
 use Rattle.sig_reader.specs.declared.form.Form.TheVariants as form
-use Rattle.sig_program.specs.Scripts.{Declared, AreMarked, IsLawful, IsPlace, AreRising}
+use Rattle.sig_program.specs.Scripts.{Declared, AreMarked, IsLawful, IsPlace, AreRising, bare_proc}
 use Rattle.sig_reader.specs.Drafts.{with_instr, is_marked, taken}
 use Rattle.sig_canon.specs.ScriptText.{spaced, marker_text, target_text, clause_line, after_lines, instr_lines, label_line, labels_there, placed_lines}
 use Rattle.sig_canon.specs.ReadableScript.{IsReadablePattern, IsReadableInstr, AreDistinct}
@@ -52,12 +52,12 @@ pinned : (using : Option Var) (clauses : List Clause) → AreMarked using clause
 pinned None clauses h = λ i d lt. refl
 pinned (Some x) clauses h = h
 
-module _ (known : Known) (names : List (List ℕ)) (f g : ℕ → ℕ) (turns : Option ℕ) (procs : List Declared) (labels : List Label) (reads : Reads known (length procs) names (label_names labels) f g) where
+module _ (known : Known) (names : List (List ℕ)) (f g : ℕ → ℕ) (e : Draft) (labels : List Label) (reads : Reads known (length e.procs) names (label_names labels) f g) where
   abbrev outside : Declared → Draft
-  outside p = record { turns = turns; procs = procs; section = Outside p }
+  outside p = record e { section = Outside p }
 
   abbrev inside : Declared → Option Var → List Clause → Option After → Draft
-  inside p using clauses after = record { turns = turns; procs = procs; section = Inside p using clauses after }
+  inside p using clauses after = record e { section = Inside (record { proc = p; using = using; clauses = clauses; after = after }) }
 
   abbrev tags : List (List ℕ)
   tags = label_names labels
@@ -222,9 +222,9 @@ module _ (known : Known) (names : List (List ℕ)) (f g : ℕ → ℕ) (turns : 
 
     -- all lines of a process behind its first
     pub process-leads : (name : List ℕ) (is : List Instr) → AreRising labels → All (IsPlace (length is)) labels → All IsFine is →
-        Leads known (outside (record { name = name; labels = []; instrs = [] })) (placed_lines names labels 1 is) (outside (record { name = name; labels = labels; instrs = map seen is }))
+        Leads known (outside (bare_proc name)) (placed_lines names labels 1 is) (outside (record (bare_proc name) { labels = labels; instrs = map seen is }))
     process-leads name is rising places fine =
-        placed-lead is (record { name = name; labels = []; instrs = [] }) labels
+        placed-lead is (bare_proc name) labels
         (record {
           all = refl;
           before = All-nil (λ (l : Label). l.place < 0 + 1);

@@ -17,6 +17,10 @@ pub record Declared : Type 0 where
   pub labels : List Label
   pub instrs : List Instr
 
+-- a process of which nothing but its name was said
+abbrev pub bare_proc : List ℕ → Declared
+bare_proc name = record { name = name; labels = []; instrs = [] }
+
 -- a script: how many instructions each process may execute, and the processes
 pub record Program : Type 0 where
   pub turns : ℕ
