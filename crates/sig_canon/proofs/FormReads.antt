@@ -261,7 +261,7 @@ checked_whole line cut w =
     when_true (list_all (λ t. is_token_in_range (text line t) t.kind) cut.tokens) _ _ w.0 ∙ ap (λ (o : Option ℕ). if is_some o then Err Syntax else Ok cut.tokens) w.1
 
 -- a line that begins with a name
-pub front_said : (known : Known) (d : Draft) (front bytes : List ℕ) (word : Keyword) (f : Form) → IsNameToken front → keyword_of front ≡ Some word → IsRest (form_of known (length d.procs) word) bytes f → may_stand d.turns d.section word ≡ true →
+pub front_said : (known : Known) (d : Draft) (front bytes : List ℕ) (word : Keyword) (f : Form) → IsNameToken front → keyword_of front ≡ Some word → IsRest (form_of known (length d.procs) word) bytes f → may_stand d word ≡ true →
     said known d (front ++ bytes) ≡ Ok (Some f)
 unfolding said said_by
 front_said known d front bytes word f named means rest here =
@@ -275,9 +275,9 @@ front_said known d front bytes word f named means rest here =
     ap (λ (r : Result (List Token) FaultKind). r >>= said_by known d line) tokens
     ∙ ap (λ (b : List ℕ). on_ok Some (form_behind known d (keyword_of b) line (tokens_at end bytes))) (token_text line front bytes Name 0 refl)
     ∙ ap (λ (k : Option Keyword). on_ok Some (form_behind known d k line (tokens_at end bytes))) means
-    ∙ ap (on_ok Some) (when_true (may_stand d.turns d.section word) _ _ here ∙ rest.again line end there)
+    ∙ ap (on_ok Some) (when_true (may_stand d word) _ _ here ∙ rest.again line end there)
 
-pub line_said : (known : Known) (d : Draft) (line : List ℕ) (word : Keyword) (f : Form) → IsFormLine known (length d.procs) line word f → may_stand d.turns d.section word ≡ true → said known d line ≡ Ok (Some f)
+pub line_said : (known : Known) (d : Draft) (line : List ℕ) (word : Keyword) (f : Form) → IsFormLine known (length d.procs) line word f → may_stand d word ≡ true → said known d line ≡ Ok (Some f)
 line_said known d line word f l here = ap (said known d) l.is ∙ front_said known d l.front l.bytes word f l.named l.means l.rest here
 
 pub line_clean : (known : Known) (here : ℕ) (line : List ℕ) (word : Keyword) (f : Form) → IsFormLine known here line word f → list_all is_inline line ≡ true

@@ -14,8 +14,8 @@ use Rattle.sig_tokens.specs.declared.known.Known.{Known}
 use Rattle.sig_reader.specs.declared.draft.Section.TheVariants.{Outside, Inside}
 use Rattle.sig_reader.specs.declared.draft.Draft.{Draft}
 use Rattle.sig_reader.specs.declared.form.Form.TheVariants as form
-use Rattle.sig_program.specs.Scripts.{Declared, AreMarked, IsLawful, IsPlace, AreRising}
-use Rattle.sig_reader.specs.Drafts.{with_instr, received, is_marked, taken}
+use Rattle.sig_program.specs.Scripts.{Declared, AreMarked, IsLawful, IsPlace, AreRising, bare_process}
+use Rattle.sig_reader.specs.Drafts.{with_instr, receive_of, is_marked, taken}
 use Rattle.sig_canon.specs.ScriptText.{spaced, marker_text, target_text, clause_line, after_lines, instr_lines, label_line, labels_there, placed_lines}
 use Rattle.sig_canon.specs.ReadableScript.{IsReadablePattern, IsReadableInstr, AreDistinct}
 use Rattle.sig_canon.proofs.DistinctLemmas.{all_before, all_after, name_free, distinct-before, distinct-front}
@@ -52,12 +52,12 @@ pinned : (using : Option Var) (clauses : List Clause) → AreMarked using clause
 pinned None clauses h = λ i d lt. refl
 pinned (Some x) clauses h = h
 
-module _ (known : Known) (names : List (List ℕ)) (f g : ℕ → ℕ) (turns : Option ℕ) (procs : List Declared) (labels : List Label) (reads : Reads known (length procs) names (label_names labels) f g) where
+module _ (known : Known) (names : List (List ℕ)) (f g : ℕ → ℕ) (e : Draft) (labels : List Label) (reads : Reads known (length e.procs) names (label_names labels) f g) where
   abbrev outside : Declared → Draft
-  outside p = record { turns = turns; procs = procs; section = Outside p }
+  outside p = record e { section = Outside p }
 
   abbrev inside : Declared → Option Var → List Clause → Option After → Draft
-  inside p using clauses after = record { turns = turns; procs = procs; section = Inside p using clauses after }
+  inside p using clauses after = record e { section = Inside (record { proc = p; using = using; clauses = clauses; after = after }) }
 
   abbrev tags : List (List ℕ)
   tags = label_names labels
@@ -104,8 +104,8 @@ module _ (known : Known) (names : List (List ℕ)) (f g : ℕ → ℕ) (turns : 
   one-leads p i lines h =
       same_lines known (outside p) (outside (with_instr p (seen i))) lines (h.line ∷ []) h.is (one_line known (outside p) (outside (with_instr p (seen i))) h.line (form.Do (seen i)) h.said refl)
 
-  receive-leads : (p : Declared) (using : Option Var) (clauses : List Clause) (after : Option After) → IsFine (received using clauses after) →
-      Leads known (outside p) (instr_lines names tags (received using clauses after)) (outside (with_instr p (seen (received using clauses after))))
+  receive-leads : (p : Declared) (using : Option Var) (clauses : List Clause) (after : Option After) → IsFine (receive_of using clauses after) →
+      Leads known (outside p) (instr_lines names tags (receive_of using clauses after)) (outside (with_instr p (seen (receive_of using clauses after))))
   unfolding instr_lines
   receive-leads p using clauses after h =
       let targets = each-given (λ n. n < length tags) (λ (c : Clause). c.target) clauses (filter_map (λ (a : After). a.target) (option_to_list after)) h.1.1 in
@@ -114,9 +114,9 @@ module _ (known : Known) (names : List (List ℕ)) (f g : ℕ → ℕ) (turns : 
       let first = one_line known (outside p) (inside p using [] None) (spaced (codes "receive") (marker_text using)) (form.Receive using) (receive_said known (outside p) using refl h.0.using) refl in
       let middle = clauses-lead p using [] clauses h.0.clauses targets.0 (pinned using clauses h.1.3) in
       let next = after-leads p using all after (only after targets.1) in
-      let end = one_line known (inside p using all last) (outside (with_instr p (received using all last))) (codes "end") form.End (end_said known (inside p using all last) refl) refl in
-      one_more known (outside p) (inside p using [] None) (outside (with_instr p (received using all last))) (spaced (codes "receive") (marker_text using)) _ first
-      (lines_joined known (inside p using [] None) (inside p using all last) (outside (with_instr p (received using all last))) (map (clause_line names tags) clauses ++ after_lines tags after) (codes "end" ∷ [])
+      let end = one_line known (inside p using all last) (outside (with_instr p (receive_of using all last))) (codes "end") form.End (end_said known (inside p using all last) refl) refl in
+      one_more known (outside p) (inside p using [] None) (outside (with_instr p (receive_of using all last))) (spaced (codes "receive") (marker_text using)) _ first
+      (lines_joined known (inside p using [] None) (inside p using all last) (outside (with_instr p (receive_of using all last))) (map (clause_line names tags) clauses ++ after_lines tags after) (codes "end" ∷ [])
       (lines_joined known (inside p using [] None) (inside p using all None) (inside p using all last) (map (clause_line names tags) clauses) (after_lines tags after) middle next) end)
     where
       only : (after : Option After) → All (λ n. n < length tags) (filter_map (λ (a : After). a.target) (option_to_list after)) → IfSome after (λ (a : After). IsTarget (length tags) a.target)
@@ -222,9 +222,9 @@ module _ (known : Known) (names : List (List ℕ)) (f g : ℕ → ℕ) (turns : 
 
     -- all lines of a process behind its first
     pub process-leads : (name : List ℕ) (is : List Instr) → AreRising labels → All (IsPlace (length is)) labels → All IsFine is →
-        Leads known (outside (record { name = name; labels = []; instrs = [] })) (placed_lines names labels 1 is) (outside (record { name = name; labels = labels; instrs = map seen is }))
+        Leads known (outside (bare_process name)) (placed_lines names labels 1 is) (outside (record (bare_process name) { labels = labels; instrs = map seen is }))
     process-leads name is rising places fine =
-        placed-lead is (record { name = name; labels = []; instrs = [] }) labels
+        placed-lead is (bare_process name) labels
         (record {
           all = refl;
           before = All-nil (λ (l : Label). l.place < 0 + 1);

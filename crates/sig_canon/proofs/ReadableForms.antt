@@ -155,7 +155,7 @@ module _ (s : Program) (d : Draft) (line : List ℕ) where
 
   form_behind-read : (word : Option Keyword) (ts : List Token) → AreWords line ts → Holds IsNext (form_behind (Among s) d word line ts)
   form_behind-read None ts h = tt
-  form_behind-read (Some word) ts h = holds-if IsNext (may_stand d.turns d.section word) _ _ (λ _. form-read s (length d.procs) line word ts h) (λ _. tt)
+  form_behind-read (Some word) ts h = holds-if IsNext (may_stand d word) _ _ (λ _. form-read s (length d.procs) line word ts h) (λ _. tt)
 
   said_by-read : (ts : List Token) → AreWords line ts → Holds (λ o. IfSome o IsNext) (said_by (Among s) d line ts)
   unfolding said_by

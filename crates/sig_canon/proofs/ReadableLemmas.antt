@@ -14,15 +14,18 @@ use Rattle.sig_program.specs.declared.instruction.Instr.{Instr}
 use Rattle.sig_tokens.specs.declared.known.Known.TheVariants.{Any, Among}
 use Rattle.sig_reader.specs.declared.draft.Section.{Section}
 use Rattle.sig_reader.specs.declared.draft.Section.TheVariants.{Before, Outside, Inside}
+use Rattle.sig_reader.specs.declared.draft.OpenReceive.{OpenReceive}
 use Rattle.sig_reader.specs.declared.draft.Draft.{Draft}
+use Rattle.sig_reader.specs.declared.version.Version.{Version}
 use Rattle.sig_reader.specs.declared.form.Form.{Form}
 use Rattle.sig_reader.specs.declared.form.Form.TheVariants as form
-use Rattle.sig_program.specs.Scripts.{Declared, Program}
+use Rattle.sig_program.specs.Scripts.{Declared, Program, bare_process}
+use Rattle.sig_program.specs.Parts.{plain_clause}
 use Rattle.sig_tokens.specs.Faults.{Fault, ◌>>=◌}
 use Rattle.sig_tokens.specs.Lines.{lines_of}
 use Rattle.sig_reader.specs.Forms.{said}
-use Rattle.sig_reader.specs.Drafts.{blank, open_proc, all_procs, begun, labelled, with_instr, received, is_marked, with_clause, taken_at}
-use Rattle.sig_reader.specs.Grammar.{taken_if, line_taken, walk, walk_twice, is_header, script_of_lines, script_of}
+use Rattle.sig_reader.specs.Drafts.{blank, open_proc, all_procs, begun, labelled, with_instr, is_marked, with_clause, received, taken_at}
+use Rattle.sig_reader.specs.Grammar.{taken_if, line_taken, walk, walk_twice, header_of, script_behind, script_of_lines, script_of}
 use Rattle.sig_canon.specs.ReadableScript.{IsReadablePattern, IsReadableInstr, AreDistinct, IsReadableScript}
 use Rattle.sig_program.specs.declared.script.TheConstants.{MOST_PROCESSES, MOST_TURNS}
 use Rattle.sig_reader.specs.declared.reader.TheConstants.{MOST_BYTES}
@@ -42,7 +45,7 @@ record IsGood (count : ℕ) (p : Declared) : Type 0 where
 
 -- the receive that is read
 abbrev IsGoodReceive : ℕ → Section → Type 0
-IsGoodReceive count (Inside p using clauses after) = All (λ (c : Clause). IsReadablePattern count c.pattern) clauses × IfSome using (λ x. IsVariableToken x.0)
+IsGoodReceive count (Inside r) = All (λ (c : Clause). IsReadablePattern count c.pattern) r.clauses × IfSome r.using (λ x. IsVariableToken x.0)
 IsGoodReceive count _ = Unit {0}
 
 abbrev names : List Declared → List (List ℕ)
@@ -57,7 +60,7 @@ names-last : (ps : List Declared) (p q : Declared) → q.name ≡ p.name → nam
 names-last ps p q e =
     map-append (λ (p : Declared). p.name) ps (p ∷ []) ∙ ap (λ (name : List ℕ). names ps ++ name ∷ []) (sym e) ∙ sym (map-append (λ (p : Declared). p.name) ps (q ∷ []))
 
-empty-good : (count : ℕ) (name : List ℕ) → IsNameToken name → IsGood count (record { name = name; labels = []; instrs = [] })
+empty-good : (count : ℕ) (name : List ℕ) → IsNameToken name → IsGood count (bare_process name)
 empty-good count name h = record {
   name = h;
   labels = All-nil (λ (l : Label). IsNameToken l.name);
@@ -67,7 +70,7 @@ empty-good count name h = record {
 
 begun-good : (count : ℕ) (d : Draft) (name : List ℕ) → IsNameToken name → IsGoodDraft count d → Holds (IsGoodDraft count) (begun d name)
 begun-good count d name named h =
-    let p : Declared = record { name = name; labels = []; instrs = [] } in
+    let p : Declared = bare_process name in
     holds-if (IsGoodDraft count) (list_any (λ (p : Declared). bytes_eq p.name name) (all_procs d)) _ _ (λ _. tt)
     (λ free. holds-if (IsGoodDraft count) (nat_le MOST_PROCESSES (length (all_procs d))) _ _ (λ _. tt)
     (λ _. record {
@@ -101,12 +104,12 @@ labelled-good count p name named h =
       refl,
     ))
 
-module _ (count : ℕ) (turns : Option ℕ) (procs : List Declared) where
-  changed : (p q : Declared) → AreDistinct (names (procs ++ p ∷ [])) → All (IsGood count) (procs ++ p ∷ []) → q.name ≡ p.name → IsGood count q →
-      IsGoodDraft count (record { turns = turns; procs = procs; section = Outside q })
+module _ (count : ℕ) (draft : Draft) where
+  changed : (p q : Declared) → AreDistinct (names (draft.procs ++ p ∷ [])) → All (IsGood count) (draft.procs ++ p ∷ []) → q.name ≡ p.name → IsGood count q →
+      IsGoodDraft count (record draft { section = Outside q })
   changed p q d h e k = record {
-    names = subst AreDistinct (names-last procs p q e) d;
-    procs = All-push (IsGood count) procs q (all-front (IsGood count) procs p h) k;
+    names = subst AreDistinct (names-last draft.procs p q e) d;
+    procs = All-push (IsGood count) draft.procs q (all-front (IsGood count) draft.procs p h) k;
     receive = tt;
   }
 
@@ -114,37 +117,36 @@ module _ (count : ℕ) (turns : Option ℕ) (procs : List Declared) where
       Holds (λ more. All (λ (c : Clause). IsReadablePattern count c.pattern) more) (with_clause using clauses pattern target)
   with_clause-good using clauses pattern target k h =
       holds-if (λ (more : List Clause). All (λ (c : Clause). IsReadablePattern count c.pattern) more) (is_marked using pattern) _ _
-      (λ _. All-push (λ (c : Clause). IsReadablePattern count c.pattern) clauses (record { pattern = pattern; target = target }) h k) (λ _. tt)
+      (λ _. All-push (λ (c : Clause). IsReadablePattern count c.pattern) clauses (plain_clause pattern target) h k) (λ _. tt)
 
-  receive-good : (using : Option Var) (clauses : List Clause) (after : Option After) → All (λ (c : Clause). IsReadablePattern count c.pattern) clauses → IfSome using (λ x. IsVariableToken x.0) →
-      IsReadableInstr count (received using clauses after)
-  receive-good using clauses after h k = record { exprs = All-nil _; clauses = h; vars = All-nil IsVariableToken; using = k }
+  receive-good : (r : OpenReceive) → All (λ (c : Clause). IsReadablePattern count c.pattern) r.clauses → IfSome r.using (λ x. IsVariableToken x.0) → IsReadableInstr count (received r)
+  receive-good r h k = record { exprs = All-nil _; clauses = h; vars = All-nil IsVariableToken; using = k }
 
-  taken_at-good : (section : Section) (f : Form) → AreDistinct (names (procs ++ open_proc section)) → All (IsGood count) (procs ++ open_proc section) → IsGoodReceive count section →
-      IsReadableForm count f → Holds (IsGoodDraft count) (taken_at (record { turns = turns; procs = procs; section = section }) section f)
+  taken_at-good : (section : Section) (f : Form) → AreDistinct (names (draft.procs ++ open_proc section)) → All (IsGood count) (draft.procs ++ open_proc section) → IsGoodReceive count section →
+      IsReadableForm count f → Holds (IsGoodDraft count) (taken_at (record draft { section = section }) section f)
   taken_at-good Before (form.Turns m) d h o k = holds-if (IsGoodDraft count) (nat_le m MOST_TURNS) _ _ (λ _. record { names = d; procs = h; receive = tt }) (λ _. tt)
-  taken_at-good Before (form.Process name) d h o k = begun-good count (record { turns = turns; procs = procs; section = Before }) name k (record { names = d; procs = h; receive = tt })
+  taken_at-good Before (form.Process name) d h o k = begun-good count (record draft { section = Before }) name k (record { names = d; procs = h; receive = tt })
   taken_at-good Before _ d h o k = tt
-  taken_at-good (Outside p) (form.Process name) d h o k = begun-good count (record { turns = turns; procs = procs; section = Outside p }) name k (record { names = d; procs = h; receive = tt })
+  taken_at-good (Outside p) (form.Process name) d h o k = begun-good count (record draft { section = Outside p }) name k (record { names = d; procs = h; receive = tt })
   taken_at-good (Outside p) (form.Label name) d h o k =
-      holds-on_ok (λ q. IsGood count q × (q.name ≡ p.name)) (IsGoodDraft count) (λ q. record { turns = turns; procs = procs; section = Outside q })
-      (labelled p name) (labelled-good count p name k (all-last (IsGood count) procs p h)) (λ q m. changed p q d h m.1 m.0)
-  taken_at-good (Outside p) (form.Do i) d h o k = changed p (with_instr p i) d h refl (instr-good count p i k (all-last (IsGood count) procs p h))
+      holds-on_ok (λ q. IsGood count q × (q.name ≡ p.name)) (IsGoodDraft count) (λ q. record draft { section = Outside q })
+      (labelled p name) (labelled-good count p name k (all-last (IsGood count) draft.procs p h)) (λ q m. changed p q d h m.1 m.0)
+  taken_at-good (Outside p) (form.Do i) d h o k = changed p (with_instr p i) d h refl (instr-good count p i k (all-last (IsGood count) draft.procs p h))
   taken_at-good (Outside p) (form.Receive using) d h o k = record { names = d; procs = h; receive = (All-nil (λ (c : Clause). IsReadablePattern count c.pattern), k) }
   taken_at-good (Outside p) _ d h o k = tt
-  taken_at-good (Inside p using clauses after) (form.On pattern target) d h o k =
+  taken_at-good (Inside r) (form.On pattern target) d h o k =
       holds-on_ok (λ (more : List Clause). All (λ (c : Clause). IsReadablePattern count c.pattern) more) (IsGoodDraft count)
-      (λ more. record { turns = turns; procs = procs; section = Inside p using more after }) (with_clause using clauses pattern target)
-      (with_clause-good using clauses pattern target k o.0) (λ more m. record { names = d; procs = h; receive = (m, o.1) })
-  taken_at-good (Inside p using clauses after) (form.After next) d h o k = record { names = d; procs = h; receive = o }
-  taken_at-good (Inside p using clauses after) form.End d h o k =
-      changed p (with_instr p (received using clauses after)) d h refl
-      (instr-good count p (received using clauses after) (receive-good using clauses after o.0 o.1) (all-last (IsGood count) procs p h))
-  taken_at-good (Inside p using clauses after) _ d h o k = tt
+      (λ more. record draft { section = Inside (record r { clauses = more }) }) (with_clause r.using r.clauses pattern target)
+      (with_clause-good r.using r.clauses pattern target k o.0) (λ more m. record { names = d; procs = h; receive = (m, o.1) })
+  taken_at-good (Inside r) (form.After next) d h o k = record { names = d; procs = h; receive = o }
+  taken_at-good (Inside r) form.End d h o k =
+      changed r.proc (with_instr r.proc (received r)) d h refl
+      (instr-good count r.proc (received r) (receive-good r o.0 o.1) (all-last (IsGood count) draft.procs r.proc h))
+  taken_at-good (Inside r) _ d h o k = tt
 
 taken_if-good : (count : ℕ) (d : Draft) (o : Option Form) → IsGoodDraft count d → IfSome o (IsReadableForm count) → Holds (IsGoodDraft count) (taken_if d o)
 taken_if-good count d None h k = h
-taken_if-good count d (Some f) h k = taken_at-good count d.turns d.procs d.section f h.names h.procs h.receive k
+taken_if-good count d (Some f) h k = taken_at-good count d d.section f h.names h.procs h.receive k
 
 line-good : (first : Program) (d : Draft) (line : List ℕ) → IsGoodDraft (length first.procs) d → Holds (IsGoodDraft (length first.procs)) (line_taken (Among first) d line)
 line-good first d line h =
@@ -182,6 +184,11 @@ walked_twice : (lines : List (List ℕ)) (s : Program) (r : Result Program Fault
 walked_twice lines s (Ok first) le e k = walked lines first s le e k
 walked_twice lines s (Err f) le e k = absurd cc
 
+-- only behind a header there is a script
+behind-header : (version : Option Version) (lines : List (List ℕ)) (s : Program) → script_behind version lines ≡ Ok s → walk_twice lines ≡ Ok s
+behind-header None lines s e = absurd cc
+behind-header (Some version) lines s e = e
+
 chosen : {A : Type 0} (v : Bool) (r : Result A Fault) (f : Fault) (x : A) → (if v then r else Err f) ≡ Ok x → r ≡ Ok x
 chosen true r f x e = e
 chosen false r f x e = absurd cc
@@ -194,7 +201,7 @@ lines-readable : (lines : List (List ℕ)) (s : Program) → length lines ≤ 2 
 unfolding script_of_lines
 lines-readable [] s le e = absurd cc
 lines-readable (first ∷ lines) s le e =
-    walked_twice lines s (walk Any lines) (omega (arith, le)) refl (chosen (is_header (tokens_of first) first) (walk_twice lines) _ s e)
+    walked_twice lines s (walk Any lines) (omega (arith, le)) refl (behind-header (header_of (tokens_of first) first) lines s e)
 
 few-bytes : (n : ℕ) → nat_le n MOST_BYTES ≡ true → n ≤ 2 ^ 30
 few-bytes n h = grind (arith, nat_tests)

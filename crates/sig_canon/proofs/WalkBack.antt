@@ -15,15 +15,16 @@ use Rattle.sig_tokens.specs.declared.known.Known.TheVariants.{Any, Among}
 use Rattle.sig_reader.specs.declared.draft.Section.{Section}
 use Rattle.sig_reader.specs.declared.draft.Section.TheVariants.{Before, Outside, Inside}
 use Rattle.sig_reader.specs.declared.draft.Draft.{Draft}
+use Rattle.sig_reader.specs.declared.version.Version.{Version}
 use Rattle.sig_reader.specs.declared.form.Form.TheVariants as form
 use Rattle.sig_program.specs.declared.script.TheConstants.{DEFAULT_TURNS, MOST_PROCESSES, MOST_TURNS}
 use Rattle.sig_reader.specs.declared.reader.TheConstants.{MOST_BYTES}
-use Rattle.sig_program.specs.Scripts.{Declared, Program, IsLawful}
+use Rattle.sig_program.specs.Scripts.{Declared, Program, IsLawful, bare_process}
 use Rattle.sig_tokens.specs.Faults.{Fault, ◌>>=◌}
 use Rattle.sig_tokens.specs.Names.{labels_at}
-use Rattle.sig_reader.specs.Forms.{may_stand}
+use Rattle.sig_reader.specs.Forms.{may_stand_at}
 use Rattle.sig_reader.specs.Drafts.{blank, all_procs, program_of, begun, taken_at, taken}
-use Rattle.sig_reader.specs.Grammar.{at_line, finished, body, walk, walk_twice, script_of_lines, script_of}
+use Rattle.sig_reader.specs.Grammar.{finished, body, walk, script_behind, script_of_lines, script_of}
 use Rattle.sig_canon.specs.ScriptText.{spaced, process_lines, names_of, procs_lines, turns_line, script_lines, script_text}
 use Rattle.sig_canon.specs.ReadableScript.{IsReadableInstr, AreDistinct, IsReadableProc, IsReadableScript}
 use Rattle.sig_canon.proofs.DistinctLemmas.{all_after, name_free, distinct-before}
@@ -35,10 +36,10 @@ use Rattle.sig_tokens.specs.Tokens.{IsNameToken}
 
 -- a process, and a script, of which pids and targets are given as other numbers
 abbrev pub proc_seen : (ℕ → ℕ) → (ℕ → ℕ) → Declared → Declared
-proc_seen f g p = record { name = p.name; labels = p.labels; instrs = map (instr_seen f g) p.instrs }
+proc_seen f g p = record p { instrs = map (instr_seen f g) p.instrs }
 
 abbrev pub program_seen : (ℕ → ℕ) → (ℕ → ℕ) → Program → Program
-program_seen f g s = record { turns = s.turns; procs = map (proc_seen f g) s.procs }
+program_seen f g s = record s { procs = map (proc_seen f g) s.procs }
 
 names-seen : (f g : ℕ → ℕ) (ps : List Declared) → names_of (map (proc_seen f g) ps) ≡ names_of ps
 names-seen f g [] = refl
@@ -46,26 +47,26 @@ names-seen f g (p ∷ ps) = ap (λ (names : List (List ℕ)). p.name ∷ names) 
 
 -- a draft in which no receive is open
 abbrev is_closed : Section → Bool
-is_closed (Inside p using clauses after) = false
+is_closed (Inside r) = false
 is_closed _ = true
 
-stands : (turns : Option ℕ) (section : Section) → is_closed section ≡ true → may_stand turns section keyword.Process ≡ true
-stands turns Before h = refl
-stands turns (Outside p) h = refl
-stands turns (Inside p using clauses after) h = absurd cc
+stands : (d : Draft) (section : Section) → is_closed section ≡ true → may_stand_at d section keyword.Process ≡ true
+stands d Before h = refl
+stands d (Outside p) h = refl
+stands d (Inside r) h = absurd cc
 
 takes-process : (d : Draft) (section : Section) (name : List ℕ) → is_closed section ≡ true → taken_at d section (form.Process name) ≡ begun d name
 takes-process d Before name h = refl
 takes-process d (Outside p) name h = refl
-takes-process d (Inside p using clauses after) name h = absurd cc
+takes-process d (Inside r) name h = absurd cc
 
 ends-well : (n : ℕ) (d : Draft) (section : Section) → is_closed section ≡ true → finished n d section ≡ Ok (program_of d)
 ends-well n d Before h = refl
 ends-well n d (Outside p) h = refl
-ends-well n d (Inside p using clauses after) h = absurd cc
+ends-well n d (Inside r) h = absurd cc
 
 abbrev begun_as : Draft → List ℕ → Draft
-begun_as d name = record d { procs = all_procs d; section = Outside (record { name = name; labels = []; instrs = [] }) }
+begun_as d name = record d { procs = all_procs d; section = Outside (bare_process name) }
 
 begun-again : (d : Draft) (name : List ℕ) → list_any (λ (p : Declared). bytes_eq p.name name) (all_procs d) ≡ false → nat_le MOST_PROCESSES (length (all_procs d)) ≡ false →
     begun d name ≡ Ok (begun_as d name)
@@ -93,7 +94,7 @@ module _ (known : Known) (f g : ℕ → ℕ) (s : Program) (readable : IsReadabl
     closed : is_closed d.section ≡ true
 
   abbrev next : Draft → Declared → Draft
-  next d p = record { turns = d.turns; procs = all_procs d; section = Outside (seen p) }
+  next d p = record d { procs = all_procs d; section = Outside (seen p) }
 
   next-at : (done : List Declared) (p : Declared) (d : Draft) → IsAt done d → IsAt (done ++ p ∷ []) (next d p)
   next-at done p d h = record {
@@ -123,13 +124,13 @@ module _ (known : Known) (f g : ℕ → ℕ) (s : Program) (readable : IsReadabl
       let room : nat_le MOST_PROCESSES (length (all_procs d)) ≡ false =
       has-room (length (all_procs d)) (length s.procs) (omega (arith, so-many done d h, ap length is, length-behind done ps p)) readable.sound.few in
       let takes : taken d (form.Process p.name) ≡ Ok (begun_as d p.name) = takes-process d d.section p.name h.closed ∙ begun-again d p.name (new-name done ps p d is h) room in
-      let first = one_line known d (begun_as d p.name) (spaced (codes "process") (p.name ∷ [])) (form.Process p.name) (process_said known d p.name (stands d.turns d.section h.closed) good.name) takes in
+      let first = one_line known d (begun_as d p.name) (spaced (codes "process") (p.name ∷ [])) (form.Process p.name) (process_said known d p.name (stands d d.section h.closed) good.name) takes in
       let here : Reads known (length (all_procs d)) names (label_names p.labels) f g = subst (λ (n : ℕ). Reads known n names (label_names p.labels) f g) (so-many done d h) (reads done p ps is) in
       let count : length s.procs ≡ length names = sym (length-map s.procs (λ (q : Declared). q.name)) in
       let tags : length p.labels ≡ length (label_names p.labels) = sym (length-map p.labels (λ (l : Label). l.name)) in
       let fine : All (IsReadableInstr (length names)) p.instrs = subst (λ (n : ℕ). All (IsReadableInstr n) p.instrs) count good.instrs in
       let lawful : All (IsLawful (length (label_names p.labels))) p.instrs = subst (λ (n : ℕ). All (IsLawful n) p.instrs) tags good.within.lawful in
-      let rest = process-leads known names f g d.turns (all_procs d) p.labels here good.labels good.distinct p.name p.instrs good.within.rising good.within.places (λ i e lt. (fine i e lt, lawful i e lt)) in
+      let rest = process-leads known names f g (begun_as d p.name) p.labels here good.labels good.distinct p.name p.instrs good.within.rising good.within.places (λ i e lt. (fine i e lt, lawful i e lt)) in
       one_more known d (begun_as d p.name) (next d p) (spaced (codes "process") (p.name ∷ [])) _ first rest
 
   -- all processes
@@ -149,7 +150,7 @@ module _ (known : Known) (f g : ℕ → ℕ) (s : Program) (readable : IsReadabl
   few-turns n h = grind (arith, nat_tests)
 
   abbrev begin : Draft
-  begin = record { turns = Some s.turns; procs = []; section = Before }
+  begin = record blank { turns = Some s.turns }
 
   all-lead : IsEnd blank (turns_line s.turns ∷ procs_lines s.procs)
   all-lead =
@@ -161,7 +162,7 @@ module _ (known : Known) (f g : ℕ → ℕ) (s : Program) (readable : IsReadabl
 
   said-at-end : (d : Draft) → IsAt s.procs d → program_of d ≡ program_seen f g s
   said-at-end d h =
-      let made : Option ℕ → List Declared → Program = λ turns procs. record { turns = option_map_or (λ n. n) turns DEFAULT_TURNS; procs = procs } in
+      let made : Option ℕ → List Declared → Program = λ turns procs. record s { turns = option_map_or (λ n. n) turns DEFAULT_TURNS; procs = procs } in
       ap (λ (turns : Option ℕ). made turns (all_procs d)) h.turns ∙ ap (made (Some s.turns)) h.procs
 
   pub walk_back : walk known (turns_line s.turns ∷ procs_lines s.procs) ≡ Ok (program_seen f g s)
@@ -224,15 +225,15 @@ module _ (s : Program) (readable : IsReadableScript s) where
   procs-kept : (ps : List Declared) → map (proc_seen kept kept) ps ≡ ps
   procs-kept [] = refl
   procs-kept (p ∷ ps) =
-      ap (λ (is : List Instr). record { name = p.name; labels = p.labels; instrs = is } ∷ map (proc_seen kept kept) ps) (instrs-kept p.instrs) ∙ ap (λ (qs : List Declared). p ∷ qs) (procs-kept ps)
+      ap (λ (is : List Instr). record p { instrs = is } ∷ map (proc_seen kept kept) ps) (instrs-kept p.instrs) ∙ ap (λ (qs : List Declared). p ∷ qs) (procs-kept ps)
 
   second-walk : walk (Among first) behind_header ≡ Ok s
-  second-walk = walk_back (Among first) kept kept s readable second-reads ∙ ap (λ (ps : List Declared). Ok (record { turns = s.turns; procs = ps })) (procs-kept s.procs)
+  second-walk = walk_back (Among first) kept kept s readable second-reads ∙ ap (λ (ps : List Declared). Ok (record s { procs = ps })) (procs-kept s.procs)
 
   lines-back : script_of_lines (script_lines s) ≡ Ok s
   unfolding script_of_lines script_lines
   lines-back =
-      ap (λ (v : Bool). if v then walk_twice behind_header else at_line 1 Header) header_again
+      ap (λ (version : Option Version). script_behind version behind_header) header_again
       ∙ ap (λ (r : Result Program Fault). r >>= λ script. walk (Among script) behind_header) first-walk ∙ second-walk
 
 few-bytes : (n : ℕ) → n ≤ MOST_BYTES → nat_le n MOST_BYTES ≡ true

@@ -12,7 +12,8 @@ use Rattle.sig_patterns.specs.declared.pattern.Pattern.TheVariants as pattern
 use Rattle.sig_program.specs.declared.instruction.Instr.{Instr}
 use Rattle.sig_program.specs.declared.instruction.Instr.TheVariants as instr
 use Rattle.sig_program.specs.declared.script.TheConstants.{MOST_TURNS}
-use Rattle.sig_program.specs.Scripts.{Declared, Program}
+use Rattle.sig_program.specs.Parts.{plain_clause}
+use Rattle.sig_program.specs.Scripts.{Declared, Program, bare_process}
 
 abbrev pub var_named : List ℕ → Var
 var_named word = record { 0 = word }
@@ -22,7 +23,7 @@ call_parts = pattern.Atom (codes "call") ∷ pattern.Bind (var_named (codes "R")
 
 -- `receive`, `on {call,R,V} -> answer`, `end`, where `answer` is label 1
 abbrev pub call_clause : Clause
-call_clause = record { pattern = pattern.Tuple call_parts; target = Some 1 }
+call_clause = plain_clause (pattern.Tuple call_parts) (Some 1)
 
 abbrev pub hub_receive : Instr
 hub_receive = instr.Receive (record { using = None; clauses = call_clause ∷ []; after = None })
@@ -63,14 +64,12 @@ send_call k = instr.Send to_hub (call_message k)
 
 -- `on {^M,V}`
 abbrev pub answer_clause : Clause
-answer_clause = record { pattern = pattern.Tuple (pattern.Pin (var_named (codes "M")) ∷ pattern.Bind (var_named (codes "V")) ∷ []); target = None }
+answer_clause = plain_clause (pattern.Tuple (pattern.Pin (var_named (codes "M")) ∷ pattern.Bind (var_named (codes "V")) ∷ [])) None
 
 -- `on {'DOWN',^M,process,_,V}`
 abbrev pub down_clause : Clause
-down_clause = record {
-  pattern = pattern.Tuple (pattern.Atom (codes "DOWN") ∷ pattern.Pin (var_named (codes "M")) ∷ pattern.Atom (codes "process") ∷ pattern.Any ∷ pattern.Bind (var_named (codes "V")) ∷ []);
-  target = None;
-}
+down_clause =
+    plain_clause (pattern.Tuple (pattern.Atom (codes "DOWN") ∷ pattern.Pin (var_named (codes "M")) ∷ pattern.Atom (codes "process") ∷ pattern.Any ∷ pattern.Bind (var_named (codes "V")) ∷ [])) None
 
 -- `receive using M`, the two clauses, `end`
 abbrev pub await_answer : Instr
@@ -82,7 +81,7 @@ call k = instr.Reserve ∷ watch_hub ∷ bind_mark ∷ send_call k ∷ await_ans
 
 -- calls 1 to n
 unfoldable pub client : ℕ → List ℕ → Declared
-client n name = record { name = name; labels = []; instrs = flat_map call (range_with_len 1 n) }
+client n name = record (bare_process name) { instrs = flat_map call (range_with_len 1 n) }
 
 abbrev pub client_names : List (List ℕ)
 client_names = codes "c0" ∷ codes "c1" ∷ codes "c2" ∷ codes "c3" ∷ codes "c4" ∷ codes "c5" ∷ codes "c6" ∷ codes "c7" ∷ []

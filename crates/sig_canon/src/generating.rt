@@ -25,12 +25,12 @@ ghost use Rattle.sig_canon.specs.Generated.{
   generated,
 };
 
-use sig_tokens::{atom_of, name_of};
 use sig_kinds::AliasMode;
 use sig_lists::Sequence;
 use sig_patterns::{Clause, Clauses, Expr, Exprs, Pattern, Patterns, Var};
 use sig_program::{Instr, Instrs, Label, Labels, MOST_TURNS, Proc, Procs, Receiving, Script};
 use sig_terms::Pid;
+use sig_tokens::{atom_of, name_of};
 use std::alloc::{AllocError, Global};
 
 /// The most calls of each client of a generated script.

@@ -16,6 +16,10 @@ use Rattle.sig_program.specs.declared.instruction.After.{After}
 use Rattle.sig_program.specs.declared.instruction.Instr.{Instr}
 use Rattle.sig_program.specs.Instructions.{Operand, an_expr, a_variable, a_label, a_mode, AllSaid, operands_of, Spoken, Says, Receives, spoken}
 
+-- a clause with nothing but a pattern and where it goes on
+abbrev pub plain_clause : Pattern → Option ℕ → Clause
+plain_clause pattern target = record { pattern = pattern; target = target }
+
 -- the expressions among operands
 abbrev pub said_exprs : (os : List Operand) → AllSaid os → List Expr
 said_exprs [] x = []

@@ -22,21 +22,22 @@ use Rattle.sig_tokens.specs.declared.known.Known.{Known}
 use Rattle.sig_tokens.specs.declared.known.Known.TheVariants.{Any, Among}
 use Rattle.sig_reader.specs.declared.draft.Section.{Section}
 use Rattle.sig_reader.specs.declared.draft.Section.TheVariants.{Before, Outside, Inside}
+use Rattle.sig_reader.specs.declared.draft.OpenReceive.{OpenReceive}
 use Rattle.sig_reader.specs.declared.draft.Draft.{Draft}
 use Rattle.sig_reader.specs.declared.form.Form.{Form}
 use Rattle.sig_reader.specs.declared.form.Form.TheVariants as form
-use Rattle.sig_program.specs.Scripts.{Declared, Program, AreMarked, IsLawful, IsPlace, AreRising, IsWithin, IsExprBelow, IsPatternBelow, IsInstrBelow, IsSound}
-use Rattle.sig_program.specs.Parts.{targets_of}
+use Rattle.sig_program.specs.Scripts.{Declared, Program, AreMarked, IsLawful, IsPlace, AreRising, IsWithin, IsExprBelow, IsPatternBelow, IsInstrBelow, IsSound, bare_process}
+use Rattle.sig_program.specs.Parts.{targets_of, plain_clause}
 use Rattle.sig_tokens.specs.declared.fault.Stop.{Stop}
 use Rattle.sig_tokens.specs.Faults.{Fault, ◌>>=◌, on_ok, Gives}
 use Rattle.sig_tokens.specs.Lines.{lines_of, onto_first}
 use Rattle.sig_tokens.specs.Tokens.{text, tokens_of}
-use Rattle.sig_tokens.specs.Names.{labels_at, IsSmall, IsFewKnown}
+use Rattle.sig_tokens.specs.Names.{labels_at}
 use Rattle.sig_tokens.specs.PatternTexts.{pattern_of}
 use Rattle.sig_reader.specs.Forms.{keyword_of, may_stand, ends, arrow_of, count_from, turns_of, whole_name, marker_of, on_of, instr_of, form_of, form_behind, said_by, said}
-use Rattle.sig_reader.specs.Drafts.{blank, open_proc, all_procs, program_of, begun, labelled, with_instr, received, is_marked, with_clause, taken_at}
+use Rattle.sig_reader.specs.Drafts.{blank, open_proc, all_procs, program_of, begun, labelled, with_instr, receive_of, is_marked, with_clause, received, taken_at}
 use Rattle.sig_reader.specs.Grammar.{located, finished, taken_if, line_taken, body, walk}
-use Rattle.sig_reader.specs.Fitting.{IsFit}
+use Rattle.sig_reader.specs.Fitting.{IsSmall, IsFit}
 use Rattle.sig_reader.proofs.FitLemmas.{all-last}
 use Rattle.sig_reader.proofs.BoundTermLemmas.{Holds, anything, holds-of, holds-if, holds-on_ok, holds-then, holds-ends, IsTarget, IsMeantForm, no-mode, said-meant}
 use Rattle.sig_program.specs.declared.script.TheConstants.{DEFAULT_TURNS, MOST_PROCESSES, MOST_TURNS}
@@ -63,11 +64,11 @@ fit_blank n = record { few = omega arith; small = All-nil (IsSmall n) }
 same-length : {A : Type 0} (xs : List A) (x y : A) → length (xs ++ x ∷ []) ≡ length (xs ++ y ∷ [])
 same-length xs x y = length-append xs (x ∷ []) ∙ sym (length-append xs (y ∷ []))
 
-fit_last : (n : ℕ) (turns : Option ℕ) (procs : List Declared) (p q : Declared) →
-    IsFit n (record { turns = turns; procs = procs; section = Outside p }) → IsSmall (n + 1) q → IsFit (n + 1) (record { turns = turns; procs = procs; section = Outside q })
-fit_last n turns procs p q h s = record {
-  few = omega (arith, h.few, same-length procs p q);
-  small = All-push (IsSmall (n + 1)) procs q (all-later n procs (all-front (IsSmall n) procs p h.small)) s;
+fit_last : (n : ℕ) (d : Draft) (p q : Declared) →
+    IsFit n (record d { section = Outside p }) → IsSmall (n + 1) q → IsFit (n + 1) (record d { section = Outside q })
+fit_last n d p q h s = record {
+  few = omega (arith, h.few, same-length d.procs p q);
+  small = All-push (IsSmall (n + 1)) d.procs q (all-later n d.procs (all-front (IsSmall n) d.procs p h.small)) s;
 }
 
 small_instr : (n : ℕ) (p : Declared) (i : Instr) → IsSmall n p → IsSmall (n + 1) (with_instr p i)
@@ -86,7 +87,7 @@ room_for_one n m room e = grind (arith, nat_tests)
 
 fit_begun : (n : ℕ) (d : Draft) (name : List ℕ) → IsFit n d → Holds (IsFit (n + 1)) (begun d name)
 fit_begun n d name h =
-    let p : Declared = record { name = name; labels = []; instrs = [] } in
+    let p : Declared = bare_process name in
     let small : IsSmall (n + 1) p = record { instrs = omega arith; labels = omega arith } in
     holds-if (IsFit (n + 1)) (list_any (λ (p : Declared). bytes_eq p.name name) (all_procs d)) _ _ (λ _. tt)
     (λ _. holds-if (IsFit (n + 1)) (nat_le MOST_PROCESSES (length (all_procs d))) _ _ (λ _. tt)
@@ -95,31 +96,31 @@ fit_begun n d name h =
       small = All-push (IsSmall (n + 1)) (all_procs d) p (all-later n (all_procs d) h.small) small;
     }))
 
-fit_at : (n : ℕ) (turns : Option ℕ) (procs : List Declared) (section : Section) (f : Form) →
-    IsFit n (record { turns = turns; procs = procs; section = section }) → Holds (IsFit (n + 1)) (taken_at (record { turns = turns; procs = procs; section = section }) section f)
-fit_at n turns procs Before (form.Turns m) h =
-    holds-if (IsFit (n + 1)) (nat_le m MOST_TURNS) _ _ (λ _. fit_later n (record { turns = Some m; procs = procs; section = Before }) (record { few = h.few; small = h.small })) (λ _. tt)
-fit_at n turns procs Before (form.Process name) h = fit_begun n (record { turns = turns; procs = procs; section = Before }) name h
-fit_at n turns procs Before _ h = tt
-fit_at n turns procs (Outside p) (form.Process name) h = fit_begun n (record { turns = turns; procs = procs; section = Outside p }) name h
-fit_at n turns procs (Outside p) (form.Label name) h =
-    holds-on_ok (IsSmall (n + 1)) (IsFit (n + 1)) (λ q. record { turns = turns; procs = procs; section = Outside q }) (labelled p name)
-    (small_labelled n p name (all-last (IsSmall n) procs p h.small)) (λ q s. fit_last n turns procs p q h s)
-fit_at n turns procs (Outside p) (form.Do i) h = fit_last n turns procs p (with_instr p i) h (small_instr n p i (all-last (IsSmall n) procs p h.small))
-fit_at n turns procs (Outside p) (form.Receive using) h = record { few = h.few; small = all-later n (procs ++ p ∷ []) h.small }
-fit_at n turns procs (Outside p) _ h = tt
-fit_at n turns procs (Inside p using clauses after) (form.On pattern target) h =
-    holds-on_ok (λ _. Unit {0}) (IsFit (n + 1)) (λ more. record { turns = turns; procs = procs; section = Inside p using more after }) (with_clause using clauses pattern target)
-    (anything (with_clause using clauses pattern target)) (λ more _. record { few = h.few; small = all-later n (procs ++ p ∷ []) h.small })
-fit_at n turns procs (Inside p using clauses after) (form.After next) h = record { few = h.few; small = all-later n (procs ++ p ∷ []) h.small }
-fit_at n turns procs (Inside p using clauses after) form.End h =
-    fit_last n turns procs p (with_instr p (received using clauses after)) (record { few = h.few; small = h.small })
-    (small_instr n p (received using clauses after) (all-last (IsSmall n) procs p h.small))
-fit_at n turns procs (Inside p using clauses after) _ h = tt
+fit_at : (n : ℕ) (d : Draft) (section : Section) (f : Form) →
+    IsFit n (record d { section = section }) → Holds (IsFit (n + 1)) (taken_at (record d { section = section }) section f)
+fit_at n d Before (form.Turns m) h =
+    holds-if (IsFit (n + 1)) (nat_le m MOST_TURNS) _ _ (λ _. fit_later n (record d { turns = Some m; section = Before }) (record { few = h.few; small = h.small })) (λ _. tt)
+fit_at n d Before (form.Process name) h = fit_begun n (record d { section = Before }) name h
+fit_at n d Before _ h = tt
+fit_at n d (Outside p) (form.Process name) h = fit_begun n (record d { section = Outside p }) name h
+fit_at n d (Outside p) (form.Label name) h =
+    holds-on_ok (IsSmall (n + 1)) (IsFit (n + 1)) (λ q. record d { section = Outside q }) (labelled p name)
+    (small_labelled n p name (all-last (IsSmall n) d.procs p h.small)) (λ q s. fit_last n d p q h s)
+fit_at n d (Outside p) (form.Do i) h = fit_last n d p (with_instr p i) h (small_instr n p i (all-last (IsSmall n) d.procs p h.small))
+fit_at n d (Outside p) (form.Receive using) h = record { few = h.few; small = all-later n (d.procs ++ p ∷ []) h.small }
+fit_at n d (Outside p) _ h = tt
+fit_at n d (Inside r) (form.On pattern target) h =
+    holds-on_ok (λ _. Unit {0}) (IsFit (n + 1)) (λ more. record d { section = Inside (record r { clauses = more }) }) (with_clause r.using r.clauses pattern target)
+    (anything (with_clause r.using r.clauses pattern target)) (λ more _. record { few = h.few; small = all-later n (d.procs ++ r.proc ∷ []) h.small })
+fit_at n d (Inside r) (form.After next) h = record { few = h.few; small = all-later n (d.procs ++ r.proc ∷ []) h.small }
+fit_at n d (Inside r) form.End h =
+    fit_last n d r.proc (with_instr r.proc (received r)) (record { few = h.few; small = h.small })
+    (small_instr n r.proc (received r) (all-last (IsSmall n) d.procs r.proc h.small))
+fit_at n d (Inside r) _ h = tt
 
 fit_said : (n : ℕ) (d : Draft) (said : Option Form) → IsFit n d → Holds (IsFit (n + 1)) (taken_if d said)
 fit_said n d None h = fit_later n d h
-fit_said n d (Some f) h = fit_at n d.turns d.procs d.section f h
+fit_said n d (Some f) h = fit_at n d d.section f h
 
 fit_line : (known : Known) (n : ℕ) (d : Draft) (line : List ℕ) → IsFit n d → Holds (IsFit (n + 1)) (line_taken known d line)
 fit_line known n d line h = holds-then (λ _. Unit {0}) (IsFit (n + 1)) (taken_if d) (said known d line) (anything (said known d line)) (λ s _. fit_said n d s h)
@@ -142,7 +143,7 @@ holds-located P Q n f (Err e) h k = tt
 pub holds-finished : (Q : Program → Type 0) (n : ℕ) (d : Draft) (section : Section) → Q (program_of d) → Holds Q (finished n d section)
 holds-finished Q n d Before h = h
 holds-finished Q n d (Outside p) h = h
-holds-finished Q n d (Inside p using clauses after) h = tt
+holds-finished Q n d (Inside r) h = tt
 
 module _ (known : Known) (P : ℕ → Draft → Type 0) (Q : Program → Type 0) (m : ℕ)
     (step : (n : ℕ) (d : Draft) (line : List ℕ) → n < m → P n d → Holds (P (n + 1)) (line_taken known d line))
@@ -169,10 +170,6 @@ few_walked known lines s e =
     holds-of (IsFew (2 + length lines)) (walk known lines) s
     (body-holds known IsFit (IsFew (2 + length lines)) (2 + length lines) (λ n d line _ h. fit_line known n d line h)
     (λ n d le h. (h.few, few-more n (2 + length lines) (all_procs d) le h.small)) 2 blank lines (le_refl (2 + length lines)) (fit_blank 2)) e
-
-pub few_known : (known : Known) (lines : List (List ℕ)) (s : Program) → walk known lines ≡ Ok s → length lines ≤ 2 ^ 30 → IsFewKnown (Among s)
-few_known known lines s e le =
-    let few = few_walked known lines s e in (few.0, few-more (2 + length lines) (2 ^ 31) s.procs (omega (arith, le)) few.1)
 
 -- a text has no more lines than bytes
 few-if : (v : Bool) (n : ℕ) (x y : List (List ℕ)) → length x ≤ n → length y ≤ n → length (if v then x else y) ≤ n
@@ -263,7 +260,7 @@ form_behind-counted : (known : Known) (d : Draft) (word : Option Keyword) (line 
     Holds (λ f. (cs : List ℕ) → counted_form f cs ≡ counted_by word cs) (form_behind known d word line ts)
 form_behind-counted known d None line ts = tt
 form_behind-counted known d (Some word) line ts =
-    holds-if (SaysAs word) (may_stand d.turns d.section word) _ _ (λ _. form-counted known (length d.procs) word line ts) (λ _. tt)
+    holds-if (SaysAs word) (may_stand d word) _ _ (λ _. form-counted known (length d.procs) word line ts) (λ _. tt)
 
 said_by-counted : (known : Known) (d : Draft) (line : List ℕ) (ts : List Token) →
     Holds (λ o. (cs : List ℕ) → counted_said o cs ≡ counted_in line (Ok ts) cs) (said_by known d line ts)
@@ -302,7 +299,7 @@ begun-counted : (d : Draft) (name : List ℕ) → Holds (λ e. counts (all_procs
 begun-counted d name =
     let P : Draft → Type 0 = λ e. counts (all_procs e) ≡ counts (all_procs d) ++ 0 ∷ [] in
     holds-if P (list_any (λ (p : Declared). bytes_eq p.name name) (all_procs d)) _ _ (λ _. tt)
-    (λ _. holds-if P (nat_le MOST_PROCESSES (length (all_procs d))) _ _ (λ _. tt) (λ _. counts-push (all_procs d) (record { name = name; labels = []; instrs = [] })))
+    (λ _. holds-if P (nat_le MOST_PROCESSES (length (all_procs d))) _ _ (λ _. tt) (λ _. counts-push (all_procs d) (bare_process name)))
 
 labelled-counted : (p : Declared) (name : List ℕ) → Holds (λ q. length q.labels ≡ length p.labels + 1) (labelled p name)
 labelled-counted p name =
@@ -312,28 +309,28 @@ labelled-counted p name =
 abbrev CountedAs : List ℕ → Draft → Type 0
 CountedAs cs e = counts (all_procs e) ≡ cs
 
-taken_at-counted : (turns : Option ℕ) (procs : List Declared) (section : Section) (f : Form) →
-    Holds (CountedAs (counted_form f (counts (procs ++ open_proc section)))) (taken_at (record { turns = turns; procs = procs; section = section }) section f)
-taken_at-counted turns procs Before (form.Turns m) = holds-if (CountedAs (counts (procs ++ []))) (nat_le m MOST_TURNS) _ _ (λ _. refl) (λ _. tt)
-taken_at-counted turns procs Before (form.Process name) = begun-counted (record { turns = turns; procs = procs; section = Before }) name
-taken_at-counted turns procs Before _ = tt
-taken_at-counted turns procs (Outside p) (form.Process name) = begun-counted (record { turns = turns; procs = procs; section = Outside p }) name
-taken_at-counted turns procs (Outside p) (form.Label name) =
-    holds-on_ok (λ q. length q.labels ≡ length p.labels + 1) (CountedAs (one_more (counts (procs ++ p ∷ [])))) (λ q. record { turns = turns; procs = procs; section = Outside q })
-    (labelled p name) (labelled-counted p name) (λ q h. counts-more procs p q h)
-taken_at-counted turns procs (Outside p) (form.Do i) = counts-last procs p (with_instr p i) refl
-taken_at-counted turns procs (Outside p) (form.Receive using) = refl
-taken_at-counted turns procs (Outside p) _ = tt
-taken_at-counted turns procs (Inside p using clauses after) (form.On pattern target) =
-    holds-on_ok (λ _. Unit {0}) (CountedAs (counts (procs ++ p ∷ []))) (λ more. record { turns = turns; procs = procs; section = Inside p using more after })
-    (with_clause using clauses pattern target) (anything (with_clause using clauses pattern target)) (λ more _. refl)
-taken_at-counted turns procs (Inside p using clauses after) (form.After next) = refl
-taken_at-counted turns procs (Inside p using clauses after) form.End = counts-last procs p (with_instr p (received using clauses after)) refl
-taken_at-counted turns procs (Inside p using clauses after) _ = tt
+taken_at-counted : (d : Draft) (section : Section) (f : Form) →
+    Holds (CountedAs (counted_form f (counts (d.procs ++ open_proc section)))) (taken_at (record d { section = section }) section f)
+taken_at-counted d Before (form.Turns m) = holds-if (CountedAs (counts (d.procs ++ []))) (nat_le m MOST_TURNS) _ _ (λ _. refl) (λ _. tt)
+taken_at-counted d Before (form.Process name) = begun-counted (record d { section = Before }) name
+taken_at-counted d Before _ = tt
+taken_at-counted d (Outside p) (form.Process name) = begun-counted (record d { section = Outside p }) name
+taken_at-counted d (Outside p) (form.Label name) =
+    holds-on_ok (λ q. length q.labels ≡ length p.labels + 1) (CountedAs (one_more (counts (d.procs ++ p ∷ [])))) (λ q. record d { section = Outside q })
+    (labelled p name) (labelled-counted p name) (λ q h. counts-more d.procs p q h)
+taken_at-counted d (Outside p) (form.Do i) = counts-last d.procs p (with_instr p i) refl
+taken_at-counted d (Outside p) (form.Receive using) = refl
+taken_at-counted d (Outside p) _ = tt
+taken_at-counted d (Inside r) (form.On pattern target) =
+    holds-on_ok (λ _. Unit {0}) (CountedAs (counts (d.procs ++ r.proc ∷ []))) (λ more. record d { section = Inside (record r { clauses = more }) })
+    (with_clause r.using r.clauses pattern target) (anything (with_clause r.using r.clauses pattern target)) (λ more _. refl)
+taken_at-counted d (Inside r) (form.After next) = refl
+taken_at-counted d (Inside r) form.End = counts-last d.procs r.proc (with_instr r.proc (received r)) refl
+taken_at-counted d (Inside r) _ = tt
 
 taken_if-counted : (d : Draft) (o : Option Form) → Holds (CountedAs (counted_said o (counts (all_procs d)))) (taken_if d o)
 taken_if-counted d None = refl
-taken_if-counted d (Some f) = taken_at-counted d.turns d.procs d.section f
+taken_if-counted d (Some f) = taken_at-counted d d.section f
 
 line-counted : (known : Known) (d : Draft) (line : List ℕ) → Holds (CountedAs (counted line (counts (all_procs d)))) (line_taken known d line)
 line-counted known d line =
@@ -391,10 +388,10 @@ record IsMeant (s : Program) (here : ℕ) (p : Declared) : Type 0 where
 abbrev IsOpen : Program → ℕ → ℕ → Section → Type 0
 IsOpen s n here Before = Unit {0}
 IsOpen s n here (Outside p) = Unit {0}
-IsOpen s n here (Inside p using clauses after) =
-    (length clauses ≤ n) × All (λ (c : Clause). IsTarget (length (labels_at here s.procs)) c.target) clauses
-    × All (λ (c : Clause). IsPatternBelow (length s.procs) c.pattern) clauses × IfSome after (λ (a : After). IsTarget (length (labels_at here s.procs)) a.target)
-    × AreMarked using clauses
+IsOpen s n here (Inside r) =
+    (length r.clauses ≤ n) × All (λ (c : Clause). IsTarget (length (labels_at here s.procs)) c.target) r.clauses
+    × All (λ (c : Clause). IsPatternBelow (length s.procs) c.pattern) r.clauses × IfSome r.after (λ (a : After). IsTarget (length (labels_at here s.procs)) a.target)
+    × AreMarked r.using r.clauses
 
 record IsMeantDraft (s : Program) (n : ℕ) (d : Draft) : Type 0 where
   turns : IfSome d.turns (λ t. t ≤ MOST_TURNS)
@@ -408,7 +405,7 @@ rising-push (first ∷ ls) l (AreRising.more least rest) below =
     AreRising.more (All-push (λ (other : Label). first.place ≤ other.place) ls l least (All-head (λ (other : Label). other.place ≤ l.place) first ls below))
     (rising-push ls l rest (All-tail (λ (other : Label). other.place ≤ l.place) first ls below))
 
-empty-meant : (s : Program) (here : ℕ) (name : List ℕ) → IsMeant s here (record { name = name; labels = []; instrs = [] })
+empty-meant : (s : Program) (here : ℕ) (name : List ℕ) → IsMeant s here (bare_process name)
 empty-meant s here name = record {
   places = All-nil (IsPlace 0);
   rising = AreRising.none;
@@ -444,14 +441,14 @@ label-more s here p name h =
 open-later : (s : Program) (n here : ℕ) (section : Section) → IsOpen s n here section → IsOpen s (n + 1) here section
 open-later s n here Before h = tt
 open-later s n here (Outside p) h = tt
-open-later s n here (Inside p using clauses after) h = (omega (arith, h.0), h.1, h.2, h.3, h.4)
+open-later s n here (Inside r) h = (omega (arith, h.0), h.1, h.2, h.3, h.4)
 
 few-turns : (n : ℕ) → nat_le n MOST_TURNS ≡ true → n ≤ MOST_TURNS
 few-turns n h = grind (arith, nat_tests)
 
 begun-meant : (s : Program) (n : ℕ) (d : Draft) (name : List ℕ) → IsMeantDraft s n d → Holds (IsMeantDraft s (n + 1)) (begun d name)
 begun-meant s n d name h =
-    let p : Declared = record { name = name; labels = []; instrs = [] } in
+    let p : Declared = bare_process name in
     let place : length (all_procs d) ≡ 0 + length (all_procs d) = omega arith in
     holds-if (IsMeantDraft s (n + 1)) (list_any (λ (p : Declared). bytes_eq p.name name) (all_procs d)) _ _ (λ _. tt)
     (λ _. holds-if (IsMeantDraft s (n + 1)) (nat_le MOST_PROCESSES (length (all_procs d))) _ _ (λ _. tt)
@@ -476,7 +473,7 @@ all-kept P (Some x) h = All-cons P x [] h (All-nil P)
 
 -- the targets of a receive are those of its clauses and that of its `after`
 receive-targets : (labels : ℕ) (using : Option Var) (clauses : List Clause) (after : Option After) → All (λ (c : Clause). IsTarget labels c.target) clauses →
-    IfSome after (λ (a : After). IsTarget labels a.target) → All (λ t. t < labels) (targets_of (received using clauses after))
+    IfSome after (λ (a : After). IsTarget labels a.target) → All (λ t. t < labels) (targets_of (receive_of using clauses after))
 receive-targets labels using clauses after h k =
     let target : Clause → Option ℕ = λ c. c.target in
     let behind : After → Option ℕ = λ a. a.target in
@@ -493,85 +490,85 @@ marked-more None clauses c e h = tt
 marked-more (Some x) clauses c e h = All-push (λ (c : Clause). pins c.pattern x ≡ true) clauses c h e
 
 -- from here on the names are those of a script, and n is a line of a text that isn't too long
-module _ (s : Program) (n : ℕ) (turns : Option ℕ) (procs : List Declared) (bounded : IfSome turns (λ t. t ≤ MOST_TURNS)) where
-  here-is : length procs ≡ 0 + length procs
+module _ (s : Program) (n : ℕ) (d : Draft) (bounded : IfSome d.turns (λ t. t ≤ MOST_TURNS)) where
+  here-is : length d.procs ≡ 0 + length d.procs
   here-is = omega arith
 
-  current : (p : Declared) → Each (IsMeant s) 0 (procs ++ p ∷ []) → IsMeant s (length procs) p
-  current p h = each-last (IsMeant s) 0 (length procs) procs p here-is h
+  current : (p : Declared) → Each (IsMeant s) 0 (d.procs ++ p ∷ []) → IsMeant s (length d.procs) p
+  current p h = each-last (IsMeant s) 0 (length d.procs) d.procs p here-is h
 
-  changed : (p q : Declared) → Each (IsMeant s) 0 (procs ++ p ∷ []) → IsMeant s (length procs) q → IsMeantDraft s (n + 1) (record { turns = turns; procs = procs; section = Outside q })
+  changed : (p q : Declared) → Each (IsMeant s) 0 (d.procs ++ p ∷ []) → IsMeant s (length d.procs) q → IsMeantDraft s (n + 1) (record d { section = Outside q })
   changed p q h k = record {
     turns = bounded;
-    procs = each-push (IsMeant s) 0 (length procs) procs q here-is (each-front (IsMeant s) 0 procs p h) k;
+    procs = each-push (IsMeant s) 0 (length d.procs) d.procs q here-is (each-front (IsMeant s) 0 d.procs p h) k;
     receive = tt;
   }
 
-  clause-more : (p : Declared) (using : Option Var) (clauses : List Clause) (after : Option After) (c : Clause) → IsOpen s n (length procs) (Inside p using clauses after) →
-      IsPatternBelow (length s.procs) c.pattern → IsTarget (length (labels_at (length procs) s.procs)) c.target → is_marked using c.pattern ≡ true →
-      IsOpen s (n + 1) (length procs) (Inside p using (clauses ++ c ∷ []) after)
-  clause-more p using clauses after c h b t m = (
-    omega (arith, h.0, length-append clauses (c ∷ [])),
-    All-push (λ (c : Clause). IsTarget (length (labels_at (length procs) s.procs)) c.target) clauses c h.1 t,
-    All-push (λ (c : Clause). IsPatternBelow (length s.procs) c.pattern) clauses c h.2 b,
+  clause-more : (r : OpenReceive) (c : Clause) → IsOpen s n (length d.procs) (Inside r) →
+      IsPatternBelow (length s.procs) c.pattern → IsTarget (length (labels_at (length d.procs) s.procs)) c.target → is_marked r.using c.pattern ≡ true →
+      IsOpen s (n + 1) (length d.procs) (Inside (record r { clauses = r.clauses ++ c ∷ [] }))
+  clause-more r c h b t m = (
+    omega (arith, h.0, length-append r.clauses (c ∷ [])),
+    All-push (λ (c : Clause). IsTarget (length (labels_at (length d.procs) s.procs)) c.target) r.clauses c h.1 t,
+    All-push (λ (c : Clause). IsPatternBelow (length s.procs) c.pattern) r.clauses c h.2 b,
     h.3,
-    marked-more using clauses c m h.4,
+    marked-more r.using r.clauses c m h.4,
   )
 
-  with_clause-meant : (p : Declared) (using : Option Var) (clauses : List Clause) (after : Option After) (pattern : Pattern) (target : Option ℕ) →
-      IsOpen s n (length procs) (Inside p using clauses after) → IsPatternBelow (length s.procs) pattern → IsTarget (length (labels_at (length procs) s.procs)) target →
-      Holds (λ more. IsOpen s (n + 1) (length procs) (Inside p using more after)) (with_clause using clauses pattern target)
-  with_clause-meant p using clauses after pattern target h b t =
-      holds-if (λ (more : List Clause). IsOpen s (n + 1) (length procs) (Inside p using more after)) (is_marked using pattern) _ _
-      (λ m. clause-more p using clauses after (record { pattern = pattern; target = target }) h b t m) (λ _. tt)
+  with_clause-meant : (r : OpenReceive) (pattern : Pattern) (target : Option ℕ) →
+      IsOpen s n (length d.procs) (Inside r) → IsPatternBelow (length s.procs) pattern → IsTarget (length (labels_at (length d.procs) s.procs)) target →
+      Holds (λ more. IsOpen s (n + 1) (length d.procs) (Inside (record r { clauses = more }))) (with_clause r.using r.clauses pattern target)
+  with_clause-meant r pattern target h b t =
+      holds-if (λ (more : List Clause). IsOpen s (n + 1) (length d.procs) (Inside (record r { clauses = more }))) (is_marked r.using pattern) _ _
+      (λ m. clause-more r (plain_clause pattern target) h b t m) (λ _. tt)
 
-  receive-more : (p : Declared) (using : Option Var) (clauses : List Clause) (after : Option After) → n < 2 ^ 32 → IsOpen s n (length procs) (Inside p using clauses after) →
-      IsMeant s (length procs) p → IsMeant s (length procs) (with_instr p (received using clauses after))
-  receive-more p using clauses after lt h k =
-      let few : length clauses < 2 ^ 32 = omega (arith, lt, h.0) in
-      let targets : All (λ t. t < length (labels_at (length procs) s.procs)) (targets_of (received using clauses after)) =
-      receive-targets (length (labels_at (length procs) s.procs)) using clauses after h.1 h.3 in
-      instr-more s (length procs) p (received using clauses after) (few, targets, no-mode, h.4) (All-nil (IsExprBelow (length s.procs)), h.2) k
+  receive-more : (r : OpenReceive) → n < 2 ^ 32 → IsOpen s n (length d.procs) (Inside r) →
+      IsMeant s (length d.procs) r.proc → IsMeant s (length d.procs) (with_instr r.proc (received r))
+  receive-more r lt h k =
+      let few : length r.clauses < 2 ^ 32 = omega (arith, lt, h.0) in
+      let targets : All (λ t. t < length (labels_at (length d.procs) s.procs)) (targets_of (received r)) =
+      receive-targets (length (labels_at (length d.procs) s.procs)) r.using r.clauses r.after h.1 h.3 in
+      instr-more s (length d.procs) r.proc (received r) (few, targets, no-mode, h.4) (All-nil (IsExprBelow (length s.procs)), h.2) k
 
-  taken_at-meant : (section : Section) (f : Form) → n < 2 ^ 32 → Each (IsMeant s) 0 (procs ++ open_proc section) → IsOpen s n (length procs) section →
-      IsMeantForm (length s.procs) (length (labels_at (length procs) s.procs)) f →
-      Holds (IsMeantDraft s (n + 1)) (taken_at (record { turns = turns; procs = procs; section = section }) section f)
+  taken_at-meant : (section : Section) (f : Form) → n < 2 ^ 32 → Each (IsMeant s) 0 (d.procs ++ open_proc section) → IsOpen s n (length d.procs) section →
+      IsMeantForm (length s.procs) (length (labels_at (length d.procs) s.procs)) f →
+      Holds (IsMeantDraft s (n + 1)) (taken_at (record d { section = section }) section f)
   taken_at-meant Before (form.Turns m) lt h o k =
       holds-if (IsMeantDraft s (n + 1)) (nat_le m MOST_TURNS) _ _ (λ e. record { turns = few-turns m e; procs = h; receive = tt }) (λ _. tt)
   taken_at-meant Before (form.Process name) lt h o k =
-      begun-meant s n (record { turns = turns; procs = procs; section = Before }) name (record { turns = bounded; procs = h; receive = tt })
+      begun-meant s n (record d { section = Before }) name (record { turns = bounded; procs = h; receive = tt })
   taken_at-meant Before _ lt h o k = tt
   taken_at-meant (Outside p) (form.Process name) lt h o k =
-      begun-meant s n (record { turns = turns; procs = procs; section = Outside p }) name (record { turns = bounded; procs = h; receive = tt })
+      begun-meant s n (record d { section = Outside p }) name (record { turns = bounded; procs = h; receive = tt })
   taken_at-meant (Outside p) (form.Label name) lt h o k =
-      holds-on_ok (IsMeant s (length procs)) (IsMeantDraft s (n + 1)) (λ q. record { turns = turns; procs = procs; section = Outside q })
-      (labelled p name) (label-more s (length procs) p name (current p h)) (λ q m. changed p q h m)
-  taken_at-meant (Outside p) (form.Do i) lt h o k = changed p (with_instr p i) h (instr-more s (length procs) p i k.0 k.1 (current p h))
+      holds-on_ok (IsMeant s (length d.procs)) (IsMeantDraft s (n + 1)) (λ q. record d { section = Outside q })
+      (labelled p name) (label-more s (length d.procs) p name (current p h)) (λ q m. changed p q h m)
+  taken_at-meant (Outside p) (form.Do i) lt h o k = changed p (with_instr p i) h (instr-more s (length d.procs) p i k.0 k.1 (current p h))
   taken_at-meant (Outside p) (form.Receive using) lt h o k = record {
     turns = bounded;
     procs = h;
     receive = (
       omega arith,
-      All-nil (λ (c : Clause). IsTarget (length (labels_at (length procs) s.procs)) c.target),
+      All-nil (λ (c : Clause). IsTarget (length (labels_at (length d.procs) s.procs)) c.target),
       All-nil (λ (c : Clause). IsPatternBelow (length s.procs) c.pattern),
       tt,
       none-marked using,
     );
   }
   taken_at-meant (Outside p) _ lt h o k = tt
-  taken_at-meant (Inside p using clauses after) (form.On pattern target) lt h o k =
-      holds-on_ok (λ (more : List Clause). IsOpen s (n + 1) (length procs) (Inside p using more after)) (IsMeantDraft s (n + 1))
-      (λ more. record { turns = turns; procs = procs; section = Inside p using more after }) (with_clause using clauses pattern target)
-      (with_clause-meant p using clauses after pattern target o k.0 k.1) (λ more m. record { turns = bounded; procs = h; receive = m })
-  taken_at-meant (Inside p using clauses after) (form.After next) lt h o k = record { turns = bounded; procs = h; receive = (omega (arith, o.0), o.1, o.2, k, o.4) }
-  taken_at-meant (Inside p using clauses after) form.End lt h o k =
-      changed p (with_instr p (received using clauses after)) h (receive-more p using clauses after lt o (current p h))
-  taken_at-meant (Inside p using clauses after) _ lt h o k = tt
+  taken_at-meant (Inside r) (form.On pattern target) lt h o k =
+      holds-on_ok (λ (more : List Clause). IsOpen s (n + 1) (length d.procs) (Inside (record r { clauses = more }))) (IsMeantDraft s (n + 1))
+      (λ more. record d { section = Inside (record r { clauses = more }) }) (with_clause r.using r.clauses pattern target)
+      (with_clause-meant r pattern target o k.0 k.1) (λ more m. record { turns = bounded; procs = h; receive = m })
+  taken_at-meant (Inside r) (form.After next) lt h o k = record { turns = bounded; procs = h; receive = (omega (arith, o.0), o.1, o.2, k, o.4) }
+  taken_at-meant (Inside r) form.End lt h o k =
+      changed r.proc (with_instr r.proc (received r)) h (receive-more r lt o (current r.proc h))
+  taken_at-meant (Inside r) _ lt h o k = tt
 
 taken_if-meant : (s : Program) (n : ℕ) (d : Draft) (o : Option Form) → n < 2 ^ 32 → IsMeantDraft s n d →
     IfSome o (IsMeantForm (length s.procs) (length (labels_at (length d.procs) s.procs))) → Holds (IsMeantDraft s (n + 1)) (taken_if d o)
 taken_if-meant s n d None lt h k = record { turns = h.turns; procs = h.procs; receive = open-later s n (length d.procs) d.section h.receive }
-taken_if-meant s n d (Some f) lt h k = taken_at-meant s n d.turns d.procs h.turns d.section f lt h.procs h.receive k
+taken_if-meant s n d (Some f) lt h k = taken_at-meant s n d h.turns d.section f lt h.procs h.receive k
 
 line-meant : (s : Program) (n : ℕ) (d : Draft) (line : List ℕ) → n < 2 ^ 32 → IsMeantDraft s n d → Holds (IsMeantDraft s (n + 1)) (line_taken (Among s) d line)
 line-meant s n d line lt h =

@@ -27,7 +27,7 @@ use Rattle.sig_reader.specs.declared.form.Form.{Form}
 use Rattle.sig_reader.specs.declared.form.Form.TheVariants as form
 use Rattle.sig_program.specs.Instructions.{Operand, an_expr, a_label, a_mode, AllSaid, operands_of, instr_by}
 use Rattle.sig_program.specs.Parts.{said_exprs, said_labels, said_mode, exprs_in, targets_in, mode_by, clauses_in, using_in}
-use Rattle.sig_program.specs.Scripts.{Declared, Program, AreMarked, IsLawful, IsExprBelow, IsPatternBelow, IsInstrBelow}
+use Rattle.sig_program.specs.Scripts.{Declared, Program, AreMarked, IsLawful, IsExprBelow, IsPatternBelow, IsInstrBelow, bare_process}
 use Rattle.sig_tokens.specs.Faults.{◌>>=◌, on_ok}
 use Rattle.sig_tokens.specs.Tokens.{text, unquoted, tokens_of}
 use Rattle.sig_tokens.specs.Numbers.{int_of}
@@ -102,7 +102,7 @@ found e m (Some i) h = h i refl
 pub pid-below : (s : Program) (name : List ℕ) → Holds (λ n. n < length s.procs) (pid_of (Among s) name)
 pid-below s name =
     found UnknownProcess (length s.procs) (position (λ (p : Declared). bytes_eq p.name name) s.procs)
-    (λ i e. (position-Some (λ (p : Declared). bytes_eq p.name name) s.procs i (record { name = []; labels = []; instrs = [] }) e).0)
+    (λ i e. (position-Some (λ (p : Declared). bytes_eq p.name name) s.procs i (bare_process []) e).0)
 
 abbrev IsProcess : Program → ℕ → Type 0
 IsProcess s pid = pid < length s.procs
@@ -347,7 +347,7 @@ module _ (s : Program) (d : Draft) (line : List ℕ) where
 
   form_behind-meant : (word : Option Keyword) (ts : List Token) → Holds IsMeantNext (form_behind (Among s) d word line ts)
   form_behind-meant None ts = tt
-  form_behind-meant (Some word) ts = holds-if IsMeantNext (may_stand d.turns d.section word) _ _ (λ _. form-meant s (length d.procs) line word ts) (λ _. tt)
+  form_behind-meant (Some word) ts = holds-if IsMeantNext (may_stand d word) _ _ (λ _. form-meant s (length d.procs) line word ts) (λ _. tt)
 
   said_by-meant : (ts : List Token) → Holds (λ o. IfSome o IsMeantNext) (said_by (Among s) d line ts)
   unfolding said_by

@@ -5,7 +5,7 @@ use Rattle.sig_program.specs.Scripts.{Declared}
 use Rattle.sig_reader.specs.declared.draft.Section.{Section}
 use Rattle.sig_reader.specs.declared.draft.Section.TheVariants.{Before, Outside, Inside}
 use Rattle.sig_reader.specs.Drafts.{open_proc}
-use Rattle.sig_tokens.specs.Names.{IsSmall}
+use Rattle.sig_reader.specs.Fitting.{IsSmall}
 
 pub all-last : {A : Type 0} (P : A → Type 0) (xs : List A) (x : A) → All P (xs ++ x ∷ []) → P x
 all-last P [] x h = All-head P x [] h
@@ -24,4 +24,4 @@ last-of n procs p lt h = All-cons (IsSmall (2 ^ 31)) p [] (wider n p lt (all-las
 pub open_fits : (n : ℕ) (procs : List Declared) (section : Section) → n < 2 ^ 31 → All (IsSmall n) (procs ++ open_proc section) → All (IsSmall (2 ^ 31)) (open_proc section)
 open_fits n procs Before lt h = All-nil (IsSmall (2 ^ 31))
 open_fits n procs (Outside p) lt h = last-of n procs p lt h
-open_fits n procs (Inside p using clauses after) lt h = last-of n procs p lt h
+open_fits n procs (Inside r) lt h = last-of n procs r.proc lt h

@@ -10,6 +10,7 @@ use Rattle.sig_reader.specs.declared.keyword.Keyword.{Keyword}
 use Rattle.sig_reader.specs.declared.keyword.Keyword.TheVariants as keyword
 use Rattle.sig_reader.specs.declared.draft.Section.{Section}
 use Rattle.sig_reader.specs.declared.draft.Section.TheVariants.{Before, Outside, Inside}
+use Rattle.sig_reader.specs.declared.draft.OpenReceive.{OpenReceive}
 use Rattle.sig_reader.specs.declared.draft.Draft.{Draft}
 use Rattle.sig_reader.specs.declared.form.Form.{Form}
 use Rattle.sig_reader.specs.declared.form.Form.TheVariants as form
@@ -20,7 +21,7 @@ use Rattle.sig_tokens.specs.Names.{pid_of, label_of, name_at, variable_at, targe
 use Rattle.sig_tokens.specs.Signs.{is_arrow}
 use Rattle.sig_tokens.specs.PatternTexts.{pattern_of}
 use Rattle.sig_program.specs.Instructions.{Operand, an_expr, a_variable, a_label, a_switch, a_mode, a_flag, operands_of, instr_by, Spoken}
-use Rattle.sig_reader.specs.Forms.{switch_at, word_at, mode_of, flag_of, operand_at, all_said, keyword_of, may_stand, ends, arrow_of, count_from, turns_of, whole_name, marker_of, on_of, instr_of, form_of, form_behind, said_by, said}
+use Rattle.sig_reader.specs.Forms.{switch_at, word_at, mode_of, flag_of, operand_at, all_said, keyword_of, may_stand_at, may_stand, ends, arrow_of, count_from, turns_of, whole_name, marker_of, on_of, instr_of, form_of, form_behind, said_by, said}
 use Rattle.sig_reader.proofs.TableLemmas.{made_of, spoken_again, instr_as}
 use Rattle.sig_reader.proofs.Seen.{pattern_seen, clause_seen, after_seen, said_seen, all_seen, spoken_seen, instr_seen}
 use Rattle.sig_reader.proofs.OtherPhrases.{Sees, sees-same, sees-if, sees-on_ok, sees-then, first_seen, expr_of-sees, pattern_of-sees}
@@ -37,15 +38,18 @@ form_seen f g (form.Receive using) = form.Receive using
 form_seen f g form.End = form.End
 
 abbrev pub proc_seen : (ℕ → ℕ) → (ℕ → ℕ) → Declared → Declared
-proc_seen f g p = record { name = p.name; labels = p.labels; instrs = map (instr_seen f g) p.instrs }
+proc_seen f g p = record p { instrs = map (instr_seen f g) p.instrs }
+
+abbrev pub receive_seen : (ℕ → ℕ) → (ℕ → ℕ) → OpenReceive → OpenReceive
+receive_seen f g r = record r { proc = proc_seen f g r.proc; clauses = map (clause_seen f g) r.clauses; after = option_map (after_seen g) r.after }
 
 abbrev pub section_seen : (ℕ → ℕ) → (ℕ → ℕ) → Section → Section
 section_seen f g Before = Before
 section_seen f g (Outside p) = Outside (proc_seen f g p)
-section_seen f g (Inside p using clauses after) = Inside (proc_seen f g p) using (map (clause_seen f g) clauses) (option_map (after_seen g) after)
+section_seen f g (Inside r) = Inside (receive_seen f g r)
 
 abbrev pub draft_seen : (ℕ → ℕ) → (ℕ → ℕ) → Draft → Draft
-draft_seen f g d = record { turns = d.turns; procs = map (proc_seen f g) d.procs; section = section_seen f g d.section }
+draft_seen f g d = record d { procs = map (proc_seen f g) d.procs; section = section_seen f g d.section }
 
 -- nothing behind what was said
 ends-see : {A B : Type 0} (m : A → B) (x : A) (y : B) (ts : List Token) → y ≡ m x → Sees m (ends x ts) (ends y ts)
@@ -129,16 +133,16 @@ module _ (f g : ℕ → ℕ) (known other : Known) (seen : AreSeen f g known oth
   some-seen None = refl
   some-seen (Some a) = refl
 
-  may_stand-seen : (turns : Option ℕ) (section : Section) (word : Keyword) → may_stand turns (section_seen f g section) word ≡ may_stand turns section word
-  may_stand-seen turns Before word = refl
-  may_stand-seen turns (Outside p) word = refl
-  may_stand-seen turns (Inside p using clauses after) word = rw (some-seen after) refl
+  may_stand-seen : (d : Draft) (section : Section) (word : Keyword) → may_stand_at (draft_seen f g d) (section_seen f g section) word ≡ may_stand_at d section word
+  may_stand-seen d Before word = refl
+  may_stand-seen d (Outside p) word = refl
+  may_stand-seen d (Inside r) word = rw (some-seen r.after) refl
 
   behind-sees : (d : Draft) (word : Option Keyword) (ts : List Token) → Sees (form_seen f g) (form_behind known d word line ts) (form_behind other (draft_seen f g d) word line ts)
   behind-sees d None ts = tt
   behind-sees d (Some word) ts =
-      rw (may_stand-seen d.turns d.section word, length-map d.procs (proc_seen f g))
-      (sees-if (form_seen f g) (may_stand d.turns d.section word) _ _ _ _ (form-sees (length d.procs) word ts) tt)
+      rw (may_stand-seen d d.section word, length-map d.procs (proc_seen f g))
+      (sees-if (form_seen f g) (may_stand d word) _ _ _ _ (form-sees (length d.procs) word ts) tt)
 
   said_by-sees : (d : Draft) (ts : List Token) → Sees (option_map (form_seen f g)) (said_by known d line ts) (said_by other (draft_seen f g d) line ts)
   unfolding said_by

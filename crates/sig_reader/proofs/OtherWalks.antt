@@ -19,23 +19,24 @@ use Rattle.sig_reader.specs.declared.draft.Section.TheVariants.{Before, Outside,
 use Rattle.sig_reader.specs.declared.draft.Draft.{Draft}
 use Rattle.sig_reader.specs.declared.form.Form.{Form}
 use Rattle.sig_reader.specs.declared.form.Form.TheVariants as form
-use Rattle.sig_program.specs.declared.script.TheConstants.{DEFAULT_TURNS, MOST_PROCESSES, MOST_TURNS}
-use Rattle.sig_program.specs.Scripts.{Declared, Program, IsWithin, IsSound}
+use Rattle.sig_program.specs.declared.script.TheConstants.{MOST_PROCESSES, MOST_TURNS}
+use Rattle.sig_program.specs.Scripts.{Declared, Program, IsWithin, IsSound, bare_process}
+use Rattle.sig_program.specs.Parts.{plain_clause}
 use Rattle.sig_tokens.specs.Faults.{Fault, ◌>>=◌}
 use Rattle.sig_tokens.specs.Names.{pid_of, labels_at, label_of}
 use Rattle.sig_reader.specs.Forms.{said}
-use Rattle.sig_reader.specs.Drafts.{blank, open_proc, all_procs, begun, labelled, with_instr, received, is_marked, with_clause, taken_at}
+use Rattle.sig_reader.specs.Drafts.{blank, open_proc, all_procs, program_of, begun, labelled, with_instr, is_marked, with_clause, received, taken_at}
 use Rattle.sig_reader.specs.Grammar.{located, finished, taken_if, line_taken, body, walk, walk_twice}
 use Rattle.sig_reader.proofs.BoundLemmas.{procs_within, script_sound}
 use Rattle.sig_tokens.proofs.LabelLemmas.{next, position-cons}
 use Rattle.sig_reader.proofs.Seen.{kept, zeroed, pattern_seen, clause_seen, after_seen, instr_seen}
 use Rattle.sig_reader.proofs.SeenLemmas.{instr_kept, pins_seen}
 use Rattle.sig_reader.proofs.OtherPhrases.{Sees, sees-of, sees-same, sees-if, sees-on_ok, sees-then}
-use Rattle.sig_reader.proofs.OtherForms.{AreSeen, form_seen, proc_seen, section_seen, draft_seen, said-sees}
+use Rattle.sig_reader.proofs.OtherForms.{AreSeen, form_seen, proc_seen, receive_seen, section_seen, draft_seen, said-sees}
 use Rattle.sig_reader.specs.SameNames.{label_names, Named, named, names_within, AreItsNames}
 
 abbrev program_seen : (ℕ → ℕ) → (ℕ → ℕ) → Program → Program
-program_seen f g s = record { turns = s.turns; procs = map (proc_seen f g) s.procs }
+program_seen f g s = record s { procs = map (proc_seen f g) s.procs }
 
 -- ---- names
 
@@ -97,7 +98,7 @@ module _ (f g : ℕ → ℕ) where
   all-seen : (procs : List Declared) (section : Section) → map (proc_seen f g) procs ++ open_proc (section_seen f g section) ≡ map (proc_seen f g) (procs ++ open_proc section)
   all-seen procs Before = sym (map-append (proc_seen f g) procs [])
   all-seen procs (Outside p) = sym (map-append (proc_seen f g) procs (p ∷ []))
-  all-seen procs (Inside p using clauses after) = sym (map-append (proc_seen f g) procs (p ∷ []))
+  all-seen procs (Inside r) = sym (map-append (proc_seen f g) procs (r.proc ∷ []))
 
   begun-sees : (d : Draft) (name : List ℕ) → Sees (draft_seen f g) (begun d name) (begun (draft_seen f g d) name)
   begun-sees d name =
@@ -105,7 +106,7 @@ module _ (f g : ℕ → ℕ) where
       let next : List Declared → Result Draft FaultKind = λ ps.
       if list_any (λ (p : Declared). bytes_eq p.name name) ps then Err DuplicateName
       else if nat_le MOST_PROCESSES (length ps) then Err TooManyProcesses
-      else Ok (record { turns = d.turns; procs = ps; section = Outside (record { name = name; labels = []; instrs = [] }) }) in
+      else Ok (record d { procs = ps; section = Outside (bare_process name) }) in
       let here : Sees (draft_seen f g) (begun d name) (next (map seen (all_procs d))) =
       rw (any-same f g name (all_procs d), length-map (all_procs d) seen)
       (sees-if (draft_seen f g) (list_any (λ (p : Declared). bytes_eq p.name name) (all_procs d)) _ _ _ _ tt
@@ -115,10 +116,10 @@ module _ (f g : ℕ → ℕ) where
   labelled-sees : (p : Declared) (name : List ℕ) → Sees (proc_seen f g) (labelled p name) (labelled (proc_seen f g p) name)
   labelled-sees p name =
       sees-if (proc_seen f g) (list_any (λ (l : Label). bytes_eq l.name name) p.labels) _ _ _ _ tt
-      (ap (λ (n : ℕ). Ok (record { name = p.name; labels = p.labels ++ record { name = name; place = n + 1 } ∷ []; instrs = map (instr_seen f g) p.instrs })) (length-map p.instrs (instr_seen f g)))
+      (ap (λ (n : ℕ). Ok (record (proc_seen f g p) { labels = p.labels ++ record { name = name; place = n + 1 } ∷ [] })) (length-map p.instrs (instr_seen f g)))
 
   instr-more : (p : Declared) (i : Instr) → with_instr (proc_seen f g p) (instr_seen f g i) ≡ proc_seen f g (with_instr p i)
-  instr-more p i = ap (λ (is : List Instr). record { name = p.name; labels = p.labels; instrs = is }) (sym (map-append (instr_seen f g) p.instrs (i ∷ [])))
+  instr-more p i = ap (λ (is : List Instr). record p { instrs = is }) (sym (map-append (instr_seen f g) p.instrs (i ∷ [])))
 
   marked-same : (using : Option Var) (p : Pattern) → is_marked using (pattern_seen f p) ≡ is_marked using p
   marked-same None p = refl
@@ -128,38 +129,38 @@ module _ (f g : ℕ → ℕ) where
       Sees (map (clause_seen f g)) (with_clause using clauses p target) (with_clause using (map (clause_seen f g) clauses) (pattern_seen f p) (option_map g target))
   clause-sees using clauses p target =
       rw (marked-same using p) (sees-if (map (clause_seen f g)) (is_marked using p) _ _ _ _
-      (ap (λ (cs : List Clause). Ok cs) (sym (map-append (clause_seen f g) clauses (record { pattern = p; target = target } ∷ [])))) tt)
+      (ap (λ (cs : List Clause). Ok cs) (sym (map-append (clause_seen f g) clauses (plain_clause p target ∷ [])))) tt)
 
-  taken_at-sees : (turns : Option ℕ) (procs : List Declared) (section : Section) (said : Form) →
-      let d : Draft = record { turns = turns; procs = procs; section = section } in Sees (draft_seen f g) (taken_at d section said) (taken_at (draft_seen f g d) (section_seen f g section) (form_seen f g said))
-  taken_at-sees turns procs Before (form.Turns n) = sees-if (draft_seen f g) (nat_le n MOST_TURNS) _ _ _ _ refl tt
-  taken_at-sees turns procs Before (form.Process name) = begun-sees (record { turns = turns; procs = procs; section = Before }) name
-  taken_at-sees turns procs Before _ = tt
-  taken_at-sees turns procs (Outside p) (form.Process name) = begun-sees (record { turns = turns; procs = procs; section = Outside p }) name
-  taken_at-sees turns procs (Outside p) (form.Label name) =
-      sees-on_ok (proc_seen f g) (draft_seen f g) (λ q. record { turns = turns; procs = procs; section = Outside q }) (λ q. record { turns = turns; procs = map (proc_seen f g) procs; section = Outside q })
+  taken_at-sees : (d : Draft) (section : Section) (said : Form) →
+      let e : Draft = record d { section = section } in Sees (draft_seen f g) (taken_at e section said) (taken_at (draft_seen f g e) (section_seen f g section) (form_seen f g said))
+  taken_at-sees d Before (form.Turns n) = sees-if (draft_seen f g) (nat_le n MOST_TURNS) _ _ _ _ refl tt
+  taken_at-sees d Before (form.Process name) = begun-sees (record d { section = Before }) name
+  taken_at-sees d Before _ = tt
+  taken_at-sees d (Outside p) (form.Process name) = begun-sees (record d { section = Outside p }) name
+  taken_at-sees d (Outside p) (form.Label name) =
+      sees-on_ok (proc_seen f g) (draft_seen f g) (λ q. record d { section = Outside q }) (λ q. record (draft_seen f g d) { section = Outside q })
       (labelled p name) (labelled (proc_seen f g p) name) (labelled-sees p name) (λ q. refl)
-  taken_at-sees turns procs (Outside p) (form.Do i) =
-      ap (λ (q : Declared). Ok (record { turns = turns; procs = map (proc_seen f g) procs; section = Outside q })) (instr-more p i)
-  taken_at-sees turns procs (Outside p) (form.Receive using) = refl
-  taken_at-sees turns procs (Outside p) _ = tt
-  taken_at-sees turns procs (Inside p using clauses after) (form.On pattern target) =
-      sees-on_ok (map (clause_seen f g)) (draft_seen f g) (λ more. record { turns = turns; procs = procs; section = Inside p using more after })
-      (λ more. record { turns = turns; procs = map (proc_seen f g) procs; section = Inside (proc_seen f g p) using more (option_map (after_seen g) after) })
-      (with_clause using clauses pattern target) (with_clause using (map (clause_seen f g) clauses) (pattern_seen f pattern) (option_map g target)) (clause-sees using clauses pattern target) (λ more. refl)
-  taken_at-sees turns procs (Inside p using clauses after) (form.After next) = refl
-  taken_at-sees turns procs (Inside p using clauses after) form.End =
-      ap (λ (q : Declared). Ok (record { turns = turns; procs = map (proc_seen f g) procs; section = Outside q })) (instr-more p (received using clauses after))
-  taken_at-sees turns procs (Inside p using clauses after) _ = tt
+  taken_at-sees d (Outside p) (form.Do i) =
+      ap (λ (q : Declared). Ok (record (draft_seen f g d) { section = Outside q })) (instr-more p i)
+  taken_at-sees d (Outside p) (form.Receive using) = refl
+  taken_at-sees d (Outside p) _ = tt
+  taken_at-sees d (Inside r) (form.On pattern target) =
+      sees-on_ok (map (clause_seen f g)) (draft_seen f g) (λ more. record d { section = Inside (record r { clauses = more }) })
+      (λ more. record (draft_seen f g d) { section = Inside (record (receive_seen f g r) { clauses = more }) })
+      (with_clause r.using r.clauses pattern target) (with_clause r.using (map (clause_seen f g) r.clauses) (pattern_seen f pattern) (option_map g target)) (clause-sees r.using r.clauses pattern target) (λ more. refl)
+  taken_at-sees d (Inside r) (form.After next) = refl
+  taken_at-sees d (Inside r) form.End =
+      ap (λ (q : Declared). Ok (record (draft_seen f g d) { section = Outside q })) (instr-more r.proc (received r))
+  taken_at-sees d (Inside r) _ = tt
 
   taken_if-sees : (d : Draft) (o : Option Form) → Sees (draft_seen f g) (taken_if d o) (taken_if (draft_seen f g d) (option_map (form_seen f g) o))
   taken_if-sees d None = refl
-  taken_if-sees d (Some said) = taken_at-sees d.turns d.procs d.section said
+  taken_if-sees d (Some said) = taken_at-sees d d.section said
 
   finished-sees : (n : ℕ) (d : Draft) (section : Section) → Sees (program_seen f g) (finished n d section) (finished n (draft_seen f g d) (section_seen f g section))
-  finished-sees n d Before = ap (λ (ps : List Declared). Ok (record { turns = option_map_or (λ n. n) d.turns DEFAULT_TURNS; procs = ps })) (all-seen d.procs d.section)
-  finished-sees n d (Outside p) = ap (λ (ps : List Declared). Ok (record { turns = option_map_or (λ n. n) d.turns DEFAULT_TURNS; procs = ps })) (all-seen d.procs d.section)
-  finished-sees n d (Inside p using clauses after) = tt
+  finished-sees n d Before = ap (λ (ps : List Declared). Ok (record (program_of d) { procs = ps })) (all-seen d.procs d.section)
+  finished-sees n d (Outside p) = ap (λ (ps : List Declared). Ok (record (program_of d) { procs = ps })) (all-seen d.procs d.section)
+  finished-sees n d (Inside r) = tt
 
 -- ---- walks
 
@@ -192,7 +193,7 @@ instrs-kept (i ∷ is) = rw (instr_kept i) (ap (λ (js : List Instr). i ∷ js) 
 procs-kept : (ps : List Declared) → map (proc_seen kept kept) ps ≡ ps
 procs-kept [] = refl
 procs-kept (p ∷ ps) =
-    let first : proc_seen kept kept p ≡ p = ap (λ (is : List Instr). record { name = p.name; labels = p.labels; instrs = is }) (instrs-kept p.instrs) in
+    let first : proc_seen kept kept p ≡ p = ap (λ (is : List Instr). record p { instrs = is }) (instrs-kept p.instrs) in
     rw first (ap (λ (qs : List Declared). p ∷ qs) (procs-kept ps))
 
 -- what the first of both walks finds, where one walk among these names gives a script
@@ -206,7 +207,7 @@ second_walk : (lines : List (List ℕ)) (guess s : Program) → names_within gue
 second_walk lines guess s same e =
     let names : names_within guess.procs ≡ names_within (found_first s).procs = same ∙ sym (names-same zeroed zeroed s.procs) in
     walk-sees kept kept (Among guess) (Among (found_first s)) (same-names guess (found_first s) names) lines s e
-    ∙ ap (λ (ps : List Declared). Ok (record { turns = s.turns; procs = ps })) (procs-kept s.procs)
+    ∙ ap (λ (ps : List Declared). Ok (record s { procs = ps })) (procs-kept s.procs)
 
 -- one walk among the names of the script that it gives is as good as both walks
 module _ (known : Known) (lines : List (List ℕ)) (s : Program) (e : walk known lines ≡ Ok s) (its : AreItsNames known s) where

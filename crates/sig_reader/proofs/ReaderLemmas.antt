@@ -1,15 +1,16 @@
 -- The lines of a text, one after another.
-use Rattle.std.proofs.Common.{◌≡◌, ℕ, ◌+◌, ◌<◌, ◌≤◌, List, [], ◌∷◌, length, drop, ◌==◌, true, false, Result, Ok, Err, refl, sym, ◌∙◌, ap, subst}
+use Rattle.std.proofs.Common.{◌≡◌, ℕ, ◌+◌, ◌<◌, ◌≤◌, List, [], ◌∷◌, length, drop, ◌==◌, true, false, Option, Result, Ok, Err, refl, sym, ◌∙◌, ap, subst}
 use Rattle.std.proofs.lemmas.List.{drop_all}
 use Rattle.sig_tokens.specs.declared.fault.FaultKind.{FaultKind}
 use Rattle.sig_tokens.specs.declared.fault.FaultKind.TheVariants.{Header}
 use Rattle.sig_tokens.specs.declared.known.Known.{Known}
 use Rattle.sig_reader.specs.declared.draft.Draft.{Draft}
+use Rattle.sig_reader.specs.declared.version.Version.{Version}
 use Rattle.sig_program.specs.Scripts.{Program}
 use Rattle.sig_tokens.specs.Faults.{Fault}
 use Rattle.sig_tokens.specs.Lines.{lines_of}
 use Rattle.sig_tokens.specs.Tokens.{tokens_of}
-use Rattle.sig_reader.specs.Grammar.{at_line, finished, line_taken, body, is_header, walk_twice, script_of_lines}
+use Rattle.sig_reader.specs.Grammar.{at_line, finished, line_taken, body, header_of, script_behind, script_of_lines}
 use Rattle.sig_tokens.proofs.LineLemmas.{first_of, rest_at, lines-step, lines-whole, nonempty}
 
 front : (at : ℕ) (bytes line : List ℕ) → at < length bytes → line ≡ first_of (rest_at at bytes) →
@@ -48,15 +49,8 @@ unfolding script_of_lines
 no_line [] h = refl
 no_line (b ∷ bs) h = cc (nonempty b bs)
 
-pub no_header : (bytes line : List ℕ) → (length bytes == 0) ≡ false → line ≡ first_of bytes → is_header (tokens_of line) line ≡ false → script_of_lines (lines_of bytes) ≡ at_line 1 Header
+pub behind_header : (bytes line : List ℕ) (version : Option Version) → (length bytes == 0) ≡ false → line ≡ first_of bytes → version ≡ header_of (tokens_of line) line →
+    script_of_lines (lines_of bytes) ≡ script_behind version (lines_of (drop (length line + 1) bytes))
 unfolding script_of_lines
-no_header bytes line some is none =
-    let P : List ℕ → Type 0 = λ xs. is_header (tokens_of xs) xs ≡ false in
-    rw (lines-whole bytes some, subst P is none) refl
-
-pub after_header : (bytes line : List ℕ) → (length bytes == 0) ≡ false → line ≡ first_of bytes → is_header (tokens_of line) line ≡ true →
-    script_of_lines (lines_of bytes) ≡ walk_twice (lines_of (drop (length line + 1) bytes))
-unfolding script_of_lines
-after_header bytes line some is header =
-    let P : List ℕ → Type 0 = λ xs. is_header (tokens_of xs) xs ≡ true in
-    rw (lines-whole bytes some, subst P is header) (ap (λ (xs : List ℕ). walk_twice (lines_of (drop (length xs + 1) bytes))) (sym is))
+behind_header bytes line version some is header =
+    rw (lines-whole bytes some, header, is) refl

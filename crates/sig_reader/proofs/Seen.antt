@@ -51,10 +51,10 @@ abbrev pub pattern_seen : (ℕ → ℕ) → Pattern → Pattern
 pattern_seen f = fold-Pattern Pattern (pattern_seen_step f)
 
 abbrev pub clause_seen : (ℕ → ℕ) → (ℕ → ℕ) → Clause → Clause
-clause_seen f g c = record { pattern = pattern_seen f c.pattern; target = option_map g c.target }
+clause_seen f g c = record c { pattern = pattern_seen f c.pattern; target = option_map g c.target }
 
 abbrev pub after_seen : (ℕ → ℕ) → After → After
-after_seen g a = record { target = option_map g a.target }
+after_seen g a = record a { target = option_map g a.target }
 
 -- what an operand says, with other pids, by f, and other places of labels, by g
 abbrev pub said_seen : (ℕ → ℕ) → (ℕ → ℕ) → (o : Operand) → Said o → Said o

@@ -15,10 +15,12 @@ use Rattle.sig_tokens.specs.declared.fault.FaultKind.{FaultKind}
 use Rattle.sig_tokens.specs.declared.fault.FaultKind.TheVariants.{Syntax, DuplicateName, TooManyProcesses, DuplicateLabel, TooManyTurns, MarkerNotInClause}
 use Rattle.sig_reader.specs.declared.draft.Section.{Section}
 use Rattle.sig_reader.specs.declared.draft.Section.TheVariants.{Before, Outside, Inside}
+use Rattle.sig_reader.specs.declared.draft.OpenReceive.{OpenReceive}
 use Rattle.sig_reader.specs.declared.draft.Draft.{Draft}
 use Rattle.sig_reader.specs.declared.form.Form.{Form}
 use Rattle.sig_reader.specs.declared.form.Form.TheVariants as form
-use Rattle.sig_program.specs.Scripts.{Declared, Program}
+use Rattle.sig_program.specs.Parts.{plain_clause}
+use Rattle.sig_program.specs.Scripts.{Declared, Program, bare_process}
 use Rattle.sig_tokens.specs.Faults.{on_ok}
 use Rattle.sig_program.specs.declared.script.TheConstants.{DEFAULT_TURNS, MOST_PROCESSES, MOST_TURNS}
 
@@ -30,7 +32,7 @@ blank = record { turns = None; procs = []; section = Before }
 abbrev pub open_proc : Section → List Declared
 open_proc Before = []
 open_proc (Outside p) = p ∷ []
-open_proc (Inside p using clauses after) = p ∷ []
+open_proc (Inside r) = r.proc ∷ []
 
 -- the processes so far
 abbrev pub all_procs : Draft → List Declared
@@ -45,7 +47,7 @@ abbrev pub begun : Draft → List ℕ → Result Draft FaultKind
 begun d name =
     if list_any (λ (p : Declared). bytes_eq p.name name) (all_procs d) then Err DuplicateName
     else if nat_le MOST_PROCESSES (length (all_procs d)) then Err TooManyProcesses
-    else Ok (record d { procs = all_procs d; section = Outside (record { name = name; labels = []; instrs = [] }) })
+    else Ok (record d { procs = all_procs d; section = Outside (bare_process name) })
 
 -- the same of the processes so far alone
 abbrev pub has_room : List Declared → List ℕ → Result (Unit {0}) FaultKind
@@ -65,8 +67,8 @@ abbrev pub with_instr : Declared → Instr → Declared
 with_instr p i = record p { instrs = p.instrs ++ i ∷ [] }
 
 -- a receive of these parts
-abbrev pub received : Option Var → List Clause → Option After → Instr
-received using clauses after = instr.Receive (record { using = using; clauses = clauses; after = after })
+abbrev pub receive_of : Option Var → List Clause → Option After → Instr
+receive_of using clauses after = instr.Receive (record { using = using; clauses = clauses; after = after })
 
 -- the marker's variable is pinned in the pattern; a receive without a marker asks for none
 abbrev pub is_marked : Option Var → Pattern → Bool
@@ -76,20 +78,28 @@ is_marked (Some x) pattern = pins pattern x
 -- one clause more
 abbrev pub with_clause : Option Var → List Clause → Pattern → Option ℕ → Result (List Clause) FaultKind
 with_clause using clauses pattern target =
-    if is_marked using pattern then Ok (clauses ++ record { pattern = pattern; target = target } ∷ []) else Err MarkerNotInClause
+    if is_marked using pattern then Ok (clauses ++ plain_clause pattern target ∷ []) else Err MarkerNotInClause
 
--- a form behind what was read so far; a receive with all its lines is one instruction
+-- a receive begins in a process
+abbrev pub open_receive : Declared → Option Var → OpenReceive
+open_receive p using = record { proc = p; using = using; clauses = []; after = None }
+
+-- a receive with all its lines is one instruction
+abbrev pub received : OpenReceive → Instr
+received r = receive_of r.using r.clauses r.after
+
+-- a form behind what was read so far
 abbrev pub taken_at : Draft → Section → Form → Result Draft FaultKind
 taken_at d Before (form.Turns n) = if nat_le n MOST_TURNS then Ok (record d { turns = Some n }) else Err TooManyTurns
 taken_at d Before (form.Process name) = begun d name
 taken_at d (Outside p) (form.Process name) = begun d name
 taken_at d (Outside p) (form.Label name) = on_ok (λ q. record d { section = Outside q }) (labelled p name)
 taken_at d (Outside p) (form.Do i) = Ok (record d { section = Outside (with_instr p i) })
-taken_at d (Outside p) (form.Receive using) = Ok (record d { section = Inside p using [] None })
-taken_at d (Inside p using clauses after) (form.On pattern target) =
-    on_ok (λ more. record d { section = Inside p using more after }) (with_clause using clauses pattern target)
-taken_at d (Inside p using clauses after) (form.After next) = Ok (record d { section = Inside p using clauses (Some next) })
-taken_at d (Inside p using clauses after) form.End = Ok (record d { section = Outside (with_instr p (received using clauses after)) })
+taken_at d (Outside p) (form.Receive using) = Ok (record d { section = Inside (open_receive p using) })
+taken_at d (Inside r) (form.On pattern target) =
+    on_ok (λ more. record d { section = Inside (record r { clauses = more }) }) (with_clause r.using r.clauses pattern target)
+taken_at d (Inside r) (form.After next) = Ok (record d { section = Inside (record r { after = Some next }) })
+taken_at d (Inside r) form.End = Ok (record d { section = Outside (with_instr r.proc (received r)) })
 taken_at d _ _ = Err Syntax
 
 abbrev pub taken : Draft → Form → Result Draft FaultKind

@@ -2,9 +2,13 @@
 use Rattle.std.specs.Prelude.{ℕ, ◌≤◌, ◌^◌, length, All}
 use Rattle.sig_reader.specs.declared.draft.Draft.{Draft}
 use Rattle.sig_program.specs.Scripts.{Declared}
-use Rattle.sig_tokens.specs.Names.{IsSmall}
 use Rattle.sig_reader.specs.Drafts.{all_procs}
 use Rattle.sig_program.specs.declared.script.TheConstants.{MOST_PROCESSES}
+
+-- a process has at most so many instructions and labels
+pub record IsSmall (n : ℕ) (p : Declared) : Type 0 where
+  pub instrs : length p.instrs ≤ n
+  pub labels : length p.labels ≤ n
 
 -- the bounds before line n
 pub record IsFit (n : ℕ) (d : Draft) : Type 0 where

@@ -68,10 +68,13 @@ may_be_inside has_after keyword.End = true
 may_be_inside has_after _ = false
 
 -- where a line that begins with this word may stand
-abbrev pub may_stand : Option ℕ → Section → Keyword → Bool
-may_stand turns Before word = may_begin turns word
-may_stand turns (Outside p) word = may_be_outside word
-may_stand turns (Inside p using clauses after) word = may_be_inside (is_some after) word
+abbrev pub may_stand_at : Draft → Section → Keyword → Bool
+may_stand_at d Before word = may_begin d.turns word
+may_stand_at d (Outside p) word = may_be_outside word
+may_stand_at d (Inside r) word = may_be_inside (is_some r.after) word
+
+abbrev pub may_stand : Draft → Keyword → Bool
+may_stand d word = may_stand_at d d.section word
 
 -- no token is left
 abbrev pub ends : {A : Type 0} → A → List Token → Result A FaultKind
@@ -180,7 +183,7 @@ form_of known here (keyword.Do v) line ts = on_ok form.Do (instr_of known here v
 abbrev pub form_behind : Known → Draft → Option Keyword → List ℕ → List Token → Result Form FaultKind
 form_behind known draft None line ts = Err Syntax
 form_behind known draft (Some word) line ts =
-    if may_stand draft.turns draft.section word then form_of known (length draft.procs) word line ts else Err Syntax
+    if may_stand draft word then form_of known (length draft.procs) word line ts else Err Syntax
 
 -- a line without tokens says nothing
 unfoldable pub said_by : Known → Draft → List ℕ → List Token → Result (Option Form) FaultKind

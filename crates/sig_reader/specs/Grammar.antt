@@ -1,5 +1,5 @@
 -- The script that a text spells, or the first line that is refused and why. The language of scripts is this project's own.
-use Rattle.std.specs.Prelude.{ℕ, ◌+◌, List, [], ◌∷◌, length, Bool, false, ◌&&◌, nat_le, codes, if◌then◌else◌, Option, Some, None, Result, Ok, Err}
+use Rattle.std.specs.Prelude.{ℕ, ◌+◌, List, [], ◌∷◌, length, nat_le, codes, if◌then◌else◌, Option, Some, None, Result, Ok, Err}
 use Rattle.std.specs.Str.{bytes_eq}
 use Rattle.sig_tokens.specs.declared.fault.FaultKind.{FaultKind}
 use Rattle.sig_tokens.specs.declared.fault.FaultKind.TheVariants.{Header, Syntax, TooLong}
@@ -12,6 +12,8 @@ use Rattle.sig_reader.specs.declared.draft.Section.{Section}
 use Rattle.sig_reader.specs.declared.draft.Section.TheVariants.{Inside}
 use Rattle.sig_reader.specs.declared.draft.Draft.{Draft}
 use Rattle.sig_reader.specs.declared.form.Form.{Form}
+use Rattle.sig_reader.specs.declared.version.Version.{Version}
+use Rattle.sig_reader.specs.declared.version.Version.TheVariants.{One}
 use Rattle.sig_program.specs.Scripts.{Program}
 use Rattle.sig_tokens.specs.Faults.{Fault, ◌>>=◌}
 use Rattle.sig_tokens.specs.Lines.{lines_of}
@@ -32,7 +34,7 @@ located n (Err kind) = at_line n kind
 
 -- A text doesn't end inside a receive. The line that is refused is the one after the last.
 abbrev pub finished : ℕ → Draft → Section → Result Program Fault
-finished n d (Inside p using clauses after) = at_line n Syntax
+finished n d (Inside r) = at_line n Syntax
 finished n d _ = Ok (program_of d)
 
 -- a line that says nothing is passed over
@@ -53,30 +55,35 @@ body known n d (line ∷ lines) = located n (line_taken known d line) >>= λ e. 
 abbrev pub walk : Known → List (List ℕ) → Result Program Fault
 walk known lines = body known 2 blank lines
 
--- an integer token of value 1
-abbrev pub is_integer_one : TokenKind → List ℕ → Bool
-is_integer_one Integer text = is_one text
-is_integer_one _ text = false
+-- the version that a token tells: an integer of value 1
+abbrev pub version_of : TokenKind → List ℕ → Option Version
+version_of Integer text = if is_one text then Some One else None
+version_of _ text = None
 
--- The first line is the name `sigscript` and an integer of value 1.
-abbrev pub are_header : List ℕ → List Token → Bool
-are_header line (word ∷ number ∷ []) = bytes_eq (text line word) (codes "sigscript") && is_integer_one number.kind (text line number)
-are_header line _ = false
+-- The first line is the name `sigscript` and the version.
+abbrev pub version_at : List ℕ → List Token → Option Version
+version_at line (word ∷ number ∷ []) = if bytes_eq (text line word) (codes "sigscript") then version_of number.kind (text line number) else None
+version_at line _ = None
 
--- on the first line each fault is the same: it isn't the header
-abbrev pub is_header : Result (List Token) FaultKind → List ℕ → Bool
-is_header (Ok tokens) line = are_header line tokens
-is_header (Err kind) line = false
+-- the version that the first line tells, on which each fault is the same: it isn't the header
+abbrev pub header_of : Result (List Token) FaultKind → List ℕ → Option Version
+header_of (Ok tokens) line = version_at line tokens
+header_of (Err kind) line = None
 
 -- The lines after the first are walked twice. In the first walk a name behind `@` is that of any process, and each label may
 -- be one of any process; in the second one the names are those that the first has found.
 abbrev pub walk_twice : List (List ℕ) → Result Program Fault
 walk_twice lines = walk Any lines >>= λ script. walk (Among script) lines
 
+-- the lines behind the header
+abbrev pub script_behind : Option Version → List (List ℕ) → Result Program Fault
+script_behind None lines = at_line 1 Header
+script_behind (Some version) lines = walk_twice lines
+
 -- a text without lines has no header
 unfoldable pub script_of_lines : List (List ℕ) → Result Program Fault
 script_of_lines [] = at_line 1 Header
-script_of_lines (first ∷ lines) = if is_header (tokens_of first) first then walk_twice lines else at_line 1 Header
+script_of_lines (first ∷ lines) = script_behind (header_of (tokens_of first) first) lines
 
 -- the script that the text spells, or its refusal; a text of more than MOST_BYTES bytes is refused as a whole
 unfoldable pub script_of : List ℕ → Result Program Fault

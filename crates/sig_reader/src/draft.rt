@@ -1,13 +1,15 @@
-ghost use Rattle.std.specs.Prelude.{◌≡◌, ◌+◌, ◌<◌, ◌^◌, ◌++◌, [], ◌∷◌, length, Ok, Err, All};
+ghost use Rattle.std.specs.Prelude.{◌≡◌, ◌+◌, ◌<◌, ◌≤◌, ◌^◌, ◌++◌, [], ◌∷◌, length, Ok, Err, All};
 ghost use Rattle.std.specs.List.{list_any};
 ghost use Rattle.std.specs.Str.{bytes_eq};
 ghost use Rattle.sig_tokens.specs.declared.fault.FaultKind.TheVariants.{Syntax};
 ghost use Rattle.sig_tokens.specs.declared.fault.Stop.TheVariants.{Fault};
 ghost use Rattle.sig_tokens.specs.Faults.{Gives};
-ghost use Rattle.sig_program.specs.Scripts.{Declared};
+ghost use Rattle.sig_program.specs.declared.script.TheConstants.{MOST_PROCESSES};
+ghost use Rattle.sig_program.specs.Scripts.{Declared, bare_process};
 ghost use Rattle.sig_reader.specs.Drafts.{
   blank,
   open_proc,
+  all_procs,
   begun,
   has_room,
   labelled,
@@ -20,18 +22,32 @@ ghost use Rattle.sig_reader.specs.Drafts.{
 ghost use Rattle.sig_reader.specs.Sections.{inside_of, outside_of, section_taken};
 ghost use Rattle.sig_reader.specs.Grammar.{finished, line_taken};
 ghost use Rattle.sig_reader.specs.Reading.{IsReading, MayEnd};
-ghost use Rattle.sig_reader.specs.Fitting.{IsFit};
-ghost use Rattle.sig_tokens.specs.Names.{IsFewKnown, IsSmall};
+ghost use Rattle.sig_reader.specs.Fitting.{IsSmall, IsFit};
 
 use crate::form::{Form, read_line};
 use crate::reader::ScriptError;
-use sig_tokens::{DraftProc, DraftProcs, DraftScript, FaultKind, Known, LabelTable, Stop, Tokens, place_of_proc};
 use sig_lists::Sequence;
 use sig_patterns::{Clause, Clauses, Pattern, Var, pins};
 use sig_program::{After, DEFAULT_TURNS, Instr, Label, MOST_PROCESSES, MOST_TURNS, Receiving};
 use sig_terms::Name;
+use sig_tokens::{
+    DraftProc, DraftProcs, DraftScript, FaultKind, Known, LabelTable, Stop, Tokens, place_of_proc,
+};
 use std::alloc::Global;
 use std::mem::{drop, replace};
+
+/// A receive that is being read.
+#[derive(Drop)]
+pub struct OpenReceive {
+    /// The process in which it stands.
+    pub proc: DraftProc,
+    /// The variable of its marker, where it has one.
+    pub using: Option<Var>,
+    /// Its clauses so far.
+    pub clauses: Clauses,
+    /// Where it goes on that finds no message, where its `after` has stood.
+    pub after: Option<After>,
+}
 
 /// Where in a script a line stands.
 #[derive(Drop)]
@@ -40,9 +56,8 @@ pub enum Section {
     Before,
     /// In this process, outside a receive.
     Outside(DraftProc),
-    /// In a receive of this process, with the variable of its marker where it has one, behind these
-    /// clauses, and behind its `after` where it has one.
-    Inside(DraftProc, Option<Var>, Clauses, Option<After>),
+    /// In a receive.
+    Inside(OpenReceive),
 }
 
 /// What was read so far.
@@ -93,8 +108,8 @@ fn close(procs: &mut DraftProcs, section: Section) -> Result<(), Stop>
             procs.add(proc)?;
             Ok(())
         }
-        Section::Inside(proc, _using, _clauses, _after) => {
-            procs.add(proc)?;
+        Section::Inside(receive) => {
+            procs.add(receive.proc)?;
             Ok(())
         }
     }
@@ -122,8 +137,8 @@ fn check_room(procs: &[DraftProc], name: &[u8]) -> Result<(), Stop>
 }
 
 /// A process of which only its first line was read.
-fn blank_proc(alloc: Global, name: Name) -> DraftProc
-    ensures { result ≡ record { name = name; labels = []; instrs = [] } }
+fn bare_process(alloc: Global, name: Name) -> DraftProc
+    ensures { result ≡ bare_process name }
 {
     DraftProc {
         name,
@@ -141,10 +156,7 @@ fn begin(alloc: Global, draft: &mut Draft, name: Name) -> Result<(), Stop>
         replace(&mut draft.section, Section::Before),
     )?;
     check_room(draft.procs.as_slice(), name.bytes())?;
-    enter(
-        &mut draft.section,
-        Section::Outside(blank_proc(alloc, name)),
-    );
+    enter(&mut draft.section, Section::Outside(bare_process(alloc, name)));
     Ok(())
 }
 
@@ -190,7 +202,7 @@ fn take_process(alloc: Global, draft: &mut Draft, name: Name) -> Result<(), Stop
     ensures { Gives (λ u. draft.new) result (taken_at draft.old draft.old.section (Form.Process name)) }
 {
     match &draft.section {
-        Section::Inside(_, _, _, _) => Err(Stop::Fault(FaultKind::Syntax)),
+        Section::Inside(_) => Err(Stop::Fault(FaultKind::Syntax)),
         _ => begin(alloc, draft, name),
     }
 }
@@ -222,7 +234,12 @@ fn inside(alloc: Global, section: Section, marker: Option<Var>) -> Section
     ensures { result ≡ inside_of section marker }
 {
     match section {
-        Section::Outside(proc) => Section::Inside(proc, marker, Sequence::new(alloc), None),
+        Section::Outside(proc) => Section::Inside(OpenReceive {
+            proc,
+            using: marker,
+            clauses: Sequence::new(alloc),
+            after: None,
+        }),
         other => other,
     }
 }
@@ -281,7 +298,9 @@ fn place_clause(section: &mut Section, pattern: Pattern, target: Option<u32>) ->
     ensures { Gives (λ u. section.new) result (section_taken section.old (Form.On pattern target)) }
 {
     match section {
-        Section::Inside(_, marker, clauses, _) => add_clause(marker, clauses, pattern, target),
+        Section::Inside(receive) => {
+            add_clause(&receive.using, &mut receive.clauses, pattern, target)
+        }
         _ => refuse(pattern),
     }
 }
@@ -291,8 +310,8 @@ fn place_after(section: &mut Section, next: After) -> Result<(), Stop>
     ensures { Gives (λ u. section.new) result (section_taken section.old (Form.After next)) }
 {
     match section {
-        Section::Inside(_, _, _, after) => {
-            *after = Some(next);
+        Section::Inside(receive) => {
+            receive.after = Some(next);
             Ok(())
         }
         _ => Err(Stop::Fault(FaultKind::Syntax)),
@@ -318,13 +337,13 @@ fn outside(section: Section) -> Result<Section, Stop>
     ensures { Gives (λ s. s) result (Ok (outside_of section)) }
 {
     match section {
-        Section::Inside(proc, using, clauses, after) => {
+        Section::Inside(receive) => {
             let receiving = Receiving {
-                using,
-                clauses,
-                after,
+                using: receive.using,
+                clauses: receive.clauses,
+                after: receive.after,
             };
-            longer(proc, Instr::Receive(receiving)).map(Section::Outside)
+            longer(receive.proc, Instr::Receive(receiving)).map(Section::Outside)
         }
         other => Ok(other),
     }
@@ -335,7 +354,7 @@ fn place_end(section: &mut Section) -> Result<(), Stop>
     ensures { Gives (λ u. section.new) result (section_taken section.old Form.End) }
 {
     match section {
-        Section::Inside(_, _, _, _) => {
+        Section::Inside(_) => {
             let receive = replace(section, Section::Before);
             enter(section, outside(receive)?);
             Ok(())
@@ -365,23 +384,22 @@ fn take_form(alloc: Global, draft: &mut Draft, n: u64, form: Form) -> Result<(),
 /// Line `n` behind what was read so far, or what is wrong with it. What was read is of no use
 /// behind a line that is wrong. The room of the list of tokens is used again.
 ///
-/// Asks that `known` has at most [`MOST_PROCESSES`](sig_program::MOST_PROCESSES) processes, each
-/// with at most 2^31 instructions and 2^31 labels; that `n` is below 2^31; and that what was read
-/// so far has at most as many processes, each with at most `n` instructions and `n` labels.
+/// Asks that `n` is below 2^31; and that what was read so far has at most
+/// [`MOST_PROCESSES`](sig_program::MOST_PROCESSES) processes, each with at most `n` instructions and
+/// `n` labels.
 pub fn take_line(
     alloc: Global,
     known: &Known,
     draft: &mut Draft,
     n: u64,
     tokens: &mut Tokens,
-    line: &[u8],
+    text: &[u8],
 ) -> Result<(), Stop>
-    requires known { IsFewKnown known.now }
     requires few { n < 2 ^ 31 }
     requires fit { IsFit n draft.old }
-    ensures { Gives (λ u. draft.new) result (line_taken known.now draft.old line.now) }
+    ensures { Gives (λ u. draft.new) result (line_taken known.now draft.old text.now) }
 {
-    match read_line(alloc, known, draft, tokens, line)? {
+    match read_line(alloc, known, draft, tokens, text)? {
         Some(form) => take_form(alloc, draft, n, form),
         None => Ok(()),
     }
@@ -396,7 +414,7 @@ pub fn discard(draft: Draft) {
 fn check_end(section: &Section, n: u64) -> Result<(), ScriptError>
     ensures { MayEnd n section.now result }
 {
-    if let Section::Inside(_, _, _, _) = section {
+    if let Section::Inside(_) = section {
         return Err(ScriptError::Fault {
             line: n,
             kind: FaultKind::Syntax,
@@ -406,7 +424,10 @@ fn check_end(section: &Section, n: u64) -> Result<(), ScriptError>
 }
 
 /// The script, where the text may end before line `n`.
+///
+/// Asks that what was read has at most [`MOST_PROCESSES`](sig_program::MOST_PROCESSES) processes.
 pub fn finish(draft: Draft, n: u64) -> Result<DraftScript, ScriptError>
+    requires { length (all_procs draft) ≤ MOST_PROCESSES }
     ensures { IsReading (finished n draft draft.section) result }
 {
     let ended = check_end(&draft.section, n);

@@ -3,12 +3,11 @@
 ghost use Rattle.std.specs.Prelude.{◌≡◌, ◌+◌, ◌<◌, ◌^◌, length, IfOk, OnOk};
 ghost use Rattle.sig_reader.specs.Drafts.{blank};
 ghost use Rattle.sig_reader.specs.Fitting.{IsFit};
-ghost use Rattle.sig_tokens.specs.Names.{IsFewKnown};
 
 use crate::draft::{Draft, discard, finish, take_line};
 use crate::reader::ScriptError;
-use sig_tokens::{Known, Stop, Tokens, first_line, is_blank_byte};
 use sig_lists::Sequence;
+use sig_tokens::{Known, Stop, Tokens, first_line, is_blank_byte};
 use std::alloc::{AllocError, Global};
 
 /// Whether the line may name a process or a label: its first byte is that of their words.
@@ -64,7 +63,6 @@ fn note_lines(alloc: Global, draft: &mut Draft, bytes: &[u8]) -> Result<u64, Sto
 fn names_of(draft: Draft, n: u64) -> Result<Known, AllocError>
     requires few { n < 2 ^ 31 }
     requires fit { IsFit n draft }
-    ensures { IfOk result IsFewKnown }
 {
     match finish(draft, n) {
         Ok(names) => Ok(Known::Among(names)),
@@ -74,9 +72,7 @@ fn names_of(draft: Draft, n: u64) -> Result<Known, AllocError>
 }
 
 /// No names, where a line is refused.
-fn no_names(stop: Stop) -> Result<Known, AllocError>
-    ensures { IfOk result IsFewKnown }
-{
+fn no_names(stop: Stop) -> Result<Known, AllocError> {
     match stop {
         Stop::Fault(_) => Ok(Known::Any),
         Stop::Memory => Err(AllocError),
@@ -89,7 +85,6 @@ fn no_names(stop: Stop) -> Result<Known, AllocError>
 /// Asks that there are fewer than 2^30 bytes.
 pub fn guess_names(alloc: Global, bytes: &[u8]) -> Result<Known, AllocError>
     requires { length bytes.now < 2 ^ 30 }
-    ensures { IfOk result IsFewKnown }
 {
     let mut draft = Draft::new(alloc);
     match note_lines(alloc, &mut draft, bytes) {

@@ -1,18 +1,18 @@
 ghost use Rattle.std.specs.Prelude.{◌≡◌, ◌+◌, ◌<◌, ◌^◌, length, IfOk, IfSome, Ok, Some, drop, All};
 ghost use Rattle.sig_reader.specs.ErrorTexts.{error_text};
 ghost use Rattle.sig_tokens.specs.Lines.{lines_of};
-ghost use Rattle.sig_tokens.specs.Tokens.{AreWellSpelled, tokens_of};
-ghost use Rattle.sig_tokens.specs.Names.{IsFewKnown};
+ghost use Rattle.sig_tokens.specs.Tokens.{tokens_of};
 ghost use Rattle.sig_reader.specs.Grammar.{
-  is_integer_one,
-  are_header,
-  is_header,
+  version_of,
+  version_at,
+  header_of,
   walk,
   walk_twice,
   script_of_lines,
   script_of,
 };
 ghost use Rattle.sig_reader.specs.Drafts.{blank};
+ghost use Rattle.sig_reader.specs.Fitting.{IsFit};
 ghost use Rattle.sig_program.specs.Scripts.{IsWithin, IsSound};
 ghost use Rattle.sig_reader.specs.Reading.{IsReading, IsWalked};
 ghost use Rattle.sig_reader.specs.declared.reader.ScriptError.TheVariants.{Memory};
@@ -20,10 +20,14 @@ ghost use Rattle.sig_reader.specs.declared.reader.ScriptError.TheVariants.{Memor
 use crate::draft::{Draft, discard, finish, take_line};
 use crate::guess::guess_names;
 use crate::same_names::are_its_names;
-use sig_tokens::{DraftProcs, DraftScript, FaultKind, Known, Stop, Token, TokenKind, first_line, read_tokens, spells_one, text_of};
+use crate::version::Version;
 use sig_lists::Sequence;
 use sig_program::{Proc, Procs, Script};
 use sig_terms::bytes::equal_bytes;
+use sig_tokens::{
+    DraftProcs, DraftScript, FaultKind, Known, Line, Stop, TokenKind, first_line, read_tokens,
+    spells_one,
+};
 use std::alloc::{AllocError, Global};
 use std::error::Error;
 use std::fmt;
@@ -69,9 +73,9 @@ fn walk_lines(
     bytes: &[u8],
 ) -> Result<u64, ScriptError>
     requires short { length bytes.now < 2 ^ 30 }
-    requires known { IsFewKnown known.now }
     requires first { draft.old ≡ blank }
-    ensures { IsWalked (walk known.now (lines_of bytes.now)) draft.new result }
+    ensures walked { IsWalked (walk known.now (lines_of bytes.now)) draft.new result }
+    ensures fit { IfOk result (λ n. IsFit n draft.new) }
 {
     let mut tokens = Sequence::new(alloc);
     let mut n: u64 = 2;
@@ -92,7 +96,6 @@ fn walk_lines(
 /// The script of the lines after the first.
 fn read_lines(alloc: Global, known: &Known, bytes: &[u8]) -> Result<DraftScript, ScriptError>
     requires short { length bytes.now < 2 ^ 30 }
-    requires known { IsFewKnown known.now }
     ensures { IsReading (walk known.now (lines_of bytes.now)) result }
 {
     let mut draft = Draft::new(alloc);
@@ -105,38 +108,38 @@ fn read_lines(alloc: Global, known: &Known, bytes: &[u8]) -> Result<DraftScript,
     }
 }
 
-/// Whether a token is an integer of value 1.
-fn is_one_token(kind: TokenKind, text: &[u8]) -> bool
-    ensures { result ≡ is_integer_one kind text.now }
+/// The version that a token tells.
+fn version_of(kind: TokenKind, word: &[u8]) -> Option<Version>
+    ensures { result ≡ version_of kind word.now }
 {
     match kind {
-        TokenKind::Integer => spells_one(text),
-        _ => false,
+        TokenKind::Integer if spells_one(word) => Some(Version::One),
+        _ => None,
     }
 }
 
-/// Whether the tokens are those of the header.
-fn are_header_tokens(line: &[u8], tokens: &[Token]) -> bool
-    requires { AreWellSpelled line.now tokens.now }
-    ensures { result ≡ are_header line.now tokens.now }
+/// The version that the line tells, where it is the header.
+fn read_version(line: &Line) -> Option<Version>
+    ensures { result ≡ version_at line.now.text line.now.tokens }
 {
-    match tokens {
-        [word, number] => {
-            equal_bytes(text_of(line, *word), b"sigscript")
-                && is_one_token(number.kind, text_of(line, *number))
+    let (word, rest) = line.split_first()?;
+    let (number, end) = rest.split_first()?;
+    match end.split_first() {
+        None if equal_bytes(line.word(word), b"sigscript") => {
+            version_of(number.kind, rest.word(number))
         }
-        _ => false,
+        _ => None,
     }
 }
 
-/// Whether the line is the header.
-fn is_header_line(alloc: Global, line: &[u8]) -> Result<bool, AllocError>
-    ensures { IfOk result (λ yes. yes ≡ is_header (tokens_of line.now) line.now) }
+/// The version that the line tells. `None` exactly where it isn't the header.
+fn read_header(alloc: Global, text: &[u8]) -> Result<Option<Version>, AllocError>
+    ensures { IfOk result (λ version. version ≡ header_of (tokens_of text.now) text.now) }
 {
     let mut tokens = Sequence::new(alloc);
-    match read_tokens(alloc, &mut tokens, line) {
-        Ok(()) => Ok(are_header_tokens(line, tokens.as_slice())),
-        Err(Stop::Fault(_)) => Ok(false),
+    match read_tokens(alloc, &mut tokens, text) {
+        Ok(()) => Ok(read_version(&Line::new(text, tokens.as_slice()))),
+        Err(Stop::Fault(_)) => Ok(None),
         Err(Stop::Memory) => Err(AllocError),
     }
 }
@@ -182,7 +185,6 @@ fn seal(alloc: Global, draft: DraftScript) -> Result<Script, AllocError>
 }
 
 /// Both walks over the lines after the first.
-#[tactic(auto, using(crate::proofs::BoundLemmas::few_known, crate::proofs::BoundLemmas::few_lines))]
 fn read_twice(alloc: Global, bytes: &[u8]) -> Result<Script, ScriptError>
     requires { length bytes.now < 2 ^ 30 }
     ensures { IsReading (walk_twice (lines_of bytes.now)) result }
@@ -195,7 +197,6 @@ fn read_twice(alloc: Global, bytes: &[u8]) -> Result<Script, ScriptError>
 /// The script of one walk, where the names that it was given are those that it has found.
 fn read_once(alloc: Global, known: &Known, bytes: &[u8]) -> Result<Option<Script>, AllocError>
     requires short { length bytes.now < 2 ^ 30 }
-    requires known { IsFewKnown known.now }
     ensures { IfOk result (λ script. IfSome script (λ s. walk_twice (lines_of bytes.now) ≡ Ok s)) }
 {
     match read_lines(alloc, known, bytes) {
@@ -214,7 +215,6 @@ fn read_once(alloc: Global, known: &Known, bytes: &[u8]) -> Result<Option<Script
 /// The script by one walk where these are its names, else by two.
 fn read_named(alloc: Global, names: &Known, bytes: &[u8]) -> Result<Script, ScriptError>
     requires short { length bytes.now < 2 ^ 30 }
-    requires known { IsFewKnown names.now }
     ensures { IsReading (walk_twice (lines_of bytes.now)) result }
 {
     match read_once(alloc, names, bytes)? {
@@ -226,7 +226,6 @@ fn read_named(alloc: Global, names: &Known, bytes: &[u8]) -> Result<Script, Scri
 /// The script, whose names were guessed or not.
 fn read_guessed(alloc: Global, names: &Known, bytes: &[u8]) -> Result<Script, ScriptError>
     requires short { length bytes.now < 2 ^ 30 }
-    requires known { IsFewKnown names.now }
     ensures { IsReading (walk_twice (lines_of bytes.now)) result }
 {
     match names {
@@ -259,10 +258,10 @@ fn read_text(alloc: Global, bytes: &[u8]) -> Result<Script, ScriptError>
         return Err(header);
     }
     let first = first_line(bytes);
-    if !is_header_line(alloc, first)? {
-        return Err(header);
+    match read_header(alloc, first)? {
+        Some(Version::One) => read_body(alloc, behind_line(bytes, first)),
+        None => Err(header),
     }
-    read_body(alloc, behind_line(bytes, first))
 }
 
 /// Reads the text of a script: the script that it spells. `Fault` exactly where it spells none,

@@ -3,9 +3,9 @@
 ghost use Rattle.std.specs.Prelude.{◌≡◌, IsTrue};
 ghost use Rattle.sig_reader.specs.SameNames.{label_names, named, names_within, AreItsNames};
 
-use sig_tokens::{DraftProc, DraftScript, Known};
 use sig_program::Label;
 use sig_terms::bytes::equal_bytes;
+use sig_tokens::{DraftProc, DraftScript, Known};
 
 fn same_labels(labels: &[Label], others: &[Label]) -> bool
     ensures { IsTrue result → label_names labels.now ≡ label_names others.now }

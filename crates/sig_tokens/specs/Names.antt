@@ -1,5 +1,5 @@
 -- The names in a line: those of the processes behind `@`, those of labels, and variables.
-use Rattle.std.specs.Prelude.{ℕ, ◌≤◌, ◌^◌, List, [], ◌∷◌, length, position, slice_get, ok_or, Result, Ok, Err, All}
+use Rattle.std.specs.Prelude.{ℕ, List, [], ◌∷◌, position, slice_get, ok_or, Result, Ok, Err}
 use Rattle.std.specs.Option.{option_map_or}
 use Rattle.std.specs.Str.{bytes_eq}
 use Rattle.sig_program.specs.declared.label.Label.{Label}
@@ -11,7 +11,6 @@ use Rattle.sig_tokens.specs.declared.token.Token.{Token}
 use Rattle.sig_tokens.specs.declared.known.Known.{Known}
 use Rattle.sig_tokens.specs.declared.known.Known.TheVariants.{Any, Among}
 use Rattle.sig_program.specs.Scripts.{Declared}
-use Rattle.sig_program.specs.declared.script.TheConstants.{MOST_PROCESSES}
 use Rattle.sig_tokens.specs.Faults.{◌>>=◌, on_ok}
 use Rattle.sig_tokens.specs.Tokens.{text}
 
@@ -50,13 +49,3 @@ variable_at line (t ∷ ts) = on_ok (λ name. (name, ts)) (variable_of t.kind (t
 -- a label at the front of the tokens, and the tokens behind it
 abbrev pub target_at : Known → ℕ → List ℕ → List Token → Result (ℕ × List Token) FaultKind
 target_at known here line ts = name_at line ts >>= λ x. on_ok (λ n. (n, x.1)) (label_of known here x.0)
-
--- a process has at most so many instructions and labels
-pub record IsSmall (n : ℕ) (p : Declared) : Type 0 where
-  pub instrs : length p.instrs ≤ n
-  pub labels : length p.labels ≤ n
-
--- the names that are known are so few that their places are numbers of 32 bits
-abbrev pub IsFewKnown : Known → Type 0
-IsFewKnown Any = Unit {0}
-IsFewKnown (Among script) = (length script.procs ≤ MOST_PROCESSES) × All (IsSmall (2 ^ 31)) script.procs

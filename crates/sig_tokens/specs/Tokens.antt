@@ -135,6 +135,16 @@ abbrev pub AreWellSpelled : List ℕ → List Token → Type 0
 AreWellSpelled line [] = Unit {0}
 AreWellSpelled line (t ∷ ts) = IsWellSpelled line t × AreWellSpelled line ts
 
+-- a line and its tokens, all of them or those from one of them on
+pub record CutLine : Type 0 where
+  pub text : List ℕ
+  pub tokens : List Token
+
+-- the first token, and the line behind it; or no token is left
+abbrev pub Splits : CutLine → Option (Token × CutLine) → Type 0
+Splits line None = line.tokens ≡ []
+Splits line (Some x) = (line.tokens ≡ x.0 ∷ x.1.tokens) × (x.1.text ≡ line.text) × IsWellSpelled line.text x.0
+
 -- A line is cut whole, and each integer is in range. The tokens that were cut stand to the left of a place at which none stands.
 abbrev pub checked : List ℕ → Cut → Result (List Token) FaultKind
 checked line cut =

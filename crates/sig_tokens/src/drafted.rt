@@ -36,7 +36,7 @@ impl Model for DraftProc {
 /// The processes, in the order of their lines.
 pub type DraftProcs = Sequence<DraftProc>;
 
-/// A script as it was read.
+/// A script as it was read, of at most [`MOST_PROCESSES`](sig_program::MOST_PROCESSES) processes.
 #[derive(Drop)]
 pub struct DraftScript {
     /// How many instructions each process may execute.
@@ -49,12 +49,16 @@ impl Model for DraftScript {
     ghost use Rattle.sig_patterns.specs.contracts.expression.Expr as expr;
     ghost use Rattle.sig_patterns.specs.contracts.pattern.Pattern as pattern;
     ghost use Rattle.sig_program.specs.Scripts.{Program};
+    ghost use Rattle.std.specs.Prelude.{◌≤◌, length};
+    ghost use Rattle.sig_program.specs.declared.script.TheConstants.{MOST_PROCESSES};
 
     ghost Value = { Program };
 
     ghost coded = { Prim.hlevel (codes, expr.the_row.coded, pattern.the_row.coded) };
 
     ghost view = { λ s. record { turns = s.turns; procs = s.procs } };
+
+    ghost invariant = { λ s. length s.procs ≤ MOST_PROCESSES };
 }
 
 /// The place of the process of this name. `None` exactly where no process has it.
@@ -79,10 +83,7 @@ fn label_among(procs: &[DraftProc], here: usize, name: &[u8]) -> Option<u32>
 
 impl DraftScript {
     /// The pid of the process of this name. `None` exactly where no process has it.
-    ///
-    /// Asks that there are at most [`MOST_PROCESSES`](sig_program::MOST_PROCESSES) processes.
     pub fn pid_of(&self, name: &[u8]) -> Option<u32>
-        requires { length self.now.procs ≤ MOST_PROCESSES }
         ensures { result ≡ position (λ (p : Declared). bytes_eq p.name name.now) self.now.procs }
     {
         match place_of_proc(self.procs.as_slice(), name) {

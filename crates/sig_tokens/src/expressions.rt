@@ -5,8 +5,9 @@ ghost use Rattle.sig_patterns.specs.declared.expression.Expr.TheVariants as expr
 ghost use Rattle.sig_tokens.specs.Expressions.{expr_enclosing, expr_spelling};
 
 use crate::fault::{FaultKind, Stop};
+use crate::line::Line;
 use crate::phrases::Phrase;
-use crate::token::{Sign, Token, TokenKind};
+use crate::token::{Sign, TokenKind};
 use sig_patterns::{Expr, Exprs, Var};
 use sig_terms::{Atom, Pid};
 use std::alloc::{AllocError, Global};
@@ -34,12 +35,11 @@ impl Phrase for Expr {
         false
     }
 
-    fn signed<'t>(
+    fn signed<'l>(
         _alloc: Global,
-        _line: &[u8],
         _kind: TokenKind,
-        _rest: &'t [Token],
-    ) -> Result<(Expr, &'t [Token]), Stop> {
+        _rest: Line<'l>,
+    ) -> Result<(Expr, Line<'l>), Stop> {
         Err(Stop::Fault(FaultKind::Syntax))
     }
 

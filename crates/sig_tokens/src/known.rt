@@ -1,5 +1,5 @@
 ghost use Rattle.sig_tokens.specs.Faults.{Gives};
-ghost use Rattle.sig_tokens.specs.Names.{pid_of, label_of, IsFewKnown};
+ghost use Rattle.sig_tokens.specs.Names.{pid_of, label_of};
 
 use crate::drafted::DraftScript;
 use crate::fault::{FaultKind, Stop};
@@ -14,11 +14,7 @@ pub enum Known {
 }
 
 /// The pid of the process of this name.
-///
-/// Asks that `known` has at most [`MOST_PROCESSES`](sig_program::MOST_PROCESSES) processes, each
-/// with at most 2^31 instructions and 2^31 labels.
 pub fn find_pid(known: &Known, name: &[u8]) -> Result<u32, Stop>
-    requires { IsFewKnown known.now }
     ensures { Gives (λ n. n) result (pid_of known.now name.now) }
 {
     match known {
@@ -31,11 +27,7 @@ pub fn find_pid(known: &Known, name: &[u8]) -> Result<u32, Stop>
 }
 
 /// The place of the label among those of the process with this place among the processes.
-///
-/// Asks that `known` has at most [`MOST_PROCESSES`](sig_program::MOST_PROCESSES) processes, each
-/// with at most 2^31 instructions and 2^31 labels.
 pub fn find_label(known: &Known, here: usize, name: &[u8]) -> Result<u32, Stop>
-    requires { IsFewKnown known.now }
     ensures { Gives (λ n. n) result (label_of known.now here name.now) }
 {
     match known {

@@ -18,7 +18,7 @@ pub use drafted::{DraftProc, DraftProcs, DraftScript, place_of_proc};
 pub use fault::{FaultKind, Stop};
 pub use known::Known;
 pub use label_table::LabelTable;
-pub use line::{first_line, read_tokens, text_of};
+pub use line::{Line, first_line, read_tokens};
 pub use names::{name_of, take_target, take_variable, take_word};
 pub use number::{read_count, spells_one};
 pub use phrases::{Phrase, atom_of, take_phrase};

@@ -11,14 +11,81 @@ ghost use Rattle.std.specs.Prelude.{
 };
 ghost use Rattle.std.specs.List.{list_all};
 ghost use Rattle.sig_tokens.specs.Faults.{Gives};
-ghost use Rattle.sig_tokens.specs.Tokens.{AreTokens, IsToken, AreWellSpelled, is_token_in_range, cut_of, text, tokens_of};
+ghost use Rattle.sig_tokens.specs.Tokens.{AreTokens, IsToken, AreWellSpelled, Splits, is_token_in_range, cut_of, text, tokens_of};
 
 use crate::fault::{FaultKind, Stop};
 use crate::number::fits_in_range;
 use crate::token::{Cut, Token, TokenKind, Tokens, is_blank_byte, token_at};
 use sig_lists::Sequence;
 use std::alloc::{AllocError, Global};
+use std::marker::Model;
 use std::mem::replace;
+
+/// A line and its tokens, all of them or those from one of them on, from left to right. Each lies in
+/// the line and is spelled as its kind says, and each integer has 64 bits. Contracts see both as
+/// lists.
+#[derive(Drop)]
+pub struct Line<'l> {
+    text: &'l [u8],
+    tokens: &'l [Token],
+}
+
+impl<'l> Model for Line<'l> {
+    ghost use Rattle.sig_tokens.specs.Tokens.{CutLine, AreWellSpelled};
+
+    ghost Value = { CutLine };
+
+    ghost view = { λ l. record { text = l.text.now; tokens = l.tokens.now } };
+
+    ghost invariant = { λ l. AreWellSpelled l.text.now l.tokens.now };
+}
+
+impl<'l> Line<'l> {
+    /// A line of these bytes with these tokens.
+    ///
+    /// Asks that each token lies in the line and is spelled as its kind says, and each integer has
+    /// 64 bits, as [`read_tokens`] gives them.
+    pub fn new(text: &'l [u8], tokens: &'l [Token]) -> Line<'l>
+        requires { AreWellSpelled text.now tokens.now }
+        ensures { result ≡ record { text = text.now; tokens = tokens.now } }
+    {
+        Line { text, tokens }
+    }
+
+    /// The first token, and the line behind it. `None` where no token is left.
+    pub fn split_first(&self) -> Option<(Token, Line<'l>)>
+        ensures { Splits self.now result }
+    {
+        match self.tokens {
+            [] => None,
+            [token, rest @ ..] => Some((
+                *token,
+                Line {
+                    text: self.text,
+                    tokens: rest,
+                },
+            )),
+        }
+    }
+
+    /// How many tokens are left.
+    pub(crate) fn len(&self) -> usize
+        ensures { result ≡ length self.now.tokens }
+    {
+        self.tokens.len()
+    }
+
+    /// The bytes of a token.
+    ///
+    /// Asks that the token lies in the line and is spelled as its kind says, as those that
+    /// [`Line::split_first`] gives.
+    pub fn word(&self, token: Token) -> &'l [u8]
+        requires { IsToken self.now.text token }
+        ensures { result.now ≡ text self.now.text token }
+    {
+        text_of(self.text, token)
+    }
+}
 
 fn line_len(bytes: &[u8]) -> usize
     ensures len { result ≡ length (take_while (λ b. not (b == 10)) bytes.now) }
@@ -69,10 +136,7 @@ fn cut_line(room: Tokens, line: &[u8]) -> Result<Cut, AllocError>
     Ok(Cut { tokens, stop: None })
 }
 
-/// The bytes of a token.
-///
-/// Asks that the token lies in the line and is spelled as its kind says.
-pub fn text_of(line: &[u8], token: Token) -> &[u8]
+fn text_of(line: &[u8], token: Token) -> &[u8]
     requires { IsToken line.now token }
     ensures { result.now ≡ text line.now token }
 {

@@ -4,9 +4,10 @@ ghost use Rattle.std.specs.Prelude.{◌≡◌, IfOk};
 ghost use Rattle.sig_tokens.specs.PatternTexts.{nested, pattern_enclosing, pattern_spelling};
 
 use crate::fault::{FaultKind, Stop};
+use crate::line::Line;
 use crate::names::take_variable;
 use crate::phrases::Phrase;
-use crate::token::{Sign, Token, TokenKind};
+use crate::token::{Sign, TokenKind};
 use sig_patterns::{Pattern, Patterns, Var};
 use sig_terms::{Atom, Pid};
 use sqlite_items::Boxed;
@@ -50,14 +51,13 @@ impl Phrase for Pattern {
         kind.is_caret() || kind.is_underscore()
     }
 
-    fn signed<'t>(
+    fn signed<'l>(
         alloc: Global,
-        line: &[u8],
         kind: TokenKind,
-        rest: &'t [Token],
-    ) -> Result<(Pattern, &'t [Token]), Stop> {
+        rest: Line<'l>,
+    ) -> Result<(Pattern, Line<'l>), Stop> {
         if kind.is_caret() {
-            let (var, behind) = take_variable(alloc, line, rest)?;
+            let (var, behind) = take_variable(alloc, &rest)?;
             Ok((Pattern::Pin(var), behind))
         } else if kind.is_underscore() {
             Ok((Pattern::Any, rest))

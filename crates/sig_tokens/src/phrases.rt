@@ -1,10 +1,9 @@
-//! Phrases, which are expressions and patterns, at the front of tokens, within a depth and a number
+//! Phrases, which are expressions and patterns, at the front of a line, within a depth and a number
 //! of nodes.
 
 ghost use Rattle.std.specs.Prelude.{◌≡◌, [], length, true, IfOk};
 ghost use Rattle.sig_terms.specs.Words.{is_atom};
 ghost use Rattle.sig_tokens.specs.Faults.{Gives};
-ghost use Rattle.sig_tokens.specs.Names.{IsFewKnown};
 ghost use Rattle.sig_tokens.specs.Phrases.{
   Spelling,
   begins_phrase,
@@ -20,11 +19,11 @@ ghost use Rattle.sig_tokens.specs.Phrases.{
   phrase_of,
 };
 ghost use Rattle.sig_tokens.specs.Signs.{closes};
-ghost use Rattle.sig_tokens.specs.Tokens.{IsToken, AreWellSpelled, is_token_in_range, text};
+ghost use Rattle.sig_tokens.specs.Tokens.{IsWellSpelled, text};
 
 use crate::fault::{FaultKind, Stop};
 use crate::known::{Known, find_pid};
-use crate::line::text_of;
+use crate::line::Line;
 use crate::names::name_of;
 use crate::number::read_int;
 use crate::token::{Sign, Token, TokenKind, behind_first, unquoted};
@@ -55,19 +54,10 @@ pub trait Phrase: Drop + Sized {
     fn begins(kind: TokenKind) -> bool
         ensures { result ≡ spelling.begins kind };
 
-    /// What the sign begins, which opens no bracket; and the tokens behind it.
-    ///
-    /// Asks that each token lies in the line and is spelled as its kind says, and each integer has
-    /// 64 bits, as [`read_tokens`](crate::read_tokens) gives them.
-    fn signed<'t>(
-        alloc: Global,
-        line: &[u8],
-        kind: TokenKind,
-        rest: &'t [Token],
-    ) -> Result<(Self, &'t [Token]), Stop>
-        requires { AreWellSpelled line.now rest.now }
-        ensures value { Gives (λ x. (x.0, x.1.now)) result (spelling.signed line.now kind rest.now) }
-        ensures spelled { IfOk result (λ x. AreWellSpelled line.now x.1.now) };
+    /// What the sign begins, which opens no bracket; and the line behind it.
+    fn signed<'l>(alloc: Global, kind: TokenKind, rest: Line<'l>) -> Result<(Self, Line<'l>), Stop>
+        ensures value { Gives (λ x. (x.0, x.1.tokens)) result (spelling.signed rest.entry.text kind rest.entry.tokens) }
+        ensures line { IfOk result (λ x. x.1.text ≡ rest.entry.text) };
 
     /// What the elements make that the sign closes.
     fn enclosing(close: Sign, items: Sequence<Self>) -> Self
@@ -90,11 +80,11 @@ fn begins<T: Phrase>(kind: TokenKind) -> bool
 }
 
 /// What is wrong with the first token where no node or no depth is left.
-fn refusal<T: Phrase>(tokens: &[Token]) -> FaultKind
-    ensures { result ≡ refusal_of T.spelling tokens.now }
+fn refusal<T: Phrase>(line: &Line) -> FaultKind
+    ensures { result ≡ refusal_of T.spelling line.now.tokens }
 {
-    match tokens {
-        [token, ..] if begins::<T>(token.kind) => FaultKind::TermTooLarge,
+    match line.split_first() {
+        Some((token, _)) if begins::<T>(token.kind) => FaultKind::TermTooLarge,
         _ => FaultKind::Syntax,
     }
 }
@@ -113,22 +103,18 @@ pub fn atom_of(alloc: Global, bytes: &[u8]) -> Result<Atom, AllocError>
     }
 }
 
-/// The phrase without elements that the token begins, and the tokens behind it.
-fn take_single<'t, T: Phrase>(
+/// The phrase without elements that the token begins, and the line behind it.
+fn take_single<'l, T: Phrase>(
     alloc: Global,
     known: &Known,
     token: Token,
-    line: &[u8],
-    rest: &'t [Token],
-) -> Result<(T, &'t [Token]), Stop>
-    requires known { IsFewKnown known.now }
-    requires token { IsToken line.now token }
-    requires range { is_token_in_range (text line.now token) token.kind ≡ true }
-    requires spelled { AreWellSpelled line.now rest.now }
-    ensures value { Gives (λ x. (x.0, x.1.now)) result (single T.spelling known.now line.now token.kind (text line.now token) rest.now) }
-    ensures spelled { IfOk result (λ x. AreWellSpelled line.now x.1.now) }
+    rest: Line<'l>,
+) -> Result<(T, Line<'l>), Stop>
+    requires { IsWellSpelled rest.text token }
+    ensures value { Gives (λ x. (x.0, x.1.tokens)) result (single T.spelling known.now rest.entry.text token.kind (text rest.entry.text token) rest.entry.tokens) }
+    ensures line { IfOk result (λ x. x.1.text ≡ rest.entry.text) }
 {
-    let word = text_of(line, token);
+    let word = rest.word(token);
     match token.kind {
         TokenKind::Name => Ok((T::atom(atom_of(alloc, word)?), rest)),
         TokenKind::Quoted => Ok((T::atom(atom_of(alloc, unquoted(word))?), rest)),
@@ -138,7 +124,7 @@ fn take_single<'t, T: Phrase>(
             let pid = find_pid(known, behind_first(word))?;
             Ok((T::pid(Pid(pid)), rest))
         }
-        TokenKind::Sign(_) => T::signed(alloc, line, token.kind, rest),
+        TokenKind::Sign(_) => T::signed(alloc, token.kind, rest),
     }
 }
 
@@ -153,19 +139,17 @@ fn is_before_tail<T: Phrase>(close: Sign, kind: TokenKind) -> bool
 }
 
 /// A phrase whose last token is the sign that closes it.
-fn closed<'t, T: Phrase>(
+fn closed<'l, T: Phrase>(
     close: Sign,
     phrase: T,
     nodes: u64,
-    line: &[u8],
-    tokens: &'t [Token],
-) -> Result<(T, u64, &'t [Token]), Stop>
-    requires { AreWellSpelled line.now tokens.now }
-    ensures value { Gives (λ x. (x.0, x.1, x.2.now)) result (closed (closes close) phrase nodes tokens.now) }
-    ensures spelled { IfOk result (λ x. AreWellSpelled line.now x.2.now) }
+    line: &Line<'l>,
+) -> Result<(T, u64, Line<'l>), Stop>
+    ensures value { Gives (λ x. (x.0, x.1, x.2.tokens)) result (closed (closes close) phrase nodes line.now.tokens) }
+    ensures line { IfOk result (λ x. x.2.text ≡ line.now.text) }
 {
-    match tokens {
-        [token, rest @ ..] if token.kind.closes(close) => Ok((phrase, nodes, rest)),
+    match line.split_first() {
+        Some((token, rest)) if token.kind.closes(close) => Ok((phrase, nodes, rest)),
         _ => {
             drop(phrase);
             Err(Stop::Fault(FaultKind::Syntax))
@@ -175,57 +159,52 @@ fn closed<'t, T: Phrase>(
 
 /// Behind elements: the sign that closes them, or a bar, the tail, and that sign.
 #[cycle(front)]
-fn end<'t, T: Phrase>(
+fn end<'l, T: Phrase>(
     alloc: Global,
     known: &Known,
     close: Sign,
     items: Sequence<T>,
     depth: u64,
     nodes: u64,
-    line: &[u8],
-    tokens: &'t [Token],
-) -> Result<(T, u64, &'t [Token]), Stop>
-    requires known { IsFewKnown known.now }
-    requires spelled { AreWellSpelled line.now tokens.now }
-    ensures value { Gives (λ x. (x.0, x.1, x.2.now)) result (ending T.spelling close (phrase_at T.spelling known.now line.now depth) items nodes tokens.now) }
-    ensures spelled { IfOk result (λ x. AreWellSpelled line.now x.2.now) }
+    line: &Line<'l>,
+) -> Result<(T, u64, Line<'l>), Stop>
+    ensures value { Gives (λ x. (x.0, x.1, x.2.tokens)) result (ending T.spelling close (phrase_at T.spelling known.now line.now.text depth) items nodes line.now.tokens) }
+    ensures line { IfOk result (λ x. x.2.text ≡ line.now.text) }
 {
-    match tokens {
-        [token, more @ ..] if is_before_tail::<T>(close, token.kind) => {
-            let (tail, left, behind) = front::<T>(alloc, known, depth, nodes, line, more)?;
+    match line.split_first() {
+        Some((token, more)) if is_before_tail::<T>(close, token.kind) => {
+            let (tail, left, behind) = front::<T>(alloc, known, depth, nodes, &more)?;
             let list = T::nested(alloc, items, tail)?;
-            closed(close, list, left, line, behind)
+            closed(close, list, left, &behind)
         }
-        _ => closed(close, T::enclosing(close, items), nodes, line, tokens),
+        _ => closed(close, T::enclosing(close, items), nodes, line),
     }
 }
 
-/// Elements at the front of the tokens, at least one, and what ends them.
+/// Elements at the front of the line, at least one, and what ends them.
 #[cycle(front)]
-fn some_elements<'t, T: Phrase>(
+fn some_elements<'l, T: Phrase>(
     alloc: Global,
     known: &Known,
     close: Sign,
     depth: u64,
     nodes: u64,
-    line: &[u8],
-    tokens: &'t [Token],
-) -> Result<(T, u64, &'t [Token]), Stop>
-    requires known { IsFewKnown known.now }
-    requires spelled { AreWellSpelled line.now tokens.now }
-    ensures value { Gives (λ x. (x.0, x.1, x.2.now)) result (elements (phrase_at T.spelling known.now line.now depth) (ending T.spelling close (phrase_at T.spelling known.now line.now depth)) (length tokens.now) nodes [] tokens.now) }
-    ensures spelled { IfOk result (λ x. AreWellSpelled line.now x.2.now) }
+    line: Line<'l>,
+) -> Result<(T, u64, Line<'l>), Stop>
+    ensures value { Gives (λ x. (x.0, x.1, x.2.tokens)) result (elements (phrase_at T.spelling known.now line.entry.text depth) (ending T.spelling close (phrase_at T.spelling known.now line.entry.text depth)) (length line.entry.tokens) nodes [] line.entry.tokens) }
+    ensures line { IfOk result (λ x. x.2.text ≡ line.entry.text) }
 {
     let mut items = Sequence::new(alloc);
     let mut left = nodes;
-    let mut rest = tokens;
-    for _ in 0..tokens.len() {
-        let (item, fewer, behind) = front::<T>(alloc, known, depth, left, line, rest)?;
+    let count = line.len();
+    let mut rest = line;
+    for _ in 0..count {
+        let (item, fewer, behind) = front::<T>(alloc, known, depth, left, &rest)?;
         items.add(item)?;
         left = fewer;
-        match behind {
-            [token, more @ ..] if token.kind.is_comma() => rest = more,
-            _ => return end(alloc, known, close, items, depth, left, line, behind),
+        match behind.split_first() {
+            Some((token, more)) if token.kind.is_comma() => rest = more,
+            _ => return end(alloc, known, close, items, depth, left, &behind),
         }
     }
     Err(Stop::Fault(FaultKind::Syntax))
@@ -233,101 +212,84 @@ fn some_elements<'t, T: Phrase>(
 
 /// What stands behind an opening bracket.
 #[cycle(front)]
-fn behind_bracket<'t, T: Phrase>(
+fn behind_bracket<'l, T: Phrase>(
     alloc: Global,
     known: &Known,
     close: Sign,
     depth: u64,
     nodes: u64,
-    line: &[u8],
-    tokens: &'t [Token],
-) -> Result<(T, u64, &'t [Token]), Stop>
-    requires known { IsFewKnown known.now }
-    requires spelled { AreWellSpelled line.now tokens.now }
-    ensures value { Gives (λ x. (x.0, x.1, x.2.now)) result (bracketed T.spelling close (phrase_at T.spelling known.now line.now depth) nodes tokens.now) }
-    ensures spelled { IfOk result (λ x. AreWellSpelled line.now x.2.now) }
+    line: Line<'l>,
+) -> Result<(T, u64, Line<'l>), Stop>
+    ensures value { Gives (λ x. (x.0, x.1, x.2.tokens)) result (bracketed T.spelling close (phrase_at T.spelling known.now line.entry.text depth) nodes line.entry.tokens) }
+    ensures line { IfOk result (λ x. x.2.text ≡ line.entry.text) }
 {
-    match tokens {
-        [] => Err(Stop::Fault(FaultKind::Syntax)),
-        [token, rest @ ..] if token.kind.closes(close) => {
-            Ok((T::enclosing(close, Sequence::new(alloc)), nodes, rest))
+    match line.split_first() {
+        None => Err(Stop::Fault(FaultKind::Syntax)),
+        Some((token, rest)) => {
+            if token.kind.closes(close) {
+                Ok((T::enclosing(close, Sequence::new(alloc)), nodes, rest))
+            } else {
+                some_elements(alloc, known, close, depth, nodes, line)
+            }
         }
-        _ => some_elements(alloc, known, close, depth, nodes, line, tokens),
     }
 }
 
 /// The phrase that the token begins.
 #[cycle(front)]
-fn behind_token<'t, T: Phrase>(
+fn behind_token<'l, T: Phrase>(
     alloc: Global,
     known: &Known,
     token: Token,
     depth: u64,
     nodes: u64,
-    line: &[u8],
-    rest: &'t [Token],
-) -> Result<(T, u64, &'t [Token]), Stop>
-    requires known { IsFewKnown known.now }
-    requires token { IsToken line.now token }
-    requires range { is_token_in_range (text line.now token) token.kind ≡ true }
-    requires spelled { AreWellSpelled line.now rest.now }
-    ensures value { Gives (λ x. (x.0, x.1, x.2.now)) result (phrase_by T.spelling known.now line.now (phrase_at T.spelling known.now line.now depth) token.kind (text line.now token) nodes rest.now) }
-    ensures spelled { IfOk result (λ x. AreWellSpelled line.now x.2.now) }
+    rest: Line<'l>,
+) -> Result<(T, u64, Line<'l>), Stop>
+    requires { IsWellSpelled rest.text token }
+    ensures value { Gives (λ x. (x.0, x.1, x.2.tokens)) result (phrase_by T.spelling known.now rest.entry.text (phrase_at T.spelling known.now rest.entry.text depth) token.kind (text rest.entry.text token) nodes rest.entry.tokens) }
+    ensures line { IfOk result (λ x. x.2.text ≡ rest.entry.text) }
 {
     if token.kind.is_open_brace() {
-        behind_bracket(alloc, known, Sign::CloseBrace, depth, nodes, line, rest)
+        behind_bracket(alloc, known, Sign::CloseBrace, depth, nodes, rest)
     } else if token.kind.is_open_bracket() {
-        behind_bracket(alloc, known, Sign::CloseBracket, depth, nodes, line, rest)
+        behind_bracket(alloc, known, Sign::CloseBracket, depth, nodes, rest)
     } else {
-        let (phrase, behind) = take_single(alloc, known, token, line, rest)?;
+        let (phrase, behind) = take_single(alloc, known, token, rest)?;
         Ok((phrase, nodes, behind))
     }
 }
 
-/// The phrase at the front of the tokens, of at most `nodes` nodes and of this depth; then the
-/// nodes that are left, and the tokens behind.
+/// The phrase at the front of the line, of at most `nodes` nodes and of this depth; then the nodes
+/// that are left, and the line behind.
 #[cycle(front)]
-fn front<'t, T: Phrase>(
+fn front<'l, T: Phrase>(
     alloc: Global,
     known: &Known,
     depth: u64,
     nodes: u64,
-    line: &[u8],
-    tokens: &'t [Token],
-) -> Result<(T, u64, &'t [Token]), Stop>
-    requires known { IsFewKnown known.now }
-    requires spelled { AreWellSpelled line.now tokens.now }
-    ensures value { Gives (λ x. (x.0, x.1, x.2.now)) result (phrase_at T.spelling known.now line.now depth nodes tokens.now) }
-    ensures spelled { IfOk result (λ x. AreWellSpelled line.now x.2.now) }
+    line: &Line<'l>,
+) -> Result<(T, u64, Line<'l>), Stop>
+    ensures value { Gives (λ x. (x.0, x.1, x.2.tokens)) result (phrase_at T.spelling known.now line.now.text depth nodes line.now.tokens) }
+    ensures line { IfOk result (λ x. x.2.text ≡ line.now.text) }
 {
     if depth == 0 || nodes == 0 {
-        return Err(Stop::Fault(refusal::<T>(tokens)));
+        return Err(Stop::Fault(refusal::<T>(line)));
     }
-    match tokens {
-        [] => Err(Stop::Fault(FaultKind::Syntax)),
-        [token, rest @ ..] => {
-            behind_token(alloc, known, *token, depth - 1, nodes - 1, line, rest)
-        }
+    match line.split_first() {
+        None => Err(Stop::Fault(FaultKind::Syntax)),
+        Some((token, rest)) => behind_token(alloc, known, token, depth - 1, nodes - 1, rest),
     }
 }
 
-/// A phrase of at most [`MOST_NODES`] nodes and depth [`MOST_DEPTH`], and the tokens behind it.
-///
-/// Asks that `known` has at most [`MOST_PROCESSES`](sig_program::MOST_PROCESSES) processes, each
-/// with at most 2^31 instructions and 2^31 labels; and that each token lies in the line and is
-/// spelled as its kind says, and each integer has 64 bits, as [`read_tokens`](crate::read_tokens)
-/// gives them.
-pub fn take_phrase<'t, T: Phrase>(
+/// A phrase of at most [`MOST_NODES`] nodes and depth [`MOST_DEPTH`], and the line behind it.
+pub fn take_phrase<'l, T: Phrase>(
     alloc: Global,
     known: &Known,
-    line: &[u8],
-    tokens: &'t [Token],
-) -> Result<(T, &'t [Token]), Stop>
-    requires known { IsFewKnown known.now }
-    requires spelled { AreWellSpelled line.now tokens.now }
-    ensures value { Gives (λ x. (x.0, x.1.now)) result (phrase_of T.spelling known.now line.now tokens.now) }
-    ensures spelled { IfOk result (λ x. AreWellSpelled line.now x.1.now) }
+    line: &Line<'l>,
+) -> Result<(T, Line<'l>), Stop>
+    ensures value { Gives (λ x. (x.0, x.1.tokens)) result (phrase_of T.spelling known.now line.now.text line.now.tokens) }
+    ensures line { IfOk result (λ x. x.1.text ≡ line.now.text) }
 {
-    let (phrase, _, rest) = front::<T>(alloc, known, MOST_DEPTH, MOST_NODES, line, tokens)?;
+    let (phrase, _, rest) = front::<T>(alloc, known, MOST_DEPTH, MOST_NODES, line)?;
     Ok((phrase, rest))
 }

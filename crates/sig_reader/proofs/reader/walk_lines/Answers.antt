@@ -8,8 +8,11 @@ use Rattle.sig_reader.proofs.reader.walk_lines.Goals as goal
 pub returns-in-Err-Fault : goal.returns-in-Err-Fault
 returns-in-Err-Fault c =
     let refused : line_taken c.args.known.now c.loop-at.draft c.first_line-line.result.now ≡ Err c.in-Err-Fault.kind = rw c.in-Err-Fault.field-0-is at c.in-Err-Fault.ensures in
-    rw c.in-Err-Fault.kind-is (step_refused c.args.known.now c.loop-at.n c.loop-at.at c.args.bytes.now c.first_line-line.result.now c.loop-at.draft c.in-Err-Fault.kind _
-    c.loop-at-test.true c.first_line-line.ensures.line refused c.loop-at.invariant.whole)
+    record {
+      walked = rw c.in-Err-Fault.kind-is (step_refused c.args.known.now c.loop-at.n c.loop-at.at c.args.bytes.now c.first_line-line.result.now c.loop-at.draft c.in-Err-Fault.kind _
+          c.loop-at-test.true c.first_line-line.ensures.line refused c.loop-at.invariant.whole);
+      fit = tt;
+    }
 
 pub loop-at-preserved : goal.loop-at-preserved
 loop-at-preserved c = record {
@@ -21,7 +24,10 @@ loop-at-preserved c = record {
 }
 
 pub returns : goal.returns
-returns c = lines_end c.args.known.now c.loop-at.n c.loop-at.at c.args.bytes.now c.loop-at.draft _ c.loop-at-test.false c.loop-at.invariant.whole
+returns c = record {
+  walked = lines_end c.args.known.now c.loop-at.n c.loop-at.at c.args.bytes.now c.loop-at.draft _ c.loop-at-test.false c.loop-at.invariant.whole;
+  fit = c.loop-at.invariant.fit;
+}
 
 pub loop-at-init : goal.loop-at-init
 loop-at-init c = record {

@@ -1,5 +1,4 @@
 use Rattle.std.proofs.Common.{◌≡◌, ◌+◌, ◌*◌, ◌-◌, [], length}
-use Rattle.sig_tokens.specs.Tokens.{AreWellSpelled}
 use Rattle.sig_tokens.specs.Phrases.{elements, ending, phrase_at}
 use Rattle.sig_tokens.proofs.phrases.+front.Given as goal
 
@@ -7,11 +6,11 @@ use Rattle.sig_tokens.proofs.phrases.+front.Given as goal
 abbrev pub invariant-some_elements-loop : goal.invariant-some_elements-loop
 invariant-some_elements-loop g l =
     let s = g.T.Phrase.spelling in
-    let read = phrase_at s l.known l.line l.depth in
+    let read = phrase_at s l.known l.fn.line.text l.depth in
     record {
-      spelled : AreWellSpelled l.line l.rest;
-      items : elements read (ending s l.close read) (length l.tokens - l.counter) l.left l.items l.rest
-          ≡ elements read (ending s l.close read) (length l.tokens) l.nodes [] l.tokens;
+      line : l.rest.text ≡ l.fn.line.text;
+      items : elements read (ending s l.close read) (length l.fn.line.tokens - l.counter) l.left l.items l.rest.tokens
+          ≡ elements read (ending s l.close read) (length l.fn.line.tokens) l.nodes [] l.fn.line.tokens;
     }
 
 abbrev pub decreases-front : goal.decreases-front
