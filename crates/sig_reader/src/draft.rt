@@ -156,7 +156,10 @@ fn begin(alloc: Global, draft: &mut Draft, name: Name) -> Result<(), Stop>
         replace(&mut draft.section, Section::Before),
     )?;
     check_room(draft.procs.as_slice(), name.bytes())?;
-    enter(&mut draft.section, Section::Outside(bare_process(alloc, name)));
+    enter(
+        &mut draft.section,
+        Section::Outside(bare_process(alloc, name)),
+    );
     Ok(())
 }
 
