@@ -1,8 +1,8 @@
 -- What a program has read and written, and what its source spells.
 use Rattle.std.specs.Prelude.{◌≡◌, ℕ, List, [], Option, Some, IfSome, Ok, Err}
 use Rattle.sig_program.specs.Scripts.{Program}
-use Rattle.sig_script.specs.Grammar.{script_of}
-use Rattle.sig_script.specs.declared.fault.FaultKind.{FaultKind}
+use Rattle.sig_reader.specs.Grammar.{script_of}
+use Rattle.sig_tokens.specs.declared.fault.FaultKind.{FaultKind}
 
 -- what a source had left and has, and its faults before and after
 pub record Reading : Type 0 where

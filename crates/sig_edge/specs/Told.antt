@@ -1,8 +1,8 @@
 -- What a program tells when it can't go on: one line, which begins with its name (the texts are this project's own).
 use Rattle.std.specs.Prelude.{ℕ, List, ◌++◌, take, codes, Result, Ok, Err}
 use Rattle.sig_base.specs.Flow.{Rose, Adds}
-use Rattle.sig_script.specs.declared.fault.FaultKind.{FaultKind}
-use Rattle.sig_script.specs.FaultWords.{fault_text}
+use Rattle.sig_tokens.specs.declared.fault.FaultKind.{FaultKind}
+use Rattle.sig_tokens.specs.FaultWords.{fault_text}
 use Rattle.sig_edge.specs.Streams.{Writing}
 
 -- the line of a script that is refused, and why

@@ -2,9 +2,9 @@
 use Rattle.std.proofs.Common.{◌≡◌, ◌⊎◌, ◌∙◌, ℕ, List, Option, Some, None, Result, Ok, Err, inl, inr, refl, ap, sym, subst}
 use Rattle.std.specs.Prelude.{IfSome}
 use Rattle.sig_program.specs.Scripts.{Program}
-use Rattle.sig_script.specs.Faults.{Fault}
-use Rattle.sig_script.specs.Grammar.{script_of}
-use Rattle.sig_script.specs.declared.fault.FaultKind.{FaultKind}
+use Rattle.sig_tokens.specs.Faults.{Fault}
+use Rattle.sig_reader.specs.Grammar.{script_of}
+use Rattle.sig_tokens.specs.declared.fault.FaultKind.{FaultKind}
 use Rattle.sig_base.specs.Flow.{Rose}
 use Rattle.sig_host.specs.declared.settings.Settings.{Settings}
 use Rattle.sig_host.specs.declared.status.Status.{Status}

@@ -5,7 +5,7 @@ use Rattle.sig_base.specs.Flow.{Took}
 use Rattle.sig_base.specs.Reading.{IsRead}
 use Rattle.sig_base.specs.declared.reading.ReadAll.TheVariants.{Whole}
 use Rattle.sig_program.specs.Scripts.{Program}
-use Rattle.sig_script.specs.Grammar.{script_of}
+use Rattle.sig_reader.specs.Grammar.{script_of}
 use Rattle.sig_host.specs.declared.status.Status.{Status}
 use Rattle.sig_host.specs.declared.status.Status.TheVariants.{Done, BadScript, Usage, ReadFault, WriteFault, Memory}
 use Rattle.sig_edge.specs.Streams.{IsReadToEnd, IsRefused, reading}

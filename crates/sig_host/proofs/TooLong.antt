@@ -3,9 +3,9 @@ use Rattle.std.proofs.Common.{◌≡◌, ℕ, ◌+◌, ◌<◌, List, length, le
 use Rattle.std.specs.Prelude.{nat_le, IfSome}
 use Rattle.std.proofs.lemmas.Bool.Decides.{nat_tests}
 use Rattle.sig_base.specs.Flow.{Took}
-use Rattle.sig_script.specs.declared.fault.FaultKind.TheVariants.{TooLong}
-use Rattle.sig_script.specs.declared.reader.TheConstants.{MOST_BYTES}
-use Rattle.sig_script.specs.Grammar.{script_of}
+use Rattle.sig_tokens.specs.declared.fault.FaultKind.TheVariants.{TooLong}
+use Rattle.sig_reader.specs.declared.reader.TheConstants.{MOST_BYTES}
+use Rattle.sig_reader.specs.Grammar.{script_of}
 use Rattle.sig_edge.specs.Streams.{IsRefused}
 
 above : (n : ℕ) → MOST_BYTES < n → nat_le n MOST_BYTES ≡ false

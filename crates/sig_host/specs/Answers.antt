@@ -1,10 +1,10 @@
 -- What each answer of a run says of the bytes that were read and written.
 use Rattle.std.specs.Prelude.{◌≡◌, ◌≢◌, ℕ, Bool, List, [], take, true, false, Option, Some, None, IfSome, Result, Ok, Err, ⊤}
 use Rattle.sig_base.specs.Flow.{Rose, Adds}
-use Rattle.sig_script.specs.declared.fault.FaultKind.TheVariants.{TooLong}
+use Rattle.sig_tokens.specs.declared.fault.FaultKind.TheVariants.{TooLong}
 use Rattle.sig_edge.specs.Streams.{IsFine, IsReadToEnd, IsRefused, IsUnread, IsUnwritten, Reading, Spells, Writing}
 use Rattle.sig_program.specs.Scripts.{Program}
-use Rattle.sig_script.specs.Grammar.{script_of}
+use Rattle.sig_reader.specs.Grammar.{script_of}
 use Rattle.sig_kinds.specs.declared.signal.Signal.{Signal}
 use Rattle.sig_runs.specs.Machine.{Machine}
 use Rattle.sig_runs.specs.Settled.{IsSettled}
@@ -15,7 +15,7 @@ use Rattle.sig_record.specs.declared.report.Report.{Report}
 use Rattle.sig_record.specs.RecordOf.{record_of}
 use Rattle.sig_record.specs.RunRecord.{whole_rules, IsRecordOfRun}
 use Rattle.sig_record.specs.RecordText.{record_text}
-use Rattle.sig_script.specs.Generated.{generated}
+use Rattle.sig_canon.specs.Generated.{generated}
 use Rattle.sig_record.specs.Summarizing.{summary_of}
 use Rattle.sig_host.specs.declared.settings.Settings.{Settings}
 use Rattle.sig_host.specs.declared.texts.Texts.{Texts}

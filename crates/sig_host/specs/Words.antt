@@ -11,7 +11,7 @@ use Rattle.sig_layout.specs.declared.policy.Policy.{Policy}
 use Rattle.sig_layout.specs.declared.policy.Policy.TheVariants.{Never, Always, Churn, Auto}
 use Rattle.sig_host.specs.declared.settings.Settings.{Settings}
 use Rattle.sig_host.specs.declared.settings.TheConstants.{MOST_WORKERS, MOST_QUOTA, MOST_CHURN}
-use Rattle.sig_script.specs.declared.generating.TheConstants.{MOST_CALLS}
+use Rattle.sig_canon.specs.declared.generating.TheConstants.{MOST_CALLS}
 use Rattle.sig_host.specs.declared.words_error.WordsError.{WordsError}
 use Rattle.sig_host.specs.declared.words_error.WordsError.TheVariants.{Usage, Memory}
 

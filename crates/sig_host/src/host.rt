@@ -2,7 +2,7 @@ ghost use Rattle.std.specs.Prelude.{◌≡◌, ◌≢◌, ◌≤◌, ◌⊎◌, 
 ghost use Rattle.sig_base.specs.Flow.{Rose, Adds};
 ghost use Rattle.sig_edge.specs.Streams.{reading, writing};
 ghost use Rattle.sig_program.specs.Scripts.{Program, IsSound};
-ghost use Rattle.sig_script.specs.Generated.{generated};
+ghost use Rattle.sig_canon.specs.Generated.{generated};
 ghost use Rattle.sig_model.specs.OneWorker.{IsClear, RunsTo};
 ghost use Rattle.sig_model.specs.CrewLaw.{IsLawfulCrew};
 ghost use Rattle.sig_process.specs.Standing.{runnings_of};

@@ -1,0 +1,208 @@
+-- A script that was read is readable.
+use Rattle.std.proofs.Common.{◌≡◌, ℕ, ◌+◌, ◌≤◌, ◌^◌, List, [], ◌∷◌, ◌++◌, length, All, IfSome, Bool, true, false, if◌then◌else◌, nat_le, Option, Some, None, Result, Ok, Err, refl, sym, ◌∙◌, ap, subst, arith, map, le_refl}
+use Rattle.std.specs.List.{list_any}
+use Rattle.std.specs.Str.{bytes_eq}
+use Rattle.std.proofs.lemmas.Bool.Decides.{nat_tests}
+use Rattle.std.proofs.lemmas.List.{map-append}
+use Rattle.std.proofs.lemmas.List.Elements.{All-nil, All-push}
+use Rattle.sig_patterns.specs.declared.clause.Clause.{Clause}
+use Rattle.sig_patterns.specs.declared.pattern.Pattern.{Pattern}
+use Rattle.sig_patterns.specs.declared.var.Var.{Var}
+use Rattle.sig_program.specs.declared.label.Label.{Label}
+use Rattle.sig_program.specs.declared.instruction.After.{After}
+use Rattle.sig_program.specs.declared.instruction.Instr.{Instr}
+use Rattle.sig_program.specs.declared.instruction.Instr.TheVariants as instr
+use Rattle.sig_tokens.specs.declared.known.Known.TheVariants.{Any, Among}
+use Rattle.sig_reader.specs.declared.draft.Section.{Section}
+use Rattle.sig_reader.specs.declared.draft.Section.TheVariants.{Before, Outside, Inside}
+use Rattle.sig_reader.specs.declared.draft.Draft.{Draft}
+use Rattle.sig_reader.specs.declared.form.Form.{Form}
+use Rattle.sig_reader.specs.declared.form.Form.TheVariants as form
+use Rattle.sig_program.specs.Scripts.{Declared, Program}
+use Rattle.sig_tokens.specs.Faults.{Fault, ◌>>=◌}
+use Rattle.sig_tokens.specs.Lines.{lines_of}
+use Rattle.sig_reader.specs.Forms.{said}
+use Rattle.sig_reader.specs.Drafts.{blank, open_proc, all_procs, begun, labelled, with_instr, is_marked, with_clause, taken_at}
+use Rattle.sig_reader.specs.Grammar.{taken_if, line_taken, walk, walk_twice, is_header, script_of_lines, script_of}
+use Rattle.sig_canon.specs.ReadableScript.{IsReadablePattern, IsReadableInstr, AreDistinct, IsReadableScript}
+use Rattle.sig_program.specs.declared.script.TheConstants.{MOST_PROCESSES, MOST_TURNS}
+use Rattle.sig_reader.specs.declared.reader.TheConstants.{MOST_BYTES}
+use Rattle.sig_reader.proofs.FitLemmas.{all-last}
+use Rattle.sig_reader.proofs.BoundTermLemmas.{Holds, holds-of, holds-if, holds-on_ok, holds-then}
+use Rattle.sig_reader.proofs.BoundLemmas.{all-front, body-holds, few_lines, same_counts, same-number, procs_within, script_sound}
+use Rattle.sig_canon.proofs.DistinctLemmas.{distinct-push, free_name}
+use Rattle.sig_canon.proofs.ReadableForms.{IsReadableForm, said-read}
+use Rattle.sig_tokens.specs.Tokens.{tokens_of, IsNameToken, IsVariableToken}
+
+-- the process that is read, and the others
+record IsGood (count : ℕ) (p : Declared) : Type 0 where
+  name : IsNameToken p.name
+  labels : All (λ (l : Label). IsNameToken l.name) p.labels
+  distinct : AreDistinct (map (λ (l : Label). l.name) p.labels)
+  instrs : All (IsReadableInstr count) p.instrs
+
+-- the receive that is read
+abbrev IsGoodReceive : ℕ → Section → Type 0
+IsGoodReceive count (Inside p using clauses after) = All (λ (c : Clause). IsReadablePattern count c.pattern) clauses × IfSome using (λ x. IsVariableToken x.0)
+IsGoodReceive count _ = Unit {0}
+
+abbrev names : List Declared → List (List ℕ)
+names ps = map (λ (p : Declared). p.name) ps
+
+record IsGoodDraft (count : ℕ) (d : Draft) : Type 0 where
+  names : AreDistinct (names (all_procs d))
+  procs : All (IsGood count) (all_procs d)
+  receive : IsGoodReceive count d.section
+
+names-last : (ps : List Declared) (p q : Declared) → q.name ≡ p.name → names (ps ++ p ∷ []) ≡ names (ps ++ q ∷ [])
+names-last ps p q e =
+    map-append (λ (p : Declared). p.name) ps (p ∷ []) ∙ ap (λ (name : List ℕ). names ps ++ name ∷ []) (sym e) ∙ sym (map-append (λ (p : Declared). p.name) ps (q ∷ []))
+
+empty-good : (count : ℕ) (name : List ℕ) → IsNameToken name → IsGood count (record { name = name; labels = []; instrs = [] })
+empty-good count name h = record {
+  name = h;
+  labels = All-nil (λ (l : Label). IsNameToken l.name);
+  distinct = AreDistinct.none;
+  instrs = All-nil (IsReadableInstr count);
+}
+
+begun-good : (count : ℕ) (d : Draft) (name : List ℕ) → IsNameToken name → IsGoodDraft count d → Holds (IsGoodDraft count) (begun d name)
+begun-good count d name named h =
+    let p : Declared = record { name = name; labels = []; instrs = [] } in
+    holds-if (IsGoodDraft count) (list_any (λ (p : Declared). bytes_eq p.name name) (all_procs d)) _ _ (λ _. tt)
+    (λ free. holds-if (IsGoodDraft count) (nat_le MOST_PROCESSES (length (all_procs d))) _ _ (λ _. tt)
+    (λ _. record {
+      names = subst AreDistinct (sym (map-append (λ (p : Declared). p.name) (all_procs d) (p ∷ [])))
+          (distinct-push (names (all_procs d)) name h.names (free_name (λ (p : Declared). p.name) (all_procs d) name free));
+      procs = All-push (IsGood count) (all_procs d) p h.procs (empty-good count name named);
+      receive = tt;
+    }))
+
+instr-good : (count : ℕ) (p : Declared) (i : Instr) → IsReadableInstr count i → IsGood count p → IsGood count (with_instr p i)
+instr-good count p i k h = record {
+  name = h.name;
+  labels = h.labels;
+  distinct = h.distinct;
+  instrs = All-push (IsReadableInstr count) p.instrs i h.instrs k;
+}
+
+-- a label more, and the process has the same name
+labelled-good : (count : ℕ) (p : Declared) (name : List ℕ) → IsNameToken name → IsGood count p → Holds (λ q. IsGood count q × (q.name ≡ p.name)) (labelled p name)
+labelled-good count p name named h =
+    let l : Label = record { name = name; place = length p.instrs + 1 } in
+    holds-if (λ (q : Declared). IsGood count q × (q.name ≡ p.name)) (list_any (λ (l : Label). bytes_eq l.name name) p.labels) _ _ (λ _. tt)
+    (λ free. (
+      record {
+        name = h.name;
+        labels = All-push (λ (l : Label). IsNameToken l.name) p.labels l h.labels named;
+        distinct = subst AreDistinct (sym (map-append (λ (l : Label). l.name) p.labels (l ∷ [])))
+            (distinct-push (map (λ (l : Label). l.name) p.labels) name h.distinct (free_name (λ (l : Label). l.name) p.labels name free));
+        instrs = h.instrs;
+      },
+      refl,
+    ))
+
+module _ (count : ℕ) (turns : Option ℕ) (procs : List Declared) where
+  changed : (p q : Declared) → AreDistinct (names (procs ++ p ∷ [])) → All (IsGood count) (procs ++ p ∷ []) → q.name ≡ p.name → IsGood count q →
+      IsGoodDraft count (record { turns = turns; procs = procs; section = Outside q })
+  changed p q d h e k = record {
+    names = subst AreDistinct (names-last procs p q e) d;
+    procs = All-push (IsGood count) procs q (all-front (IsGood count) procs p h) k;
+    receive = tt;
+  }
+
+  with_clause-good : (using : Option Var) (clauses : List Clause) (pattern : Pattern) (target : Option ℕ) → IsReadablePattern count pattern → All (λ (c : Clause). IsReadablePattern count c.pattern) clauses →
+      Holds (λ more. All (λ (c : Clause). IsReadablePattern count c.pattern) more) (with_clause using clauses pattern target)
+  with_clause-good using clauses pattern target k h =
+      holds-if (λ (more : List Clause). All (λ (c : Clause). IsReadablePattern count c.pattern) more) (is_marked using pattern) _ _
+      (λ _. All-push (λ (c : Clause). IsReadablePattern count c.pattern) clauses (record { pattern = pattern; target = target }) h k) (λ _. tt)
+
+  receive-good : (using : Option Var) (clauses : List Clause) (after : Option After) → All (λ (c : Clause). IsReadablePattern count c.pattern) clauses → IfSome using (λ x. IsVariableToken x.0) →
+      IsReadableInstr count (instr.Receive using clauses after)
+  receive-good using clauses after h k = record { exprs = All-nil _; clauses = h; vars = All-nil IsVariableToken; using = k }
+
+  taken_at-good : (section : Section) (f : Form) → AreDistinct (names (procs ++ open_proc section)) → All (IsGood count) (procs ++ open_proc section) → IsGoodReceive count section →
+      IsReadableForm count f → Holds (IsGoodDraft count) (taken_at (record { turns = turns; procs = procs; section = section }) section f)
+  taken_at-good Before (form.Turns m) d h o k = holds-if (IsGoodDraft count) (nat_le m MOST_TURNS) _ _ (λ _. record { names = d; procs = h; receive = tt }) (λ _. tt)
+  taken_at-good Before (form.Process name) d h o k = begun-good count (record { turns = turns; procs = procs; section = Before }) name k (record { names = d; procs = h; receive = tt })
+  taken_at-good Before _ d h o k = tt
+  taken_at-good (Outside p) (form.Process name) d h o k = begun-good count (record { turns = turns; procs = procs; section = Outside p }) name k (record { names = d; procs = h; receive = tt })
+  taken_at-good (Outside p) (form.Label name) d h o k =
+      holds-on_ok (λ q. IsGood count q × (q.name ≡ p.name)) (IsGoodDraft count) (λ q. record { turns = turns; procs = procs; section = Outside q })
+      (labelled p name) (labelled-good count p name k (all-last (IsGood count) procs p h)) (λ q m. changed p q d h m.1 m.0)
+  taken_at-good (Outside p) (form.Do i) d h o k = changed p (with_instr p i) d h refl (instr-good count p i k (all-last (IsGood count) procs p h))
+  taken_at-good (Outside p) (form.Receive using) d h o k = record { names = d; procs = h; receive = (All-nil (λ (c : Clause). IsReadablePattern count c.pattern), k) }
+  taken_at-good (Outside p) _ d h o k = tt
+  taken_at-good (Inside p using clauses after) (form.On pattern target) d h o k =
+      holds-on_ok (λ (more : List Clause). All (λ (c : Clause). IsReadablePattern count c.pattern) more) (IsGoodDraft count)
+      (λ more. record { turns = turns; procs = procs; section = Inside p using more after }) (with_clause using clauses pattern target)
+      (with_clause-good using clauses pattern target k o.0) (λ more m. record { names = d; procs = h; receive = (m, o.1) })
+  taken_at-good (Inside p using clauses after) (form.After next) d h o k = record { names = d; procs = h; receive = o }
+  taken_at-good (Inside p using clauses after) form.End d h o k =
+      changed p (with_instr p (instr.Receive using clauses after)) d h refl
+      (instr-good count p (instr.Receive using clauses after) (receive-good using clauses after o.0 o.1) (all-last (IsGood count) procs p h))
+  taken_at-good (Inside p using clauses after) _ d h o k = tt
+
+taken_if-good : (count : ℕ) (d : Draft) (o : Option Form) → IsGoodDraft count d → IfSome o (IsReadableForm count) → Holds (IsGoodDraft count) (taken_if d o)
+taken_if-good count d None h k = h
+taken_if-good count d (Some f) h k = taken_at-good count d.turns d.procs d.section f h.names h.procs h.receive k
+
+line-good : (first : Program) (d : Draft) (line : List ℕ) → IsGoodDraft (length first.procs) d → Holds (IsGoodDraft (length first.procs)) (line_taken (Among first) d line)
+line-good first d line h =
+    holds-then (λ o. IfSome o (IsReadableForm (length first.procs))) (IsGoodDraft (length first.procs)) (taken_if d) (said (Among first) d line) (said-read first d line)
+    (λ o k. taken_if-good (length first.procs) d o h k)
+
+abbrev IsGoodScript : ℕ → Program → Type 0
+IsGoodScript count s = AreDistinct (names s.procs) × All (IsGood count) s.procs
+
+blank-good : (count : ℕ) → IsGoodDraft count blank
+blank-good count = record { names = AreDistinct.none; procs = All-nil (IsGood count); receive = tt }
+
+walk-good : (first : Program) (lines : List (List ℕ)) (s : Program) → walk (Among first) lines ≡ Ok s → IsGoodScript (length first.procs) s
+walk-good first lines s e =
+    holds-of (IsGoodScript (length first.procs)) (walk (Among first) lines) s
+    (body-holds (Among first) (λ n d. IsGoodDraft (length first.procs) d) (IsGoodScript (length first.procs)) (2 + length lines) (λ n d line _ h. line-good first d line h)
+    (λ n d _ h. (h.names, h.procs)) 2 blank lines (le_refl (2 + length lines)) (blank-good (length first.procs))) e
+
+-- both walks
+walked : (lines : List (List ℕ)) (first s : Program) → length lines ≤ 2 ^ 30 → walk Any lines ≡ Ok first → walk (Among first) lines ≡ Ok s → IsReadableScript s
+walked lines first s le e k =
+    let good = walk-good first lines s k in
+    let within = procs_within lines first s e k le in
+    let same : length first.procs ≡ length s.procs = same-number first.procs s.procs (same_counts Any (Among first) lines first s e k) in
+    let each : All (IsGood (length s.procs)) s.procs = subst (λ (n : ℕ). All (IsGood n) s.procs) same good.1 in
+    record {
+      sound = script_sound lines first s e k le;
+      names = good.0;
+      procs = λ i d lt.
+          let h = each i d lt in
+          record { name = h.name; labels = h.labels; distinct = h.distinct; within = within i d lt; instrs = h.instrs };
+    }
+
+walked_twice : (lines : List (List ℕ)) (s : Program) (r : Result Program Fault) → length lines ≤ 2 ^ 30 → walk Any lines ≡ r → (r >>= λ first. walk (Among first) lines) ≡ Ok s → IsReadableScript s
+walked_twice lines s (Ok first) le e k = walked lines first s le e k
+walked_twice lines s (Err f) le e k = absurd cc
+
+chosen : {A : Type 0} (v : Bool) (r : Result A Fault) (f : Fault) (x : A) → (if v then r else Err f) ≡ Ok x → r ≡ Ok x
+chosen true r f x e = e
+chosen false r f x e = absurd cc
+
+chosen-test : {A : Type 0} (v : Bool) (r : Result A Fault) (f : Fault) (x : A) → (if v then r else Err f) ≡ Ok x → v ≡ true
+chosen-test true r f x e = refl
+chosen-test false r f x e = absurd cc
+
+lines-readable : (lines : List (List ℕ)) (s : Program) → length lines ≤ 2 ^ 30 → script_of_lines lines ≡ Ok s → IsReadableScript s
+unfolding script_of_lines
+lines-readable [] s le e = absurd cc
+lines-readable (first ∷ lines) s le e =
+    walked_twice lines s (walk Any lines) (omega (arith, le)) refl (chosen (is_header (tokens_of first) first) (walk_twice lines) _ s e)
+
+few-bytes : (n : ℕ) → nat_le n MOST_BYTES ≡ true → n ≤ 2 ^ 30
+few-bytes n h = grind (arith, nat_tests)
+
+-- a script that was read is readable
+pub readable : (bytes : List ℕ) (s : Program) → script_of bytes ≡ Ok s → IsReadableScript s
+unfolding script_of
+readable bytes s e =
+    let few : length bytes ≤ 2 ^ 30 = few-bytes (length bytes) (chosen-test (nat_le (length bytes) MOST_BYTES) (script_of_lines (lines_of bytes)) _ s e) in
+    lines-readable (lines_of bytes) s (omega (arith, few, few_lines bytes)) (chosen (nat_le (length bytes) MOST_BYTES) (script_of_lines (lines_of bytes)) _ s e)

@@ -1,0 +1,4 @@
+pub mod ScriptText
+pub mod ReadableScript
+pub mod Printing
+pub mod Generated

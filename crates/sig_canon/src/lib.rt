@@ -1,0 +1,14 @@
+//! The canonical text of scripts, which is read back as the same script; and the generated script.
+#![tactic(auto)]
+
+mod expression_text;
+mod generating;
+mod instruction_text;
+mod laws;
+mod pattern_text;
+mod printing;
+mod putting;
+
+pub use generating::{MOST_CALLS, generate};
+pub use laws::a_printed_script_is_read_back;
+pub use printing::print_script;

@@ -1,0 +1,10 @@
+pub mod FitLemmas
+pub mod ReaderLemmas
+pub mod TableLemmas
+pub mod BoundTermLemmas
+pub mod BoundLemmas
+pub mod Seen
+pub mod SeenLemmas
+pub mod OtherPhrases
+pub mod OtherForms
+pub mod OtherWalks

@@ -1,0 +1,62 @@
+-- The lines of a text, one after another.
+use Rattle.std.proofs.Common.{◌≡◌, ℕ, ◌+◌, ◌<◌, ◌≤◌, List, [], ◌∷◌, length, drop, ◌==◌, true, false, Result, Ok, Err, refl, sym, ◌∙◌, ap, subst}
+use Rattle.std.proofs.lemmas.List.{drop_all}
+use Rattle.sig_tokens.specs.declared.fault.FaultKind.{FaultKind}
+use Rattle.sig_tokens.specs.declared.fault.FaultKind.TheVariants.{Header}
+use Rattle.sig_tokens.specs.declared.known.Known.{Known}
+use Rattle.sig_reader.specs.declared.draft.Draft.{Draft}
+use Rattle.sig_program.specs.Scripts.{Program}
+use Rattle.sig_tokens.specs.Faults.{Fault}
+use Rattle.sig_tokens.specs.Lines.{lines_of}
+use Rattle.sig_tokens.specs.Tokens.{tokens_of}
+use Rattle.sig_reader.specs.Grammar.{at_line, finished, line_taken, body, is_header, walk_twice, script_of_lines}
+use Rattle.sig_tokens.proofs.LineLemmas.{first_of, rest_at, lines-step, lines-whole, nonempty}
+
+front : (at : ℕ) (bytes line : List ℕ) → at < length bytes → line ≡ first_of (rest_at at bytes) →
+    lines_of (drop at bytes) ≡ line ∷ lines_of (drop (at + (length line + 1)) bytes)
+front at bytes line lt is = lines-step at bytes lt ∙ ap (λ (xs : List ℕ). xs ∷ lines_of (drop (at + (length xs + 1)) bytes)) (sym is)
+
+-- a line that is taken
+pub step_taken : (known : Known) (n at : ℕ) (bytes line : List ℕ) (d e : Draft) (v : Result Program Fault) →
+    at < length bytes → line ≡ first_of (rest_at at bytes) → line_taken known d line ≡ Ok e →
+    body known n d (lines_of (drop at bytes)) ≡ v → body known (n + 1) e (lines_of (drop (at + (length line + 1)) bytes)) ≡ v
+unfolding body
+step_taken known n at bytes line d e v lt is taken whole =
+    let next : List (List ℕ) = lines_of (drop (at + (length line + 1)) bytes) in
+    let one : body known n d (line ∷ next) ≡ body known (n + 1) e next = rw taken refl in
+    sym one ∙ ap (λ (ls : List (List ℕ)). body known n d ls) (sym (front at bytes line lt is)) ∙ whole
+
+-- a line that is refused
+pub step_refused : (known : Known) (n at : ℕ) (bytes line : List ℕ) (d : Draft) (kind : FaultKind) (v : Result Program Fault) →
+    at < length bytes → line ≡ first_of (rest_at at bytes) → line_taken known d line ≡ Err kind →
+    body known n d (lines_of (drop at bytes)) ≡ v → v ≡ at_line n kind
+unfolding body
+step_refused known n at bytes line d kind v lt is taken whole =
+    let next : List (List ℕ) = lines_of (drop (at + (length line + 1)) bytes) in
+    let one : body known n d (line ∷ next) ≡ at_line n kind = rw taken refl in
+    sym (sym one ∙ ap (λ (ls : List (List ℕ)). body known n d ls) (sym (front at bytes line lt is)) ∙ whole)
+
+-- no line is left
+pub lines_end : (known : Known) (n at : ℕ) (bytes : List ℕ) (d : Draft) (v : Result Program Fault) → length bytes ≤ at →
+    body known n d (lines_of (drop at bytes)) ≡ v → finished n d d.section ≡ v
+unfolding body
+lines_end known n at bytes d v h whole = ap (λ (xs : List ℕ). body known n d (lines_of xs)) (sym (drop_all at bytes h)) ∙ whole
+
+-- the first line
+pub no_line : (bytes : List ℕ) → (length bytes == 0) ≡ true → script_of_lines (lines_of bytes) ≡ at_line 1 Header
+unfolding script_of_lines
+no_line [] h = refl
+no_line (b ∷ bs) h = cc (nonempty b bs)
+
+pub no_header : (bytes line : List ℕ) → (length bytes == 0) ≡ false → line ≡ first_of bytes → is_header (tokens_of line) line ≡ false → script_of_lines (lines_of bytes) ≡ at_line 1 Header
+unfolding script_of_lines
+no_header bytes line some is none =
+    let P : List ℕ → Type 0 = λ xs. is_header (tokens_of xs) xs ≡ false in
+    rw (lines-whole bytes some, subst P is none) refl
+
+pub after_header : (bytes line : List ℕ) → (length bytes == 0) ≡ false → line ≡ first_of bytes → is_header (tokens_of line) line ≡ true →
+    script_of_lines (lines_of bytes) ≡ walk_twice (lines_of (drop (length line + 1) bytes))
+unfolding script_of_lines
+after_header bytes line some is header =
+    let P : List ℕ → Type 0 = λ xs. is_header (tokens_of xs) xs ≡ true in
+    rw (lines-whole bytes some, subst P is header) (ap (λ (xs : List ℕ). walk_twice (lines_of (drop (length xs + 1) bytes))) (sym is))

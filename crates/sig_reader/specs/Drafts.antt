@@ -1,0 +1,91 @@
+-- What was read so far, and with one form more.
+use Rattle.std.specs.Prelude.{ℕ, ◌+◌, List, [], ◌∷◌, ◌++◌, length, nat_le, Bool, true, if◌then◌else◌, Option, Some, None, Result, Ok, Err}
+use Rattle.std.specs.Option.{option_map_or}
+use Rattle.std.specs.List.{list_any}
+use Rattle.std.specs.Str.{bytes_eq}
+use Rattle.sig_patterns.specs.declared.clause.Clause.{Clause}
+use Rattle.sig_patterns.specs.declared.pattern.Pattern.{Pattern}
+use Rattle.sig_patterns.specs.declared.var.Var.{Var}
+use Rattle.sig_patterns.specs.Pinning.{pins}
+use Rattle.sig_program.specs.declared.label.Label.{Label}
+use Rattle.sig_program.specs.declared.instruction.Instr.{Instr}
+use Rattle.sig_program.specs.declared.instruction.Instr.TheVariants as instr
+use Rattle.sig_tokens.specs.declared.fault.FaultKind.{FaultKind}
+use Rattle.sig_tokens.specs.declared.fault.FaultKind.TheVariants.{Syntax, DuplicateName, TooManyProcesses, DuplicateLabel, TooManyTurns, MarkerNotInClause}
+use Rattle.sig_reader.specs.declared.draft.Section.{Section}
+use Rattle.sig_reader.specs.declared.draft.Section.TheVariants.{Before, Outside, Inside}
+use Rattle.sig_reader.specs.declared.draft.Draft.{Draft}
+use Rattle.sig_reader.specs.declared.form.Form.{Form}
+use Rattle.sig_reader.specs.declared.form.Form.TheVariants as form
+use Rattle.sig_program.specs.Scripts.{Declared, Program}
+use Rattle.sig_tokens.specs.Faults.{on_ok}
+use Rattle.sig_program.specs.declared.script.TheConstants.{DEFAULT_TURNS, MOST_PROCESSES, MOST_TURNS}
+
+-- before the first line
+abbrev pub blank : Draft
+blank = record { turns = None; procs = []; section = Before }
+
+-- the process that is being read
+abbrev pub open_proc : Section → List Declared
+open_proc Before = []
+open_proc (Outside p) = p ∷ []
+open_proc (Inside p using clauses after) = p ∷ []
+
+-- the processes so far
+abbrev pub all_procs : Draft → List Declared
+all_procs d = d.procs ++ open_proc d.section
+
+-- each process may execute DEFAULT_TURNS instructions where nothing else is said
+abbrev pub program_of : Draft → Program
+program_of d = record { turns = option_map_or (λ n. n) d.turns DEFAULT_TURNS; procs = all_procs d }
+
+-- a process begins: its name is a new one, and there are at most MOST_PROCESSES processes
+abbrev pub begun : Draft → List ℕ → Result Draft FaultKind
+begun d name =
+    if list_any (λ (p : Declared). bytes_eq p.name name) (all_procs d) then Err DuplicateName
+    else if nat_le MOST_PROCESSES (length (all_procs d)) then Err TooManyProcesses
+    else Ok (record d { procs = all_procs d; section = Outside (record { name = name; labels = []; instrs = [] }) })
+
+-- the same of the processes so far alone
+abbrev pub has_room : List Declared → List ℕ → Result (Unit {0}) FaultKind
+has_room procs name =
+    if list_any (λ (p : Declared). bytes_eq p.name name) procs then Err DuplicateName
+    else if nat_le MOST_PROCESSES (length procs) then Err TooManyProcesses
+    else Ok tt
+
+-- a label before the next instruction: its name is a new one in its process
+abbrev pub labelled : Declared → List ℕ → Result Declared FaultKind
+labelled p name =
+    if list_any (λ (l : Label). bytes_eq l.name name) p.labels then Err DuplicateLabel
+    else Ok (record p { labels = p.labels ++ record { name = name; place = length p.instrs + 1 } ∷ [] })
+
+-- one instruction more
+abbrev pub with_instr : Declared → Instr → Declared
+with_instr p i = record p { instrs = p.instrs ++ i ∷ [] }
+
+-- the marker's variable is pinned in the pattern; a receive without a marker asks for none
+abbrev pub is_marked : Option Var → Pattern → Bool
+is_marked None pattern = true
+is_marked (Some x) pattern = pins pattern x
+
+-- one clause more
+abbrev pub with_clause : Option Var → List Clause → Pattern → Option ℕ → Result (List Clause) FaultKind
+with_clause using clauses pattern target =
+    if is_marked using pattern then Ok (clauses ++ record { pattern = pattern; target = target } ∷ []) else Err MarkerNotInClause
+
+-- a form behind what was read so far; a receive with all its lines is one instruction
+abbrev pub taken_at : Draft → Section → Form → Result Draft FaultKind
+taken_at d Before (form.Turns n) = if nat_le n MOST_TURNS then Ok (record d { turns = Some n }) else Err TooManyTurns
+taken_at d Before (form.Process name) = begun d name
+taken_at d (Outside p) (form.Process name) = begun d name
+taken_at d (Outside p) (form.Label name) = on_ok (λ q. record d { section = Outside q }) (labelled p name)
+taken_at d (Outside p) (form.Do i) = Ok (record d { section = Outside (with_instr p i) })
+taken_at d (Outside p) (form.Receive using) = Ok (record d { section = Inside p using [] None })
+taken_at d (Inside p using clauses after) (form.On pattern target) =
+    on_ok (λ more. record d { section = Inside p using more after }) (with_clause using clauses pattern target)
+taken_at d (Inside p using clauses after) (form.After next) = Ok (record d { section = Inside p using clauses (Some next) })
+taken_at d (Inside p using clauses after) form.End = Ok (record d { section = Outside (with_instr p (instr.Receive using clauses after)) })
+taken_at d _ _ = Err Syntax
+
+abbrev pub taken : Draft → Form → Result Draft FaultKind
+taken d f = taken_at d d.section f

@@ -1,0 +1,31 @@
+-- Where the next line stands behind a form that begins no process and tells no turns.
+use Rattle.std.specs.Prelude.{[], Option, Some, None, Result, Ok, Err}
+use Rattle.sig_patterns.specs.declared.var.Var.{Var}
+use Rattle.sig_program.specs.declared.instruction.Instr.TheVariants as instr
+use Rattle.sig_tokens.specs.declared.fault.FaultKind.{FaultKind}
+use Rattle.sig_tokens.specs.declared.fault.FaultKind.TheVariants.{Syntax}
+use Rattle.sig_reader.specs.declared.draft.Section.{Section}
+use Rattle.sig_reader.specs.declared.draft.Section.TheVariants.{Outside, Inside}
+use Rattle.sig_reader.specs.declared.form.Form.{Form}
+use Rattle.sig_reader.specs.declared.form.Form.TheVariants as form
+use Rattle.sig_tokens.specs.Faults.{on_ok}
+use Rattle.sig_reader.specs.Drafts.{labelled, with_instr, with_clause}
+
+-- a receive begins in the process that is being read
+abbrev pub inside_of : Section → Option Var → Section
+inside_of (Outside p) using = Inside p using [] None
+inside_of section using = section
+
+-- a receive ends, which is one instruction
+abbrev pub outside_of : Section → Section
+outside_of (Inside p using clauses after) = Outside (with_instr p (instr.Receive using clauses after))
+outside_of section = section
+
+abbrev pub section_taken : Section → Form → Result Section FaultKind
+section_taken (Outside p) (form.Label name) = on_ok Outside (labelled p name)
+section_taken (Outside p) (form.Do i) = Ok (Outside (with_instr p i))
+section_taken (Outside p) (form.Receive using) = Ok (Inside p using [] None)
+section_taken (Inside p using clauses after) (form.On pattern target) = on_ok (λ more. Inside p using more after) (with_clause using clauses pattern target)
+section_taken (Inside p using clauses after) (form.After next) = Ok (Inside p using clauses (Some next))
+section_taken (Inside p using clauses after) form.End = Ok (Outside (with_instr p (instr.Receive using clauses after)))
+section_taken _ _ = Err Syntax

@@ -1,0 +1,423 @@
+ghost use Rattle.std.specs.Prelude.{◌≡◌, ◌+◌, ◌<◌, ◌^◌, ◌++◌, [], ◌∷◌, length, Ok, Err, All};
+ghost use Rattle.std.specs.List.{list_any};
+ghost use Rattle.std.specs.Str.{bytes_eq};
+ghost use Rattle.sig_tokens.specs.declared.fault.FaultKind.TheVariants.{Syntax};
+ghost use Rattle.sig_tokens.specs.declared.fault.Stop.TheVariants.{Fault};
+ghost use Rattle.sig_tokens.specs.Faults.{Gives};
+ghost use Rattle.sig_program.specs.Scripts.{Declared};
+ghost use Rattle.sig_reader.specs.Drafts.{
+  blank,
+  open_proc,
+  begun,
+  has_room,
+  labelled,
+  with_instr,
+  is_marked,
+  with_clause,
+  taken_at,
+  taken,
+};
+ghost use Rattle.sig_reader.specs.Sections.{inside_of, outside_of, section_taken};
+ghost use Rattle.sig_reader.specs.Grammar.{finished, line_taken};
+ghost use Rattle.sig_reader.specs.Reading.{IsReading, MayEnd};
+ghost use Rattle.sig_reader.specs.Fitting.{IsFit};
+ghost use Rattle.sig_tokens.specs.Names.{IsFewKnown, IsSmall};
+
+use crate::form::{Form, read_line};
+use crate::reader::ScriptError;
+use sig_tokens::{DraftProc, DraftProcs, DraftScript, FaultKind, Known, LabelTable, Stop, Tokens, place_of_proc};
+use sig_lists::Sequence;
+use sig_patterns::{Clause, Clauses, Pattern, Var, pins};
+use sig_program::{After, DEFAULT_TURNS, Instr, Label, MOST_PROCESSES, MOST_TURNS};
+use sig_terms::Name;
+use std::alloc::Global;
+use std::mem::{drop, replace};
+
+/// Where in a script a line stands.
+#[derive(Drop)]
+pub enum Section {
+    /// Before the first process.
+    Before,
+    /// In this process, outside a receive.
+    Outside(DraftProc),
+    /// In a receive of this process, with the variable of its marker where it has one, behind these
+    /// clauses, and behind its `after` where it has one.
+    Inside(DraftProc, Option<Var>, Clauses, Option<After>),
+}
+
+/// What was read so far.
+#[derive(Drop)]
+pub struct Draft {
+    /// How many instructions each process may execute, where that was said.
+    pub turns: Option<u32>,
+    /// The processes before the one that is being read.
+    pub procs: DraftProcs,
+    /// Where the next line stands.
+    pub section: Section,
+}
+
+impl Draft {
+    /// Before the first line.
+    pub fn new(alloc: Global) -> Draft
+        ensures { result ≡ blank }
+    {
+        Draft {
+            turns: None,
+            procs: Sequence::new(alloc),
+            section: Section::Before,
+        }
+    }
+}
+
+/// Refuses what can't stand where it is.
+fn refuse<T: Drop>(_said: T) -> Result<(), Stop>
+    ensures { result ≡ Err (Fault Syntax) }
+{
+    Err(Stop::Fault(FaultKind::Syntax))
+}
+
+/// Lets this section stand in the place of another.
+fn enter(section: &mut Section, next: Section)
+    ensures { section.new ≡ next }
+{
+    drop(replace(section, next));
+}
+
+/// Closes the process that was being read.
+fn close(procs: &mut DraftProcs, section: Section) -> Result<(), Stop>
+    ensures { Gives (λ u. procs.new) result (Ok (procs.old ++ open_proc section)) }
+{
+    match section {
+        Section::Before => Ok(()),
+        Section::Outside(proc) => {
+            procs.add(proc)?;
+            Ok(())
+        }
+        Section::Inside(proc, _using, _clauses, _after) => {
+            procs.add(proc)?;
+            Ok(())
+        }
+    }
+}
+
+/// Whether a process has the name.
+#[tactic(auto, using(sig_tokens::proofs::LabelLemmas::any_place))]
+fn is_proc_among(procs: &[DraftProc], name: &[u8]) -> bool
+    ensures { result ≡ list_any (λ (p : Declared). bytes_eq p.name name.now) procs.now }
+{
+    place_of_proc(procs, name).is_some()
+}
+
+/// Whether there is room behind these processes for one of this name.
+fn check_room(procs: &[DraftProc], name: &[u8]) -> Result<(), Stop>
+    ensures { Gives (λ u. u) result (has_room procs.now name.now) }
+{
+    if is_proc_among(procs, name) {
+        return Err(Stop::Fault(FaultKind::DuplicateName));
+    }
+    if procs.len() >= MOST_PROCESSES {
+        return Err(Stop::Fault(FaultKind::TooManyProcesses));
+    }
+    Ok(())
+}
+
+/// A process of which only its first line was read.
+fn blank_proc(alloc: Global, name: Name) -> DraftProc
+    ensures { result ≡ record { name = name; labels = []; instrs = [] } }
+{
+    DraftProc {
+        name,
+        labels: LabelTable::new(alloc),
+        instrs: Sequence::new(alloc),
+    }
+}
+
+/// A process line.
+fn begin(alloc: Global, draft: &mut Draft, name: Name) -> Result<(), Stop>
+    ensures { Gives (λ u. draft.new) result (begun draft.old name) }
+{
+    close(
+        &mut draft.procs,
+        replace(&mut draft.section, Section::Before),
+    )?;
+    check_room(draft.procs.as_slice(), name.bytes())?;
+    enter(
+        &mut draft.section,
+        Section::Outside(blank_proc(alloc, name)),
+    );
+    Ok(())
+}
+
+/// A label line.
+fn add_label(alloc: Global, proc: &mut DraftProc, name: Name) -> Result<(), Stop>
+    requires instrs { length proc.old.instrs + 1 < 2 ^ 32 }
+    requires labels { length proc.old.labels < 2 ^ 32 }
+    ensures { Gives (λ u. proc.new) result (labelled proc.old name) }
+{
+    if proc.labels.has(name.bytes()) {
+        return Err(Stop::Fault(FaultKind::DuplicateLabel));
+    }
+    let place = proc.instrs.len() as u32 + 1;
+    proc.labels.add(alloc, Label { name, place })?;
+    Ok(())
+}
+
+/// An instruction.
+fn add_instr(proc: &mut DraftProc, instr: Instr) -> Result<(), Stop>
+    ensures { Gives (λ u. proc.new) result (Ok (with_instr proc.old instr)) }
+{
+    proc.instrs.add(instr)?;
+    Ok(())
+}
+
+/// A turns line.
+fn take_turns(draft: &mut Draft, n: u64) -> Result<(), Stop>
+    ensures { Gives (λ u. draft.new) result (taken_at draft.old draft.old.section (Form.Turns n)) }
+{
+    let Section::Before = &draft.section else {
+        return Err(Stop::Fault(FaultKind::Syntax));
+    };
+    if n <= u64::from(MOST_TURNS) {
+        draft.turns = Some(n as u32);
+        Ok(())
+    } else {
+        Err(Stop::Fault(FaultKind::TooManyTurns))
+    }
+}
+
+/// A process line, outside a receive.
+fn take_process(alloc: Global, draft: &mut Draft, name: Name) -> Result<(), Stop>
+    ensures { Gives (λ u. draft.new) result (taken_at draft.old draft.old.section (Form.Process name)) }
+{
+    match &draft.section {
+        Section::Inside(_, _, _, _) => Err(Stop::Fault(FaultKind::Syntax)),
+        _ => begin(alloc, draft, name),
+    }
+}
+
+/// A label line in a process, outside a receive.
+#[tactic(auto, using(crate::proofs::FitLemmas::one_few))]
+fn place_label(alloc: Global, section: &mut Section, name: Name) -> Result<(), Stop>
+    requires { All (IsSmall (2 ^ 31)) (open_proc section.old) }
+    ensures { Gives (λ u. section.new) result (section_taken section.old (Form.Label name)) }
+{
+    match section {
+        Section::Outside(proc) => add_label(alloc, proc, name),
+        _ => Err(Stop::Fault(FaultKind::Syntax)),
+    }
+}
+
+/// An instruction that is no receive.
+fn place_instr(section: &mut Section, instr: Instr) -> Result<(), Stop>
+    ensures { Gives (λ u. section.new) result (section_taken section.old (Form.Do instr)) }
+{
+    match section {
+        Section::Outside(proc) => add_instr(proc, instr),
+        _ => refuse(instr),
+    }
+}
+
+/// A receive begins in the process that is being read.
+fn inside(alloc: Global, section: Section, marker: Option<Var>) -> Section
+    ensures { result ≡ inside_of section marker }
+{
+    match section {
+        Section::Outside(proc) => Section::Inside(proc, marker, Sequence::new(alloc), None),
+        other => other,
+    }
+}
+
+/// The first line of a receive.
+fn place_receive(alloc: Global, section: &mut Section, marker: Option<Var>) -> Result<(), Stop>
+    ensures { Gives (λ u. section.new) result (section_taken section.old (Form.Receive marker)) }
+{
+    match section {
+        Section::Outside(_) => {
+            let outside = replace(section, Section::Before);
+            enter(section, inside(alloc, outside, marker));
+            Ok(())
+        }
+        _ => Err(Stop::Fault(FaultKind::Syntax)),
+    }
+}
+
+/// Whether the pattern pins the variable of the receive's marker, where it has one.
+fn pins_marker(marker: &Option<Var>, pattern: &Pattern) -> bool
+    ensures { result ≡ is_marked marker.now pattern.now }
+{
+    match marker {
+        Some(var) => pins(pattern, var),
+        None => true,
+    }
+}
+
+/// A clause behind these.
+fn add_pinned(clauses: &mut Clauses, clause: Clause) -> Result<(), Stop>
+    ensures { Gives (λ u. clauses.new) result (Ok (clauses.old ++ clause ∷ [])) }
+{
+    clauses.add(clause)?;
+    Ok(())
+}
+
+/// A clause behind these, in a receive with this marker.
+fn add_clause(
+    marker: &Option<Var>,
+    clauses: &mut Clauses,
+    pattern: Pattern,
+    target: Option<u32>,
+) -> Result<(), Stop>
+    ensures { Gives (λ u. clauses.new) result (with_clause marker.now clauses.old pattern target) }
+{
+    if pins_marker(marker, &pattern) {
+        add_pinned(clauses, Clause { pattern, target })
+    } else {
+        drop(pattern);
+        Err(Stop::Fault(FaultKind::MarkerNotInClause))
+    }
+}
+
+/// A clause line in a receive.
+fn place_clause(section: &mut Section, pattern: Pattern, target: Option<u32>) -> Result<(), Stop>
+    ensures { Gives (λ u. section.new) result (section_taken section.old (Form.On pattern target)) }
+{
+    match section {
+        Section::Inside(_, marker, clauses, _) => add_clause(marker, clauses, pattern, target),
+        _ => refuse(pattern),
+    }
+}
+
+/// The line of where a receive goes on that finds no message.
+fn place_after(section: &mut Section, next: After) -> Result<(), Stop>
+    ensures { Gives (λ u. section.new) result (section_taken section.old (Form.After next)) }
+{
+    match section {
+        Section::Inside(_, _, _, after) => {
+            *after = Some(next);
+            Ok(())
+        }
+        _ => Err(Stop::Fault(FaultKind::Syntax)),
+    }
+}
+
+/// The process with one instruction more.
+fn longer(proc: DraftProc, instr: Instr) -> Result<DraftProc, Stop>
+    ensures { Gives (λ p. p) result (Ok (with_instr proc instr)) }
+{
+    let mut proc = proc;
+    match add_instr(&mut proc, instr) {
+        Ok(()) => Ok(proc),
+        Err(stop) => {
+            drop(proc);
+            Err(stop)
+        }
+    }
+}
+
+/// A receive ends, which is one instruction of the process that is being read.
+fn outside(section: Section) -> Result<Section, Stop>
+    ensures { Gives (λ s. s) result (Ok (outside_of section)) }
+{
+    match section {
+        Section::Inside(proc, using, clauses, after) => {
+            let receive = Instr::Receive {
+                using,
+                clauses,
+                after,
+            };
+            longer(proc, receive).map(Section::Outside)
+        }
+        other => Ok(other),
+    }
+}
+
+/// The last line of a receive.
+fn place_end(section: &mut Section) -> Result<(), Stop>
+    ensures { Gives (λ u. section.new) result (section_taken section.old Form.End) }
+{
+    match section {
+        Section::Inside(_, _, _, _) => {
+            let receive = replace(section, Section::Before);
+            enter(section, outside(receive)?);
+            Ok(())
+        }
+        _ => Err(Stop::Fault(FaultKind::Syntax)),
+    }
+}
+
+/// A form behind what was read so far.
+fn take_form(alloc: Global, draft: &mut Draft, n: u64, form: Form) -> Result<(), Stop>
+    requires few { n < 2 ^ 31 }
+    requires fit { IsFit n draft.old }
+    ensures { Gives (λ u. draft.new) result (taken draft.old form) }
+{
+    match form {
+        Form::Turns(n) => take_turns(draft, n),
+        Form::Process(name) => take_process(alloc, draft, name),
+        Form::Label(name) => place_label(alloc, &mut draft.section, name),
+        Form::Do(instr) => place_instr(&mut draft.section, instr),
+        Form::Receive { using } => place_receive(alloc, &mut draft.section, using),
+        Form::On(pattern, target) => place_clause(&mut draft.section, pattern, target),
+        Form::After(next) => place_after(&mut draft.section, next),
+        Form::End => place_end(&mut draft.section),
+    }
+}
+
+/// Line `n` behind what was read so far, or what is wrong with it. What was read is of no use
+/// behind a line that is wrong. The room of the list of tokens is used again.
+///
+/// Asks that `known` has at most [`MOST_PROCESSES`](sig_program::MOST_PROCESSES) processes, each
+/// with at most 2^31 instructions and 2^31 labels; that `n` is below 2^31; and that what was read
+/// so far has at most as many processes, each with at most `n` instructions and `n` labels.
+pub fn take_line(
+    alloc: Global,
+    known: &Known,
+    draft: &mut Draft,
+    n: u64,
+    tokens: &mut Tokens,
+    line: &[u8],
+) -> Result<(), Stop>
+    requires known { IsFewKnown known.now }
+    requires few { n < 2 ^ 31 }
+    requires fit { IsFit n draft.old }
+    ensures { Gives (λ u. draft.new) result (line_taken known.now draft.old line.now) }
+{
+    match read_line(alloc, known, draft, tokens, line)? {
+        Some(form) => take_form(alloc, draft, n, form),
+        None => Ok(()),
+    }
+}
+
+/// Lets go of what was read, where a line is refused.
+pub fn discard(draft: Draft) {
+    drop(draft);
+}
+
+/// Whether the text may end before line `n`.
+fn check_end(section: &Section, n: u64) -> Result<(), ScriptError>
+    ensures { MayEnd n section.now result }
+{
+    if let Section::Inside(_, _, _, _) = section {
+        return Err(ScriptError::Fault {
+            line: n,
+            kind: FaultKind::Syntax,
+        });
+    }
+    Ok(())
+}
+
+/// The script, where the text may end before line `n`.
+pub fn finish(draft: Draft, n: u64) -> Result<DraftScript, ScriptError>
+    ensures { IsReading (finished n draft draft.section) result }
+{
+    let ended = check_end(&draft.section, n);
+    let mut procs = draft.procs;
+    let closed = close(&mut procs, draft.section);
+    ended?;
+    match closed {
+        Ok(()) => Ok(DraftScript {
+            turns: draft.turns.unwrap_or(DEFAULT_TURNS),
+            procs,
+        }),
+        Err(_) => Err(ScriptError::Memory),
+    }
+}

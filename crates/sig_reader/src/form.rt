@@ -1,0 +1,586 @@
+ghost use Rattle.std.specs.Prelude.{◌≡◌, ◌∷◌, [], true, IfOk};
+ghost use Rattle.sig_terms.specs.Words.{is_token};
+ghost use Rattle.sig_tokens.specs.Faults.{Gives};
+ghost use Rattle.sig_tokens.specs.Tokens.{AreWellSpelled, is_token_in_range};
+ghost use Rattle.sig_program.specs.Instructions.{Operand, operands_of};
+ghost use Rattle.sig_reader.specs.Forms.{
+  may_stand,
+  ends,
+  target_of,
+  arrow_of,
+  count_from,
+  turns_of,
+  switch_of,
+  mode_of,
+  flag_of,
+  all_said,
+  whole_name,
+  marked_by,
+  using_at,
+  marker_of,
+  on_of,
+  instr_of,
+  form_of,
+  form_behind,
+  said_by,
+  said,
+};
+ghost use Rattle.sig_tokens.specs.Names.{IsFewKnown};
+
+use crate::draft::{Draft, Section};
+use crate::keyword::{Keyword, read_keyword};
+use sig_tokens::{FaultKind, Known, Stop, Token, TokenKind, Tokens, name_of, read_count, read_tokens, take_phrase, take_target, take_variable, take_word, text_of};
+use sig_kinds::AliasMode;
+use sig_patterns::{Expr, Pattern, Var};
+use sig_program::{After, Instr, Verb};
+use sig_terms::Name;
+use sig_terms::bytes::equal_bytes;
+use std::alloc::Global;
+use std::mem::drop;
+
+/// What a line says.
+#[derive(Drop)]
+pub enum Form {
+    /// How many instructions each process may execute.
+    Turns(u64),
+    /// A process begins.
+    Process(Name),
+    /// The place of the next instruction has a name.
+    Label(Name),
+    /// An instruction that is no receive.
+    Do(Instr),
+    /// A receive begins, with the variable of its marker where it has one.
+    Receive { using: Option<Var> },
+    /// A clause of a receive: its pattern, and the label at which it goes on.
+    On(Pattern, Option<u32>),
+    /// What a receive does that finds no message.
+    After(After),
+    /// A receive ends.
+    End,
+}
+
+/// The value, where no token is left behind what said it.
+fn alone<T: Drop>(value: T, rest: &[Token]) -> Result<T, Stop>
+    ensures { Gives (λ x. x) result (ends value rest.now) }
+{
+    if rest.is_empty() {
+        Ok(value)
+    } else {
+        drop(value);
+        Err(Stop::Fault(FaultKind::Syntax))
+    }
+}
+
+/// The bytes of a name, and nothing behind it.
+fn whole_word<'l>(line: &'l [u8], tokens: &[Token]) -> Result<&'l [u8], Stop>
+    requires { AreWellSpelled line.now tokens.now }
+    ensures word { Gives (λ w. w.now) result (whole_name line.now tokens.now) }
+    ensures token { IfOk result (λ w. is_token w.now ≡ true) }
+{
+    let (word, rest) = take_word(line, tokens)?;
+    if rest.is_empty() {
+        Ok(word)
+    } else {
+        Err(Stop::Fault(FaultKind::Syntax))
+    }
+}
+
+/// A label of the process with this place among the processes, and nothing behind it.
+fn some_target(
+    known: &Known,
+    here: usize,
+    line: &[u8],
+    tokens: &[Token],
+) -> Result<Option<u32>, Stop>
+    requires known { IsFewKnown known.now }
+    requires spelled { AreWellSpelled line.now tokens.now }
+    ensures { Gives (λ t. t) result (target_of known.now here line.now tokens.now) }
+{
+    let (target, rest) = take_target(known, here, line, tokens)?;
+    alone(Some(target), rest)
+}
+
+/// Nothing, or `->` and a label of the process with this place among the processes.
+fn take_arrow(
+    known: &Known,
+    here: usize,
+    line: &[u8],
+    tokens: &[Token],
+) -> Result<Option<u32>, Stop>
+    requires known { IsFewKnown known.now }
+    requires spelled { AreWellSpelled line.now tokens.now }
+    ensures { Gives (λ t. t) result (arrow_of known.now here line.now tokens.now) }
+{
+    match tokens {
+        [] => Ok(None),
+        [token, rest @ ..] => {
+            if token.kind.is_arrow() {
+                some_target(known, here, line, rest)
+            } else {
+                Err(Stop::Fault(FaultKind::Syntax))
+            }
+        }
+    }
+}
+
+/// The number of an integer token that isn't below 0.
+fn count_from(kind: TokenKind, word: &[u8]) -> Result<u64, Stop>
+    requires { is_token_in_range word.now kind ≡ true }
+    ensures { Gives (λ n. n) result (count_from kind word.now) }
+{
+    match kind {
+        TokenKind::Integer => match read_count(word) {
+            Some(count) => Ok(count),
+            None => Err(Stop::Fault(FaultKind::Syntax)),
+        },
+        _ => Err(Stop::Fault(FaultKind::Syntax)),
+    }
+}
+
+fn read_turns(line: &[u8], tokens: &[Token]) -> Result<Form, Stop>
+    requires { AreWellSpelled line.now tokens.now }
+    ensures { Gives (λ f. f) result (turns_of line.now tokens.now) }
+{
+    match tokens {
+        [] => Err(Stop::Fault(FaultKind::Syntax)),
+        [token, rest @ ..] => {
+            let turns = count_from(token.kind, text_of(line, *token))?;
+            alone(Form::Turns(turns), rest)
+        }
+    }
+}
+
+/// An expression, and nothing behind it.
+fn one_expr(alloc: Global, known: &Known, line: &[u8], tokens: &[Token]) -> Result<Expr, Stop>
+    requires known { IsFewKnown known.now }
+    requires spelled { AreWellSpelled line.now tokens.now }
+    ensures { Gives (λ e. (e, tt)) result (all_said known.now 0 line.now (Operand.an_expr ∷ []) tokens.now) }
+{
+    let (value, rest) = take_phrase(alloc, known, line, tokens)?;
+    alone(value, rest)
+}
+
+/// What stands behind `set`: the variable, and the expression.
+#[tactic(auto, unfolding(crate::specs::Forms::instr_of))]
+fn read_set(alloc: Global, known: &Known, line: &[u8], tokens: &[Token]) -> Result<Instr, Stop>
+    requires known { IsFewKnown known.now }
+    requires spelled { AreWellSpelled line.now tokens.now }
+    ensures { Gives (λ i. i) result (instr_of known.now 0 Verb.Set line.now tokens.now) }
+{
+    let (var, rest) = take_variable(alloc, line, tokens)?;
+    let value = one_expr(alloc, known, line, rest)?;
+    Ok(Instr::Set { var, value })
+}
+
+/// Whether the word is `on`. A word that isn't `off` either is refused.
+fn read_switch(word: &[u8]) -> Result<bool, Stop>
+    ensures { Gives (λ on. on) result (switch_of word.now) }
+{
+    if equal_bytes(word, b"on") {
+        Ok(true)
+    } else if equal_bytes(word, b"off") {
+        Ok(false)
+    } else {
+        Err(Stop::Fault(FaultKind::Syntax))
+    }
+}
+
+/// The mode of a monitor's alias.
+fn read_mode(word: &[u8]) -> Result<AliasMode, Stop>
+    ensures { Gives Some result (mode_of word.now) }
+{
+    if equal_bytes(word, b"explicit_unalias") {
+        Ok(AliasMode::Explicit)
+    } else if equal_bytes(word, b"demonitor") {
+        Ok(AliasMode::Demonitor)
+    } else if equal_bytes(word, b"reply_demonitor") {
+        Ok(AliasMode::ReplyDemonitor)
+    } else {
+        Err(Stop::Fault(FaultKind::Syntax))
+    }
+}
+
+/// Nothing, or the mode of a monitor's alias and nothing behind it.
+fn one_mode(line: &[u8], tokens: &[Token]) -> Result<Option<AliasMode>, Stop>
+    requires { AreWellSpelled line.now tokens.now }
+    ensures { Gives (λ mode. (mode, tt)) result (all_said Known.Any 0 line.now (Operand.a_mode ∷ []) tokens.now) }
+{
+    match tokens {
+        [] => Ok(None),
+        [_, ..] => {
+            let (word, rest) = take_word(line, tokens)?;
+            let mode = read_mode(word)?;
+            alone(Some(mode), rest)
+        }
+    }
+}
+
+/// The flag. Another word is refused.
+fn read_flag(flag: &[u8], word: &[u8]) -> Result<bool, Stop>
+    ensures { Gives (λ on. on) result (flag_of flag.now word.now) }
+{
+    if equal_bytes(word, flag) {
+        Ok(true)
+    } else {
+        Err(Stop::Fault(FaultKind::Syntax))
+    }
+}
+
+/// Whether the flag stands there, with nothing behind it; nothing may stand there too.
+fn one_flag(flag: &[u8], line: &[u8], tokens: &[Token]) -> Result<bool, Stop>
+    requires { AreWellSpelled line.now tokens.now }
+    ensures { Gives (λ on. (on, tt)) result (all_said Known.Any 0 line.now (Operand.a_flag flag.now ∷ []) tokens.now) }
+{
+    match tokens {
+        [] => Ok(false),
+        [_, ..] => {
+            let word = whole_word(line, tokens)?;
+            read_flag(flag, word)
+        }
+    }
+}
+
+/// What stands behind `goto`: a label of the process with this place among the processes.
+#[tactic(auto, unfolding(crate::specs::Forms::instr_of))]
+fn read_goto(known: &Known, here: usize, line: &[u8], tokens: &[Token]) -> Result<Instr, Stop>
+    requires known { IsFewKnown known.now }
+    requires spelled { AreWellSpelled line.now tokens.now }
+    ensures { Gives (λ i. i) result (instr_of known.now here Verb.Goto line.now tokens.now) }
+{
+    let (label, rest) = take_target(known, here, line, tokens)?;
+    alone(Instr::Goto { label }, rest)
+}
+
+/// What stands behind `monitor`: the variable, the process, and the mode of the alias.
+#[tactic(auto, unfolding(crate::specs::Forms::instr_of))]
+fn read_monitor(alloc: Global, known: &Known, line: &[u8], tokens: &[Token]) -> Result<Instr, Stop>
+    requires known { IsFewKnown known.now }
+    requires spelled { AreWellSpelled line.now tokens.now }
+    ensures { Gives (λ i. i) result (instr_of known.now 0 Verb.Monitor line.now tokens.now) }
+{
+    let (var, rest) = take_variable(alloc, line, tokens)?;
+    let (target, rest) = take_phrase(alloc, known, line, rest)?;
+    match one_mode(line, rest) {
+        Ok(mode) => Ok(Instr::Monitor { var, target, mode }),
+        Err(stop) => {
+            drop(target);
+            Err(stop)
+        }
+    }
+}
+
+/// What stands behind `demonitor`: the reference, and whether `flush` does.
+#[tactic(auto, unfolding(crate::specs::Forms::instr_of))]
+fn read_demonitor(
+    alloc: Global,
+    known: &Known,
+    line: &[u8],
+    tokens: &[Token],
+) -> Result<Instr, Stop>
+    requires known { IsFewKnown known.now }
+    requires spelled { AreWellSpelled line.now tokens.now }
+    ensures { Gives (λ i. i) result (instr_of known.now 0 Verb.Demonitor line.now tokens.now) }
+{
+    let (reference, rest) = take_phrase(alloc, known, line, tokens)?;
+    match one_flag(b"flush", line, rest) {
+        Ok(flush) => Ok(Instr::Demonitor { reference, flush }),
+        Err(stop) => {
+            drop(reference);
+            Err(stop)
+        }
+    }
+}
+
+/// What stands behind `alias`: the variable, and whether `reply` does.
+#[tactic(auto, unfolding(crate::specs::Forms::instr_of))]
+fn read_alias(alloc: Global, line: &[u8], tokens: &[Token]) -> Result<Instr, Stop>
+    requires { AreWellSpelled line.now tokens.now }
+    ensures { Gives (λ i. i) result (instr_of Known.Any 0 Verb.Alias line.now tokens.now) }
+{
+    let (var, rest) = take_variable(alloc, line, tokens)?;
+    let reply = one_flag(b"reply", line, rest)?;
+    Ok(Instr::Alias { var, reply })
+}
+
+fn read_name(alloc: Global, line: &[u8], tokens: &[Token]) -> Result<Name, Stop>
+    requires { AreWellSpelled line.now tokens.now }
+    ensures { Gives (λ n. n) result (whole_name line.now tokens.now) }
+{
+    let word = whole_word(line, tokens)?;
+    Ok(name_of(alloc, word)?)
+}
+
+/// The variable of a receive's marker, and nothing behind it.
+fn marker_variable(alloc: Global, line: &[u8], tokens: &[Token]) -> Result<Option<Var>, Stop>
+    requires { AreWellSpelled line.now tokens.now }
+    ensures { Gives (λ v. v) result (marked_by line.now tokens.now) }
+{
+    let (var, rest) = take_variable(alloc, line, tokens)?;
+    alone(Some(var), rest)
+}
+
+/// `using` and a variable.
+fn some_marker(alloc: Global, line: &[u8], tokens: &[Token]) -> Result<Option<Var>, Stop>
+    requires { AreWellSpelled line.now tokens.now }
+    ensures { Gives (λ v. v) result (using_at line.now tokens.now) }
+{
+    let (word, rest) = take_word(line, tokens)?;
+    read_flag(b"using", word)?;
+    marker_variable(alloc, line, rest)
+}
+
+/// Nothing, or `using` and a variable.
+fn read_marker(alloc: Global, line: &[u8], tokens: &[Token]) -> Result<Option<Var>, Stop>
+    requires { AreWellSpelled line.now tokens.now }
+    ensures { Gives (λ v. v) result (marker_of line.now tokens.now) }
+{
+    match tokens {
+        [] => Ok(None),
+        [_token, _rest @ ..] => some_marker(alloc, line, tokens),
+    }
+}
+
+fn read_on(
+    alloc: Global,
+    known: &Known,
+    here: usize,
+    line: &[u8],
+    tokens: &[Token],
+) -> Result<Form, Stop>
+    requires known { IsFewKnown known.now }
+    requires spelled { AreWellSpelled line.now tokens.now }
+    ensures { Gives (λ f. f) result (on_of known.now here line.now tokens.now) }
+{
+    let (pattern, rest) = take_phrase(alloc, known, line, tokens)?;
+    match take_arrow(known, here, line, rest) {
+        Ok(target) => Ok(Form::On(pattern, target)),
+        Err(stop) => {
+            drop(pattern);
+            Err(stop)
+        }
+    }
+}
+
+/// The instruction of a verb behind which one expression stands.
+#[tactic(auto, unfolding(crate::specs::Forms::instr_of))]
+fn read_of_expr(
+    alloc: Global,
+    known: &Known,
+    verb: Verb,
+    line: &[u8],
+    tokens: &[Token],
+) -> Result<Instr, Stop>
+    requires known { IsFewKnown known.now }
+    requires spelled { AreWellSpelled line.now tokens.now }
+    requires operands { operands_of verb ≡ Operand.an_expr ∷ [] }
+    ensures { Gives (λ i. i) result (instr_of known.now 0 verb line.now tokens.now) }
+{
+    let expr = one_expr(alloc, known, line, tokens)?;
+    match verb {
+        Verb::Link => Ok(Instr::Link { peer: expr }),
+        Verb::Unlink => Ok(Instr::Unlink { peer: expr }),
+        Verb::Unalias => Ok(Instr::Unalias { reference: expr }),
+        Verb::Exit => Ok(Instr::Exit { reason: expr }),
+        _ => unreachable!(),
+    }
+}
+
+/// The instruction of a verb behind which two expressions stand.
+#[tactic(auto, unfolding(crate::specs::Forms::instr_of))]
+fn read_of_two(
+    alloc: Global,
+    known: &Known,
+    verb: Verb,
+    line: &[u8],
+    tokens: &[Token],
+) -> Result<Instr, Stop>
+    requires known { IsFewKnown known.now }
+    requires spelled { AreWellSpelled line.now tokens.now }
+    requires operands { operands_of verb ≡ Operand.an_expr ∷ Operand.an_expr ∷ [] }
+    ensures { Gives (λ i. i) result (instr_of known.now 0 verb line.now tokens.now) }
+{
+    let (first, rest) = take_phrase(alloc, known, line, tokens)?;
+    match one_expr(alloc, known, line, rest) {
+        Ok(second) => match verb {
+            Verb::Send => Ok(Instr::Send {
+                to: first,
+                message: second,
+            }),
+            Verb::ExitTo => Ok(Instr::ExitTo {
+                target: first,
+                reason: second,
+            }),
+            _ => unreachable!(),
+        },
+        Err(stop) => {
+            drop(first);
+            Err(stop)
+        }
+    }
+}
+
+/// The instruction of a verb behind which a variable stands.
+#[tactic(auto, unfolding(crate::specs::Forms::instr_of))]
+fn read_of_variable(alloc: Global, verb: Verb, line: &[u8], tokens: &[Token]) -> Result<Instr, Stop>
+    requires spelled { AreWellSpelled line.now tokens.now }
+    requires operands { operands_of verb ≡ Operand.a_variable ∷ [] }
+    ensures { Gives (λ i. i) result (instr_of Known.Any 0 verb line.now tokens.now) }
+{
+    let (var, rest) = take_variable(alloc, line, tokens)?;
+    match verb {
+        Verb::MakeRef => alone(Instr::MakeRef { var }, rest),
+        Verb::Bind => alone(Instr::Bind { var }, rest),
+        Verb::Clear => alone(Instr::Clear { var }, rest),
+        _ => unreachable!(),
+    }
+}
+
+/// What stands behind `trap`: `on` or `off`.
+#[tactic(auto, unfolding(crate::specs::Forms::instr_of))]
+fn read_trap(line: &[u8], tokens: &[Token]) -> Result<Instr, Stop>
+    requires { AreWellSpelled line.now tokens.now }
+    ensures { Gives (λ i. i) result (instr_of Known.Any 0 Verb.Trap line.now tokens.now) }
+{
+    let word = whole_word(line, tokens)?;
+    let on = read_switch(word)?;
+    Ok(Instr::Trap { on })
+}
+
+/// The instruction of the verb, of the process with this place among the processes.
+#[tactic(auto, unfolding(crate::specs::Forms::instr_of))]
+fn read_instr(
+    alloc: Global,
+    known: &Known,
+    here: usize,
+    verb: Verb,
+    line: &[u8],
+    tokens: &[Token],
+) -> Result<Instr, Stop>
+    requires known { IsFewKnown known.now }
+    requires spelled { AreWellSpelled line.now tokens.now }
+    ensures { Gives (λ i. i) result (instr_of known.now here verb line.now tokens.now) }
+{
+    match verb {
+        Verb::Send => read_of_two(alloc, known, Verb::Send, line, tokens),
+        Verb::Set => read_set(alloc, known, line, tokens),
+        Verb::MakeRef => read_of_variable(alloc, Verb::MakeRef, line, tokens),
+        Verb::Link => read_of_expr(alloc, known, Verb::Link, line, tokens),
+        Verb::Unlink => read_of_expr(alloc, known, Verb::Unlink, line, tokens),
+        Verb::Monitor => read_monitor(alloc, known, line, tokens),
+        Verb::Demonitor => read_demonitor(alloc, known, line, tokens),
+        Verb::Alias => read_alias(alloc, line, tokens),
+        Verb::Unalias => read_of_expr(alloc, known, Verb::Unalias, line, tokens),
+        Verb::Exit => read_of_expr(alloc, known, Verb::Exit, line, tokens),
+        Verb::ExitTo => read_of_two(alloc, known, Verb::ExitTo, line, tokens),
+        Verb::Trap => read_trap(line, tokens),
+        Verb::Reserve => alone(Instr::Reserve, tokens),
+        Verb::Bind => read_of_variable(alloc, Verb::Bind, line, tokens),
+        Verb::Clear => read_of_variable(alloc, Verb::Clear, line, tokens),
+        Verb::Goto => read_goto(known, here, line, tokens),
+        Verb::Stop => alone(Instr::Stop, tokens),
+    }
+}
+
+/// What stands behind the word, for the process with this place among the processes.
+#[tactic(auto, unfolding(crate::specs::Forms::form_of))]
+fn read_form(
+    alloc: Global,
+    known: &Known,
+    here: usize,
+    word: Keyword,
+    line: &[u8],
+    tokens: &[Token],
+) -> Result<Form, Stop>
+    requires known { IsFewKnown known.now }
+    requires spelled { AreWellSpelled line.now tokens.now }
+    ensures { Gives (λ f. f) result (form_of known.now here word line.now tokens.now) }
+{
+    match word {
+        Keyword::Turns => read_turns(line, tokens),
+        Keyword::Process => read_name(alloc, line, tokens).map(Form::Process),
+        Keyword::Label => read_name(alloc, line, tokens).map(Form::Label),
+        Keyword::Receive => {
+            let using = read_marker(alloc, line, tokens)?;
+            Ok(Form::Receive { using })
+        }
+        Keyword::On => read_on(alloc, known, here, line, tokens),
+        Keyword::After => {
+            let target = take_arrow(known, here, line, tokens)?;
+            Ok(Form::After(After { target }))
+        }
+        Keyword::End => alone(Form::End, tokens),
+        Keyword::Do(verb) => read_instr(alloc, known, here, verb, line, tokens).map(Form::Do),
+    }
+}
+
+/// Whether a line that begins with the word may stand behind what was read so far.
+fn stands(draft: &Draft, word: Keyword) -> bool
+    ensures { result ≡ may_stand draft.now.turns draft.now.section word }
+{
+    match &draft.section {
+        Section::Before => word.may_begin(draft.turns),
+        Section::Outside(_) => word.may_be_outside(),
+        Section::Inside(_, _, _, after) => word.may_be_inside(after.is_some()),
+    }
+}
+
+fn read_behind(
+    alloc: Global,
+    known: &Known,
+    draft: &Draft,
+    word: Option<Keyword>,
+    line: &[u8],
+    tokens: &[Token],
+) -> Result<Form, Stop>
+    requires known { IsFewKnown known.now }
+    requires spelled { AreWellSpelled line.now tokens.now }
+    ensures { Gives (λ f. f) result (form_behind known.now draft.now word line.now tokens.now) }
+{
+    match word {
+        Some(word) if stands(draft, word) => {
+            read_form(alloc, known, draft.procs.len(), word, line, tokens)
+        }
+        _ => Err(Stop::Fault(FaultKind::Syntax)),
+    }
+}
+
+#[tactic(auto, unfolding(crate::specs::Forms::said_by))]
+fn read_said(
+    alloc: Global,
+    known: &Known,
+    draft: &Draft,
+    line: &[u8],
+    tokens: &[Token],
+) -> Result<Option<Form>, Stop>
+    requires known { IsFewKnown known.now }
+    requires spelled { AreWellSpelled line.now tokens.now }
+    ensures { Gives (λ f. f) result (said_by known.now draft.now line.now tokens.now) }
+{
+    match tokens {
+        [] => Ok(None),
+        [token, rest @ ..] => {
+            let word = read_keyword(text_of(line, *token));
+            read_behind(alloc, known, draft, word, line, rest).map(Some)
+        }
+    }
+}
+
+/// What a line says behind what was read so far, or what is wrong with it. A line without tokens
+/// says nothing. The room of the list of tokens is used again.
+///
+/// Asks that `known` has at most [`MOST_PROCESSES`](sig_program::MOST_PROCESSES) processes, each
+/// with at most 2^31 instructions and 2^31 labels.
+#[tactic(auto, unfolding(crate::specs::Forms::said))]
+pub fn read_line(
+    alloc: Global,
+    known: &Known,
+    draft: &Draft,
+    tokens: &mut Tokens,
+    line: &[u8],
+) -> Result<Option<Form>, Stop>
+    requires { IsFewKnown known.now }
+    ensures { Gives (λ f. f) result (said known.now draft.now line.now) }
+{
+    read_tokens(alloc, tokens, line)?;
+    read_said(alloc, known, draft, line, tokens.as_slice())
+}

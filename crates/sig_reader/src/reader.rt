@@ -1,0 +1,283 @@
+ghost use Rattle.std.specs.Prelude.{◌≡◌, ◌+◌, ◌<◌, ◌^◌, length, IfOk, IfSome, Ok, Some, drop, All};
+ghost use Rattle.sig_reader.specs.ErrorTexts.{error_text};
+ghost use Rattle.sig_tokens.specs.Lines.{lines_of};
+ghost use Rattle.sig_tokens.specs.Tokens.{AreWellSpelled, tokens_of};
+ghost use Rattle.sig_tokens.specs.Names.{IsFewKnown};
+ghost use Rattle.sig_reader.specs.Grammar.{
+  is_integer_one,
+  are_header,
+  is_header,
+  walk,
+  walk_twice,
+  script_of_lines,
+  script_of,
+};
+ghost use Rattle.sig_reader.specs.Drafts.{blank};
+ghost use Rattle.sig_program.specs.Scripts.{IsWithin, IsSound};
+ghost use Rattle.sig_reader.specs.Reading.{IsReading, IsWalked};
+ghost use Rattle.sig_reader.specs.declared.reader.ScriptError.TheVariants.{Memory};
+
+use crate::draft::{Draft, discard, finish, take_line};
+use crate::guess::guess_names;
+use crate::same_names::are_its_names;
+use sig_tokens::{DraftProcs, DraftScript, FaultKind, Known, Stop, Token, TokenKind, first_line, read_tokens, spells_one, text_of};
+use sig_lists::Sequence;
+use sig_program::{Proc, Procs, Script};
+use sig_terms::bytes::equal_bytes;
+use std::alloc::{AllocError, Global};
+use std::error::Error;
+use std::fmt;
+
+/// The most bytes of the text of a script.
+pub const MOST_BYTES: usize = 1048576;
+
+/// Why no script was read.
+#[derive(Clone, Copy, Debug, PartialEq, Eq)]
+pub enum ScriptError {
+    /// The text spells no script: its first line that is refused, and why.
+    Fault { line: u64, kind: FaultKind },
+    /// There was no memory.
+    Memory,
+}
+
+impl fmt::Display for ScriptError {
+    ghost output = { λ e. Some (error_text e) };
+
+    fn fmt<W: fmt::Write>(&self, f: &mut fmt::Formatter<W>) -> fmt::Result {
+        match self {
+            ScriptError::Fault { line, kind } => write!(f, "line {line}: {kind}"),
+            ScriptError::Memory => f.write_str("out of memory"),
+        }
+    }
+}
+
+impl Error for ScriptError {}
+
+impl From<AllocError> for ScriptError {
+    ghost from_gives = { λ _ e. e ≡ Memory };
+
+    fn from(_e: AllocError) -> ScriptError {
+        ScriptError::Memory
+    }
+}
+
+/// Reads the lines after the first. The number is that of the line behind them.
+fn walk_lines(
+    alloc: Global,
+    known: &Known,
+    draft: &mut Draft,
+    bytes: &[u8],
+) -> Result<u64, ScriptError>
+    requires short { length bytes.now < 2 ^ 30 }
+    requires known { IsFewKnown known.now }
+    requires first { draft.old ≡ blank }
+    ensures { IsWalked (walk known.now (lines_of bytes.now)) draft.new result }
+{
+    let mut tokens = Sequence::new(alloc);
+    let mut n: u64 = 2;
+    let mut at = 0;
+    while at < bytes.len() {
+        let line = first_line(&bytes[at..]);
+        match take_line(alloc, known, draft, n, &mut tokens, line) {
+            Ok(()) => {}
+            Err(Stop::Fault(kind)) => return Err(ScriptError::Fault { line: n, kind }),
+            Err(Stop::Memory) => return Err(ScriptError::Memory),
+        }
+        at += line.len() + 1;
+        n += 1;
+    }
+    Ok(n)
+}
+
+/// The script of the lines after the first.
+fn read_lines(alloc: Global, known: &Known, bytes: &[u8]) -> Result<DraftScript, ScriptError>
+    requires short { length bytes.now < 2 ^ 30 }
+    requires known { IsFewKnown known.now }
+    ensures { IsReading (walk known.now (lines_of bytes.now)) result }
+{
+    let mut draft = Draft::new(alloc);
+    match walk_lines(alloc, known, &mut draft, bytes) {
+        Ok(n) => finish(draft, n),
+        Err(e) => {
+            discard(draft);
+            Err(e)
+        }
+    }
+}
+
+/// Whether a token is an integer of value 1.
+fn is_one_token(kind: TokenKind, text: &[u8]) -> bool
+    ensures { result ≡ is_integer_one kind text.now }
+{
+    match kind {
+        TokenKind::Integer => spells_one(text),
+        _ => false,
+    }
+}
+
+/// Whether the tokens are those of the header.
+fn are_header_tokens(line: &[u8], tokens: &[Token]) -> bool
+    requires { AreWellSpelled line.now tokens.now }
+    ensures { result ≡ are_header line.now tokens.now }
+{
+    match tokens {
+        [word, number] => {
+            equal_bytes(text_of(line, *word), b"sigscript")
+                && is_one_token(number.kind, text_of(line, *number))
+        }
+        _ => false,
+    }
+}
+
+/// Whether the line is the header.
+fn is_header_line(alloc: Global, line: &[u8]) -> Result<bool, AllocError>
+    ensures { IfOk result (λ yes. yes ≡ is_header (tokens_of line.now) line.now) }
+{
+    let mut tokens = Sequence::new(alloc);
+    match read_tokens(alloc, &mut tokens, line) {
+        Ok(()) => Ok(are_header_tokens(line, tokens.as_slice())),
+        Err(Stop::Fault(_)) => Ok(false),
+        Err(Stop::Memory) => Err(AllocError),
+    }
+}
+
+/// What stands behind the first line.
+fn behind_line<'a>(bytes: &'a [u8], line: &[u8]) -> &'a [u8]
+    ensures { result.now ≡ drop (length line.now + 1) bytes.now }
+{
+    if line.len() < bytes.len() {
+        &bytes[line.len() + 1..]
+    } else {
+        &[]
+    }
+}
+
+/// The processes, whose bounds are known.
+fn seal_procs(alloc: Global, drafts: DraftProcs) -> Result<Procs, AllocError>
+    requires { All IsWithin drafts }
+    ensures { IfOk result (λ procs. procs ≡ drafts) }
+{
+    let mut procs = Vec::new(alloc);
+    for draft in drafts.into_vec() {
+        procs.push(Proc {
+            name: draft.name,
+            labels: draft.labels.into_labels(),
+            instrs: draft.instrs,
+        })?;
+    }
+    Ok(Sequence::from_vec(procs))
+}
+
+/// The script, whose bounds are known.
+fn seal(alloc: Global, draft: DraftScript) -> Result<Script, AllocError>
+    requires within { All IsWithin draft.procs }
+    requires sound { IsSound draft }
+    ensures { IfOk result (λ script. script ≡ draft) }
+{
+    let procs = seal_procs(alloc, draft.procs)?;
+    Ok(Script {
+        turns: draft.turns,
+        procs,
+    })
+}
+
+/// Both walks over the lines after the first.
+#[tactic(auto, using(crate::proofs::BoundLemmas::few_known, crate::proofs::BoundLemmas::few_lines))]
+fn read_twice(alloc: Global, bytes: &[u8]) -> Result<Script, ScriptError>
+    requires { length bytes.now < 2 ^ 30 }
+    ensures { IsReading (walk_twice (lines_of bytes.now)) result }
+{
+    let first = read_lines(alloc, &Known::Any, bytes)?;
+    let second = read_lines(alloc, &Known::Among(first), bytes)?;
+    Ok(seal(alloc, second)?)
+}
+
+/// The script of one walk, where the names that it was given are those that it has found.
+fn read_once(alloc: Global, known: &Known, bytes: &[u8]) -> Result<Option<Script>, AllocError>
+    requires short { length bytes.now < 2 ^ 30 }
+    requires known { IsFewKnown known.now }
+    ensures { IfOk result (λ script. IfSome script (λ s. walk_twice (lines_of bytes.now) ≡ Ok s)) }
+{
+    match read_lines(alloc, known, bytes) {
+        Ok(script) => {
+            if are_its_names(known, &script) {
+                Ok(Some(seal(alloc, script)?))
+            } else {
+                Ok(None)
+            }
+        }
+        Err(ScriptError::Fault { .. }) => Ok(None),
+        Err(ScriptError::Memory) => Err(AllocError),
+    }
+}
+
+/// The script by one walk where these are its names, else by two.
+fn read_named(alloc: Global, names: &Known, bytes: &[u8]) -> Result<Script, ScriptError>
+    requires short { length bytes.now < 2 ^ 30 }
+    requires known { IsFewKnown names.now }
+    ensures { IsReading (walk_twice (lines_of bytes.now)) result }
+{
+    match read_once(alloc, names, bytes)? {
+        Some(script) => Ok(script),
+        None => read_twice(alloc, bytes),
+    }
+}
+
+/// The script, whose names were guessed or not.
+fn read_guessed(alloc: Global, names: &Known, bytes: &[u8]) -> Result<Script, ScriptError>
+    requires short { length bytes.now < 2 ^ 30 }
+    requires known { IsFewKnown names.now }
+    ensures { IsReading (walk_twice (lines_of bytes.now)) result }
+{
+    match names {
+        Known::Any => read_twice(alloc, bytes),
+        Known::Among(_) => read_named(alloc, names, bytes),
+    }
+}
+
+/// The script of the lines after the first. Most are read by one walk, since their names are
+/// guessed before; a text whose names were guessed wrong, or with a line that is refused, is walked
+/// twice.
+fn read_body(alloc: Global, bytes: &[u8]) -> Result<Script, ScriptError>
+    requires { length bytes.now < 2 ^ 30 }
+    ensures { IsReading (walk_twice (lines_of bytes.now)) result }
+{
+    let names = guess_names(alloc, bytes)?;
+    read_guessed(alloc, &names, bytes)
+}
+
+/// The script of the text, or the first line that is refused.
+fn read_text(alloc: Global, bytes: &[u8]) -> Result<Script, ScriptError>
+    requires { length bytes.now < 2 ^ 30 }
+    ensures { IsReading (script_of_lines (lines_of bytes.now)) result }
+{
+    let header = ScriptError::Fault {
+        line: 1,
+        kind: FaultKind::Header,
+    };
+    if bytes.is_empty() {
+        return Err(header);
+    }
+    let first = first_line(bytes);
+    if !is_header_line(alloc, first)? {
+        return Err(header);
+    }
+    read_body(alloc, behind_line(bytes, first))
+}
+
+/// Reads the text of a script: the script that it spells. `Fault` exactly where it spells none,
+/// with the line and the kind of its first refusal; lines count from 1, and a text of more than
+/// [`MOST_BYTES`] bytes is refused at line 0. `Memory` only where memory is refused. (The language
+/// of scripts is this project's own.)
+#[tactic(auto, unfolding(crate::specs::Grammar::script_of))]
+pub fn read_script(alloc: Global, bytes: &[u8]) -> Result<Script, ScriptError>
+    ensures { IsReading (script_of bytes.now) result }
+{
+    if bytes.len() > MOST_BYTES {
+        return Err(ScriptError::Fault {
+            line: 0,
+            kind: FaultKind::TooLong,
+        });
+    }
+    read_text(alloc, bytes)
+}

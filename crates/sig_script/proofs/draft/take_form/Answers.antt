@@ -1,5 +1,0 @@
-use Rattle.sig_script.proofs.FitLemmas.{open_fits}
-use Rattle.sig_script.proofs.draft.take_form.Goals as goal
-
-pub place_label-requires : goal.place_label-requires
-place_label-requires c = open_fits c.args.n c.args.draft.now.procs c.args.draft.now.section c.requires.few c.requires.fit.small

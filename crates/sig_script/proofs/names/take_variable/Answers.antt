@@ -1,8 +1,0 @@
-use Rattle.sig_script.proofs.PhraseLemmas.{no_token, well_spelled_first, well_spelled_rest}
-use Rattle.sig_script.proofs.names.take_variable.Goals as goal
-
-pub text_of-requires : goal.text_of-requires
-text_of-requires c = (well_spelled_first c.args.line.now c.args.tokens.now no_token c.in-len1-up.len_at_least c.requires).0
-
-pub returns-in_ok-name_of-in-Variable-clause-spelled : goal.returns-in_ok-name_of-in-Variable-clause-spelled
-returns-in_ok-name_of-in-Variable-clause-spelled c = well_spelled_rest c.args.line.now c.args.tokens.now c.in-len1-up.len_at_least c.requires

@@ -1,0 +1,8 @@
+pub mod NumberLemmas
+pub mod FrontTokens
+pub mod SpellingLemmas
+pub mod CutLemmas
+pub mod LineLemmas
+pub mod LabelLemmas
+pub mod PhraseLemmas
+pub mod NestLemmas

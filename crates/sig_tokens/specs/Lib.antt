@@ -1,0 +1,11 @@
+pub mod Faults
+pub mod Lines
+pub mod Numbers
+pub mod Tokens
+pub mod Signs
+pub mod Names
+pub mod Phrases
+pub mod Expressions
+pub mod PatternTexts
+pub mod LabelPlaces
+pub mod FaultWords

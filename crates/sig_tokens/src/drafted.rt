@@ -1,0 +1,101 @@
+ghost use Rattle.std.specs.Prelude.{◌≡◌, ◌≤◌, ◌<◌, length, position, IfSome};
+ghost use Rattle.std.specs.Str.{bytes_eq};
+ghost use Rattle.sig_program.specs.declared.label.Label.{Label};
+ghost use Rattle.sig_program.specs.declared.script.TheConstants.{MOST_PROCESSES};
+ghost use Rattle.sig_program.specs.Scripts.{Declared};
+ghost use Rattle.sig_tokens.specs.Names.{labels_at};
+
+use crate::label_table::LabelTable;
+use sig_lists::Sequence;
+use sig_program::Instrs;
+use sig_terms::Name;
+use sig_terms::bytes::equal_bytes;
+use std::marker::Model;
+
+/// A process as it was read. Its targets may still be labels of any process.
+#[derive(Drop)]
+pub struct DraftProc {
+    pub name: Name,
+    pub labels: LabelTable,
+    pub instrs: Instrs,
+}
+
+impl Model for DraftProc {
+    ghost use Rattle.std.specs.Coded.{codes};
+    ghost use Rattle.sig_patterns.specs.contracts.expression.Expr as expr;
+    ghost use Rattle.sig_patterns.specs.contracts.pattern.Pattern as pattern;
+    ghost use Rattle.sig_program.specs.Scripts.{Declared};
+
+    ghost Value = { Declared };
+
+    ghost coded = { Prim.hlevel (codes, expr.the_row.coded, pattern.the_row.coded) };
+
+    ghost view = { λ p. record { name = p.name; labels = p.labels; instrs = p.instrs } };
+}
+
+/// The processes, in the order of their lines.
+pub type DraftProcs = Sequence<DraftProc>;
+
+/// A script as it was read.
+#[derive(Drop)]
+pub struct DraftScript {
+    /// How many instructions each process may execute.
+    pub turns: u32,
+    pub procs: DraftProcs,
+}
+
+impl Model for DraftScript {
+    ghost use Rattle.std.specs.Coded.{codes};
+    ghost use Rattle.sig_patterns.specs.contracts.expression.Expr as expr;
+    ghost use Rattle.sig_patterns.specs.contracts.pattern.Pattern as pattern;
+    ghost use Rattle.sig_program.specs.Scripts.{Program};
+
+    ghost Value = { Program };
+
+    ghost coded = { Prim.hlevel (codes, expr.the_row.coded, pattern.the_row.coded) };
+
+    ghost view = { λ s. record { turns = s.turns; procs = s.procs } };
+}
+
+/// The place of the process of this name. `None` exactly where no process has it.
+pub fn place_of_proc(procs: &[DraftProc], name: &[u8]) -> Option<usize>
+    ensures place { result ≡ position (λ (p : Declared). bytes_eq p.name name.now) procs.now }
+    ensures within { IfSome result (λ n. n < length procs.now) }
+{
+    procs
+        .iter()
+        .position(|proc| equal_bytes(proc.name.bytes(), name))
+}
+
+/// The place of the label of this name among those of the process at this place.
+fn label_among(procs: &[DraftProc], here: usize, name: &[u8]) -> Option<u32>
+    ensures { result ≡ position (λ (l : Label). bytes_eq l.name name.now) (labels_at here procs.now) }
+{
+    match procs.get(here) {
+        Some(proc) => proc.labels.place_of(name),
+        None => None,
+    }
+}
+
+impl DraftScript {
+    /// The pid of the process of this name. `None` exactly where no process has it.
+    ///
+    /// Asks that there are at most [`MOST_PROCESSES`](sig_program::MOST_PROCESSES) processes.
+    pub fn pid_of(&self, name: &[u8]) -> Option<u32>
+        requires { length self.now.procs ≤ MOST_PROCESSES }
+        ensures { result ≡ position (λ (p : Declared). bytes_eq p.name name.now) self.now.procs }
+    {
+        match place_of_proc(self.procs.as_slice(), name) {
+            Some(place) => Some(place as u32),
+            None => None,
+        }
+    }
+
+    /// The place of the label of this name among those of the process with this place among the
+    /// processes. `None` exactly where it has no such label.
+    pub fn label_of(&self, here: usize, name: &[u8]) -> Option<u32>
+        ensures { result ≡ position (λ (l : Label). bytes_eq l.name name.now) (labels_at here self.now.procs) }
+    {
+        label_among(self.procs.as_slice(), here, name)
+    }
+}

@@ -1,0 +1,25 @@
+//! The lines of a script cut into tokens, and what stands at the front of tokens: numbers, names,
+//! expressions and patterns.
+#![tactic(auto)]
+
+mod drafted;
+mod expressions;
+mod fault;
+mod known;
+mod label_table;
+mod line;
+mod names;
+mod number;
+mod patterns;
+mod phrases;
+mod token;
+
+pub use drafted::{DraftProc, DraftProcs, DraftScript, place_of_proc};
+pub use fault::{FaultKind, Stop};
+pub use known::Known;
+pub use label_table::LabelTable;
+pub use line::{first_line, read_tokens, text_of};
+pub use names::{name_of, take_target, take_variable, take_word};
+pub use number::{read_count, spells_one};
+pub use phrases::{Phrase, atom_of, take_phrase};
+pub use token::{Sign, Token, TokenKind, Tokens, is_blank_byte};
