@@ -13,7 +13,6 @@ use Rattle.sig_layout.specs.declared.knows.Knows.{Knows}
 use Rattle.sig_layout.specs.Policies.{AllowsWay, IsLawfulJournal, direct_count, fetch_count}
 use Rattle.sig_layout.specs.Openings.{IsCarried, IsCounted}
 use Rattle.sig_layout.specs.Carried.{outer_count}
-use Rattle.sig_layout.specs.Sets.{has}
 use Rattle.sig_layout.specs.Sent.{sender, of, signals}
 use Rattle.sig_layout.specs.Core.{QState, Reached}
 use Rattle.sig_layout.specs.Rooms.{all_pieces}

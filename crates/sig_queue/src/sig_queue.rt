@@ -11,7 +11,7 @@ use std::marker::Model;
 /// with its threads.
 ///
 /// ```text
-/// let (queue, mut receiver) = SigQueue::open(alloc, Policy::Never, senders, &opening)?;
+/// let (queue, mut receiver) = SigQueue::open(alloc, Policy::Auto, senders, &opening)?;
 /// let mut sender = queue.split(&mut receiver, senders, false);
 ///
 /// // one thread

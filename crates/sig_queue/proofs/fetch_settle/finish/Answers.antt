@@ -1,4 +1,4 @@
-use Rattle.std.proofs.Common.{rules, ap, sym, ◌∙◌}
+use Rattle.std.proofs.Common.{ap, sym, ◌∙◌}
 use Rattle.sig_layout.specs.Summaries.{due_at, is_remove}
 use Rattle.sig_queue.specs.Tied.{Held}
 use Rattle.sig_queue.proofs.Settling.{none_left, rest_is, outer_is, held_is, slots_are, finished, all_moved_in}

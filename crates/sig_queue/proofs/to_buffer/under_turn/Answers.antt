@@ -20,9 +20,9 @@ take_list-list-requires-clause-out c = let e = ap (λ (m : Held). m.1) c.load_un
 
 pub leave_filled-requires-clause-out : goal.leave_filled-requires-clause-out
 leave_filled-requires-clause-out c = let x : Signal = c.args.signal in let v : Knows = c.args.place.now.me.0 in let p : HeldBuffer = first_part v.parts in let m : Held = c.put_list-2.new.place.me in let saw = c.if-not-load_under.ensures.saw in
-    let seat : m.0 ≡ saw_under v p true = ap (λ (h : Held). h.0) c.put_list-2.ensures.same.2 ∙ (ap (λ (h : Held). h.0) c.take_list-list.ensures.taken ∙ ap (λ (h : Held). h.0) saw) in
+    let seat : m.0 ≡ saw_under v p true = ap (λ (h : Held). h.0) c.put_list-2.ensures.back ∙ (ap (λ (h : Held). h.0) c.take_list-list.ensures.taken ∙ ap (λ (h : Held). h.0) saw) in
     let list : c.take_list-list.result ≡ (first_part m.0.parts).list = same_front (c.args.buffer + 1) c.take_list-list.result p.list _ _ c.load_under.new.place.me.1 c.take_list-list.ensures.list (ap (λ (h : Held). h.1) saw ∙ c.requires.out) ∙ ap (λ (w : Knows). (first_part w.parts).list) (sym seat) in
-    let slots = ap (λ (h : Held). h.1) c.put_list-2.ensures.same.2 in (
+    let slots = ap (λ (h : Held). h.1) c.put_list-2.ensures.back in (
       x,
       ap (λ (w : Knows). has w.senders x.from.0) seat ∙ c.requires.from.0,
       subst (λ (w : Knows). IsNext c.args.words.now.key w.put x) (sym seat) c.requires.next,
@@ -38,7 +38,7 @@ returns-in-Err-clause-offered c = (
 
 pub returns-clause-offered : goal.returns-clause-offered
 returns-clause-offered c = let x : Signal = c.args.signal in let v : Knows = c.args.place.now.me.0 in let p : HeldBuffer = first_part v.parts in let m : Held = c.put_list-2.new.place.me in let saw = c.if-not-load_under.ensures.saw in
-    let seat : m.0 ≡ saw_under v p true = ap (λ (h : Held). h.0) c.put_list-2.ensures.same.2 ∙ (ap (λ (h : Held). h.0) c.take_list-list.ensures.taken ∙ ap (λ (h : Held). h.0) saw) in
+    let seat : m.0 ≡ saw_under v p true = ap (λ (h : Held). h.0) c.put_list-2.ensures.back ∙ (ap (λ (h : Held). h.0) c.take_list-list.ensures.taken ∙ ap (λ (h : Held). h.0) saw) in
     let list : c.take_list-list.result ≡ p.list = same_front (c.args.buffer + 1) c.take_list-list.result p.list _ _ c.load_under.new.place.me.1 c.take_list-list.ensures.list (ap (λ (h : Held). h.1) saw ∙ c.requires.out) in
-    let slots = ap (λ (h : Held). list_in h.1) c.put_list-2.ensures.same.2 in
+    let slots = ap (λ (h : Held). list_in h.1) c.put_list-2.ensures.back in
     ap (λ (h : Held). h.0) c.leave_filled.ensures.left ∙ ((λ k. put_to_buffer (marked (seat k) (first_part (seat k).parts)) (slots k)) ∙ put_under x v p c.push.new.self c.requires.one.0 (c.in_default.ensures.ok ∙ (λ j. list j ++ x ∷ [])))

@@ -10,4 +10,4 @@ offer_at-offer-requires-clause-somebody c = let from = ap (λ (x : Seated). has 
 
 pub invariant_of-seat : goal.invariant_of-seat
 invariant_of-seat c = let o = c.offer_at-offer.ensures in
-    seat_again c.args.signal c.seat.inside.place.me.0 c.offer_at-offer.new.place.me.0 c.offer_at-offer.new.place.me.1 c.offer_at-offer.result c.seat.inside.kept c.offer_at-offer.new.refused o.offered c.seat.invariant.idle c.seat.invariant.keeps o.same.2 o.refused
+    seat_again c.args.signal c.seat.inside.place.me.0 c.offer_at-offer.new.place.me.0 c.offer_at-offer.new.place.me.1 c.offer_at-offer.result c.seat.inside.kept c.offer_at-offer.new.refused o.offered c.seat.invariant.idle c.seat.invariant.keeps o.bare o.refused

@@ -14,6 +14,6 @@ returns-clause-fetched c = let t = c.try_outer-found.ensures.took c.if-found-ne0
 pub invariant_of-seat-2 : goal.invariant_of-seat-2
 invariant_of-seat-2 c = let t = c.try_outer-found.ensures.took c.if-found-ne0.false in let f = c.fetch_held-fetch in let s = c.seat.inside in let i = c.seat.invariant in
     subst (λ (due : Bool). IsSeat f.new.place.me (record s.kept { due = due })) (sym c.is_removal_due-seat-inside.ensures)
-    (seat_fetched c.self.inside.table.shared.key c.args.into.now.items f.new.into.items s.place.me.0 f.new.place.me.0 t.0 i.idle s.kept i.keeps f.new.place.me.1 f.ensures.same.2
+    (seat_fetched c.self.inside.table.shared.key c.args.into.now.items f.new.into.items s.place.me.0 f.new.place.me.0 t.0 i.idle s.kept i.keeps f.new.place.me.1 f.ensures.bare
     (ap (λ (x : Seated). x.knows.due) c.seat.view_is ∙ c.requires.not_due) f.result
     (subst (λ (m : Held). FetchedHeld c.self.inside.table.shared.key c.args.into.now.items f.new.into.items m.0 f.result f.new.place.me.0) t.1 f.ensures.fetched))
