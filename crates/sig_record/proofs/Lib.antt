@@ -18,7 +18,6 @@ pub mod ReaderLaws
 pub mod PieceLaws
 pub mod PhraseLaws
 pub mod PhraseRows
-pub mod FirstRows
 pub mod ManyLaws
 pub mod LineLaws
 pub mod RecordLaws
