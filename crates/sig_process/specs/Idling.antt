@@ -1,5 +1,5 @@
 -- A process that has nothing to do. (Erlang Reference Manual, Expressions, Receive; Processes, Process Termination.)
-use Rattle.std.specs.Prelude.{◌≡◌, ◌==◌, ◌-◌, ◌&&◌, ◌||◌, not, nat_le, length, slice_get, [], is_none, Bool, false, Option, Some}
+use Rattle.std.specs.Prelude.{◌≡◌, ◌==◌, ◌-◌, ◌&&◌, ◌||◌, not, nat_le, length, slice_get, [], is_none, Bool, false, Option, Some, None}
 use Rattle.sig_program.specs.declared.instruction.Instr.{Instr}
 use Rattle.sig_program.specs.declared.instruction.Instr.TheVariants as instr
 use Rattle.sig_model.specs.Running.{Running, can_exec, exec_next}
