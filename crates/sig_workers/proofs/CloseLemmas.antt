@@ -1,15 +1,18 @@
 -- A queue is closed, and what it has left is handed over.
 use Rattle.std.proofs.Common.{◌≡◌, inl, inr, ℕ, zero, suc, ◌+◌, ◌<◌, ◌≤◌, List, [], ◌∷◌, ◌++◌, length, drop, Some, sym, ap, ◌∙◌, subst, arith}
-use Rattle.std.specs.Prelude.{All, slice_get, slice_set, slice_index_or, remove}
+use Rattle.std.specs.Prelude.{All, ◌==◌, slice_get, slice_set}
 use Rattle.std.proofs.lemmas.List.{map-set, append_assoc}
 use Rattle.std.proofs.lemmas.Bool.Decides.{eqb_tells}
 use Rattle.std.proofs.lemmas.Option.{same_Some, slice_get_within}
 use Rattle.sig_runs.proofs.Lists.{slice_get-set_same, slice_get-set_other}
-use Rattle.std.proofs.lemmas.List.Elements.{All-head, All-tail}
+use Rattle.std.proofs.lemmas.List.Elements.{filter-append}
 use Rattle.sig_kinds.specs.declared.signal.Signal.{Signal}
 use Rattle.sig_model.specs.Running.{Running}
 use Rattle.sig_model.specs.Keeping.{IsArriving, IsKeeping}
-use Rattle.sig_model.specs.OneWorker.{arrived}
+use Rattle.sig_model.specs.Accounts.{coming_from, Continues}
+use Rattle.sig_model.proofs.OutboxNumbers.{counting-rest}
+use Rattle.sig_kinds.specs.Counting.{IsCounting}
+use Rattle.sig_layout.specs.Openings.{first_of}
 use Rattle.sig_layout.specs.declared.entry.Entry.{Entry}
 use Rattle.sig_layout.specs.Sent.{signals}
 use Rattle.sig_queue.specs.declared.account.Account.{Account}
@@ -20,28 +23,25 @@ use Rattle.sig_process.specs.Standing.{Standing, runnings_of}
 use Rattle.sig_workers.specs.Acting.{KeepEvents}
 use Rattle.sig_workers.specs.Closing.{CanClose, HasClosed, IsClosedAt}
 use Rattle.sig_workers.proofs.SeatLists.{of_is}
-use Rattle.sig_workers.proofs.FetchLemmas.{may_arrive, arrivals_keep}
+use Rattle.sig_workers.proofs.FetchLemmas.{may_arrive, go_on, arrivals_keep}
 use Rattle.sig_workers.proofs.CutLemmas.{get_push}
-use Rattle.sig_workers.proofs.RowLemmas.{first_removed}
 
--- one signal of what is left was handed over
-pub one_handed : (r t : Running) (x : Signal) (rest left : List Signal) → rest ≡ x ∷ left → t ≡ arrived r x → record t { taken_in = t.taken_in ++ left } ≡ record r { taken_in = r.taken_in ++ rest }
-one_handed r t x rest left is given =
-    ap (λ (z : Running). record z { taken_in = z.taken_in ++ left }) given
-    ∙ ap (λ xs. record r { taken_in = xs }) (append_assoc r.taken_in (x ∷ []) left)
-    ∙ ap (λ xs. record r { taken_in = r.taken_in ++ xs }) (sym is)
-
--- what is left may arrive, after the first too
-pub first_arrives : (r : Running) (x : Signal) (rest left : List Signal) → rest ≡ x ∷ left → All (IsArriving r.pid r.count) rest → IsArriving r.pid r.count x
-first_arrives r x rest left is h = All-head (IsArriving r.pid r.count) x left (subst (All (IsArriving r.pid r.count)) is h)
-
-pub others_arrive : (r t : Running) (x : Signal) (rest left : List Signal) → rest ≡ x ∷ left → t ≡ arrived r x → All (IsArriving r.pid r.count) rest → All (IsArriving t.pid t.count) left
-others_arrive r t x rest left is given h =
-    subst (λ (z : Running). All (IsArriving z.pid z.count) left) (sym given) (All-tail (IsArriving r.pid r.count) x left (subst (All (IsArriving r.pid r.count)) is h))
+-- one signal of what is left was gathered
+pub one_gathered : (left more rest later all : List Signal) (x : Signal) → more ≡ left ++ x ∷ [] → rest ≡ x ∷ later → left ++ rest ≡ all → more ++ later ≡ all
+one_gathered left more rest later all x added is so_far =
+    ap (λ z. z ++ later) added
+    ∙ append_assoc left (x ∷ []) later
+    ∙ ap (λ z. left ++ z) (sym is)
+    ∙ so_far
 
 module _ (q : Queue) (v : Seated) (r : Running) (rest : List Signal) (journal : List Entry) (can : CanClose q v r) (ends : EndsAs q.setup v.knows rest journal) where
   pub rest_arrives : All (IsArriving r.pid r.count) rest
   rest_arrives = may_arrive q r rest can.receiver can.count can.strange ends.left
+
+  pub rest_continues : Continues r rest
+  rest_continues = go_on q v r rest can.continued ends.left (λ s asks.
+      counting-rest (first_of q.setup s) (coming_from s v.knows.taken) (coming_from s rest)
+      (subst (IsCounting (first_of q.setup s)) (ends.order s ∙ of_is s (v.knows.taken ++ rest) ∙ filter-append (λ (x : Signal). x.from.0 == s) v.knows.taken rest) (ends.counted s asks)))
 
   pub has_closed : (a : Account) (t : Running) → a ≡ account_of q.setup v.knows.put → t ≡ record r { taken_in = r.taken_in ++ rest } → HasClosed q v r a t
   has_closed a t account given = record {
@@ -103,9 +103,9 @@ some_left n xs ys e lt = (let l : length ys ≡ length (drop n xs) = ap (λ (z :
     more zero (x ∷ xs) lt = omega arith
     more (suc n) (x ∷ xs) lt = more n xs (omega (arith, lt))
 
-pub first_left : {X : Type 0} (n : ℕ) (xs ys zs : List X) (x : X) → ys ≡ drop n xs → n < length xs → x ≡ slice_index_or ys 0 x → zs ≡ remove ys 0 → (slice_get xs n ≡ Some x) × (zs ≡ drop (n + 1) xs)
-first_left n xs ys zs x e lt value rest =
-    let t : (slice_get xs n ≡ Some x) × (zs ≡ drop (suc n) xs) = drop_tells n xs zs x (sym e ∙ first_removed ys zs x (some_left n xs ys e lt) value rest) in
+pub first_left : {X : Type 0} (n : ℕ) (xs ys zs : List X) (x : X) → ys ≡ drop n xs → ys ≡ x ∷ zs → (slice_get xs n ≡ Some x) × (zs ≡ drop (n + 1) xs)
+first_left n xs ys zs x e is =
+    let t : (slice_get xs n ≡ Some x) × (zs ≡ drop (suc n) xs) = drop_tells n xs zs x (sym e ∙ is) in
     (t.0, t.1 ∙ ap (λ m. drop m xs) (let m : suc n ≡ n + 1 = omega arith in m))
 
 -- one more process that has its events and its saved place

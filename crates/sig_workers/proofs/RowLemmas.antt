@@ -1,6 +1,6 @@
 -- Parts in a row: they are ready, they work, and they are joined.
 use Rattle.std.proofs.Common.{◌≡◌, ℕ, zero, suc, ◌+◌, ◌-◌, ◌<◌, ◌≤◌, List, [], ◌∷◌, ◌++◌, length, take, drop, Bool, true, false, ◌||◌, Some, None, refl, sym, ap, ◌∙◌, subst, inl, inr, ◌⊎◌, arith, length-append}
-use Rattle.std.specs.Prelude.{slice_get, slice_index_or, remove, All, Result, Ok, Err}
+use Rattle.std.specs.Prelude.{slice_get, All, Result, Ok, Err}
 use Rattle.std.specs.declared.alloc.AllocError.{AllocError}
 use Rattle.std.proofs.lemmas.List.Elements.{All-nil, All-cons, All-head, All-tail}
 use Rattle.std.proofs.lemmas.Option.{same_Some, slice_get_within}
@@ -31,11 +31,6 @@ get_left (x ∷ xs) ys (suc p) t h = get_left xs ys p t h
 get_right : (xs ys : List Running) (p : ℕ) (t : Running) → slice_get ys p ≡ Some t → slice_get (xs ++ ys) (length xs + p) ≡ Some t
 get_right [] ys p t h = subst (λ z. slice_get ys z ≡ Some t) (let e : p ≡ 0 + p = omega arith in e) h
 get_right (x ∷ xs) ys p t h = subst (λ z. slice_get (x ∷ (xs ++ ys)) z ≡ Some t) (let e : suc (length xs + p) ≡ length (x ∷ xs) + p = omega arith in e) (get_right xs ys p t h)
-
--- the first of a list that was taken out
-pub first_removed : {X : Type 0} (xs ys : List X) (x : X) → 0 < length xs → x ≡ slice_index_or xs 0 x → ys ≡ remove xs 0 → xs ≡ x ∷ ys
-first_removed [] ys x lt h k = absurd (let f : ⊥ = omega (arith, lt) in f)
-first_removed (z ∷ zs) ys x lt h k = ap (λ q. q ∷ zs) (sym h) ∙ ap (λ q. x ∷ q) (sym k)
 
 module _ (queues : List Queue) (crew : List Standing) (end : ℕ) where
   pub row_first : (w : Worked) (o : Result Worked AllocError) (done rest : List (Result Worked AllocError)) → done ≡ o ∷ rest → o ≡ Ok w → (first : ℕ) → DoneRow queues crew first end done →

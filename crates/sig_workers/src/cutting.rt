@@ -9,6 +9,7 @@ use crate::part::{Base, Part};
 use sig_process::Process;
 use sig_queue::{QSeat, SigQueue};
 use std::alloc::{AllocError, Global};
+use std::collections::VecDeque;
 use std::snapshot::Snapshot;
 
 /// Whether the process is one of these: of so many from the first one on.
@@ -116,14 +117,14 @@ pub(crate) fn make_parts(
 {
     let count = procs.len() as u32;
     let mut bases = bases(alloc, &procs, workers)?;
-    let mut parts = Vec::new(alloc);
+    let mut parts = VecDeque::new(alloc);
     while let Some(base) = bases.pop() {
         let worker = bases.len() as u32;
         let first = (worker * count / workers).min(procs.len() as u32);
         let part = cut_part(alloc, queues, &mut seats, &mut procs, first, worker, base)?;
-        parts.insert(0, part)?;
+        parts.push_front(part)?;
     }
-    Ok(parts)
+    Ok(parts.into_vec())
 }
 
 /// What the crew is.

@@ -7,7 +7,7 @@ use crate::putting::Me;
 use sig_kinds::Signals;
 use sig_process::Process;
 use sig_queue::{Fetch, QSeat, SigQueue};
-use std::alloc::{AllocError, Global};
+use std::alloc::AllocError;
 use std::sync::Wait;
 
 /// Makes a removal where one is due. The error is want of memory.
@@ -41,25 +41,26 @@ fn fetch_at<R: Wait>(
     }
 }
 
-/// Takes in what was put for the process, if another worker doesn't hold its queue. The error is
-/// want of memory.
+/// Takes in what was put for the process, if another worker doesn't hold its queue. It lies in the
+/// empty list on its way. The error is want of memory.
 pub(crate) fn fetch<R: Wait>(
     rt: &R,
-    alloc: Global,
     queues: &[SigQueue],
     me: Me,
     process: &mut Process,
     seats: &mut Vec<QSeat>,
+    fetched: &mut Signals,
 ) -> Result<(), AllocError>
     requires ready { IsReady queues.now me.pid process.old.running seats.old.items }
     requires within { me.pid < vec_len seats.old }
+    requires empty { fetched.old.items ≡ [] }
     ensures goes { OnOk result (Goes queues.now me.pid process.old.running seats.old.items process.new.running seats.new.items) }
     ensures outbox { OnOk result (process.new.running.outbox ≡ process.old.running.outbox) }
     ensures events { OnOk result (process.new.running.events ≡ process.old.running.events) }
     ensures saved { OnOk result (process.new.saved ≡ process.old.saved) }
+    ensures empty { OnOk result (fetched.new.items ≡ []) }
 {
     let at = me.pid as usize;
-    let mut signals = Signals::new(alloc);
-    fetch_at(rt, &queues[at], &mut seats[at], &mut signals)?;
-    process.take_in(&mut signals)
+    fetch_at(rt, &queues[at], &mut seats[at], fetched)?;
+    process.take_in(fetched)
 }

@@ -4,9 +4,11 @@ ghost use Rattle.sig_queue.specs.Seats.{Seated};
 ghost use Rattle.sig_workers.specs.Parts.{procs_of, crew_of, IsPart, IsOwn, AreJoined, HasJoined};
 ghost use Rattle.sig_workers.specs.Rows.{DoneRow, IsWhole};
 
+use crate::first::take_first;
 use crate::part::{Base, Part, Worked};
 use sig_queue::{QSeat, SigQueue};
 use std::alloc::AllocError;
+use std::collections::VecDeque;
 
 /// Joins the seats at each queue.
 fn join_seats(queues: &[SigQueue], seats: &mut Vec<QSeat>, mut others: Vec<QSeat>)
@@ -46,15 +48,16 @@ fn join_parts(queues: &[SigQueue], part: &mut Part, other: Part) -> Result<(), A
 pub(crate) fn join_all(
     queues: &[SigQueue],
     base: &Base,
-    mut done: Vec<Result<Worked, AllocError>>,
+    done: Vec<Result<Worked, AllocError>>,
 ) -> Result<Worked, AllocError>
     requires some { 0 < vec_len done }
     requires row { DoneRow queues.now base.now.crew.value.items 0 (length base.now.crew.value.items) done.items }
     ensures { IfOk result (IsWhole queues.now base.now.crew.value.items (length base.now.crew.value.items)) }
 {
-    let mut whole = done.remove(0)?;
-    while !done.is_empty() {
-        let Worked { part, moved } = done.remove(0)?;
+    let mut done = VecDeque::from_vec(done);
+    let mut whole = take_first(&mut done)?;
+    while let Some(worked) = done.pop_front() {
+        let Worked { part, moved } = worked?;
         join_parts(queues, &mut whole.part, part)?;
         whole.moved |= moved;
     }

@@ -5,6 +5,7 @@ mod arriving;
 mod closing;
 mod cutting;
 mod fetching;
+mod first;
 mod joining;
 mod one_worker;
 mod opening;

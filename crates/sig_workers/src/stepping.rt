@@ -8,9 +8,10 @@ ghost use Rattle.sig_workers.specs.Acting.{HasActed};
 use crate::fetching::fetch;
 use crate::putting::{Me, put_all};
 use sig_base::{Gate, Point, Steps};
+use sig_kinds::Signals;
 use sig_process::{Exec, Process};
 use sig_queue::{QSeat, SigQueue};
-use std::alloc::{AllocError, Global};
+use std::alloc::AllocError;
 use std::sync::Wait;
 use std::sync::ledger::Ledger;
 
@@ -93,27 +94,30 @@ fn exec_one<R: Wait, G: Gate, L: Ledger>(
 }
 
 /// Visits a process: takes in what was put for it, handles what waits, executes at most one
-/// instruction, and puts each event's signals before the next event. Tells whether there was an
-/// event. The error is want of memory.
+/// instruction, and puts each event's signals before the next event. What it takes in lies in the
+/// empty list on its way, which keeps its room for the next visit. Tells whether there was an event.
+/// The error is want of memory.
 pub(crate) fn visit<R: Wait, G: Gate, L: Ledger>(
     rt: &R,
-    alloc: Global,
     queues: &[SigQueue],
     gate: &G,
     me: Me,
     process: &mut Process,
     seats: &mut Vec<QSeat>,
+    fetched: &mut Signals,
     steps: &mut Steps<L>,
 ) -> Result<bool, AllocError>
     requires ready { IsReady queues.now me.pid process.old.running seats.old.items }
     requires clear { process.old.running.outbox ≡ [] }
     requires within { me.pid < vec_len seats.old }
+    requires nothing { fetched.old.items ≡ [] }
     ensures goes { OnOk result (Goes queues.now me.pid process.old.running seats.old.items process.new.running seats.new.items) }
     ensures empty { OnOk result (process.new.running.outbox ≡ []) }
     ensures moved { IfOk result (HasMoved process.old.running process.new.running) }
     ensures acted { OnOk result (HasActed process.old process.new) }
+    ensures nothing { OnOk result (fetched.new.items ≡ []) }
 {
-    fetch(rt, alloc, queues, me, process, seats)?;
+    fetch(rt, queues, me, process, seats, fetched)?;
     let handled = handle_all(rt, queues, gate, me, process, seats)?;
     let executed = exec_one(rt, queues, gate, me, process, seats, steps)?;
     Ok(handled | executed)

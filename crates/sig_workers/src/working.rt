@@ -1,5 +1,5 @@
 //! The work of one worker in a round.
-ghost use Rattle.std.specs.Prelude.{◌≡◌, ◌<◌, ◌≤◌, length, IfOk, OnOk, vec_len};
+ghost use Rattle.std.specs.Prelude.{◌≡◌, ◌<◌, ◌≤◌, [], length, IfOk, OnOk, vec_len};
 ghost use Rattle.sig_workers.specs.Acting.{HasActedAt, ActBelow};
 ghost use Rattle.sig_workers.specs.Parts.{procs_of, IsPart, IsSamePart, HasVisited, Grow, HavePassed, HasWorked};
 
@@ -7,6 +7,7 @@ use crate::part::{Part, Worked};
 use crate::putting::Me;
 use crate::stepping::visit;
 use sig_base::{Gate, Steps};
+use sig_kinds::Signals;
 use sig_queue::SigQueue;
 use std::alloc::{AllocError, Global};
 use std::marker::Brand;
@@ -14,23 +15,26 @@ use std::sync::Wait;
 use std::sync::ledger::{Blank, Ledger};
 
 /// Visits the process at this place of the part. Tells whether it had an event, and adds its events
-/// to `made`. The error is want of memory.
+/// to `made`. What it takes in lies in the list on its way, which is empty before and after. The
+/// error is want of memory.
 fn visit_at<R: Wait, G: Gate, L: Ledger>(
     rt: &R,
-    alloc: Global,
     queues: &[SigQueue],
     gate: &G,
     part: &mut Part,
     at: usize,
+    fetched: &mut Signals,
     made: &mut usize,
     steps: &mut Steps<L>,
 ) -> Result<bool, AllocError>
     requires part { IsPart queues.now part.old }
     requires within { at < vec_len part.old.procs }
+    requires empty { fetched.old.items ≡ [] }
     ensures part { OnOk result (IsPart queues.now part.new) }
     ensures same { OnOk result (IsSamePart part.old part.new) }
     ensures visited { IfOk result (HasVisited at (procs_of part.old) (procs_of part.new)) }
     ensures acted { OnOk result (HasActedAt at part.old.procs.items part.new.procs.items) }
+    ensures empty { OnOk result (fetched.new.items ≡ []) }
 {
     let me = Me {
         worker: part.worker,
@@ -38,7 +42,16 @@ fn visit_at<R: Wait, G: Gate, L: Ledger>(
     };
     let process = &mut part.procs[at];
     let before = process.events().len();
-    let moved = visit(rt, alloc, queues, gate, me, process, &mut part.seats, steps)?;
+    let moved = visit(
+        rt,
+        queues,
+        gate,
+        me,
+        process,
+        &mut part.seats,
+        fetched,
+        steps,
+    )?;
     *made = made.saturating_add(process.events().len().saturating_sub(before));
     Ok(moved)
 }
@@ -47,23 +60,25 @@ fn visit_at<R: Wait, G: Gate, L: Ledger>(
 /// events to `made`. The error is want of memory.
 fn pass<R: Wait, G: Gate, L: Ledger>(
     rt: &R,
-    alloc: Global,
     queues: &[SigQueue],
     gate: &G,
     part: &mut Part,
+    fetched: &mut Signals,
     made: &mut usize,
     steps: &mut Steps<L>,
 ) -> Result<bool, AllocError>
-    requires { IsPart queues.now part.old }
+    requires part { IsPart queues.now part.old }
+    requires empty { fetched.old.items ≡ [] }
     ensures part { OnOk result (IsPart queues.now part.new) }
     ensures same { OnOk result (IsSamePart part.old part.new) }
     ensures grow { OnOk result (Grow (procs_of part.old) (procs_of part.new)) }
     ensures passed { IfOk result (HavePassed (procs_of part.old) (procs_of part.new)) }
     ensures acted { OnOk result (ActBelow (length part.new.procs.items) part.old.procs.items part.new.procs.items) }
+    ensures empty { OnOk result (fetched.new.items ≡ []) }
 {
     let mut moved = false;
     for at in 0..part.procs.len() {
-        let here = visit_at(rt, alloc, queues, gate, part, at, made, steps)?;
+        let here = visit_at(rt, queues, gate, part, at, fetched, made, steps)?;
         moved |= here;
     }
     Ok(moved)
@@ -91,10 +106,11 @@ fn work_with<R: Wait, G: Gate, L: Ledger>(
     ensures acted { OnOk result (ActBelow (length part.new.procs.items) part.old.procs.items part.new.procs.items) }
 {
     let mut steps: Steps<L> = Steps::open(blank);
+    let mut fetched = Signals::new(alloc);
     let mut moved = false;
     let mut made = 0;
     for _turn in 0..quota {
-        let here = pass(rt, alloc, queues, gate, part, &mut made, &mut steps)?;
+        let here = pass(rt, queues, gate, part, &mut fetched, &mut made, &mut steps)?;
         moved |= here;
         if !here || made >= quota as usize {
             return Ok(moved);

@@ -1,4 +1,4 @@
-use Rattle.std.proofs.Common.{◌≡◌, ℕ, ◌≤◌, length, slice_get, Some, drop}
+use Rattle.std.proofs.Common.{◌≡◌, ℕ, ◌≤◌, [], length, slice_get, Some, drop}
 use Rattle.sig_model.specs.Running.{Running}
 use Rattle.sig_process.specs.Standing.{runnings_of}
 use Rattle.sig_queue.specs.declared.account.Account.{Account}
@@ -10,6 +10,7 @@ abbrev pub invariant-loop-at : goal.invariant-loop-at
 invariant-loop-at l = record {
   queues : l.queues.items ≡ drop l.at l.fn.queues.items;
   seats : l.seats.items ≡ drop l.at l.fn.seats.items;
+  left : l.left.items ≡ [];
   count : length l.receipts ≡ l.at;
   procs : length l.procs.items ≡ length l.fn.procs.items;
   rest : (p : ℕ) → l.at ≤ p → slice_get (runnings_of l.procs.items) p ≡ slice_get (runnings_of l.fn.procs.items) p;

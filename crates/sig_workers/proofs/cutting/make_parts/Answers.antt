@@ -22,13 +22,13 @@ loop-base-preserved c =
     let long : length new ≡ f = left_length ps new f le e.procs in
     let count : length c.loop-base.bases.items ≡ length c.pop.new.self.items + length (c.in-Some.base ∷ []) = ap (λ z. length z) more ∙ length-append c.pop.new.self.items (c.in-Some.base ∷ []) in
     let base : c.in_ok-part.part.base.crew.value.items ≡ crew = ap (λ (b : Base). b.crew.value.items) e.part.1 ∙ all_last (λ (b : Base). b.crew.value.items ≡ crew) c.pop.new.self.items c.in-Some.base all in
-    let inserted : length c.insert.new.self.items ≡ suc (length c.loop-base.parts.items) = ap (λ (z : List Part). length z) c.in_ok-insert.ensures.items in
+    let inserted : length c.push_front.new.self.items ≡ suc (length c.loop-base.parts.items) = ap (λ (z : List Part). length z) c.in_ok-push_front.ensures.items in
     record {
       left = left_again crew ps new f inv.left le e.procs;
       few = omega (arith, long, le, inv.few);
       fresh = subst (λ z. AreFresh queues 0 z c.cut_part.new.seats.items) (sym long) e.left;
-      row = subst (λ z. FreshRow queues crew z (length crew) c.insert.new.self.items) (sym long)
-          (subst (FreshRow queues crew f (length crew)) (sym c.in_ok-insert.ensures.items) (push_part queues crew ps inv.left f le (length crew) c.in_ok-part.part c.loop-base.parts.items e.part.0 base e.part.2 e.right inv.row));
+      row = subst (λ z. FreshRow queues crew z (length crew) c.push_front.new.self.items) (sym long)
+          (subst (FreshRow queues crew f (length crew)) (sym c.in_ok-push_front.ensures.items) (push_part queues crew ps inv.left f le (length crew) c.in_ok-part.part c.loop-base.parts.items e.part.0 base e.part.2 e.right inv.row));
       all = all_left (λ (b : Base). b.crew.value.items ≡ crew) c.pop.new.self.items c.in-Some.base all;
       many = omega (arith, count, inserted, inv.many);
       none = λ e. (let zero : f ≡ 0 = grind (arith, common_steps, e) in long ∙ zero);

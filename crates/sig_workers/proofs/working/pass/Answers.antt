@@ -7,7 +7,8 @@ use Rattle.sig_workers.proofs.working.pass.Goals as goal
 pub loop-at-init : goal.loop-at-init
 loop-at-init g c = record {
   many = refl;
-  part = c.requires;
+  part = c.requires.part;
+  empty = c.requires.empty;
   same = record { first = refl; count = refl; base = refl };
   grow = grow_refl (procs_of c.args.part.now);
   rest = λ i le. refl;
@@ -26,6 +27,7 @@ loop-at-preserved g c =
     record {
       many = sym (many_running c.visit_at.new.part.procs.items) ∙ c.in_ok-here.ensures.same.count ∙ many_running c.loop-at.part.procs.items ∙ inv.many;
       part = c.in_ok-here.ensures.part;
+      empty = c.in_ok-here.ensures.empty;
       same = same_part c.args.part.now c.loop-at.part c.visit_at.new.part inv.same c.in_ok-here.ensures.same;
       grow = grow_trans start procs later inv.grow (visit_grow start procs later c.loop-at.at c.in_ok-here.here v);
       stand = acted_rest c.args.part.now.procs.items c.loop-at.part.procs.items c.visit_at.new.part.procs.items c.loop-at.at c.in_ok-here.ensures.acted inv.stand;

@@ -1,4 +1,4 @@
-use Rattle.std.proofs.Common.{◌≡◌, ℕ, ◌≤◌, length, slice_get}
+use Rattle.std.proofs.Common.{◌≡◌, ℕ, ◌≤◌, [], length, slice_get}
 use Rattle.std.specs.Bool.{MatchBool}
 use Rattle.sig_workers.specs.Parts.{procs_of, IsPart, IsSamePart, Grow, AnyMore, StillBelow}
 use Rattle.sig_workers.specs.Acting.{ActBelow}
@@ -8,6 +8,7 @@ abbrev pub invariant-loop-at : goal.invariant-loop-at
 invariant-loop-at g l = record {
   many : length l.part.procs.items ≡ length l.fn.part.procs.items;
   part : IsPart l.queues l.part;
+  empty : l.fetched.items ≡ [];
   same : IsSamePart l.fn.part l.part;
   grow : Grow (procs_of l.fn.part) (procs_of l.part);
   rest : (i : ℕ) → l.at ≤ i → slice_get (procs_of l.part) i ≡ slice_get (procs_of l.fn.part) i;

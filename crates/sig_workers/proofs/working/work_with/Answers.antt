@@ -13,6 +13,7 @@ loop-turn-preserved g c =
     let inv = c.loop-turn.invariant in
     record {
       part = e.part;
+      empty = e.empty;
       same = same_part c.args.part.now c.loop-turn.part c.pass.new.part inv.same e.same;
       first = λ _. or_true c.loop-turn.moved c.in_ok-here.here c.if-not-here.false;
       acted = λ _. acted_pass c.args.part.now c.loop-turn.part c.pass.new.part c.loop-turn.moved inv.passed inv.acted e.acted;

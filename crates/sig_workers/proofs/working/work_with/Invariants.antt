@@ -1,4 +1,4 @@
-use Rattle.std.proofs.Common.{◌≡◌, ◌<◌, length, true}
+use Rattle.std.proofs.Common.{◌≡◌, ◌<◌, [], length, true}
 use Rattle.std.specs.Bool.{MatchBool}
 use Rattle.sig_workers.specs.Parts.{procs_of, IsPart, IsSamePart, AnyMore}
 use Rattle.sig_workers.specs.Acting.{ActBelow}
@@ -7,6 +7,7 @@ use Rattle.sig_workers.proofs.working.work_with.Given as goal
 abbrev pub invariant-loop-turn : goal.invariant-loop-turn
 invariant-loop-turn g l = record {
   part : IsPart l.queues l.part;
+  empty : l.fetched.items ≡ [];
   same : IsSamePart l.fn.part l.part;
   first : 0 < l._turn → l.moved ≡ true;
   acted : l.moved ≡ true → ActBelow (length l.part.procs.items) l.fn.part.procs.items l.part.procs.items;
