@@ -11,7 +11,7 @@ use Rattle.sig_program.specs.declared.label.Label.{Label}
 use Rattle.sig_program.specs.declared.instruction.After.{After}
 use Rattle.sig_program.specs.declared.instruction.Instr.{Instr}
 use Rattle.sig_tokens.specs.declared.known.Known.{Known}
-use Rattle.sig_program.specs.declared.verb.Verb.{Verb}
+use Rattle.sig_program.specs.declared.instruction.Verb.{Verb}
 use Rattle.sig_reader.specs.declared.keyword.Keyword.TheVariants as keyword
 use Rattle.sig_reader.specs.declared.form.Form.TheVariants as form
 use Rattle.sig_program.specs.declared.script.TheConstants.{MOST_TURNS}

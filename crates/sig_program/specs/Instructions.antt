@@ -5,8 +5,8 @@ use Rattle.sig_patterns.specs.declared.expression.Expr.{Expr}
 use Rattle.sig_program.specs.declared.instruction.Receiving.{Receiving}
 use Rattle.sig_program.specs.declared.instruction.Instr.{Instr}
 use Rattle.sig_program.specs.declared.instruction.Instr.TheVariants as instr
-use Rattle.sig_program.specs.declared.verb.Verb.{Verb}
-use Rattle.sig_program.specs.declared.verb.Verb.TheVariants as verb
+use Rattle.sig_program.specs.declared.instruction.Verb.{Verb}
+use Rattle.sig_program.specs.declared.instruction.Verb.TheVariants as verb
 
 -- what may stand behind the word of an instruction; a mode and a flag may be left out, so that they stand last
 pub data Operand : Type 0 where

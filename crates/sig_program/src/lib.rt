@@ -6,10 +6,8 @@ mod instruction;
 mod label;
 mod process;
 mod script;
-mod verb;
 
-pub use instruction::{After, Instr, Instrs, Receiving};
+pub use instruction::{After, Instr, Instrs, Receiving, VERBS, Verb};
 pub use label::{Label, Labels};
 pub use process::{Proc, Procs};
 pub use script::{DEFAULT_TURNS, MOST_PROCESSES, MOST_TURNS, Script};
-pub use verb::{VERBS, Verb};

@@ -19,7 +19,7 @@ use Rattle.sig_tokens.specs.declared.token.TokenKind.{TokenKind}
 use Rattle.sig_tokens.specs.declared.token.TokenKind.TheVariants.{Name, Variable, Integer, Quoted, Process, Sign}
 use Rattle.sig_tokens.specs.declared.token.Token.{Token}
 use Rattle.sig_tokens.specs.declared.known.Known.TheVariants.{Among}
-use Rattle.sig_program.specs.declared.verb.Verb.{Verb}
+use Rattle.sig_program.specs.declared.instruction.Verb.{Verb}
 use Rattle.sig_reader.specs.declared.keyword.Keyword.{Keyword}
 use Rattle.sig_reader.specs.declared.keyword.Keyword.TheVariants as keyword
 use Rattle.sig_reader.specs.declared.draft.Draft.{Draft}

@@ -5,7 +5,7 @@ use Rattle.std.proofs.lemmas.List.{length-map}
 use Rattle.sig_program.specs.declared.instruction.After.{After}
 use Rattle.sig_tokens.specs.declared.token.Token.{Token}
 use Rattle.sig_tokens.specs.declared.known.Known.{Known}
-use Rattle.sig_program.specs.declared.verb.Verb.{Verb}
+use Rattle.sig_program.specs.declared.instruction.Verb.{Verb}
 use Rattle.sig_reader.specs.declared.keyword.Keyword.{Keyword}
 use Rattle.sig_reader.specs.declared.keyword.Keyword.TheVariants as keyword
 use Rattle.sig_reader.specs.declared.draft.Section.{Section}

@@ -3,8 +3,8 @@ use Rattle.std.proofs.Common.{◌≡◌, ℕ, List, [], ◌∷◌, refl, arith}
 use Rattle.std.specs.Prelude.{Some}
 use Rattle.sig_program.specs.declared.instruction.Instr.{Instr}
 use Rattle.sig_program.specs.declared.instruction.Instr.TheVariants as instr
-use Rattle.sig_program.specs.declared.verb.Verb.{Verb}
-use Rattle.sig_program.specs.declared.verb.Verb.TheVariants as verb
+use Rattle.sig_program.specs.declared.instruction.Verb.{Verb}
+use Rattle.sig_program.specs.declared.instruction.Verb.TheVariants as verb
 use Rattle.sig_reader.specs.declared.keyword.Keyword.TheVariants as keyword
 use Rattle.sig_tokens.specs.declared.known.Known.{Known}
 use Rattle.sig_tokens.specs.declared.token.Token.{Token}

@@ -12,8 +12,8 @@ use Rattle.sig_tokens.specs.declared.token.TokenKind.{TokenKind}
 use Rattle.sig_tokens.specs.declared.token.TokenKind.TheVariants.{Integer}
 use Rattle.sig_tokens.specs.declared.token.Token.{Token}
 use Rattle.sig_tokens.specs.declared.known.Known.{Known}
-use Rattle.sig_program.specs.declared.verb.Verb.{Verb}
-use Rattle.sig_program.specs.declared.verb.Verb.TheVariants as verb
+use Rattle.sig_program.specs.declared.instruction.Verb.{Verb}
+use Rattle.sig_program.specs.declared.instruction.Verb.TheVariants as verb
 use Rattle.sig_reader.specs.declared.keyword.Keyword.{Keyword}
 use Rattle.sig_reader.specs.declared.keyword.Keyword.TheVariants as keyword
 use Rattle.sig_reader.specs.declared.draft.Section.{Section}
