@@ -13,7 +13,7 @@ use Rattle.sig_program.specs.declared.instruction.Instr.TheVariants as instr
 use Rattle.sig_tokens.specs.declared.known.Known.TheVariants.{Any}
 use Rattle.sig_reader.specs.declared.keyword.Keyword.TheVariants as keyword
 use Rattle.sig_reader.specs.declared.form.Form.TheVariants as form
-use Rattle.sig_program.specs.Scripts.{Declared, Program, IsLawful}
+use Rattle.sig_program.specs.Scripts.{Declared, Program, IsInstrWithin}
 use Rattle.sig_tokens.specs.Lines.{lines_of, onto_first}
 use Rattle.sig_canon.specs.ScriptText.{clause_line, after_lines, instr_lines, label_line, labels_there, placed_lines, process_lines, names_of, procs_lines, turns_line, script_lines, line_text, script_text}
 use Rattle.sig_canon.specs.ReadableScript.{IsReadablePattern, IsReadableInstr, IsReadableProc, IsReadableScript}
@@ -106,7 +106,7 @@ after_clean names labels reads None within = tt
 after_clean names labels reads (Some a) within =
     (line_clean Any 0 _ keyword.After _ (after_form Any 0 names labels zeroed zeroed reads a (after_target a (length labels) within)), tt)
 
-receive_clean : (names labels : List (List ℕ)) → IsPlain names labels → (i : Instr) → is_receive i ≡ true → IsReadableInstr (length names) i → IsLawful (length labels) i → AreClean (instr_lines names labels i)
+receive_clean : (names labels : List (List ℕ)) → IsPlain names labels → (i : Instr) → is_receive i ≡ true → IsReadableInstr (length names) i → IsInstrWithin (length labels) i → AreClean (instr_lines names labels i)
 unfolding instr_lines
 receive_clean names labels reads (instr.Receive r) it readable lawful =
     let targets = lawful.1 in
@@ -120,7 +120,7 @@ receive_clean names labels reads (instr.Receive r) it readable lawful =
 receive_clean names labels reads instr.Stop it readable lawful = absurd cc
 receive_clean names labels reads _ it readable lawful = absurd cc
 
-instr_clean : (names labels : List (List ℕ)) → IsPlain names labels → (i : Instr) → IsReadableInstr (length names) i → IsLawful (length labels) i → AreClean (instr_lines names labels i)
+instr_clean : (names labels : List (List ℕ)) → IsPlain names labels → (i : Instr) → IsReadableInstr (length names) i → IsInstrWithin (length labels) i → AreClean (instr_lines names labels i)
 instr_clean names labels reads i readable lawful =
     elim (is_receive i) as (λ v. is_receive i ≡ v → AreClean (instr_lines names labels i)) [
       | true ↦ λ it. receive_clean names labels reads i it readable lawful
@@ -139,15 +139,15 @@ labels_clean (l ∷ ls) place named =
     picked_clean (l.place == place) l (filter (λ (m : Label). m.place == place) ls) (All-head (λ (m : Label). IsNameToken m.name) l ls named) (labels_clean ls place (All-tail (λ (m : Label). IsNameToken m.name) l ls named))
 
 placed_clean : (names : List (List ℕ)) (labels : List Label) → IsPlain names (map (λ (l : Label). l.name) labels) → All (λ (l : Label). IsNameToken l.name) labels → (place : ℕ) (instrs : List Instr) →
-    All (IsReadableInstr (length names)) instrs → All (IsLawful (length (map (λ (l : Label). l.name) labels))) instrs → AreClean (placed_lines names labels place instrs)
+    All (IsReadableInstr (length names)) instrs → All (IsInstrWithin (length (map (λ (l : Label). l.name) labels))) instrs → AreClean (placed_lines names labels place instrs)
 unfolding placed_lines
 placed_clean names labels reads named place [] readable lawful = labels_clean labels place named
 placed_clean names labels reads named place (i ∷ is) readable lawful =
     let tags : List (List ℕ) = map (λ (l : Label). l.name) labels in
     clean_on (labels_there labels place ++ instr_lines names tags i) (placed_lines names labels (place + 1) is)
     (clean_on (labels_there labels place) (instr_lines names tags i) (labels_clean labels place named)
-    (instr_clean names tags reads i (All-head (IsReadableInstr (length names)) i is readable) (All-head (IsLawful (length tags)) i is lawful)))
-    (placed_clean names labels reads named (place + 1) is (All-tail (IsReadableInstr (length names)) i is readable) (All-tail (IsLawful (length tags)) i is lawful))
+    (instr_clean names tags reads i (All-head (IsReadableInstr (length names)) i is readable) (All-head (IsInstrWithin (length tags)) i is lawful)))
+    (placed_clean names labels reads named (place + 1) is (All-tail (IsReadableInstr (length names)) i is readable) (All-tail (IsInstrWithin (length tags)) i is lawful))
 
 process_clean : (names : List (List ℕ)) (p : Declared) → All IsNameToken names → IsReadableProc (length names) p → AreClean (process_lines names p)
 unfolding process_lines
@@ -156,7 +156,7 @@ process_clean names p named readable =
     let reads = any_reads 0 names tags named (All-map IsNameToken (λ (l : Label). l.name) p.labels readable.labels) in
     let same : length p.labels ≡ length tags = sym (length-map p.labels (λ (l : Label). l.name)) in (
       line_clean Any 0 _ keyword.Process _ (process_form Any 0 p.name readable.name),
-      placed_clean names p.labels reads readable.labels 1 p.instrs readable.instrs (subst (λ n. All (IsLawful n) p.instrs) same readable.within.lawful),
+      placed_clean names p.labels reads readable.labels 1 p.instrs readable.instrs (subst (λ n. All (IsInstrWithin n) p.instrs) same readable.within.lawful),
     )
 
 procs_clean : (names : List (List ℕ)) (procs : List Declared) → All IsNameToken names → All (IsReadableProc (length names)) procs → AreClean (flat_map (process_lines names) procs)

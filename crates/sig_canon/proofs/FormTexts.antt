@@ -17,7 +17,7 @@ use Rattle.sig_reader.specs.declared.form.Form.TheVariants as form
 use Rattle.sig_program.specs.declared.script.TheConstants.{MOST_TURNS}
 use Rattle.sig_program.specs.Instructions.{Operand, an_expr, a_variable, a_label, a_switch, a_mode, a_flag, AllSaid, word_of, operands_of, instr_by, Spoken, Says, Receives, spoken}
 use Rattle.sig_program.specs.Parts.{said_exprs, said_vars, said_labels, said_mode, exprs_in, vars_in, targets_in, mode_by}
-use Rattle.sig_program.specs.Scripts.{IsLawful}
+use Rattle.sig_program.specs.Scripts.{IsInstrWithin}
 use Rattle.sig_tokens.specs.Faults.{on_ok}
 use Rattle.sig_reader.specs.Forms.{form_of}
 use Rattle.sig_canon.specs.ScriptText.{name_of_place, spaced, after_blank, expr_text, pattern_text, switch_text, target_text, marker_text, clause_line, said_texts, spoken_lines, instr_lines, label_line, turns_line}
@@ -176,6 +176,6 @@ module _ (known : Known) (here : ℕ) (names labels : List (List ℕ)) (f g : �
       }
   spoken_form (Receives r) other es vs ls mode = absurd cc
 
-  pub instr_form : (i : Instr) → is_receive i ≡ false → IsReadableInstr (length names) i → IsLawful (length labels) i → IsInstrLine known here (instr_lines names labels i) (instr_seen f g i)
+  pub instr_form : (i : Instr) → is_receive i ≡ false → IsReadableInstr (length names) i → IsInstrWithin (length labels) i → IsInstrLine known here (instr_lines names labels i) (instr_seen f g i)
   unfolding instr_lines
   instr_form i other readable lawful = spoken_form (spoken i) other readable.exprs readable.vars lawful.1 lawful.2

@@ -20,7 +20,7 @@ use Rattle.sig_program.specs.declared.instruction.Instr.{Instr}
 use Rattle.sig_program.specs.declared.instruction.Instr.TheVariants as instr
 use Rattle.sig_program.specs.declared.script.TheConstants.{MOST_TURNS}
 use Rattle.sig_program.specs.Parts.{pids_of, pids_of_pattern}
-use Rattle.sig_program.specs.Scripts.{Declared, IsLawful, IsPlace, AreRising, IsWithin, IsExprBelow, IsPatternBelow, IsInstrBelow, IsProcBelow, IsSound}
+use Rattle.sig_program.specs.Scripts.{Declared, IsInstrWithin, IsPlace, AreRising, IsWithin, IsExprBelow, IsPatternBelow, IsInstrBelow, IsProcBelow, IsScriptWithin}
 use Rattle.sig_canon.specs.Generated.{var_named, call_clause, hub_receive, hub_answer, hub, to_hub, watch_hub, bind_mark, send_call, answer_clause, down_clause, await_answer, call, client, client_names, generated}
 use Rattle.sig_program.proofs.PidLemmas.{pids_of-Int, pids_of-Atom, pids_of-Var, pids_of-Pid, pids_of-Tuple, pids_of_pattern-Any, pids_of_pattern-Bind, pids_of_pattern-Pin, pids_of_pattern-Atom, pids_of_pattern-Tuple}
 use Rattle.sig_reader.proofs.BoundTermLemmas.{no-mode, IsMonitorMode}
@@ -84,11 +84,11 @@ answer-pins = pins-Tuple (var_named (codes "M")) _ ∙ rw (pins-Pin (var_named (
 down-pins : pins down_clause.pattern (var_named (codes "M")) ≡ true
 down-pins = pins-Tuple (var_named (codes "M")) _ ∙ rw (pins-Atom (var_named (codes "M")) (codes "DOWN"), pins-Pin (var_named (codes "M")) (var_named (codes "M"))) refl
 
-call-lawful : (k : ℕ) → All (IsLawful 0) (call k)
+call-lawful : (k : ℕ) → All (IsInstrWithin 0) (call k)
 call-lawful k =
     let none = All-nil (λ (target : ℕ). target < 0) in
     let marked = two (λ (c : Clause). pins c.pattern (var_named (codes "M")) ≡ true) answer_clause down_clause answer-pins down-pins in
-    each-of (IsLawful 0) k (few, none, no-mode, tt) (few, none, reply-demonitor, tt) (few, none, no-mode, tt) (few, none, no-mode, tt) (omega arith, none, no-mode, marked)
+    each-of (IsInstrWithin 0) k (few, none, no-mode, tt) (few, none, reply-demonitor, tt) (few, none, no-mode, tt) (few, none, no-mode, tt) (omega arith, none, no-mode, marked)
 
 pub client_within : (n : ℕ) (name : List ℕ) → n ≤ 800 → IsWithin (client n name)
 unfolding client
@@ -97,7 +97,7 @@ client_within n name le = record {
   few_labels = omega arith;
   places = All-nil (IsPlace (length (flat_map call (range_with_len 1 n))));
   rising = AreRising.none;
-  lawful = all-calls (IsLawful 0) call-lawful (range_with_len 1 n);
+  lawful = all-calls (IsInstrWithin 0) call-lawful (range_with_len 1 n);
 }
 
 pub hub_within : IsWithin hub
@@ -112,8 +112,8 @@ hub_within =
       few_labels = omega arith;
       places = two (IsPlace 3) first second (omega arith, omega arith) (omega arith, omega arith);
       rising = AreRising.more (one (λ (other : Label). 1 ≤ other.place) second (omega arith)) (AreRising.more (All-nil (λ (other : Label). 2 ≤ other.place)) AreRising.none);
-      lawful = All-cons (IsLawful 2) hub_receive (hub_answer ∷ instr.Goto 0 ∷ []) (omega arith, some 1 (omega arith), no-mode, tt)
-          (two (IsLawful 2) hub_answer (instr.Goto 0) (few, none, no-mode, tt) (few, some 0 (omega arith), no-mode, tt));
+      lawful = All-cons (IsInstrWithin 2) hub_receive (hub_answer ∷ instr.Goto 0 ∷ []) (omega arith, some 1 (omega arith), no-mode, tt)
+          (two (IsInstrWithin 2) hub_answer (instr.Goto 0) (few, none, no-mode, tt) (few, some 0 (omega arith), no-mode, tt));
     }
 
 -- no pid stands in a tuple of parts without pids
@@ -207,7 +207,7 @@ unfolding generated
 each-proc P n h c =
     All-cons P hub (map (client n) client_names) h (All-map P (client n) client_names (λ i d lt. c (get_or client_names i d)))
 
-pub generated_sound : (n : ℕ) → IsSound (generated n)
+pub generated_sound : (n : ℕ) → IsScriptWithin (generated n)
 unfolding generated
 generated_sound n = record {
   few = omega arith;
@@ -220,6 +220,6 @@ pub client_is : (n : ℕ) (name own : List ℕ) (labels : List Label) (is : List
 unfolding client
 client_is n name own labels is e f g = cc
 
-pub sound_with : (n : ℕ) (procs : List Declared) → procs ≡ (generated n).procs → IsSound (record { turns = MOST_TURNS; procs = procs })
+pub sound_with : (n : ℕ) (procs : List Declared) → procs ≡ (generated n).procs → IsScriptWithin (record { turns = MOST_TURNS; procs = procs })
 unfolding generated
-sound_with n procs e = subst (λ (ps : List Declared). IsSound (record { turns = MOST_TURNS; procs = ps })) (sym e) (generated_sound n)
+sound_with n procs e = subst (λ (ps : List Declared). IsScriptWithin (record { turns = MOST_TURNS; procs = ps })) (sym e) (generated_sound n)

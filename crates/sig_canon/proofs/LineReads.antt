@@ -14,7 +14,7 @@ use Rattle.sig_reader.specs.declared.draft.Draft.{Draft}
 use Rattle.sig_reader.specs.declared.form.Form.{Form}
 use Rattle.sig_reader.specs.declared.form.Form.TheVariants as form
 use Rattle.sig_program.specs.declared.script.TheConstants.{MOST_TURNS}
-use Rattle.sig_program.specs.Scripts.{Declared, IsLawful}
+use Rattle.sig_program.specs.Scripts.{Declared, IsInstrWithin}
 use Rattle.sig_canon.specs.ScriptText.{spaced, target_text, marker_text, clause_line, instr_lines, label_line, turns_line}
 use Rattle.sig_canon.specs.ReadableScript.{IsReadablePattern, IsReadableInstr}
 use Rattle.sig_reader.specs.Forms.{may_stand_at, may_stand, said}
@@ -52,7 +52,7 @@ label_said known d l here named = line_said known d (label_line l) keyword.Label
 
 -- an instruction that is no receive
 pub instr_said : (known : Known) (d : Draft) (names labels : List (List ℕ)) (f g : ℕ → ℕ) → Reads known (length d.procs) names labels f g → (p : Declared) → d.section ≡ Outside p →
-    (i : Instr) → is_receive i ≡ false → IsReadableInstr (length names) i → IsLawful (length labels) i → IsSaid known d (instr_lines names labels i) (form.Do (instr_seen f g i))
+    (i : Instr) → is_receive i ≡ false → IsReadableInstr (length names) i → IsInstrWithin (length labels) i → IsSaid known d (instr_lines names labels i) (form.Do (instr_seen f g i))
 instr_said known d names labels f g reads p here i other readable lawful =
     let l = instr_form known (length d.procs) names labels f g reads i other readable lawful in
     let stands : may_stand d (keyword.Do l.verb) ≡ true = ap (λ (s : Section). may_stand_at d s (keyword.Do l.verb)) here in

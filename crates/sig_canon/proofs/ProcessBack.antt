@@ -14,7 +14,7 @@ use Rattle.sig_tokens.specs.declared.known.Known.{Known}
 use Rattle.sig_reader.specs.declared.draft.Section.TheVariants.{Outside, Inside}
 use Rattle.sig_reader.specs.declared.draft.Draft.{Draft}
 use Rattle.sig_reader.specs.declared.form.Form.TheVariants as form
-use Rattle.sig_program.specs.Scripts.{Declared, AreMarked, IsLawful, IsPlace, AreRising, bare_process}
+use Rattle.sig_program.specs.Scripts.{Declared, AreMarked, IsInstrWithin, IsPlace, AreRising, bare_process}
 use Rattle.sig_reader.specs.Drafts.{with_instr, receive_of, is_marked, taken}
 use Rattle.sig_canon.specs.ScriptText.{spaced, marker_text, target_text, clause_line, after_lines, instr_lines, label_line, labels_there, placed_lines}
 use Rattle.sig_canon.specs.ReadableScript.{IsReadablePattern, IsReadableInstr, AreDistinct}
@@ -98,7 +98,7 @@ module _ (known : Known) (names : List (List ℕ)) (f g : ℕ → ℕ) (e : Draf
 
   -- an instruction
   abbrev IsFine : Instr → Type 0
-  IsFine i = IsReadableInstr (length names) i × IsLawful (length tags) i
+  IsFine i = IsReadableInstr (length names) i × IsInstrWithin (length tags) i
 
   one-leads : (p : Declared) (i : Instr) (lines : List (List ℕ)) → IsSaid known (outside p) lines (form.Do (seen i)) → Leads known (outside p) lines (outside (with_instr p (seen i)))
   one-leads p i lines h =

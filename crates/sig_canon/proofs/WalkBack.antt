@@ -19,7 +19,7 @@ use Rattle.sig_reader.specs.declared.version.Version.{Version}
 use Rattle.sig_reader.specs.declared.form.Form.TheVariants as form
 use Rattle.sig_program.specs.declared.script.TheConstants.{DEFAULT_TURNS, MOST_PROCESSES, MOST_TURNS}
 use Rattle.sig_reader.specs.declared.reader.TheConstants.{MOST_BYTES}
-use Rattle.sig_program.specs.Scripts.{Declared, Program, IsLawful, bare_process}
+use Rattle.sig_program.specs.Scripts.{Declared, Program, IsInstrWithin, bare_process}
 use Rattle.sig_tokens.specs.Faults.{Fault, ◌>>=◌}
 use Rattle.sig_tokens.specs.Names.{labels_at}
 use Rattle.sig_reader.specs.Forms.{may_stand_at}
@@ -129,7 +129,7 @@ module _ (known : Known) (f g : ℕ → ℕ) (s : Program) (readable : IsReadabl
       let count : length s.procs ≡ length names = sym (length-map s.procs (λ (q : Declared). q.name)) in
       let tags : length p.labels ≡ length (label_names p.labels) = sym (length-map p.labels (λ (l : Label). l.name)) in
       let fine : All (IsReadableInstr (length names)) p.instrs = subst (λ (n : ℕ). All (IsReadableInstr n) p.instrs) count good.instrs in
-      let lawful : All (IsLawful (length (label_names p.labels))) p.instrs = subst (λ (n : ℕ). All (IsLawful n) p.instrs) tags good.within.lawful in
+      let lawful : All (IsInstrWithin (length (label_names p.labels))) p.instrs = subst (λ (n : ℕ). All (IsInstrWithin n) p.instrs) tags good.within.lawful in
       let rest = process-leads known names f g (begun_as d p.name) p.labels here good.labels good.distinct p.name p.instrs good.within.rising good.within.places (λ i e lt. (fine i e lt, lawful i e lt)) in
       one_more known d (begun_as d p.name) (next d p) (spaced (codes "process") (p.name ∷ [])) _ first rest
 

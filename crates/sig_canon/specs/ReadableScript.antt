@@ -18,7 +18,7 @@ use Rattle.sig_patterns.specs.declared.pattern.Pattern.TheFolds.{fold-Pattern}
 use Rattle.sig_program.specs.declared.label.Label.{Label}
 use Rattle.sig_program.specs.declared.instruction.Instr.{Instr}
 use Rattle.sig_program.specs.Parts.{exprs_of, vars_of, clauses_of, using_of}
-use Rattle.sig_program.specs.Scripts.{Declared, Program, IsWithin, IsSound}
+use Rattle.sig_program.specs.Scripts.{Declared, Program, IsWithin, IsScriptWithin}
 use Rattle.sig_tokens.specs.Tokens.{IsNameToken, IsVariableToken}
 
 -- how many nodes an expression has and how deep they lie, as of a term
@@ -129,6 +129,6 @@ pub record IsReadableProc (count : ℕ) (p : Declared) : Type 0 where
 
 -- a script that a text may spell
 pub record IsReadableScript (s : Program) : Type 0 where
-  pub sound : IsSound s
+  pub sound : IsScriptWithin s
   pub names : AreDistinct (map (λ (p : Declared). p.name) s.procs)
   pub procs : All (IsReadableProc (length s.procs)) s.procs

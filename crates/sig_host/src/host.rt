@@ -1,7 +1,7 @@
 ghost use Rattle.std.specs.Prelude.{◌≡◌, ◌≢◌, ◌≤◌, ◌⊎◌, ℕ, Bool, true, List, [], map, string_bytes, IfOk, Option, Some};
 ghost use Rattle.sig_base.specs.Flow.{Rose, Adds};
 ghost use Rattle.sig_edge.specs.Streams.{reading, writing};
-ghost use Rattle.sig_program.specs.Scripts.{Program, IsSound};
+ghost use Rattle.sig_program.specs.Scripts.{Program, IsScriptWithin};
 ghost use Rattle.sig_canon.specs.Generated.{generated};
 ghost use Rattle.sig_model.specs.OneWorker.{IsClear, RunsTo};
 ghost use Rattle.sig_model.specs.CrewLaw.{IsLawfulCrew};
@@ -79,7 +79,7 @@ fn run_crew<R: Threads + Wait + Sync, G: Gate>(
     gate: &G,
 ) -> Result<Crew, AllocError>
     requires range { IsInRange settings }
-    requires lawful { (script : Program) × IsSound script × IsLawfulCrew script (runnings_of crew) }
+    requires lawful { (script : Program) × IsScriptWithin script × IsLawfulCrew script (runnings_of crew) }
     requires clear { IsClear (runnings_of crew) }
     ensures lawful { (script : Program) → IsLawfulCrew script (runnings_of crew) → IfOk result (λ c. IsLawfulCrew script (runnings_of c)) }
     ensures clear { IfOk result (λ c. IsClear (runnings_of c)) }

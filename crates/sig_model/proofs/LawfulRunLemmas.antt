@@ -4,7 +4,7 @@ use Rattle.std.specs.Prelude.{All, slice_get, slice_set}
 use Rattle.std.proofs.lemmas.List.{set-set, set_comm}
 use Rattle.std.proofs.lemmas.Option.{same_Some, slice_get-map, slice_get_within, MatchOption-at_some}
 use Rattle.sig_kinds.specs.declared.signal.Signal.{Signal}
-use Rattle.sig_program.specs.Scripts.{Program, IsWithin, IsProcBelow, IsSound}
+use Rattle.sig_program.specs.Scripts.{Program, IsWithin, IsProcBelow, IsScriptWithin}
 use Rattle.sig_runs.specs.Crew.{Member, crew_machine}
 use Rattle.sig_runs.specs.Settled.{IsSettled}
 use Rattle.sig_runs.specs.Still.{IsStillMember}
@@ -131,7 +131,7 @@ module _ (script : Program) where
       (opened_lawful (λ q r at. MatchOption-at_some (Unit {0}) IsKeeping r at (at_place IsKeeping (opened_crew script) q (subst (λ xs. All IsKeeping xs) e keeping))))
 
   -- so it is where each part of the script keeps its bounds
-  pub sound_lawful : IsSound script → All IsWithin script.procs → IsLawfulCrew script (opened_crew script)
+  pub sound_lawful : IsScriptWithin script → All IsWithin script.procs → IsLawfulCrew script (opened_crew script)
   sound_lawful sound within = opened_lawful (λ q r e.
       let o : IsOpened script q r = opened_tells script q r e in
       subst IsKeeping o.is

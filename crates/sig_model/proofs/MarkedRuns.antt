@@ -1,7 +1,7 @@
 -- The runs of a script's machine from its opening, from the marks and over all messages.
 use Rattle.std.proofs.Common.{◌≡◌, ℕ, List, All, length, Some, slice_get}
 use Rattle.sig_kinds.specs.declared.signal.Signal.{Signal}
-use Rattle.sig_program.specs.Scripts.{Declared, Program, IsWithin, IsProcBelow, IsSound}
+use Rattle.sig_program.specs.Scripts.{Declared, Program, IsWithin, IsProcBelow, IsScriptWithin}
 use Rattle.sig_runs.specs.Machine.{Machine, At, IsRun}
 use Rattle.sig_runs.specs.Crew.{opening_machine}
 use Rattle.sig_runs.specs.Fresh.{MakesFresh}
@@ -33,7 +33,7 @@ module _ (script : Program) where
     abbrev WholeRun : Type 0
     WholeRun = IsRun (by_whole (rules_of script) (whole_of script)) (opening_machine (opening_of script)) events end
 
-    pub marked_names : IsSound script → MarkedRun → HoldEverywhere (names_below (length script.procs)) end
+    pub marked_names : IsScriptWithin script → MarkedRun → HoldEverywhere (names_below (length script.procs)) end
     marked_names sound run =
         run_keeps_facts (rules_of script) (names_below (length script.procs))
         (event_keeps_names (length script.procs) script.turns (slice_get script.procs) (λ pid. at_place (IsProcBelow (length script.procs)) script.procs pid sound.pids))

@@ -20,7 +20,7 @@ use Rattle.sig_patterns.proofs.PinLemmas.{older_skipped}
 use Rattle.sig_program.specs.declared.instruction.Instr.{Instr}
 use Rattle.sig_program.specs.declared.instruction.Instr.TheVariants as instr
 use Rattle.sig_program.specs.declared.instruction.After.{After}
-use Rattle.sig_program.specs.Scripts.{Declared, AreMarked, IsLawful, IsWithin}
+use Rattle.sig_program.specs.Scripts.{Declared, AreMarked, IsInstrWithin, IsWithin}
 use Rattle.sig_model.specs.ProcessState.{ProcessState}
 use Rattle.sig_model.specs.Executing.{ref_in, using_ref, marked_start, from_mark, from_oldest, hit_from, taking, receiving, exec_body, executing, executing_whole, IsWaiting, SkipsNoneAt, SkipsNone}
 use Rattle.sig_model.specs.Finishing.{finished_exec}
@@ -76,13 +76,13 @@ module _ (p : Declared) (s : ProcessState) where
         receiving p s after start 0 (hit_from 0 clauses s) ≡ receiving p s after start start (hit_from start clauses s)
     same_receive after marked none = ap (receiving p s after start 0) (skipped (using_ref s.tables.env using) refl marked none) ∙ same_row after start (hit_from start clauses s)
 
-  same_body : (o : Option Instr) → IfSome o (IsLawful (length p.labels)) → SkipsNoneAt s o → exec_body from_oldest p s o ≡ exec_body from_mark p s o
+  same_body : (o : Option Instr) → IfSome o (IsInstrWithin (length p.labels)) → SkipsNoneAt s o → exec_body from_oldest p s o ≡ exec_body from_mark p s o
   same_body (Some (instr.Receive r)) lawful none = same_receive r.using r.clauses r.after lawful.3 none
   same_body _ lawful none = refl
 
   pub whole_same : IsWithin p → SkipsNone p s → executing_whole p s ≡ executing p s
   unfolding executing executing_whole
-  whole_same w none = same_body (slice_get p.instrs (s.counts.place - 1)) (at_place (IsLawful (length p.labels)) p.instrs (s.counts.place - 1) w.lawful) none
+  whole_same w none = same_body (slice_get p.instrs (s.counts.place - 1)) (at_place (IsInstrWithin (length p.labels)) p.instrs (s.counts.place - 1) w.lawful) none
 
 -- the process goes on alike
 pub next_same : (r : Running) → IsWithin r.proc → SkipsNone r.proc r.state → exec_next_whole r ≡ exec_next r

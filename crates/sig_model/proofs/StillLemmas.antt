@@ -7,7 +7,7 @@ use Rattle.std.proofs.lemmas.Option.{same_Some, slice_get_within}
 use Rattle.sig_kinds.specs.declared.signal.Signal.{Signal}
 use Rattle.sig_runs.proofs.Lists.{slice_get-set_same}
 use Rattle.sig_model.specs.Running.{Running, can_handle, next_of, handled_one, handled_first, handle_next, exec_next}
-use Rattle.sig_model.specs.OneWorker.{or_stay, handle_all, exec_or_stay, visited, deliver_all, settled_visit, visit_at, visit, events_at, has_moved, pass_from, pass, RunsTo, rests, goes, IsClear}
+use Rattle.sig_model.specs.OneWorker.{or_stay, handle_all, exec_or_stay, visited, deliver_all, settled_visit, visit_at, visit, event_count, has_moved, pass_from, pass, RunsTo, rests, goes, IsClear}
 use Rattle.sig_model.specs.Still.{IsStill, IsStillCrew}
 use Rattle.sig_model.proofs.ClearLemmas.{clear_at, visit_clear}
 use Rattle.sig_model.proofs.CountLemmas.{events_get, delivered_events}
@@ -125,10 +125,10 @@ still_case at (Some r) crew clear there h = go (handle_or_still r (can_handle r)
       λ u e. subst IsStill (same_Some r u (sym there ∙ e)) s,
     )
     go (inr lt) =
-        let now : events_at at (settled_visit at v crew) ≡ length v.events =
+        let now : event_count at (settled_visit at v crew) ≡ length v.events =
         delivered_events v.outbox after at ∙ events_get after at (record v { outbox = [] }) (slice_get-set_same crew at (record v { outbox = [] }) r there) in
-        let was : events_at at crew ≡ length r.events = events_get crew at r there in
-        let same : events_at at crew ≡ events_at at (settled_visit at v crew) = eqb-true _ _ (not-false _ h) in
+        let was : event_count at crew ≡ length r.events = events_get crew at r there in
+        let same : event_count at crew ≡ event_count at (settled_visit at v crew) = eqb-true _ _ (not-false _ h) in
         let f : ⊥ = omega (arith, now, was, lt, same) in
         absurd f
 

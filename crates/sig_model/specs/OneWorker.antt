@@ -47,12 +47,12 @@ visit_at at (Some r) crew = settled_visit at (visited r) crew
 unfoldable pub visit : ℕ → List Running → List Running
 visit at crew = visit_at at (slice_get crew at) crew
 
-abbrev pub events_at : ℕ → List Running → ℕ
-events_at at crew = option_map_or (λ r. length r.events) (slice_get crew at) 0
+abbrev pub event_count : ℕ → List Running → ℕ
+event_count at crew = option_map_or (λ r. length r.events) (slice_get crew at) 0
 
 -- the visit of this process had an event
 abbrev pub has_moved : ℕ → List Running → List Running → Bool
-has_moved at before after = not (events_at at before == events_at at after)
+has_moved at before after = not (event_count at before == event_count at after)
 
 -- visits of n processes from this one on, and whether one had an event
 unfoldable pub pass_from : ℕ → ℕ → Bool → List Running → List Running × Bool

@@ -1,7 +1,7 @@
 ghost use Rattle.std.specs.Prelude.{◌≡◌, ◌≢◌, ℕ, ◌+◌, List, ◌∷◌, map, length, All, Some, slice_get, slice_set};
 ghost use Rattle.sig_kinds.specs.declared.signal.Signal.{Signal};
 ghost use Rattle.sig_kinds.specs.Counting.{IsCounting};
-ghost use Rattle.sig_program.specs.Scripts.{Program, IsSound, IsWithin};
+ghost use Rattle.sig_program.specs.Scripts.{Program, IsScriptWithin, IsWithin};
 ghost use Rattle.sig_runs.specs.Crew.{IsLawful, crew_machine};
 ghost use Rattle.sig_runs.specs.Order.{Place, IsOrder, events_at};
 ghost use Rattle.sig_runs.specs.OnTheWay.{IsLawfulAtWork};
@@ -28,7 +28,7 @@ pub fn lawful_crew_is_lawful()
 /// receiver, which is there; so also through each visit, and through the run of one worker, which
 /// leaves the outboxes empty.
 pub fn lawful_crew_stays_lawful()
-    ensures opened { (script : Program) → IsSound script → All IsWithin script.procs → IsLawfulCrew script (opened_crew script) }
+    ensures opened { (script : Program) → IsScriptWithin script → All IsWithin script.procs → IsLawfulCrew script (opened_crew script) }
     ensures executed { (script : Program) (crew : List Running) (p : ℕ) (r t : Running) → IsLawfulCrew script crew →
         slice_get crew p ≡ Some r → exec_next r ≡ Some t → IsLawfulCrew script (slice_set crew p t) }
     ensures handled { (script : Program) (crew : List Running) (p : ℕ) (r t : Running) → IsLawfulCrew script crew →

@@ -1,6 +1,6 @@
 ghost use Rattle.std.specs.Prelude.{◌≡◌, ℕ, List, All, Some, length, slice_get};
 ghost use Rattle.sig_kinds.specs.declared.signal.Signal.{Signal};
-ghost use Rattle.sig_program.specs.Scripts.{Declared, Program, IsWithin, IsSound};
+ghost use Rattle.sig_program.specs.Scripts.{Declared, Program, IsWithin, IsScriptWithin};
 ghost use Rattle.sig_runs.specs.Machine.{Machine, At, IsRun};
 ghost use Rattle.sig_runs.specs.Crew.{opening_machine};
 ghost use Rattle.sig_runs.specs.Fresh.{MakesFresh};
@@ -55,10 +55,10 @@ pub fn a_run_from_marks_is_a_run()
 /// that look from the marks on, and in those that look at all messages. (Erlang Reference Manual,
 /// Data Types, Pid and Reference.)
 pub fn only_processes_of_the_script_are_named()
-    ensures from_marks { (script : Program) (events : List (At Event)) (end : Machine ProcessState Signal) → IsSound script →
+    ensures from_marks { (script : Program) (events : List (At Event)) (end : Machine ProcessState Signal) → IsScriptWithin script →
         IsRun (rules_of script) (opening_machine (opening_of script)) events end →
         HoldEverywhere (names_below (length script.procs)) end }
-    ensures over_all { (script : Program) (events : List (At Event)) (end : Machine ProcessState Signal) → IsSound script →
+    ensures over_all { (script : Program) (events : List (At Event)) (end : Machine ProcessState Signal) → IsScriptWithin script →
         All IsWithin script.procs →
         IsRun (by_whole (rules_of script) (whole_of script)) (opening_machine (opening_of script)) events end →
         HoldEverywhere (names_below (length script.procs)) end }

@@ -27,7 +27,7 @@ use Rattle.sig_process.specs.declared.changing.Change.TheVariants as change
 use Rattle.sig_process.specs.declared.plan.Plan.{Plan}
 use Rattle.sig_process.specs.declared.progress.Progress.{Progress}
 use Rattle.sig_process.specs.Plans.{changed, after_obeying, body_of}
-use Rattle.sig_process.specs.Progressing.{state_of, IsSame}
+use Rattle.sig_process.specs.Progressing.{state_of, IsSameButRoom}
 use Rattle.sig_process.specs.Executions.{KeepsSaved, HasHandledNext, IsPlacedWithin}
 use Rattle.sig_process.specs.Committing.{queue_after, HasHandled}
 use Rattle.sig_process.specs.Soundness.{HasPassedAt}
@@ -98,11 +98,11 @@ module _ (pid : ℕ) (before after : Progress) (plan : Plan) (placed : IsPlacedW
   next = next_of before.own.items before.taken_in.items
 
   pub planned_handled : {T E : Type 0} (o : Result T E) → IfSome next (λ x. handling pid (state_of before) x ≡ body_of (state_of before) plan) →
-      MatchResult o (λ _. IfSome next (λ x. HasHandled pid before after x (finished_handle pid (state_of before) x (body_of (state_of before) plan)))) (λ _. IsSame before after) →
+      MatchResult o (λ _. IfSome next (λ x. HasHandled pid before after x (finished_handle pid (state_of before) x (body_of (state_of before) plan)))) (λ _. IsSameButRoom before after) →
       OnOk o ((after.tables.env ≡ before.tables.env) × (after.counts.place ≡ before.counts.place)) →
       OnOk o (after.tables.end ≡ (changed (after_obeying (state_of before) plan.obeyed) plan.change).tables.end) →
       OnOk o (after.tables.inner.queue ≡ queue_after before.tables.inner.queue plan.change) →
-      MatchResult o (λ _. HasHandledNext pid before after) (λ _. IsSame before after)
+      MatchResult o (λ _. HasHandledNext pid before after) (λ _. IsSameButRoom before after)
   planned_handled (Ok _) e h steady end queue = record {
     handled = next_handled next pid before after (body_of (state_of before) plan) e h;
     saved = handled_keeps before after plan.obeyed plan.change steady end queue placed.within placed.early ended;

@@ -22,7 +22,7 @@ use Rattle.sig_process.specs.declared.progress.Progress.{Progress}
 use Rattle.sig_process.specs.Committing.{HasHandled, behind_first}
 use Rattle.sig_process.specs.Executions.{KeepsSaved, HasHandledNext, IsPlacedWithin}
 use Rattle.sig_process.specs.KeptMessage.{message_of, kept_message, HasKept}
-use Rattle.sig_process.specs.Progressing.{state_of, IsSame}
+use Rattle.sig_process.specs.Progressing.{state_of, IsSameButRoom}
 use Rattle.sig_process.proofs.HandleLemmas.{handled_keeps}
 
 -- nothing is no message
@@ -92,7 +92,7 @@ module _ (p q : Progress) (t : Term) (message : kept_message p ≡ Some t) where
         (ap (λ (z : Progress). z.tables.env) k.rest, ap (λ (z : Progress). z.counts.place) k.rest)
         (ap (λ (z : Progress). z.tables.end) k.rest) k.queue placed.within placed.early ended
 
-    pub kept_handled : {T E : Type 0} (o : Result T E) (pid : ℕ) → MatchResult o (λ _. IfSome next (λ x. HasKept p q x t)) (λ _. IsSame p q)
-        → MatchResult o (λ _. HasHandledNext pid p q) (λ _. IsSame p q)
+    pub kept_handled : {T E : Type 0} (o : Result T E) (pid : ℕ) → MatchResult o (λ _. IfSome next (λ x. HasKept p q x t)) (λ _. IsSameButRoom p q)
+        → MatchResult o (λ _. HasHandledNext pid p q) (λ _. IsSameButRoom p q)
     kept_handled (Ok _) pid h = record { handled = handled_next pid next refl h; saved = keeps_next next refl h }
     kept_handled (Err _) pid h = h

@@ -30,17 +30,17 @@ use Rattle.sig_model.specs.Executing.{using_ref, from_mark, marked_start, hit_fr
 use Rattle.sig_model.specs.Finishing.{finished_exec}
 use Rattle.sig_model.specs.Machine.{execution}
 use Rattle.sig_process.specs.declared.progress.Progress.{Progress}
-use Rattle.sig_process.specs.Progressing.{state_of, IsSame, HasAdvanced}
+use Rattle.sig_process.specs.Progressing.{state_of, IsSameButRoom, HasAdvanced}
 use Rattle.sig_process.specs.Committing.{HasTaken, env_found}
-use Rattle.sig_process.specs.Executions.{IsHit, IsUnmoved, HasExecuted}
+use Rattle.sig_process.specs.Executions.{IsHit, IsSameButRoomAndPlace, HasExecuted}
 use Rattle.sig_process.proofs.Lists.{slice_get-drop}
 use Rattle.sig_process.proofs.DueLemmas.{execution_here}
 
 -- an instruction that was planned
 pub performed : {T E : Type 0} (o : Result T E) (pid : ℕ) (proc : Declared) (before after : Progress) (body : Body) →
     exec_body from_mark proc (state_of before) (slice_get proc.instrs (before.counts.place - 1)) ≡ Some body →
-    MatchResult o (λ _. HasAdvanced pid before after (finished_exec pid (state_of before) body)) (λ _. IsSame before after) → OnOk o (is_saved after.tables.inner.queue.last ≡ false) →
-    MatchResult o (λ _. HasExecuted pid proc before after) (λ _. IsSame before after)
+    MatchResult o (λ _. HasAdvanced pid before after (finished_exec pid (state_of before) body)) (λ _. IsSameButRoom before after) → OnOk o (is_saved after.tables.inner.queue.last ≡ false) →
+    MatchResult o (λ _. HasExecuted pid proc before after) (λ _. IsSameButRoom before after)
 performed (Ok _) pid proc before after body e advanced unsaved =
     record { effect = finished_exec pid (state_of before) body; due = execution_here proc before pid body e; advanced = advanced; unsaved = unsaved }
 performed (Err _) pid proc before after body e same unsaved = same
@@ -111,7 +111,7 @@ abbrev pub with_inner : Progress → InnerTable → Progress
 with_inner p inner = record p { tables = record p.tables { inner = inner } }
 
 -- a scan moves nothing
-pub scan_unmoved : (p : Progress) (inner : InnerTable) (start : ℕ) (found : Option Found) → inner.queue ≡ after_scan p.tables.inner.queue start found → IsUnmoved p (with_inner p inner)
+pub scan_unmoved : (p : Progress) (inner : InnerTable) (start : ℕ) (found : Option Found) → inner.queue ≡ after_scan p.tables.inner.queue start found → IsSameButRoomAndPlace p (with_inner p inner)
 scan_unmoved p inner start found e = record {
   state = rw e refl;
   owner = rw e refl;
@@ -122,7 +122,7 @@ scan_unmoved p inner start found e = record {
   outbox = refl;
 }
 
-pub moved_on : (pid : ℕ) (before mid after : Progress) (e : Effect ProcessState Signal Event) → IsUnmoved before mid → HasAdvanced pid mid after e → HasAdvanced pid before after e
+pub moved_on : (pid : ℕ) (before mid after : Progress) (e : Effect ProcessState Signal Event) → IsSameButRoomAndPlace before mid → HasAdvanced pid mid after e → HasAdvanced pid before after e
 moved_on pid before mid after e u a = record {
   state = a.state;
   owner = a.owner ∙ u.owner;
@@ -148,7 +148,7 @@ module _ (proc : Declared) (receive : Receiving) (p : Progress) (inner : InnerTa
     abbrev mid : Progress
     mid = with_inner p inner
 
-    pub unmoved : IsUnmoved p mid
+    pub unmoved : IsSameButRoomAndPlace p mid
     unmoved = scan_unmoved p inner start found left
 
     -- what the scan finds is what the row says

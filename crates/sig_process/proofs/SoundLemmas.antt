@@ -12,7 +12,7 @@ use Rattle.sig_kinds.specs.declared.signals.Push.{Push}
 use Rattle.sig_kinds.specs.declared.signals.Push.TheVariants.{Added, Memory}
 use Rattle.sig_kinds.specs.SignalNames.{IsSignalBelow}
 use Rattle.sig_program.specs.declared.instruction.Instr.{Instr}
-use Rattle.sig_program.specs.Scripts.{Declared, Program, IsProcBelow, IsWithin, IsSound as IsSoundScript}
+use Rattle.sig_program.specs.Scripts.{Declared, Program, IsProcBelow, IsWithin, IsScriptWithin}
 use Rattle.sig_runs.specs.Rules.{Effect}
 use Rattle.sig_inner.specs.InnerQueue.{InnerQueue, opened as no_queue}
 use Rattle.sig_inner.specs.Receiving.{is_saved, passed}
@@ -30,10 +30,10 @@ use Rattle.sig_process.specs.declared.executing.Exec.{Exec}
 use Rattle.sig_process.specs.declared.executing.Exec.TheVariants.{Stepped, Waiting}
 use Rattle.sig_process.specs.declared.progress.Progress.{Progress}
 use Rattle.sig_process.specs.Standing.{Standing}
-use Rattle.sig_process.specs.Progressing.{state_of, running_of, standing_of, IsSame, HasAdvanced}
+use Rattle.sig_process.specs.Progressing.{state_of, running_of, standing_of, IsSameButRoom, HasAdvanced}
 use Rattle.sig_process.specs.Committing.{HasHandled}
 use Rattle.sig_process.specs.Soundness.{IsSaved, IsSound}
-use Rattle.sig_process.specs.Executions.{IsExecDue, IsHandleDue, IsUnmoved, HasExecuted, HasGone, HasHandledNext}
+use Rattle.sig_process.specs.Executions.{IsExecDue, IsHandleDue, IsSameButRoomAndPlace, HasExecuted, HasGone, HasHandledNext}
 use Rattle.sig_process.specs.Steps.{IsExec, IsWholeExec, IsHandled}
 use Rattle.sig_process.proofs.SavedPlace.{unsaved_none, unsaved_passes}
 
@@ -51,7 +51,7 @@ opened_sound pid count turns proc p lt within below is queue = record {
 }
 
 -- the pids in a script's processes
-pub pids_below : (script : Program) (pid count : ℕ) (d proc : Declared) → IsSoundScript script → slice_get script.procs pid ≡ Some d → proc ≡ d → count ≡ length script.procs →
+pub pids_below : (script : Program) (pid count : ℕ) (d proc : Declared) → IsScriptWithin script → slice_get script.procs pid ≡ Some d → proc ≡ d → count ≡ length script.procs →
     IsProcBelow count proc
 pids_below script pid count d proc sound there copy same =
     let procs : List Declared = script.procs in
@@ -70,10 +70,10 @@ module _ (pid count turns : ℕ) (proc : Declared) where
     pub advanced_is : (e : Effect ProcessState Signal Event) → HasAdvanced pid before after e → runs after ≡ advanced (runs before) e
     advanced_is e a = rw (a.state, a.events, a.handled, a.own, a.taken_in, a.outbox) refl
 
-    pub unmoved_is : IsUnmoved before after → runs after ≡ runs before
+    pub unmoved_is : IsSameButRoomAndPlace before after → runs after ≡ runs before
     unmoved_is u = rw (u.state, u.events, u.handled, u.own, u.taken_in, u.outbox) refl
 
-    pub same_unmoved : IsSame before after → IsUnmoved before after
+    pub same_unmoved : IsSameButRoom before after → IsSameButRoomAndPlace before after
     same_unmoved s = record {
       state = s.state;
       owner = ap (λ (q : InnerQueue). q.owner) s.queue;
@@ -84,16 +84,16 @@ module _ (pid count turns : ℕ) (proc : Declared) where
       outbox = s.outbox;
     }
 
-    pub same_is : IsSame before after → standing_of pid count turns proc after ≡ standing_of pid count turns proc before
+    pub same_is : IsSameButRoom before after → standing_of pid count turns proc after ≡ standing_of pid count turns proc before
     same_is s =
         ap (λ (r : Running). record { running = r; saved = passed after.tables.inner.queue.last }) (unmoved_is (same_unmoved s))
         ∙ ap (λ (q : InnerQueue). record { running = runs before; saved = passed q.last }) s.queue
 
     -- all is as before, but for the saved place
-    pub unmoved_sound : IsSound pid count turns proc before → IsUnmoved before after → IsSaved (here after) after → IsSound pid count turns proc after
+    pub unmoved_sound : IsSound pid count turns proc before → IsSameButRoomAndPlace before after → IsSaved (here after) after → IsSound pid count turns proc after
     unmoved_sound k u s = record { keeps = subst IsKeeping (sym (unmoved_is u)) k.keeps; owner = u.owner ∙ k.owner; saved = s }
 
-    pub saved_same : IsSame before after → IsSaved (here before) before → IsSaved (here after) after
+    pub saved_same : IsSameButRoom before after → IsSaved (here before) before → IsSaved (here after) after
     saved_same s k =
         let place : after.counts.place ≡ before.counts.place = ap (λ (t : ProcessState). t.counts.place) s.state in
         let env = ap (λ (t : ProcessState). t.tables.env) s.state in
@@ -103,7 +103,7 @@ module _ (pid count turns : ℕ) (proc : Declared) where
           ended = λ some. ap (λ (q : InnerQueue). passed q.last) s.queue ∙ k.ended (subst IsSome end some);
         }
 
-    pub same_sound : IsSound pid count turns proc before → IsSame before after → IsSound pid count turns proc after
+    pub same_sound : IsSound pid count turns proc before → IsSameButRoom before after → IsSound pid count turns proc after
     same_sound k s = unmoved_sound k (same_unmoved s) (saved_same s k.saved)
 
     -- the next instruction may be executed
@@ -185,12 +185,12 @@ module _ (pid count turns : ℕ) (proc : Declared) where
 
     -- the answers of both
     pub exec_keeps_sound : {E : Type 0} (o : Result Exec E) → IsSound pid count turns proc before → can_exec (runs before) ≡ true →
-        MatchResult o (HasGone pid proc before after) (λ _. IsUnmoved before after) → IsSaved (here after) after → IsSound pid count turns proc after
+        MatchResult o (HasGone pid proc before after) (λ _. IsSameButRoomAndPlace before after) → IsSaved (here after) after → IsSound pid count turns proc after
     exec_keeps_sound (Ok how) k h x s = exec_sound how k h x s
     exec_keeps_sound (Err _) k h u s = unmoved_sound k u s
 
     pub handle_keeps_sound : {T E : Type 0} (o : Result T E) → IsSound pid count turns proc before → can_handle (runs before) ≡ true →
-        MatchResult o (λ _. HasHandledNext pid before after) (λ _. IsSame before after) → IsSound pid count turns proc after
+        MatchResult o (λ _. HasHandledNext pid before after) (λ _. IsSameButRoom before after) → IsSound pid count turns proc after
     handle_keeps_sound (Ok _) k h x = handle_sound k h x
     handle_keeps_sound (Err _) k h same = same_sound k same
 
@@ -205,7 +205,7 @@ module _ (pid count turns : ℕ) (proc : Declared) where
     whole_tells Stepped w h none x = next_same (runs before) w none ∙ executed_next before after h x
     whole_tells Waiting w h none x = next_same (runs before) w none ∙ waits_next (runs before) h x.waits
 
-    pub whole_tells_so : {E : Type 0} (o : Result Exec E) → IsWithin proc → can_exec (runs before) ≡ true → SkipsNone proc (state_of before) → MatchResult o (HasGone pid proc before after) (λ _. IsUnmoved before after) →
+    pub whole_tells_so : {E : Type 0} (o : Result Exec E) → IsWithin proc → can_exec (runs before) ≡ true → SkipsNone proc (state_of before) → MatchResult o (HasGone pid proc before after) (λ _. IsSameButRoomAndPlace before after) →
         IfOk o (IsWholeExec (standing_of pid count turns proc before) (standing_of pid count turns proc after))
     whole_tells_so (Ok how) w h none x = whole_tells how w h none x
     whole_tells_so (Err _) w h none u = tt
@@ -215,13 +215,13 @@ module _ (pid count turns : ℕ) (proc : Declared) where
     handle_answer = MatchResult o (λ _. IsHandled stood (standing_of pid count turns proc after)) (λ _. standing_of pid count turns proc after ≡ stood)
 
   module _ (before after : Progress) where
-    pub exec_tells_so : {E : Type 0} (o : Result Exec E) → can_exec (runs before) ≡ true → MatchResult o (HasGone pid proc before after) (λ _. IsUnmoved before after) →
+    pub exec_tells_so : {E : Type 0} (o : Result Exec E) → can_exec (runs before) ≡ true → MatchResult o (HasGone pid proc before after) (λ _. IsSameButRoomAndPlace before after) →
         exec_answer o (standing_of pid count turns proc before) after
     exec_tells_so (Ok how) h x = exec_tells before after how h x
     exec_tells_so (Err _) h u = unmoved_is before after u
 
     pub handle_tells_so : {T E : Type 0} (o : Result T E) → can_handle (runs before) ≡ true →
-        MatchResult o (λ _. HasHandledNext pid before after) (λ _. IsSame before after) →
+        MatchResult o (λ _. HasHandledNext pid before after) (λ _. IsSameButRoom before after) →
         handle_answer o (standing_of pid count turns proc before) after
     handle_tells_so (Ok _) h x = handle_tells before after h x
     handle_tells_so (Err _) h same = same_is before after same

@@ -43,7 +43,7 @@ pub record IsHandleDue (proc : Declared) (p : Progress) : Type 0 where
   pub saved : IsSaved (slice_get proc.instrs (p.counts.place - 1)) p
 
 -- all but the room and the saved place is as before
-pub record IsUnmoved (before after : Progress) : Type 0 where
+pub record IsSameButRoomAndPlace (before after : Progress) : Type 0 where
   pub state : state_of after ≡ state_of before
   pub owner : after.tables.inner.queue.owner ≡ before.tables.inner.queue.owner
   pub events : after.events ≡ before.events
@@ -62,7 +62,7 @@ pub record HasExecuted (pid : ℕ) (proc : Declared) (before after : Progress) :
 -- it waits at a receive, and the place behind all messages is saved
 pub record HasWaited (proc : Declared) (before after : Progress) : Type 0 where
   pub waits : IsWaiting proc (state_of before)
-  pub unmoved : IsUnmoved before after
+  pub unmoved : IsSameButRoomAndPlace before after
   pub saved : passed after.tables.inner.queue.last ≡ length before.tables.inner.queue.inbox.messages
   -- it lay among the messages before
   pub within : passed before.tables.inner.queue.last ≤ length before.tables.inner.queue.inbox.messages

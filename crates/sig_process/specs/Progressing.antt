@@ -64,7 +64,7 @@ abbrev pub standing_of : ℕ → ℕ → ℕ → Declared → Progress → Stand
 standing_of pid count turns proc p = record { running = running_of pid count turns proc p; saved = passed p.tables.inner.queue.last }
 
 -- all but the room is as before
-pub record IsSame (before after : Progress) : Type 0 where
+pub record IsSameButRoom (before after : Progress) : Type 0 where
   pub state : state_of after ≡ state_of before
   pub queue : after.tables.inner.queue ≡ before.tables.inner.queue
   pub events : after.events ≡ before.events

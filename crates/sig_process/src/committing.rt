@@ -6,7 +6,7 @@ ghost use Rattle.sig_model.specs.Finishing.{numbered, finished_exec, finished_ha
 ghost use Rattle.sig_model.specs.Running.{to_itself, to_others, next_of};
 ghost use Rattle.sig_process.specs.Committing.{HasRoom, IsCommittable, HasBegun, HasBound, HasHandled, HasTaken, gone_on, env_found, queue_after, behind_first, others_behind};
 ghost use Rattle.sig_process.specs.Plans.{growing, bound_by, serial_by, inbox_by, changed, after_obeying, post_of, body_of, executed_body};
-ghost use Rattle.sig_process.specs.Progressing.{state_of, IsSame, HasAdvanced};
+ghost use Rattle.sig_process.specs.Progressing.{state_of, IsSameButRoom, HasAdvanced};
 
 use crate::changing::{Change, Growing};
 use crate::plan::{Binding, Execution, InboxChange, Outgoing, Plan};
@@ -23,7 +23,7 @@ use std::mem::{self, drop};
 impl Progress {
     /// Makes room for all that an event changes, with so many signals to be sent.
     fn make_room(&mut self, posts: usize, grows: Growing) -> Result<(), AllocError>
-        ensures same { IsSame self.old self.new }
+        ensures same { IsSameButRoom self.old self.new }
         ensures counts { self.new.counts ≡ self.old.counts }
         ensures room { OnOk result (HasRoom posts grows self.new) }
         ensures handled { OnOk result (0 < self.new.handled.spare) }
@@ -36,7 +36,7 @@ impl Progress {
 
     /// Makes all room, and notes the event. Where memory is refused all but the room is as before.
     fn begin(&mut self, event: Event, posts: usize, grows: Growing) -> Result<(), AllocError>
-        ensures { MatchResult result (λ _. HasBegun posts grows self.old self.new event) (λ _. IsSame self.old self.new) }
+        ensures { MatchResult result (λ _. HasBegun posts grows self.old self.new event) (λ _. IsSameButRoom self.old self.new) }
     {
         if let Err(fault) = self.make_room(posts, grows) {
             drop(event);
@@ -117,7 +117,7 @@ impl Progress {
     ) -> Result<(), AllocError>
         requires stamp { self.old.counts.stamp < LAST_STAMP }
         requires serials { self.old.counts.next_serial < 2 ^ 63 }
-        ensures { MatchResult result (λ _. HasBound posts grows binding self.old self.new outcome) (λ _. IsSame self.old self.new) }
+        ensures { MatchResult result (λ _. HasBound posts grows binding self.old self.new outcome) (λ _. IsSameButRoom self.old self.new) }
     {
         let event = Event {
             stamp: self.counts.stamp + 1,
@@ -158,7 +158,7 @@ impl Progress {
         requires owner { self.old.tables.inner.queue.owner ≡ self.old.tables.watch.watch.owner }
         ensures event { MatchResult result
             (λ _. HasAdvanced pid.0 self.old self.new (finished_exec pid.0 (state_of self.old) (executed_body (state_of self.old) execution)))
-            (λ _. IsSame self.old self.new) }
+            (λ _. IsSameButRoom self.old self.new) }
         ensures unsaved { OnOk result (is_saved self.new.tables.inner.queue.last ≡ false) }
     {
         let Execution {
@@ -231,7 +231,7 @@ impl Progress {
         ensures event { MatchResult result
             (λ _. IfSome (next_of self.old.own.items self.old.taken_in.items) (λ x.
             HasHandled pid.0 self.old self.new x (finished_handle pid.0 (state_of self.old) x (body_of (state_of self.old) plan))))
-            (λ _. IsSame self.old self.new) }
+            (λ _. IsSameButRoom self.old self.new) }
         ensures end { OnOk result (self.new.tables.end ≡ (changed (after_obeying (state_of self.old) plan.obeyed) plan.change).tables.end) }
         ensures steady { OnOk result ((self.new.tables.env ≡ self.old.tables.env) × (self.new.counts.place ≡ self.old.counts.place)) }
         ensures queue { OnOk result (self.new.tables.inner.queue ≡ queue_after self.old.tables.inner.queue plan.change) }

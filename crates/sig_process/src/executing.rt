@@ -1,8 +1,8 @@
 ghost use Rattle.std.specs.Prelude.{◌≡◌, ◌+◌, ◌-◌, ◌≤◌, slice_get, false, option_copied, MatchResult};
 ghost use Rattle.sig_inner.specs.Receiving.{passed};
-ghost use Rattle.sig_process.specs.Executions.{IsExecDue, HasExecuted, HasGone, IsUnmoved};
+ghost use Rattle.sig_process.specs.Executions.{IsExecDue, HasExecuted, HasGone, IsSameButRoomAndPlace};
 ghost use Rattle.sig_process.specs.Planning.{is_receive};
-ghost use Rattle.sig_process.specs.Progressing.{state_of, IsSame};
+ghost use Rattle.sig_process.specs.Progressing.{state_of, IsSameButRoom};
 ghost use Rattle.sig_process.specs.Soundness.{IsSaved};
 ghost use Rattle.sig_process.specs.Tests.{tests_of};
 
@@ -28,7 +28,7 @@ impl Progress {
         requires due { IsExecDue proc.now self.old }
         requires instr { option_copied instr ≡ slice_get proc.now.instrs (self.old.counts.place - 1) }
         requires other { is_receive (option_copied instr) ≡ false }
-        ensures { MatchResult result (λ _. HasExecuted pid.0 proc.now self.old self.new) (λ _. IsSame self.old self.new) }
+        ensures { MatchResult result (λ _. HasExecuted pid.0 proc.now self.old self.new) (λ _. IsSameButRoom self.old self.new) }
     {
         let plan = self.plan_instr(proc, instr)?;
         self.commit_exec(pid, plan)
@@ -42,7 +42,7 @@ impl Progress {
         steps: &mut Steps<L>,
     ) -> Result<Exec, AllocError>
         requires due { IsExecDue proc.now self.old }
-        ensures gone { MatchResult result (HasGone pid.0 proc.now self.old self.new) (λ _. IsUnmoved self.old self.new) }
+        ensures gone { MatchResult result (HasGone pid.0 proc.now self.old self.new) (λ _. IsSameButRoomAndPlace self.old self.new) }
         ensures saved { IsSaved (slice_get proc.now.instrs (self.new.counts.place - 1)) self.new }
         ensures ticks { steps.new ≤ steps.old + tests_of (state_of self.old) (passed self.old.tables.inner.queue.last) (slice_get proc.now.instrs (self.old.counts.place - 1)) }
     {

@@ -4,7 +4,7 @@ ghost use Rattle.sig_model.specs.Running.{next_of};
 ghost use Rattle.sig_process.specs.Executions.{IsHandleDue, IsPlacedWithin, HasHandledNext};
 ghost use Rattle.sig_process.specs.KeptMessage.{kept_message};
 ghost use Rattle.sig_process.specs.Plans.{body_of};
-ghost use Rattle.sig_process.specs.Progressing.{state_of, IsSame};
+ghost use Rattle.sig_process.specs.Progressing.{state_of, IsSameButRoom};
 
 use crate::plan::Plan;
 use crate::progress::Progress;
@@ -32,7 +32,7 @@ impl Progress {
         requires due { IsHandleDue proc.now self.old }
         requires placed { IsPlacedWithin self.old.tables.inner.queue }
         requires planned { kept_message self.old ≡ None }
-        ensures { MatchResult result (λ _. HasHandledNext pid.0 self.old self.new) (λ _. IsSame self.old self.new) }
+        ensures { MatchResult result (λ _. HasHandledNext pid.0 self.old self.new) (λ _. IsSameButRoom self.old self.new) }
     {
         let plan = self.plan_next(pid)?;
         self.commit_handle(pid, plan)
@@ -42,7 +42,7 @@ impl Progress {
     /// planned first.
     pub(crate) fn handle(&mut self, pid: Pid, proc: &Proc) -> Result<(), AllocError>
         requires due { IsHandleDue proc.now self.old }
-        ensures { MatchResult result (λ _. HasHandledNext pid.0 self.old self.new) (λ _. IsSame self.old self.new) }
+        ensures { MatchResult result (λ _. HasHandledNext pid.0 self.old self.new) (λ _. IsSameButRoom self.old self.new) }
     {
         prove!(self.tables.inner.passed() <= self.tables.inner.len());
         prove!(self.tables.inner.next_arrival() <= u64::MAX);

@@ -3,7 +3,7 @@
 ghost use Rattle.std.specs.Prelude.{◌≡◌, ◌<◌, ◌^◌, option_copied, IfSome, IsSome, IsSomeAnd, MatchResult, OnOk, Some};
 ghost use Rattle.sig_model.specs.Running.{next_of};
 ghost use Rattle.sig_process.specs.KeptMessage.{message_of, kept_message, HasMoved, HasKept};
-ghost use Rattle.sig_process.specs.Progressing.{IsSame};
+ghost use Rattle.sig_process.specs.Progressing.{IsSameButRoom};
 
 use crate::progress::Progress;
 use crate::waiting::{next_signal, pop_next};
@@ -85,7 +85,7 @@ impl Progress {
         requires arrivals { self.old.tables.inner.queue.inbox.next_arrival < 2 ^ 63 }
         ensures { MatchResult result
             (λ _. IfSome (next_of self.old.own.items self.old.taken_in.items) (λ x. HasKept self.old self.new x told))
-            (λ _. IsSame self.old self.new) }
+            (λ _. IsSameButRoom self.old self.new) }
     {
         self.keeping_room()?;
         let event = self.handling_event(Outcome::Kept { message: told });

@@ -612,9 +612,9 @@ impl Progress {
 
     /// What an instruction does that has no expressions and is no receive, one arm for each row of the
     /// table of instructions.
-    fn plan_bare(&self, proc: &Proc, instr: &Instr) -> Result<Execution, ValueFault>
+    fn plan_without_expressions(&self, proc: &Proc, instr: &Instr) -> Result<Execution, ValueFault>
         requires within { self.now.counts.place ≤ length proc.now.instrs }
-        requires bare { exprs_of instr.now ≡ [] }
+        requires no_expressions { exprs_of instr.now ≡ [] }
         requires other { is_receive (Some instr.now) ≡ false }
         requires owner { self.now.tables.inner.queue.owner ≡ self.now.tables.watch.watch.owner }
         ensures { IsRow proc.now (state_of self.now) instr.now result }
@@ -650,7 +650,7 @@ impl Progress {
             Instr::Unalias { reference } => self.unalias_row(proc, reference),
             Instr::Exit { reason } => self.exit_row(proc, reason),
             Instr::ExitTo { target, reason } => self.exit_to_row(proc, target, reason),
-            _ => self.plan_bare(proc, instr),
+            _ => self.plan_without_expressions(proc, instr),
         }
     }
 

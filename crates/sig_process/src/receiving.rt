@@ -7,8 +7,8 @@ ghost use Rattle.sig_model.specs.Bodies.{going_on, place_after};
 ghost use Rattle.sig_model.specs.Bounds.{IsBounded};
 ghost use Rattle.sig_model.specs.Executing.{taking};
 ghost use Rattle.sig_model.specs.Finishing.{finished_exec};
-ghost use Rattle.sig_process.specs.Executions.{IsExecDue, IsHit, HasGone, IsUnmoved};
-ghost use Rattle.sig_process.specs.Progressing.{state_of, IsSame, HasAdvanced};
+ghost use Rattle.sig_process.specs.Executions.{IsExecDue, IsHit, HasGone, IsSameButRoomAndPlace};
+ghost use Rattle.sig_process.specs.Progressing.{state_of, IsSameButRoom, HasAdvanced};
 ghost use Rattle.sig_process.specs.Soundness.{IsSaved};
 ghost use Rattle.sig_process.specs.Tests.{tests_of};
 
@@ -93,7 +93,7 @@ impl Progress {
         ensures gone { MatchResult result
             (λ _. HasAdvanced pid.0 self.old self.new (finished_exec pid.0 (state_of self.old)
             (going_on (state_of self.old) (place_after proc.now.labels target self.old.counts.place) (Outcome.After looked))))
-            (λ _. IsSame self.old self.new) }
+            (λ _. IsSameButRoom self.old self.new) }
         ensures unsaved { OnOk result (is_saved self.new.tables.inner.queue.last ≡ false) }
     {
         let plan = self.silent(Change::Nothing, Outcome::After { looked });
@@ -112,7 +112,7 @@ impl Progress {
         requires few { length receiving.now.clauses < 2 ^ 32 }
         requires marked { AreMarked receiving.now.«using» receiving.now.clauses }
         requires here { slice_get proc.now.instrs (self.old.counts.place - 1) ≡ Some (Instr.Receive receiving.now) }
-        ensures gone { MatchResult result (HasGone pid.0 proc.now self.old self.new) (λ _. IsUnmoved self.old self.new) }
+        ensures gone { MatchResult result (HasGone pid.0 proc.now self.old self.new) (λ _. IsSameButRoomAndPlace self.old self.new) }
         ensures saved { IsSaved (slice_get proc.now.instrs (self.new.counts.place - 1)) self.new }
         ensures ticks { steps.new ≤ steps.old
             + tests_of (state_of self.old) (passed self.old.tables.inner.queue.last) (Some (Instr.Receive receiving.now)) }

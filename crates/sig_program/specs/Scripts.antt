@@ -32,8 +32,8 @@ AreMarked using clauses = IfSome using (λ x. All (λ (c : Clause). pins c.patte
 
 -- Each target of an instruction is one of so many labels, counted from 0, and a receive has fewer than 2^32 clauses. An alias that
 -- is a monitor too never has the mode of a reply alone. Each clause of a receive with a marker pins its variable.
-abbrev pub IsLawful : ℕ → Instr → Type 0
-IsLawful labels i =
+abbrev pub IsInstrWithin : ℕ → Instr → Type 0
+IsInstrWithin labels i =
     (length (clauses_of i) < 2 ^ 32) × All (λ target. target < labels) (targets_of i) × (mode_in i ≢ Some alias_mode.Reply)
     × AreMarked (using_of i) (clauses_of i)
 
@@ -52,7 +52,7 @@ pub record IsWithin (p : Declared) : Type 0 where
   pub few_labels : length p.labels < 2 ^ 32
   pub places : All (IsPlace (length p.instrs)) p.labels
   pub rising : AreRising p.labels
-  pub lawful : All (IsLawful (length p.labels)) p.instrs
+  pub lawful : All (IsInstrWithin (length p.labels)) p.instrs
 
 -- each pid in an expression is below so many
 abbrev pub IsExprBelow : ℕ → Expr → Type 0
@@ -71,7 +71,7 @@ abbrev pub IsProcBelow : ℕ → Declared → Type 0
 IsProcBelow count p = All (IsInstrBelow count) p.instrs
 
 -- the bounds that each script keeps
-pub record IsSound (s : Program) : Type 0 where
+pub record IsScriptWithin (s : Program) : Type 0 where
   pub few : length s.procs ≤ MOST_PROCESSES
   pub turns : s.turns ≤ MOST_TURNS
   pub pids : All (IsProcBelow (length s.procs)) s.procs

@@ -12,7 +12,7 @@ ghost use Rattle.std.specs.Prelude.{
   option_copied,
   option_map,
 };
-ghost use Rattle.sig_program.specs.Scripts.{IsWithin, IsLawful};
+ghost use Rattle.sig_program.specs.Scripts.{IsWithin, IsInstrWithin};
 
 use crate::copying::copy_all;
 use crate::instruction::{Instr, Instrs};
@@ -68,7 +68,7 @@ impl Proc {
     pub fn instr(&self, place: u32) -> Option<&Instr>
         requires { 1 ≤ place }
         ensures value { option_copied result ≡ slice_get self.now.instrs (place - 1) }
-        ensures lawful { IfSome (option_copied result) (λ i. IsLawful (length self.now.labels) i) }
+        ensures lawful { IfSome (option_copied result) (λ i. IsInstrWithin (length self.now.labels) i) }
         ensures few { length self.now.instrs + 1 < 2 ^ 32 }
     {
         self.instrs.get((place - 1) as usize)

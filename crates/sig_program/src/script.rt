@@ -1,5 +1,5 @@
 ghost use Rattle.std.specs.Prelude.{◌≡◌, ◌≤◌, length, slice_get, option_copied};
-ghost use Rattle.sig_program.specs.Scripts.{IsSound};
+ghost use Rattle.sig_program.specs.Scripts.{IsScriptWithin};
 
 use crate::process::{Proc, Procs};
 use std::marker::Model;
@@ -28,7 +28,7 @@ impl Model for Script {
     ghost use Rattle.std.specs.Coded.{codes};
     ghost use Rattle.sig_patterns.specs.contracts.expression.Expr as expr;
     ghost use Rattle.sig_patterns.specs.contracts.pattern.Pattern as pattern;
-    ghost use Rattle.sig_program.specs.Scripts.{Program, IsSound};
+    ghost use Rattle.sig_program.specs.Scripts.{Program, IsScriptWithin};
 
     ghost Value = { Program };
 
@@ -36,7 +36,7 @@ impl Model for Script {
 
     ghost view = { λ s. record { turns = s.turns; procs = s.procs } };
 
-    ghost invariant = { λ s. IsSound (record { turns = s.turns; procs = s.procs }) };
+    ghost invariant = { λ s. IsScriptWithin (record { turns = s.turns; procs = s.procs }) };
 }
 
 impl Script {
@@ -44,7 +44,7 @@ impl Script {
     pub fn count(&self) -> u32
         ensures count { result ≡ length self.now.procs }
         ensures few { length self.now.procs ≤ MOST_PROCESSES }
-        ensures sound { IsSound self.now }
+        ensures sound { IsScriptWithin self.now }
     {
         self.procs.len() as u32
     }

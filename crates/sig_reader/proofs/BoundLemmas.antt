@@ -26,7 +26,7 @@ use Rattle.sig_reader.specs.declared.draft.OpenReceive.{OpenReceive}
 use Rattle.sig_reader.specs.declared.draft.Draft.{Draft}
 use Rattle.sig_reader.specs.declared.form.Form.{Form}
 use Rattle.sig_reader.specs.declared.form.Form.TheVariants as form
-use Rattle.sig_program.specs.Scripts.{Declared, Program, AreMarked, IsLawful, IsPlace, AreRising, IsWithin, IsExprBelow, IsPatternBelow, IsInstrBelow, IsSound, bare_process}
+use Rattle.sig_program.specs.Scripts.{Declared, Program, AreMarked, IsInstrWithin, IsPlace, AreRising, IsWithin, IsExprBelow, IsPatternBelow, IsInstrBelow, IsScriptWithin, bare_process}
 use Rattle.sig_program.specs.Parts.{targets_of, plain_clause}
 use Rattle.sig_tokens.specs.declared.fault.Stop.{Stop}
 use Rattle.sig_tokens.specs.Faults.{Fault, ◌>>=◌, on_ok, Gives}
@@ -381,7 +381,7 @@ each-at P i j (suc k) (p ∷ ps) d e lt h =
 record IsMeant (s : Program) (here : ℕ) (p : Declared) : Type 0 where
   places : All (IsPlace (length p.instrs)) p.labels
   rising : AreRising p.labels
-  lawful : All (IsLawful (length (labels_at here s.procs))) p.instrs
+  lawful : All (IsInstrWithin (length (labels_at here s.procs))) p.instrs
   below : All (IsInstrBelow (length s.procs)) p.instrs
 
 -- the same of an open receive before line n
@@ -409,20 +409,20 @@ empty-meant : (s : Program) (here : ℕ) (name : List ℕ) → IsMeant s here (b
 empty-meant s here name = record {
   places = All-nil (IsPlace 0);
   rising = AreRising.none;
-  lawful = All-nil (IsLawful (length (labels_at here s.procs)));
+  lawful = All-nil (IsInstrWithin (length (labels_at here s.procs)));
   below = All-nil (IsInstrBelow (length s.procs));
 }
 
 place-later : (n m : ℕ) (l : Label) → n ≤ m → IsPlace n l → IsPlace m l
 place-later n m l le h = (h.0, omega (arith, h.1))
 
-instr-more : (s : Program) (here : ℕ) (p : Declared) (i : Instr) → IsLawful (length (labels_at here s.procs)) i → IsInstrBelow (length s.procs) i → IsMeant s here p → IsMeant s here (with_instr p i)
+instr-more : (s : Program) (here : ℕ) (p : Declared) (i : Instr) → IsInstrWithin (length (labels_at here s.procs)) i → IsInstrBelow (length s.procs) i → IsMeant s here p → IsMeant s here (with_instr p i)
 instr-more s here p i l b h =
     let le : length p.instrs ≤ length (p.instrs ++ i ∷ []) = omega (arith, length-append p.instrs (i ∷ [])) in
     record {
       places = All-weaker (IsPlace (length p.instrs)) (IsPlace (length (p.instrs ++ i ∷ []))) (λ l k. place-later (length p.instrs) (length (p.instrs ++ i ∷ [])) l le k) p.labels h.places;
       rising = h.rising;
-      lawful = All-push (IsLawful (length (labels_at here s.procs))) p.instrs i h.lawful l;
+      lawful = All-push (IsInstrWithin (length (labels_at here s.procs))) p.instrs i h.lawful l;
       below = All-push (IsInstrBelow (length s.procs)) p.instrs i h.below b;
     }
 
@@ -613,7 +613,7 @@ proc-within first here m p lt small e h = record {
   few_labels = omega (arith, lt, small.labels);
   places = h.places;
   rising = h.rising;
-  lawful = subst (λ (n : ℕ). All (IsLawful n) p.instrs) e h.lawful;
+  lawful = subst (λ (n : ℕ). All (IsInstrWithin n) p.instrs) e h.lawful;
 }
 
 pub procs_within : (lines : List (List ℕ)) (first s : Program) → walk Any lines ≡ Ok first → walk (Among first) lines ≡ Ok s → length lines ≤ 2 ^ 30 → All IsWithin s.procs
@@ -624,7 +624,7 @@ procs_within lines first s e k le =
     λ i d lt. proc-within first i (2 + length lines) (get_or s.procs i d) (omega (arith, le)) (few.1 i d lt) (same-labels i first.procs s.procs d same lt)
     (each-at (IsMeant first) 0 i i s.procs d (omega arith) lt meant.1)
 
-pub script_sound : (lines : List (List ℕ)) (first s : Program) → walk Any lines ≡ Ok first → walk (Among first) lines ≡ Ok s → length lines ≤ 2 ^ 30 → IsSound s
+pub script_sound : (lines : List (List ℕ)) (first s : Program) → walk Any lines ≡ Ok first → walk (Among first) lines ≡ Ok s → length lines ≤ 2 ^ 30 → IsScriptWithin s
 script_sound lines first s e k le =
     let few = few_walked (Among first) lines s k in
     let meant = walk-meant first lines s le k in

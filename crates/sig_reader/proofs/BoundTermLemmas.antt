@@ -27,7 +27,7 @@ use Rattle.sig_reader.specs.declared.form.Form.{Form}
 use Rattle.sig_reader.specs.declared.form.Form.TheVariants as form
 use Rattle.sig_program.specs.Instructions.{Operand, an_expr, a_label, a_mode, AllSaid, operands_of, instr_by}
 use Rattle.sig_program.specs.Parts.{said_exprs, said_labels, said_mode, exprs_in, targets_in, mode_by, clauses_in, using_in}
-use Rattle.sig_program.specs.Scripts.{Declared, Program, AreMarked, IsLawful, IsExprBelow, IsPatternBelow, IsInstrBelow, bare_process}
+use Rattle.sig_program.specs.Scripts.{Declared, Program, AreMarked, IsInstrWithin, IsExprBelow, IsPatternBelow, IsInstrBelow, bare_process}
 use Rattle.sig_tokens.specs.Faults.{◌>>=◌, on_ok}
 use Rattle.sig_tokens.specs.Tokens.{text, unquoted, tokens_of}
 use Rattle.sig_tokens.specs.Numbers.{int_of}
@@ -251,7 +251,7 @@ mode-meant line (t ∷ ts) =
 
 -- the targets of a form are labels, and its pids those of processes
 abbrev pub IsMeantForm : ℕ → ℕ → Form → Type 0
-IsMeantForm count labels (form.Do i) = IsLawful labels i × IsInstrBelow count i
+IsMeantForm count labels (form.Do i) = IsInstrWithin labels i × IsInstrBelow count i
 IsMeantForm count labels (form.On pattern target) = IsPatternBelow count pattern × IsTarget labels target
 IsMeantForm count labels (form.After after) = IsTarget labels after.target
 IsMeantForm count labels _ = Unit {0}
@@ -298,7 +298,7 @@ module _ (s : Program) (here : ℕ) (line : List ℕ) where
       (λ x _. holds-on_ok (AreMeant os) (AreMeant (o ∷ os)) (λ xs. (x.0, xs)) (all_said (Among s) here line os x.1) (operands-meant os x.1) (λ xs k. k))
 
   abbrev IsMeantInstr : Instr → Type 0
-  IsMeantInstr i = IsLawful (length (labels_at here s.procs)) i × IsInstrBelow (length s.procs) i
+  IsMeantInstr i = IsInstrWithin (length (labels_at here s.procs)) i × IsInstrBelow (length s.procs) i
 
   no-clauses : length {A = Clause} [] < 2 ^ 32
   no-clauses = omega arith

@@ -20,7 +20,7 @@ use Rattle.sig_reader.specs.declared.draft.Draft.{Draft}
 use Rattle.sig_reader.specs.declared.form.Form.{Form}
 use Rattle.sig_reader.specs.declared.form.Form.TheVariants as form
 use Rattle.sig_program.specs.declared.script.TheConstants.{MOST_PROCESSES, MOST_TURNS}
-use Rattle.sig_program.specs.Scripts.{Declared, Program, IsWithin, IsSound, bare_process}
+use Rattle.sig_program.specs.Scripts.{Declared, Program, IsWithin, IsScriptWithin, bare_process}
 use Rattle.sig_program.specs.Parts.{plain_clause}
 use Rattle.sig_tokens.specs.Faults.{Fault, ◌>>=◌}
 use Rattle.sig_tokens.specs.Names.{pid_of, labels_at, label_of}
@@ -226,5 +226,5 @@ module _ (known : Known) (lines : List (List ℕ)) (s : Program) (e : walk known
   pub once_within : length lines ≤ 2 ^ 30 → All IsWithin s.procs
   once_within le = procs_within lines (found_first s) s first-is second-is le
 
-  pub once_sound : length lines ≤ 2 ^ 30 → IsSound s
+  pub once_sound : length lines ≤ 2 ^ 30 → IsScriptWithin s
   once_sound le = script_sound lines (found_first s) s first-is second-is le

@@ -13,7 +13,7 @@ ghost use Rattle.sig_reader.specs.Grammar.{
 };
 ghost use Rattle.sig_reader.specs.Drafts.{blank};
 ghost use Rattle.sig_reader.specs.Fitting.{IsFit};
-ghost use Rattle.sig_program.specs.Scripts.{IsWithin, IsSound};
+ghost use Rattle.sig_program.specs.Scripts.{IsWithin, IsScriptWithin};
 ghost use Rattle.sig_reader.specs.Reading.{IsReading, IsWalked};
 ghost use Rattle.sig_reader.specs.declared.reader.ScriptError.TheVariants.{Memory};
 
@@ -174,7 +174,7 @@ fn seal_procs(alloc: Global, drafts: DraftProcs) -> Result<Procs, AllocError>
 /// The script, whose bounds are known.
 fn seal(alloc: Global, draft: DraftScript) -> Result<Script, AllocError>
     requires within { All IsWithin draft.procs }
-    requires sound { IsSound draft }
+    requires sound { IsScriptWithin draft }
     ensures { IfOk result (λ script. script ≡ draft) }
 {
     let procs = seal_procs(alloc, draft.procs)?;

@@ -1,6 +1,6 @@
 -- A round begins: of the crew, of its queues, and of its parts.
 use Rattle.std.proofs.Common.{◌≡◌, ◌≤◌, List, length, sym, ap, ◌∙◌, subst, arith}
-use Rattle.sig_program.specs.Scripts.{Program, IsSound}
+use Rattle.sig_program.specs.Scripts.{Program, IsScriptWithin}
 use Rattle.sig_model.specs.OneWorker.{IsClear}
 use Rattle.sig_model.specs.CrewLaw.{IsLawfulCrew}
 use Rattle.sig_process.specs.Standing.{Standing, runnings_of}
@@ -20,7 +20,7 @@ pub record IsBegun (script : Program) (start : List Standing) : Type 0 where
   pub few : length (runnings_of start) ≤ 256
   pub few_procs : length start ≤ 256
 
-pub begun : (script : Program) (start crew : List Standing) → start ≡ crew → IsSound script → IsLawfulCrew script (runnings_of crew) → IsClear (runnings_of crew) → IsBegun script start
+pub begun : (script : Program) (start crew : List Standing) → start ≡ crew → IsScriptWithin script → IsLawfulCrew script (runnings_of crew) → IsClear (runnings_of crew) → IsBegun script start
 begun script start crew view sound lawful clear =
     let law : IsLawfulCrew script (runnings_of start) = subst (λ z. IsLawfulCrew script (runnings_of z)) (sym view) lawful in
     let few : length (runnings_of start) ≤ 256 = crew_few script (runnings_of start) sound law in

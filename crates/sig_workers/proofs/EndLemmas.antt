@@ -18,7 +18,7 @@ use Rattle.sig_queue.specs.Seats.{Queue, Seated}
 use Rattle.sig_workers.specs.SeatAccounts.{put_in, put_by, taken_in}
 use Rattle.sig_workers.specs.Gone.{Continued, TakesFor}
 use Rattle.sig_workers.specs.Parts.{is_in, IsSeat, AreSeats, HasPlace}
-use Rattle.sig_workers.specs.Rounds.{NoneMore, IsReceiptOf, HasPassed, IsFlag}
+use Rattle.sig_workers.specs.Rounds.{NoneMore, IsReceiptOf, IsPassFlag, IsFlag}
 use Rattle.sig_workers.specs.Closing.{CanClose, IsClosedAt}
 use Rattle.sig_workers.specs.Opening.{IsQueueOf}
 use Rattle.sig_workers.proofs.PartLemmas.{in_part}
@@ -163,6 +163,6 @@ module _ (script : Program) (policy : Policy) (crew : List Running) (queues : Li
         let e : length t.events ≡ length r.events = ap (λ (z : List Event). length z) (sym events ∙ none p r u.0 at_r u.1) in
         omega (arith, lt, e)
 
-    pub end_flag : (moved : Bool) → HasPassed crew procs moved → IsFlag crew later moved
+    pub end_flag : (moved : Bool) → IsPassFlag crew procs moved → IsFlag crew later moved
     end_flag true h = some_more h.0 h.1 h.2 h.3 h.4 h.5
     end_flag false h = (none_more h, still_end h)

@@ -6,7 +6,7 @@ use Rattle.std.proofs.lemmas.Bool.{eqb-false}
 use Rattle.sig_kinds.specs.declared.signal.Signal.{Signal}
 use Rattle.sig_model.specs.declared.event.Event.{Event}
 use Rattle.sig_model.specs.Running.{Running}
-use Rattle.sig_model.specs.OneWorker.{handle_all, exec_or_stay, visited, deliver_all, settled_visit, visit_at, visit, events_at, has_moved}
+use Rattle.sig_model.specs.OneWorker.{handle_all, exec_or_stay, visited, deliver_all, settled_visit, visit_at, visit, event_count, has_moved}
 use Rattle.sig_model.proofs.ReachLemmas.{set_here}
 use Rattle.sig_process.specs.Idling.{IsIdle}
 use Rattle.sig_process.specs.Standing.{Standing, runnings_of}
@@ -38,12 +38,12 @@ idle_visit crew at r there idle =
 
 -- that is no event
 pub not_moved : (at : ℕ) (crew : List Running) → has_moved at crew crew ≡ false
-not_moved at crew = by (events_at at crew == events_at at crew) refl where
-  by : (b : Bool) → (events_at at crew == events_at at crew) ≡ b → not b ≡ false
+not_moved at crew = by (event_count at crew == event_count at crew) refl where
+  by : (b : Bool) → (event_count at crew == event_count at crew) ≡ b → not b ≡ false
   by true e = refl
-  by false e = absurd (eqb-false (events_at at crew) (events_at at crew) e refl)
+  by false e = absurd (eqb-false (event_count at crew) (event_count at crew) e refl)
 
 -- how many events the process at a place has
-pub events_here : (procs : List Standing) (at : ℕ) (p : Standing) (events : List Event) (n : ℕ) → at < length procs → p ≡ get_or procs at p → events ≡ p.running.events → n ≡ length events → n ≡ events_at at (runnings_of procs)
+pub events_here : (procs : List Standing) (at : ℕ) (p : Standing) (events : List Event) (n : ℕ) → at < length procs → p ≡ get_or procs at p → events ≡ p.running.events → n ≡ length events → n ≡ event_count at (runnings_of procs)
 events_here procs at p events n lt is same count =
     count ∙ ap (λ (xs : List Event). length xs) same ∙ sym (ap (λ o. option_map_or (λ (r : Running). length r.events) o 0) (running_at procs at p lt is))

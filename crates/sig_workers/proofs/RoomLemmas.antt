@@ -13,7 +13,7 @@ use Rattle.sig_model.specs.Bodies.{Body}
 use Rattle.sig_model.specs.Executing.{executing}
 use Rattle.sig_model.specs.Finishing.{finished_exec}
 use Rattle.sig_model.specs.Running.{Running, advanced, handled_one}
-use Rattle.sig_model.specs.OneWorker.{visited, arrived, deliver_to, deliver_all, visit_at, visit, events_at, has_moved}
+use Rattle.sig_model.specs.OneWorker.{visited, arrived, deliver_to, deliver_all, visit_at, visit, event_count, has_moved}
 use Rattle.sig_model.proofs.CountLemmas.{events_get, delivered_events}
 use Rattle.sig_model.proofs.Guards.{Executed, Handled, exec_next_tells, handle_next_tells}
 use Rattle.sig_model.proofs.EventLemmas.{IsStep}
@@ -94,7 +94,7 @@ differ : (a b : ℕ) → not (a == b) ≡ true → a ≡ b → ⊥
 differ a b h e = grind (arith, nat_tests)
 
 falls : (at : ℕ) (o : Option Running) (xs : List Running) → slice_get xs at ≡ o → IsFalling at xs (visit_at at o xs)
-falls at None xs e = record { most = omega arith; moved = λ h. absurd (differ (events_at at xs) (events_at at xs) h refl) }
+falls at None xs e = record { most = omega arith; moved = λ h. absurd (differ (event_count at xs) (event_count at xs) h refl) }
 falls at (Some r) xs e =
     let v : Running = visited r in
     let w : Running = record v { outbox = [] } in
@@ -102,12 +102,12 @@ falls at (Some r) xs e =
     let later : IsLater r v = visited_later r in
     let sum : room ys + room_of r ≡ room xs + room_of w = room_set xs at r w e in
     let same : room (deliver_all v.outbox ys) ≡ room ys = delivered_room v.outbox ys in
-    let after : events_at at (deliver_all v.outbox ys) ≡ length v.events = delivered_events v.outbox ys at ∙ events_get ys at w (get_set xs at r w e) in
-    let before : events_at at xs ≡ length r.events = events_get xs at r e in
+    let after : event_count at (deliver_all v.outbox ys) ≡ length v.events = delivered_events v.outbox ys at ∙ events_get ys at w (get_set xs at r w e) in
+    let before : event_count at xs ≡ length r.events = events_get xs at r e in
     record {
       most = omega (arith, sum, same, later.room);
       moved = λ h.
-          let other : length r.events ≡ length v.events → ⊥ = λ q. differ (events_at at xs) (events_at at (deliver_all v.outbox ys)) h (before ∙ q ∙ sym after) in
+          let other : length r.events ≡ length v.events → ⊥ = λ q. differ (event_count at xs) (event_count at (deliver_all v.outbox ys)) h (before ∙ q ∙ sym after) in
           let less : room_of v < room_of r = later.moved other in
           omega (arith, sum, same, less);
     }

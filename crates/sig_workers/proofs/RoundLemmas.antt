@@ -2,7 +2,7 @@
 use Rattle.std.proofs.Common.{◌≡◌, ℕ, ◌+◌, ◌<◌, ◌≤◌, List, length, Bool, true, false, Some, refl, sym, ap, ◌∙◌, subst, inl, inr, ◌⊎◌, arith}
 use Rattle.std.specs.Prelude.{slice_get, All, slice_index}
 use Rattle.std.proofs.lemmas.Option.{same_Some, slice_get_within}
-use Rattle.sig_program.specs.Scripts.{Program, IsSound}
+use Rattle.sig_program.specs.Scripts.{Program, IsScriptWithin}
 use Rattle.sig_model.specs.declared.event.Event.{Event}
 use Rattle.sig_model.specs.Running.{Running}
 use Rattle.sig_model.specs.OneWorker.{IsClear}
@@ -16,7 +16,7 @@ use Rattle.sig_queue.specs.Seats.{Queue, Seated}
 use Rattle.sig_workers.specs.declared.part.Part.{Part}
 use Rattle.sig_workers.specs.declared.part.Worked.{Worked}
 use Rattle.sig_workers.specs.Parts.{procs_of, base_of, is_in, IsPart, AreSeats, HasPlace}
-use Rattle.sig_workers.specs.Rounds.{HasPassed, IsFlag, IsRound, HasSettled}
+use Rattle.sig_workers.specs.Rounds.{IsPassFlag, IsFlag, IsRound, HasSettled}
 use Rattle.sig_process.specs.Standing.{Standing, runnings_of}
 use Rattle.sig_workers.specs.Acting.{HasActed, KeepEvents}
 use Rattle.sig_workers.specs.Closing.{CanClose, IsClosedAt}
@@ -30,7 +30,7 @@ use Rattle.sig_workers.proofs.RoundLaw.{all_clear, round_lawful, round_begins, r
 use Rattle.sig_workers.proofs.EndLemmas.{may_close, ends, strange_none, end_receipt, end_flag}
 
 -- a sound script has few processes
-pub crew_few : (script : Program) (crew : List Running) → IsSound script → IsLawfulCrew script crew → length crew ≤ 256
+pub crew_few : (script : Program) (crew : List Running) → IsScriptWithin script → IsLawfulCrew script crew → length crew ≤ 256
 crew_few script crew sound law = omega (arith, sound.few, law.many)
 
 -- the next numbers of a lawful crew
@@ -81,7 +81,7 @@ module _ (script : Program) (policy : Policy) (stands : List Standing) (law : Is
     pub can_close : (p : ℕ) (q : Queue) (v : Seated) (r : Running) → slice_get queues p ≡ Some q → slice_get w.part.seats.items p ≡ Some v → slice_get (procs_of w.part) p ≡ Some r → CanClose q v r
     can_close = may_close script policy crew queues law clear same each w.part.seats.items (procs_of w.part) whole.count_is all_seats procs_at
 
-    passed_case : (b : Bool) → HasGrownBy crew 0 (procs_of w.part) b → HasPassed crew (procs_of w.part) b
+    passed_case : (b : Bool) → HasGrownBy crew 0 (procs_of w.part) b → IsPassFlag crew (procs_of w.part) b
     passed_case true h = (h.0, h.1, h.2, subst (λ z. slice_get crew z ≡ Some h.1) (let e : 0 + h.0 ≡ h.0 = omega arith in e) h.3, h.4, h.5)
     passed_case false h = λ p t at.
         let k : (r : Running) × (slice_get crew (0 + p) ≡ Some r) × (length t.events ≡ length r.events) × IsStill t = h p t at in

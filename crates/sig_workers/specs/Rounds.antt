@@ -38,8 +38,8 @@ pub record IsReceiptOf (policy : Policy) (crew later : List Running) (p : ℕ) (
   pub sent : (s : ℕ) (r t : Running) → s ≢ p → slice_get crew s ≡ Some r → slice_get later s ≡ Some t → went p t ≡ went p r ++ coming_from s (signals a.put)
 
 -- some process has an event beyond those that it had; or none has, and none can do anything
-abbrev pub HasPassed : List Running → List Running → Bool → Type 0
-HasPassed crew procs moved =
+abbrev pub IsPassFlag : List Running → List Running → Bool → Type 0
+IsPassFlag crew procs moved =
     MatchBool moved ((p : ℕ) × (r : Running) × (t : Running) × (slice_get crew p ≡ Some r) × (slice_get procs p ≡ Some t) × (length r.events < length t.events))
     ((p : ℕ) (t : Running) → slice_get procs p ≡ Some t → (r : Running) × (slice_get crew p ≡ Some r) × (length t.events ≡ length r.events) × IsStill t)
 

@@ -1,5 +1,5 @@
 ghost use Rattle.std.specs.Prelude.{◌≤◌, IfOk};
-ghost use Rattle.sig_program.specs.Scripts.{Program, IsSound};
+ghost use Rattle.sig_program.specs.Scripts.{Program, IsScriptWithin};
 ghost use Rattle.sig_model.specs.CrewLaw.{IsLawfulCrew};
 ghost use Rattle.sig_model.specs.OneWorker.{IsClear};
 ghost use Rattle.sig_model.specs.Still.{IsStillCrew};
@@ -41,7 +41,7 @@ pub fn round<R: Threads + Wait + Sync, G: Gate>(
     policy: Policy,
     gate: &G,
 ) -> Result<(Crew, Receipts, bool), AllocError>
-    requires lawful { (script : Program) × IsSound script × IsLawfulCrew script (runnings_of crew) }
+    requires lawful { (script : Program) × IsScriptWithin script × IsLawfulCrew script (runnings_of crew) }
     requires clear { IsClear (runnings_of crew) }
     requires workers { (1 ≤ workers) × (workers ≤ 16) }
     requires quota { 1 ≤ quota }
@@ -80,7 +80,7 @@ pub fn run_rounds<R: Threads + Wait + Sync, G: Gate>(
     policy: Policy,
     gate: &G,
 ) -> Result<(Crew, Receipts), AllocError>
-    requires lawful { (script : Program) × IsSound script × IsLawfulCrew script (runnings_of crew) }
+    requires lawful { (script : Program) × IsScriptWithin script × IsLawfulCrew script (runnings_of crew) }
     requires clear { IsClear (runnings_of crew) }
     requires workers { (1 ≤ workers) × (workers ≤ 16) }
     requires quota { 1 ≤ quota }

@@ -2,7 +2,7 @@ use Rattle.std.proofs.Common.{arith, subst, sym, ◌≡◌, ◌-◌, ℕ, List, 
 use Rattle.std.proofs.lemmas.Option.{slice_get_cases, slice_get_within}
 use Rattle.std.proofs.lemmas.Grind.{common_steps}
 use Rattle.std.specs.Prelude.{Option, IfSome, option_copied, slice_get}
-use Rattle.sig_program.specs.Scripts.{IsWithin, IsLawful}
+use Rattle.sig_program.specs.Scripts.{IsWithin, IsInstrWithin}
 use Rattle.sig_program.proofs.process.Proc.instr.Goals as goal
 
 at_place : {A : Type 0} (xs : List A) (i : ℕ) (x : A) → slice_get xs i ≡ Some x → get_or xs i x ≡ x
@@ -19,4 +19,4 @@ returns-clause-value c = grind (arith, common_steps)
 pub returns-clause-lawful : goal.returns-clause-lawful
 returns-clause-lawful c =
     let within : IsWithin c.args.self.now = subst IsWithin c.self.view_is c.self.invariant in
-    one_of (IsLawful (length c.args.self.now.labels)) c.args.self.now.instrs (c.args.place - 1) (option_copied c.get.result) (grind (arith, common_steps)) within.lawful
+    one_of (IsInstrWithin (length c.args.self.now.labels)) c.args.self.now.instrs (c.args.place - 1) (option_copied c.get.result) (grind (arith, common_steps)) within.lawful

@@ -1,4 +1,4 @@
-use Rattle.sig_process.proofs.progress.Progress.plan_bare.Goals as goal
+use Rattle.sig_process.proofs.progress.Progress.plan_without_expressions.Goals as goal
 
 pub returns-in-MakeRef : goal.returns-in-MakeRef
 returns-in-MakeRef c = rw c.in-MakeRef.is (c.in_memory.ensures _ _ c.plan_make_ref.ensures)
