@@ -20,8 +20,11 @@ abbrev pub run_on : ℕ → ℕ → ℕ
 run_on n moved = if ltb moved AUTO_FEW then n + 1 else 0
 
 abbrev pub after : Summary → Entry → Summary
-after s (Direct r) = record s { directs = s.directs + 1; score = scored s.score r;
-    reached = s.reached || leb AUTO_SCORE (scored s.score r) }
+after s (Direct r) = record s {
+  directs = s.directs + 1;
+  score = scored s.score r;
+  reached = s.reached || leb AUTO_SCORE (scored s.score r);
+}
 after s (Fetch m) = record s { fetches = s.fetches + 1; run = run_on s.run m; whole_run = s.whole_run || leb AUTO_RUN (run_on s.run m) }
 after s Install = fresh true
 after s Remove = fresh false

@@ -1,5 +1,0 @@
-use Rattle.sig_bench.proofs.Opens.{opens}
-use Rattle.sig_bench.proofs.over_queue.opened.Goals as goal
-
-pub open-requires : goal.open-requires
-open-requires c = opens c.args.policy c.args.pids c.in_ok-opening.opening c.requires c.in_ok-opening.ensures.1 c.in_ok-opening.ensures.2

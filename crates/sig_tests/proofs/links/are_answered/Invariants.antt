@@ -1,5 +1,0 @@
-use Rattle.std.proofs.Common.{◌+◌, ◌≤◌}
-use Rattle.sig_tests.proofs.links.are_answered.Given as goal
-
-abbrev pub invariant-loop-index : goal.invariant-loop-index
-invariant-loop-index l = l.links.links.next_id ≤ l.fn.links.links.next_id + l.index

@@ -1,4 +1,0 @@
-use Rattle.sig_tests.proofs.patterns.Match.goes.Given as goal
-
-abbrev pub ghosts-bound : goal.ghosts-bound
-ghosts-bound a = record { name = a.blank.name; parts = a.blank.parts }

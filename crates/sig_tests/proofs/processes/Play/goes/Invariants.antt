@@ -1,4 +1,0 @@
-use Rattle.sig_tests.proofs.processes.Play.goes.Given as goal
-
-abbrev pub ghosts-stand : goal.ghosts-stand
-ghosts-stand a = record { name = a.blank.name; parts = a.blank.parts }
