@@ -15,13 +15,14 @@ use Rattle.sig_reader.specs.declared.draft.Section.TheVariants.{Outside, Inside}
 use Rattle.sig_reader.specs.declared.draft.Draft.{Draft}
 use Rattle.sig_reader.specs.declared.form.Form.TheVariants as form
 use Rattle.sig_program.specs.Scripts.{Declared, AreMarked, IsInstrWithin, IsPlace, AreRising, bare_process}
-use Rattle.sig_reader.specs.Drafts.{with_instr, receive_of, is_marked, taken}
+use Rattle.sig_program.specs.declared.instruction.Receiving.{Receiving}
+use Rattle.sig_reader.specs.Drafts.{with_instr, is_marked, taken}
 use Rattle.sig_canon.specs.ScriptText.{spaced, marker_text, target_text, clause_line, after_lines, instr_lines, label_line, labels_there, placed_lines}
 use Rattle.sig_canon.specs.ReadableScript.{IsReadablePattern, IsReadableInstr, AreDistinct}
 use Rattle.sig_canon.proofs.DistinctLemmas.{all_before, all_after, name_free, distinct-before, distinct-front}
 use Rattle.sig_canon.proofs.LabelOrder.{StandAt, StandFrom, StandBefore, IsCut, cut_at, found_there, none_later}
 use Rattle.sig_canon.proofs.WalkSteps.{Leads, no_lines, one_line, lines_joined, same_lines, same_end, one_more}
-use Rattle.sig_reader.proofs.Seen.{pattern_seen, clause_seen, after_seen, instr_seen}
+use Rattle.sig_reader.proofs.Seen.{pattern_seen, clause_seen, after_seen, receiving_seen, instr_seen}
 use Rattle.sig_canon.proofs.LineReads.{Reads, label_names, IsSaid, pins_seen, label_said, instr_said, receive_said, clause_said, after_said, end_said}
 use Rattle.sig_tokens.specs.Tokens.{IsNameToken}
 
@@ -57,7 +58,7 @@ module _ (known : Known) (names : List (List ℕ)) (f g : ℕ → ℕ) (e : Draf
   outside p = record e { section = Outside p }
 
   abbrev inside : Declared → Option Var → List Clause → Option After → Draft
-  inside p using clauses after = record e { section = Inside (record { proc = p; using = using; clauses = clauses; after = after }) }
+  inside p using clauses after = record e { section = Inside p (record { using = using; clauses = clauses; after = after }) }
 
   abbrev tags : List (List ℕ)
   tags = label_names labels
@@ -104,27 +105,28 @@ module _ (known : Known) (names : List (List ℕ)) (f g : ℕ → ℕ) (e : Draf
   one-leads p i lines h =
       same_lines known (outside p) (outside (with_instr p (seen i))) lines (h.line ∷ []) h.is (one_line known (outside p) (outside (with_instr p (seen i))) h.line (form.Do (seen i)) h.said refl)
 
-  receive-leads : (p : Declared) (using : Option Var) (clauses : List Clause) (after : Option After) → IsFine (receive_of using clauses after) →
-      Leads known (outside p) (instr_lines names tags (receive_of using clauses after)) (outside (with_instr p (seen (receive_of using clauses after))))
+  receive-leads : (p : Declared) (r : Receiving) → IsFine (instr.Receive r) →
+      Leads known (outside p) (instr_lines names tags (instr.Receive r)) (outside (with_instr p (seen (instr.Receive r))))
   unfolding instr_lines
-  receive-leads p using clauses after h =
-      let targets = each-given (λ n. n < length tags) (λ (c : Clause). c.target) clauses (filter_map (λ (a : After). a.target) (option_to_list after)) h.1.1 in
-      let all : List Clause = map (clause_seen f g) clauses in
-      let last : Option After = option_map (after_seen g) after in
-      let first = one_line known (outside p) (inside p using [] None) (spaced (codes "receive") (marker_text using)) (form.Receive using) (receive_said known (outside p) using refl h.0.using) refl in
-      let middle = clauses-lead p using [] clauses h.0.clauses targets.0 (pinned using clauses h.1.3) in
-      let next = after-leads p using all after (only after targets.1) in
-      let end = one_line known (inside p using all last) (outside (with_instr p (receive_of using all last))) (codes "end") form.End (end_said known (inside p using all last) refl) refl in
-      one_more known (outside p) (inside p using [] None) (outside (with_instr p (receive_of using all last))) (spaced (codes "receive") (marker_text using)) _ first
-      (lines_joined known (inside p using [] None) (inside p using all last) (outside (with_instr p (receive_of using all last))) (map (clause_line names tags) clauses ++ after_lines tags after) (codes "end" ∷ [])
-      (lines_joined known (inside p using [] None) (inside p using all None) (inside p using all last) (map (clause_line names tags) clauses) (after_lines tags after) middle next) end)
+  receive-leads p r h =
+      let targets = each-given (λ n. n < length tags) (λ (c : Clause). c.target) r.clauses (filter_map (λ (a : After). a.target) (option_to_list r.after)) h.1.1 in
+      let all : List Clause = map (clause_seen f g) r.clauses in
+      let last : Option After = option_map (after_seen g) r.after in
+      let whole : Draft = outside (with_instr p (instr.Receive (receiving_seen f g r))) in
+      let first = one_line known (outside p) (inside p r.using [] None) (spaced (codes "receive") (marker_text r.using)) (form.Receive r.using) (receive_said known (outside p) r.using refl h.0.using) refl in
+      let middle = clauses-lead p r.using [] r.clauses h.0.clauses targets.0 (pinned r.using r.clauses h.1.3) in
+      let next = after-leads p r.using all r.after (only r.after targets.1) in
+      let end = one_line known (inside p r.using all last) whole (codes "end") form.End (end_said known (inside p r.using all last) refl) refl in
+      one_more known (outside p) (inside p r.using [] None) whole (spaced (codes "receive") (marker_text r.using)) _ first
+      (lines_joined known (inside p r.using [] None) (inside p r.using all last) whole (map (clause_line names tags) r.clauses ++ after_lines tags r.after) (codes "end" ∷ [])
+      (lines_joined known (inside p r.using [] None) (inside p r.using all None) (inside p r.using all last) (map (clause_line names tags) r.clauses) (after_lines tags r.after) middle next) end)
     where
       only : (after : Option After) → All (λ n. n < length tags) (filter_map (λ (a : After). a.target) (option_to_list after)) → IfSome after (λ (a : After). IsTarget (length tags) a.target)
       only None h = tt
       only (Some a) h = first-given (λ n. n < length tags) a.target [] h
 
   instr-leads : (p : Declared) (i : Instr) → IsFine i → Leads known (outside p) (instr_lines names tags i) (outside (with_instr p (seen i)))
-  instr-leads p (instr.Receive r) h = receive-leads p r.using r.clauses r.after h
+  instr-leads p (instr.Receive r) h = receive-leads p r h
   instr-leads p i h = one-leads p i (instr_lines names tags i) (instr_said known (outside p) names tags f g reads p refl i refl h.0 h.1)
 
   -- labels at one place

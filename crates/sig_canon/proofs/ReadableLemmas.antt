@@ -14,7 +14,6 @@ use Rattle.sig_program.specs.declared.instruction.Instr.{Instr}
 use Rattle.sig_tokens.specs.declared.known.Known.TheVariants.{Any, Among}
 use Rattle.sig_reader.specs.declared.draft.Section.{Section}
 use Rattle.sig_reader.specs.declared.draft.Section.TheVariants.{Before, Outside, Inside}
-use Rattle.sig_reader.specs.declared.draft.OpenReceive.{OpenReceive}
 use Rattle.sig_reader.specs.declared.draft.Draft.{Draft}
 use Rattle.sig_reader.specs.declared.version.Version.{Version}
 use Rattle.sig_reader.specs.declared.form.Form.{Form}
@@ -24,10 +23,12 @@ use Rattle.sig_program.specs.Parts.{plain_clause}
 use Rattle.sig_tokens.specs.Faults.{Fault, ◌>>=◌}
 use Rattle.sig_tokens.specs.Lines.{lines_of}
 use Rattle.sig_reader.specs.Forms.{said}
-use Rattle.sig_reader.specs.Drafts.{blank, open_proc, all_procs, begun, labelled, with_instr, is_marked, with_clause, received, taken_at}
+use Rattle.sig_reader.specs.Drafts.{blank, open_proc, all_procs, begun, labelled, with_instr, is_marked, with_clause, taken_at}
 use Rattle.sig_reader.specs.Grammar.{taken_if, line_taken, walk, walk_twice, header_of, script_behind, script_of_lines, script_of}
 use Rattle.sig_canon.specs.ReadableScript.{IsReadablePattern, IsReadableInstr, AreDistinct, IsReadableScript}
 use Rattle.sig_program.specs.declared.script.TheConstants.{MOST_PROCESSES, MOST_TURNS}
+use Rattle.sig_program.specs.declared.instruction.Receiving.{Receiving}
+use Rattle.sig_program.specs.declared.instruction.Instr.TheVariants as instr
 use Rattle.sig_reader.specs.declared.reader.TheConstants.{MOST_BYTES}
 use Rattle.sig_reader.proofs.FitLemmas.{all-last}
 use Rattle.sig_reader.proofs.BoundTermLemmas.{Holds, holds-of, holds-if, holds-on_ok, holds-then}
@@ -45,7 +46,7 @@ record IsGood (count : ℕ) (p : Declared) : Type 0 where
 
 -- the receive that is read
 abbrev IsGoodReceive : ℕ → Section → Type 0
-IsGoodReceive count (Inside r) = All (λ (c : Clause). IsReadablePattern count c.pattern) r.clauses × IfSome r.using (λ x. IsVariableToken x.0)
+IsGoodReceive count (Inside p r) = All (λ (c : Clause). IsReadablePattern count c.pattern) r.clauses × IfSome r.using (λ x. IsVariableToken x.0)
 IsGoodReceive count _ = Unit {0}
 
 abbrev names : List Declared → List (List ℕ)
@@ -119,7 +120,7 @@ module _ (count : ℕ) (draft : Draft) where
       holds-if (λ (more : List Clause). All (λ (c : Clause). IsReadablePattern count c.pattern) more) (is_marked using pattern) _ _
       (λ _. All-push (λ (c : Clause). IsReadablePattern count c.pattern) clauses (plain_clause pattern target) h k) (λ _. tt)
 
-  receive-good : (r : OpenReceive) → All (λ (c : Clause). IsReadablePattern count c.pattern) r.clauses → IfSome r.using (λ x. IsVariableToken x.0) → IsReadableInstr count (received r)
+  receive-good : (r : Receiving) → All (λ (c : Clause). IsReadablePattern count c.pattern) r.clauses → IfSome r.using (λ x. IsVariableToken x.0) → IsReadableInstr count (instr.Receive r)
   receive-good r h k = record { exprs = All-nil _; clauses = h; vars = All-nil IsVariableToken; using = k }
 
   taken_at-good : (section : Section) (f : Form) → AreDistinct (names (draft.procs ++ open_proc section)) → All (IsGood count) (draft.procs ++ open_proc section) → IsGoodReceive count section →
@@ -134,15 +135,15 @@ module _ (count : ℕ) (draft : Draft) where
   taken_at-good (Outside p) (form.Do i) d h o k = changed p (with_instr p i) d h refl (instr-good count p i k (all-last (IsGood count) draft.procs p h))
   taken_at-good (Outside p) (form.Receive using) d h o k = record { names = d; procs = h; receive = (All-nil (λ (c : Clause). IsReadablePattern count c.pattern), k) }
   taken_at-good (Outside p) _ d h o k = tt
-  taken_at-good (Inside r) (form.On pattern target) d h o k =
+  taken_at-good (Inside p r) (form.On pattern target) d h o k =
       holds-on_ok (λ (more : List Clause). All (λ (c : Clause). IsReadablePattern count c.pattern) more) (IsGoodDraft count)
-      (λ more. record draft { section = Inside (record r { clauses = more }) }) (with_clause r.using r.clauses pattern target)
+      (λ more. record draft { section = Inside p (record r { clauses = more }) }) (with_clause r.using r.clauses pattern target)
       (with_clause-good r.using r.clauses pattern target k o.0) (λ more m. record { names = d; procs = h; receive = (m, o.1) })
-  taken_at-good (Inside r) (form.After next) d h o k = record { names = d; procs = h; receive = o }
-  taken_at-good (Inside r) form.End d h o k =
-      changed r.proc (with_instr r.proc (received r)) d h refl
-      (instr-good count r.proc (received r) (receive-good r o.0 o.1) (all-last (IsGood count) draft.procs r.proc h))
-  taken_at-good (Inside r) _ d h o k = tt
+  taken_at-good (Inside p r) (form.After next) d h o k = record { names = d; procs = h; receive = o }
+  taken_at-good (Inside p r) form.End d h o k =
+      changed p (with_instr p (instr.Receive r)) d h refl
+      (instr-good count p (instr.Receive r) (receive-good r o.0 o.1) (all-last (IsGood count) draft.procs p h))
+  taken_at-good (Inside p r) _ d h o k = tt
 
 taken_if-good : (count : ℕ) (d : Draft) (o : Option Form) → IsGoodDraft count d → IfSome o (IsReadableForm count) → Holds (IsGoodDraft count) (taken_if d o)
 taken_if-good count d None h k = h

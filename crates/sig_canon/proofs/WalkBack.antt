@@ -47,23 +47,23 @@ names-seen f g (p ∷ ps) = ap (λ (names : List (List ℕ)). p.name ∷ names) 
 
 -- a draft in which no receive is open
 abbrev is_closed : Section → Bool
-is_closed (Inside r) = false
+is_closed (Inside p r) = false
 is_closed _ = true
 
 stands : (d : Draft) (section : Section) → is_closed section ≡ true → may_stand_at d section keyword.Process ≡ true
 stands d Before h = refl
 stands d (Outside p) h = refl
-stands d (Inside r) h = absurd cc
+stands d (Inside p r) h = absurd cc
 
 takes-process : (d : Draft) (section : Section) (name : List ℕ) → is_closed section ≡ true → taken_at d section (form.Process name) ≡ begun d name
 takes-process d Before name h = refl
 takes-process d (Outside p) name h = refl
-takes-process d (Inside r) name h = absurd cc
+takes-process d (Inside p r) name h = absurd cc
 
 ends-well : (n : ℕ) (d : Draft) (section : Section) → is_closed section ≡ true → finished n d section ≡ Ok (program_of d)
 ends-well n d Before h = refl
 ends-well n d (Outside p) h = refl
-ends-well n d (Inside r) h = absurd cc
+ends-well n d (Inside p r) h = absurd cc
 
 abbrev begun_as : Draft → List ℕ → Draft
 begun_as d name = record d { procs = all_procs d; section = Outside (bare_process name) }

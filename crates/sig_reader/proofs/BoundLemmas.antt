@@ -22,7 +22,6 @@ use Rattle.sig_tokens.specs.declared.known.Known.{Known}
 use Rattle.sig_tokens.specs.declared.known.Known.TheVariants.{Any, Among}
 use Rattle.sig_reader.specs.declared.draft.Section.{Section}
 use Rattle.sig_reader.specs.declared.draft.Section.TheVariants.{Before, Outside, Inside}
-use Rattle.sig_reader.specs.declared.draft.OpenReceive.{OpenReceive}
 use Rattle.sig_reader.specs.declared.draft.Draft.{Draft}
 use Rattle.sig_reader.specs.declared.form.Form.{Form}
 use Rattle.sig_reader.specs.declared.form.Form.TheVariants as form
@@ -35,12 +34,14 @@ use Rattle.sig_tokens.specs.Tokens.{text, tokens_of}
 use Rattle.sig_tokens.specs.Names.{labels_at}
 use Rattle.sig_tokens.specs.PatternTexts.{pattern_of}
 use Rattle.sig_reader.specs.Forms.{keyword_of, may_stand, ends, arrow_of, count_from, turns_of, whole_name, marker_of, on_of, instr_of, form_of, form_behind, said_by, said}
-use Rattle.sig_reader.specs.Drafts.{blank, open_proc, all_procs, program_of, begun, labelled, with_instr, receive_of, is_marked, with_clause, received, taken_at}
+use Rattle.sig_reader.specs.Drafts.{blank, open_proc, all_procs, program_of, begun, labelled, with_instr, is_marked, with_clause, taken_at}
 use Rattle.sig_reader.specs.Grammar.{located, finished, taken_if, line_taken, body, walk}
 use Rattle.sig_reader.specs.Fitting.{IsSmall, IsFit}
 use Rattle.sig_reader.proofs.FitLemmas.{all-last}
 use Rattle.sig_reader.proofs.BoundTermLemmas.{Holds, anything, holds-of, holds-if, holds-on_ok, holds-then, holds-ends, IsTarget, IsMeantForm, no-mode, said-meant}
 use Rattle.sig_program.specs.declared.script.TheConstants.{DEFAULT_TURNS, MOST_PROCESSES, MOST_TURNS}
+use Rattle.sig_program.specs.declared.instruction.Receiving.{Receiving}
+use Rattle.sig_program.specs.declared.instruction.Instr.TheVariants as instr
 
 -- each item but the last
 pub all-front : {A : Type 0} (P : A → Type 0) (xs : List A) (x : A) → All P (xs ++ x ∷ []) → All P xs
@@ -109,14 +110,14 @@ fit_at n d (Outside p) (form.Label name) h =
 fit_at n d (Outside p) (form.Do i) h = fit_last n d p (with_instr p i) h (small_instr n p i (all-last (IsSmall n) d.procs p h.small))
 fit_at n d (Outside p) (form.Receive using) h = record { few = h.few; small = all-later n (d.procs ++ p ∷ []) h.small }
 fit_at n d (Outside p) _ h = tt
-fit_at n d (Inside r) (form.On pattern target) h =
-    holds-on_ok (λ _. Unit {0}) (IsFit (n + 1)) (λ more. record d { section = Inside (record r { clauses = more }) }) (with_clause r.using r.clauses pattern target)
-    (anything (with_clause r.using r.clauses pattern target)) (λ more _. record { few = h.few; small = all-later n (d.procs ++ r.proc ∷ []) h.small })
-fit_at n d (Inside r) (form.After next) h = record { few = h.few; small = all-later n (d.procs ++ r.proc ∷ []) h.small }
-fit_at n d (Inside r) form.End h =
-    fit_last n d r.proc (with_instr r.proc (received r)) (record { few = h.few; small = h.small })
-    (small_instr n r.proc (received r) (all-last (IsSmall n) d.procs r.proc h.small))
-fit_at n d (Inside r) _ h = tt
+fit_at n d (Inside p r) (form.On pattern target) h =
+    holds-on_ok (λ _. Unit {0}) (IsFit (n + 1)) (λ more. record d { section = Inside p (record r { clauses = more }) }) (with_clause r.using r.clauses pattern target)
+    (anything (with_clause r.using r.clauses pattern target)) (λ more _. record { few = h.few; small = all-later n (d.procs ++ p ∷ []) h.small })
+fit_at n d (Inside p r) (form.After next) h = record { few = h.few; small = all-later n (d.procs ++ p ∷ []) h.small }
+fit_at n d (Inside p r) form.End h =
+    fit_last n d p (with_instr p (instr.Receive r)) (record { few = h.few; small = h.small })
+    (small_instr n p (instr.Receive r) (all-last (IsSmall n) d.procs p h.small))
+fit_at n d (Inside p r) _ h = tt
 
 fit_said : (n : ℕ) (d : Draft) (said : Option Form) → IsFit n d → Holds (IsFit (n + 1)) (taken_if d said)
 fit_said n d None h = fit_later n d h
@@ -143,7 +144,7 @@ holds-located P Q n f (Err e) h k = tt
 pub holds-finished : (Q : Program → Type 0) (n : ℕ) (d : Draft) (section : Section) → Q (program_of d) → Holds Q (finished n d section)
 holds-finished Q n d Before h = h
 holds-finished Q n d (Outside p) h = h
-holds-finished Q n d (Inside r) h = tt
+holds-finished Q n d (Inside p r) h = tt
 
 module _ (known : Known) (P : ℕ → Draft → Type 0) (Q : Program → Type 0) (m : ℕ)
     (step : (n : ℕ) (d : Draft) (line : List ℕ) → n < m → P n d → Holds (P (n + 1)) (line_taken known d line))
@@ -321,12 +322,12 @@ taken_at-counted d (Outside p) (form.Label name) =
 taken_at-counted d (Outside p) (form.Do i) = counts-last d.procs p (with_instr p i) refl
 taken_at-counted d (Outside p) (form.Receive using) = refl
 taken_at-counted d (Outside p) _ = tt
-taken_at-counted d (Inside r) (form.On pattern target) =
-    holds-on_ok (λ _. Unit {0}) (CountedAs (counts (d.procs ++ r.proc ∷ []))) (λ more. record d { section = Inside (record r { clauses = more }) })
+taken_at-counted d (Inside p r) (form.On pattern target) =
+    holds-on_ok (λ _. Unit {0}) (CountedAs (counts (d.procs ++ p ∷ []))) (λ more. record d { section = Inside p (record r { clauses = more }) })
     (with_clause r.using r.clauses pattern target) (anything (with_clause r.using r.clauses pattern target)) (λ more _. refl)
-taken_at-counted d (Inside r) (form.After next) = refl
-taken_at-counted d (Inside r) form.End = counts-last d.procs r.proc (with_instr r.proc (received r)) refl
-taken_at-counted d (Inside r) _ = tt
+taken_at-counted d (Inside p r) (form.After next) = refl
+taken_at-counted d (Inside p r) form.End = counts-last d.procs p (with_instr p (instr.Receive r)) refl
+taken_at-counted d (Inside p r) _ = tt
 
 taken_if-counted : (d : Draft) (o : Option Form) → Holds (CountedAs (counted_said o (counts (all_procs d)))) (taken_if d o)
 taken_if-counted d None = refl
@@ -388,7 +389,7 @@ record IsMeant (s : Program) (here : ℕ) (p : Declared) : Type 0 where
 abbrev IsOpen : Program → ℕ → ℕ → Section → Type 0
 IsOpen s n here Before = Unit {0}
 IsOpen s n here (Outside p) = Unit {0}
-IsOpen s n here (Inside r) =
+IsOpen s n here (Inside p r) =
     (length r.clauses ≤ n) × All (λ (c : Clause). IsTarget (length (labels_at here s.procs)) c.target) r.clauses
     × All (λ (c : Clause). IsPatternBelow (length s.procs) c.pattern) r.clauses × IfSome r.after (λ (a : After). IsTarget (length (labels_at here s.procs)) a.target)
     × AreMarked r.using r.clauses
@@ -441,7 +442,7 @@ label-more s here p name h =
 open-later : (s : Program) (n here : ℕ) (section : Section) → IsOpen s n here section → IsOpen s (n + 1) here section
 open-later s n here Before h = tt
 open-later s n here (Outside p) h = tt
-open-later s n here (Inside r) h = (omega (arith, h.0), h.1, h.2, h.3, h.4)
+open-later s n here (Inside p r) h = (omega (arith, h.0), h.1, h.2, h.3, h.4)
 
 few-turns : (n : ℕ) → nat_le n MOST_TURNS ≡ true → n ≤ MOST_TURNS
 few-turns n h = grind (arith, nat_tests)
@@ -472,13 +473,13 @@ all-kept P None h = All-nil P
 all-kept P (Some x) h = All-cons P x [] h (All-nil P)
 
 -- the targets of a receive are those of its clauses and that of its `after`
-receive-targets : (labels : ℕ) (using : Option Var) (clauses : List Clause) (after : Option After) → All (λ (c : Clause). IsTarget labels c.target) clauses →
-    IfSome after (λ (a : After). IsTarget labels a.target) → All (λ t. t < labels) (targets_of (receive_of using clauses after))
-receive-targets labels using clauses after h k =
+receive-targets : (labels : ℕ) (r : Receiving) → All (λ (c : Clause). IsTarget labels c.target) r.clauses →
+    IfSome r.after (λ (a : After). IsTarget labels a.target) → All (λ t. t < labels) (targets_of (instr.Receive r))
+receive-targets labels r h k =
     let target : Clause → Option ℕ = λ c. c.target in
     let behind : After → Option ℕ = λ a. a.target in
-    All-append (λ t. t < labels) (filter_map target clauses) (filter_map behind (option_to_list after)) (all-given (λ t. t < labels) target clauses h)
-    (all-given (λ t. t < labels) behind (option_to_list after) (all-kept (λ a. IsTarget labels a.target) after k))
+    All-append (λ t. t < labels) (filter_map target r.clauses) (filter_map behind (option_to_list r.after)) (all-given (λ t. t < labels) target r.clauses h)
+    (all-given (λ t. t < labels) behind (option_to_list r.after) (all-kept (λ a. IsTarget labels a.target) r.after k))
 
 -- the clauses of a receive pin the variable of its marker
 none-marked : (using : Option Var) → AreMarked using []
@@ -504,10 +505,10 @@ module _ (s : Program) (n : ℕ) (d : Draft) (bounded : IfSome d.turns (λ t. t 
     receive = tt;
   }
 
-  clause-more : (r : OpenReceive) (c : Clause) → IsOpen s n (length d.procs) (Inside r) →
+  clause-more : (p : Declared) (r : Receiving) (c : Clause) → IsOpen s n (length d.procs) (Inside p r) →
       IsPatternBelow (length s.procs) c.pattern → IsTarget (length (labels_at (length d.procs) s.procs)) c.target → is_marked r.using c.pattern ≡ true →
-      IsOpen s (n + 1) (length d.procs) (Inside (record r { clauses = r.clauses ++ c ∷ [] }))
-  clause-more r c h b t m = (
+      IsOpen s (n + 1) (length d.procs) (Inside p (record r { clauses = r.clauses ++ c ∷ [] }))
+  clause-more p r c h b t m = (
     omega (arith, h.0, length-append r.clauses (c ∷ [])),
     All-push (λ (c : Clause). IsTarget (length (labels_at (length d.procs) s.procs)) c.target) r.clauses c h.1 t,
     All-push (λ (c : Clause). IsPatternBelow (length s.procs) c.pattern) r.clauses c h.2 b,
@@ -515,20 +516,20 @@ module _ (s : Program) (n : ℕ) (d : Draft) (bounded : IfSome d.turns (λ t. t 
     marked-more r.using r.clauses c m h.4,
   )
 
-  with_clause-meant : (r : OpenReceive) (pattern : Pattern) (target : Option ℕ) →
-      IsOpen s n (length d.procs) (Inside r) → IsPatternBelow (length s.procs) pattern → IsTarget (length (labels_at (length d.procs) s.procs)) target →
-      Holds (λ more. IsOpen s (n + 1) (length d.procs) (Inside (record r { clauses = more }))) (with_clause r.using r.clauses pattern target)
-  with_clause-meant r pattern target h b t =
-      holds-if (λ (more : List Clause). IsOpen s (n + 1) (length d.procs) (Inside (record r { clauses = more }))) (is_marked r.using pattern) _ _
-      (λ m. clause-more r (plain_clause pattern target) h b t m) (λ _. tt)
+  with_clause-meant : (p : Declared) (r : Receiving) (pattern : Pattern) (target : Option ℕ) →
+      IsOpen s n (length d.procs) (Inside p r) → IsPatternBelow (length s.procs) pattern → IsTarget (length (labels_at (length d.procs) s.procs)) target →
+      Holds (λ more. IsOpen s (n + 1) (length d.procs) (Inside p (record r { clauses = more }))) (with_clause r.using r.clauses pattern target)
+  with_clause-meant p r pattern target h b t =
+      holds-if (λ (more : List Clause). IsOpen s (n + 1) (length d.procs) (Inside p (record r { clauses = more }))) (is_marked r.using pattern) _ _
+      (λ m. clause-more p r (plain_clause pattern target) h b t m) (λ _. tt)
 
-  receive-more : (r : OpenReceive) → n < 2 ^ 32 → IsOpen s n (length d.procs) (Inside r) →
-      IsMeant s (length d.procs) r.proc → IsMeant s (length d.procs) (with_instr r.proc (received r))
-  receive-more r lt h k =
+  receive-more : (p : Declared) (r : Receiving) → n < 2 ^ 32 → IsOpen s n (length d.procs) (Inside p r) →
+      IsMeant s (length d.procs) p → IsMeant s (length d.procs) (with_instr p (instr.Receive r))
+  receive-more p r lt h k =
       let few : length r.clauses < 2 ^ 32 = omega (arith, lt, h.0) in
-      let targets : All (λ t. t < length (labels_at (length d.procs) s.procs)) (targets_of (received r)) =
-      receive-targets (length (labels_at (length d.procs) s.procs)) r.using r.clauses r.after h.1 h.3 in
-      instr-more s (length d.procs) r.proc (received r) (few, targets, no-mode, h.4) (All-nil (IsExprBelow (length s.procs)), h.2) k
+      let targets : All (λ t. t < length (labels_at (length d.procs) s.procs)) (targets_of (instr.Receive r)) =
+      receive-targets (length (labels_at (length d.procs) s.procs)) r h.1 h.3 in
+      instr-more s (length d.procs) p (instr.Receive r) (few, targets, no-mode, h.4) (All-nil (IsExprBelow (length s.procs)), h.2) k
 
   taken_at-meant : (section : Section) (f : Form) → n < 2 ^ 32 → Each (IsMeant s) 0 (d.procs ++ open_proc section) → IsOpen s n (length d.procs) section →
       IsMeantForm (length s.procs) (length (labels_at (length d.procs) s.procs)) f →
@@ -556,14 +557,14 @@ module _ (s : Program) (n : ℕ) (d : Draft) (bounded : IfSome d.turns (λ t. t 
     );
   }
   taken_at-meant (Outside p) _ lt h o k = tt
-  taken_at-meant (Inside r) (form.On pattern target) lt h o k =
-      holds-on_ok (λ (more : List Clause). IsOpen s (n + 1) (length d.procs) (Inside (record r { clauses = more }))) (IsMeantDraft s (n + 1))
-      (λ more. record d { section = Inside (record r { clauses = more }) }) (with_clause r.using r.clauses pattern target)
-      (with_clause-meant r pattern target o k.0 k.1) (λ more m. record { turns = bounded; procs = h; receive = m })
-  taken_at-meant (Inside r) (form.After next) lt h o k = record { turns = bounded; procs = h; receive = (omega (arith, o.0), o.1, o.2, k, o.4) }
-  taken_at-meant (Inside r) form.End lt h o k =
-      changed r.proc (with_instr r.proc (received r)) h (receive-more r lt o (current r.proc h))
-  taken_at-meant (Inside r) _ lt h o k = tt
+  taken_at-meant (Inside p r) (form.On pattern target) lt h o k =
+      holds-on_ok (λ (more : List Clause). IsOpen s (n + 1) (length d.procs) (Inside p (record r { clauses = more }))) (IsMeantDraft s (n + 1))
+      (λ more. record d { section = Inside p (record r { clauses = more }) }) (with_clause r.using r.clauses pattern target)
+      (with_clause-meant p r pattern target o k.0 k.1) (λ more m. record { turns = bounded; procs = h; receive = m })
+  taken_at-meant (Inside p r) (form.After next) lt h o k = record { turns = bounded; procs = h; receive = (omega (arith, o.0), o.1, o.2, k, o.4) }
+  taken_at-meant (Inside p r) form.End lt h o k =
+      changed p (with_instr p (instr.Receive r)) h (receive-more p r lt o (current p h))
+  taken_at-meant (Inside p r) _ lt h o k = tt
 
 taken_if-meant : (s : Program) (n : ℕ) (d : Draft) (o : Option Form) → n < 2 ^ 32 → IsMeantDraft s n d →
     IfSome o (IsMeantForm (length s.procs) (length (labels_at (length d.procs) s.procs))) → Holds (IsMeantDraft s (n + 1)) (taken_if d o)

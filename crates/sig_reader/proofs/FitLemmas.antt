@@ -24,4 +24,4 @@ last-of n procs p lt h = All-cons (IsSmall (2 ^ 31)) p [] (wider n p lt (all-las
 pub open_fits : (n : ℕ) (procs : List Declared) (section : Section) → n < 2 ^ 31 → All (IsSmall n) (procs ++ open_proc section) → All (IsSmall (2 ^ 31)) (open_proc section)
 open_fits n procs Before lt h = All-nil (IsSmall (2 ^ 31))
 open_fits n procs (Outside p) lt h = last-of n procs p lt h
-open_fits n procs (Inside r) lt h = last-of n procs r.proc lt h
+open_fits n procs (Inside p r) lt h = last-of n procs p lt h

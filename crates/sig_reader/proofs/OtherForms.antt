@@ -10,7 +10,6 @@ use Rattle.sig_reader.specs.declared.keyword.Keyword.{Keyword}
 use Rattle.sig_reader.specs.declared.keyword.Keyword.TheVariants as keyword
 use Rattle.sig_reader.specs.declared.draft.Section.{Section}
 use Rattle.sig_reader.specs.declared.draft.Section.TheVariants.{Before, Outside, Inside}
-use Rattle.sig_reader.specs.declared.draft.OpenReceive.{OpenReceive}
 use Rattle.sig_reader.specs.declared.draft.Draft.{Draft}
 use Rattle.sig_reader.specs.declared.form.Form.{Form}
 use Rattle.sig_reader.specs.declared.form.Form.TheVariants as form
@@ -23,7 +22,7 @@ use Rattle.sig_tokens.specs.PatternTexts.{pattern_of}
 use Rattle.sig_program.specs.Instructions.{Operand, an_expr, a_variable, a_label, a_switch, a_mode, a_flag, operands_of, instr_by, Spoken}
 use Rattle.sig_reader.specs.Forms.{switch_at, word_at, mode_of, flag_of, operand_at, all_said, keyword_of, may_stand_at, may_stand, ends, arrow_of, count_from, turns_of, whole_name, marker_of, on_of, instr_of, form_of, form_behind, said_by, said}
 use Rattle.sig_reader.proofs.TableLemmas.{made_of, spoken_again, instr_as}
-use Rattle.sig_reader.proofs.Seen.{pattern_seen, clause_seen, after_seen, said_seen, all_seen, spoken_seen, instr_seen}
+use Rattle.sig_reader.proofs.Seen.{pattern_seen, clause_seen, after_seen, receiving_seen, said_seen, all_seen, spoken_seen, instr_seen}
 use Rattle.sig_reader.proofs.OtherPhrases.{Sees, sees-same, sees-if, sees-on_ok, sees-then, first_seen, expr_of-sees, pattern_of-sees}
 
 -- a form, and what was read so far, with other pids, by f, and other places of labels, by g
@@ -40,13 +39,10 @@ form_seen f g form.End = form.End
 abbrev pub proc_seen : (ℕ → ℕ) → (ℕ → ℕ) → Declared → Declared
 proc_seen f g p = record p { instrs = map (instr_seen f g) p.instrs }
 
-abbrev pub receive_seen : (ℕ → ℕ) → (ℕ → ℕ) → OpenReceive → OpenReceive
-receive_seen f g r = record r { proc = proc_seen f g r.proc; clauses = map (clause_seen f g) r.clauses; after = option_map (after_seen g) r.after }
-
 abbrev pub section_seen : (ℕ → ℕ) → (ℕ → ℕ) → Section → Section
 section_seen f g Before = Before
 section_seen f g (Outside p) = Outside (proc_seen f g p)
-section_seen f g (Inside r) = Inside (receive_seen f g r)
+section_seen f g (Inside p r) = Inside (proc_seen f g p) (receiving_seen f g r)
 
 abbrev pub draft_seen : (ℕ → ℕ) → (ℕ → ℕ) → Draft → Draft
 draft_seen f g d = record d { procs = map (proc_seen f g) d.procs; section = section_seen f g d.section }
@@ -136,7 +132,7 @@ module _ (f g : ℕ → ℕ) (known other : Known) (seen : AreSeen f g known oth
   may_stand-seen : (d : Draft) (section : Section) (word : Keyword) → may_stand_at (draft_seen f g d) (section_seen f g section) word ≡ may_stand_at d section word
   may_stand-seen d Before word = refl
   may_stand-seen d (Outside p) word = refl
-  may_stand-seen d (Inside r) word = rw (some-seen r.after) refl
+  may_stand-seen d (Inside p r) word = rw (some-seen r.after) refl
 
   behind-sees : (d : Draft) (word : Option Keyword) (ts : List Token) → Sees (form_seen f g) (form_behind known d word line ts) (form_behind other (draft_seen f g d) word line ts)
   behind-sees d None ts = tt

@@ -22,17 +22,18 @@ use Rattle.sig_reader.specs.declared.form.Form.TheVariants as form
 use Rattle.sig_program.specs.declared.script.TheConstants.{MOST_PROCESSES, MOST_TURNS}
 use Rattle.sig_program.specs.Scripts.{Declared, Program, IsWithin, IsScriptWithin, bare_process}
 use Rattle.sig_program.specs.Parts.{plain_clause}
+use Rattle.sig_program.specs.declared.instruction.Instr.TheVariants as instr
 use Rattle.sig_tokens.specs.Faults.{Fault, ◌>>=◌}
 use Rattle.sig_tokens.specs.Names.{pid_of, labels_at, label_of}
 use Rattle.sig_reader.specs.Forms.{said}
-use Rattle.sig_reader.specs.Drafts.{blank, open_proc, all_procs, program_of, begun, labelled, with_instr, is_marked, with_clause, received, taken_at}
+use Rattle.sig_reader.specs.Drafts.{blank, open_proc, all_procs, program_of, begun, labelled, with_instr, is_marked, with_clause, taken_at}
 use Rattle.sig_reader.specs.Grammar.{located, finished, taken_if, line_taken, body, walk, walk_twice}
 use Rattle.sig_reader.proofs.BoundLemmas.{procs_within, script_sound}
 use Rattle.sig_tokens.proofs.LabelLemmas.{next, position-cons}
-use Rattle.sig_reader.proofs.Seen.{kept, zeroed, pattern_seen, clause_seen, after_seen, instr_seen}
+use Rattle.sig_reader.proofs.Seen.{kept, zeroed, pattern_seen, clause_seen, after_seen, receiving_seen, instr_seen}
 use Rattle.sig_reader.proofs.SeenLemmas.{instr_kept, pins_seen}
 use Rattle.sig_reader.proofs.OtherPhrases.{Sees, sees-of, sees-same, sees-if, sees-on_ok, sees-then}
-use Rattle.sig_reader.proofs.OtherForms.{AreSeen, form_seen, proc_seen, receive_seen, section_seen, draft_seen, said-sees}
+use Rattle.sig_reader.proofs.OtherForms.{AreSeen, form_seen, proc_seen, section_seen, draft_seen, said-sees}
 use Rattle.sig_reader.specs.SameNames.{label_names, Named, named, names_within, AreItsNames}
 
 abbrev program_seen : (ℕ → ℕ) → (ℕ → ℕ) → Program → Program
@@ -98,7 +99,7 @@ module _ (f g : ℕ → ℕ) where
   all-seen : (procs : List Declared) (section : Section) → map (proc_seen f g) procs ++ open_proc (section_seen f g section) ≡ map (proc_seen f g) (procs ++ open_proc section)
   all-seen procs Before = sym (map-append (proc_seen f g) procs [])
   all-seen procs (Outside p) = sym (map-append (proc_seen f g) procs (p ∷ []))
-  all-seen procs (Inside r) = sym (map-append (proc_seen f g) procs (r.proc ∷ []))
+  all-seen procs (Inside p r) = sym (map-append (proc_seen f g) procs (p ∷ []))
 
   begun-sees : (d : Draft) (name : List ℕ) → Sees (draft_seen f g) (begun d name) (begun (draft_seen f g d) name)
   begun-sees d name =
@@ -144,14 +145,14 @@ module _ (f g : ℕ → ℕ) where
       ap (λ (q : Declared). Ok (record (draft_seen f g d) { section = Outside q })) (instr-more p i)
   taken_at-sees d (Outside p) (form.Receive using) = refl
   taken_at-sees d (Outside p) _ = tt
-  taken_at-sees d (Inside r) (form.On pattern target) =
-      sees-on_ok (map (clause_seen f g)) (draft_seen f g) (λ more. record d { section = Inside (record r { clauses = more }) })
-      (λ more. record (draft_seen f g d) { section = Inside (record (receive_seen f g r) { clauses = more }) })
+  taken_at-sees d (Inside p r) (form.On pattern target) =
+      sees-on_ok (map (clause_seen f g)) (draft_seen f g) (λ more. record d { section = Inside p (record r { clauses = more }) })
+      (λ more. record (draft_seen f g d) { section = Inside (proc_seen f g p) (record (receiving_seen f g r) { clauses = more }) })
       (with_clause r.using r.clauses pattern target) (with_clause r.using (map (clause_seen f g) r.clauses) (pattern_seen f pattern) (option_map g target)) (clause-sees r.using r.clauses pattern target) (λ more. refl)
-  taken_at-sees d (Inside r) (form.After next) = refl
-  taken_at-sees d (Inside r) form.End =
-      ap (λ (q : Declared). Ok (record (draft_seen f g d) { section = Outside q })) (instr-more r.proc (received r))
-  taken_at-sees d (Inside r) _ = tt
+  taken_at-sees d (Inside p r) (form.After next) = refl
+  taken_at-sees d (Inside p r) form.End =
+      ap (λ (q : Declared). Ok (record (draft_seen f g d) { section = Outside q })) (instr-more p (instr.Receive r))
+  taken_at-sees d (Inside p r) _ = tt
 
   taken_if-sees : (d : Draft) (o : Option Form) → Sees (draft_seen f g) (taken_if d o) (taken_if (draft_seen f g d) (option_map (form_seen f g) o))
   taken_if-sees d None = refl
@@ -160,7 +161,7 @@ module _ (f g : ℕ → ℕ) where
   finished-sees : (n : ℕ) (d : Draft) (section : Section) → Sees (program_seen f g) (finished n d section) (finished n (draft_seen f g d) (section_seen f g section))
   finished-sees n d Before = ap (λ (ps : List Declared). Ok (record (program_of d) { procs = ps })) (all-seen d.procs d.section)
   finished-sees n d (Outside p) = ap (λ (ps : List Declared). Ok (record (program_of d) { procs = ps })) (all-seen d.procs d.section)
-  finished-sees n d (Inside r) = tt
+  finished-sees n d (Inside p r) = tt
 
 -- ---- walks
 

@@ -14,6 +14,7 @@ use Rattle.sig_patterns.specs.declared.pattern.Pattern.TheFolds.{fold-Pattern}
 use Rattle.sig_program.specs.declared.instruction.After.{After}
 use Rattle.sig_program.specs.declared.instruction.Instr.{Instr}
 use Rattle.sig_program.specs.Instructions.{Operand, an_expr, a_label, Said, AllSaid, operands_of, Spoken, Says, Receives, spoken}
+use Rattle.sig_program.specs.declared.instruction.Receiving.{Receiving}
 use Rattle.sig_reader.proofs.TableLemmas.{made_of}
 
 -- the second walk gives each number as it is, and the first gives 0
@@ -67,9 +68,12 @@ abbrev pub all_seen : (ℕ → ℕ) → (ℕ → ℕ) → (os : List Operand) �
 all_seen f g [] x = tt
 all_seen f g (o ∷ os) x = (said_seen f g o x.0, all_seen f g os x.1)
 
+abbrev pub receiving_seen : (ℕ → ℕ) → (ℕ → ℕ) → Receiving → Receiving
+receiving_seen f g r = record r { clauses = map (clause_seen f g) r.clauses; after = option_map (after_seen g) r.after }
+
 abbrev pub spoken_seen : (ℕ → ℕ) → (ℕ → ℕ) → Spoken → Spoken
 spoken_seen f g (Says v x) = Says v (all_seen f g (operands_of v) x)
-spoken_seen f g (Receives r) = Receives (record r { clauses = map (clause_seen f g) r.clauses; after = option_map (after_seen g) r.after })
+spoken_seen f g (Receives r) = Receives (receiving_seen f g r)
 
 abbrev pub instr_seen : (ℕ → ℕ) → (ℕ → ℕ) → Instr → Instr
 instr_seen f g i = made_of (spoken_seen f g (spoken i))

@@ -8,14 +8,13 @@ use Rattle.sig_patterns.specs.declared.pattern.Pattern.{Pattern}
 use Rattle.sig_patterns.specs.declared.var.Var.{Var}
 use Rattle.sig_patterns.specs.Pinning.{pins}
 use Rattle.sig_program.specs.declared.label.Label.{Label}
-use Rattle.sig_program.specs.declared.instruction.After.{After}
+use Rattle.sig_program.specs.declared.instruction.Receiving.{Receiving}
 use Rattle.sig_program.specs.declared.instruction.Instr.{Instr}
 use Rattle.sig_program.specs.declared.instruction.Instr.TheVariants as instr
 use Rattle.sig_tokens.specs.declared.fault.FaultKind.{FaultKind}
 use Rattle.sig_tokens.specs.declared.fault.FaultKind.TheVariants.{Syntax, DuplicateName, TooManyProcesses, DuplicateLabel, TooManyTurns, MarkerNotInClause}
 use Rattle.sig_reader.specs.declared.draft.Section.{Section}
 use Rattle.sig_reader.specs.declared.draft.Section.TheVariants.{Before, Outside, Inside}
-use Rattle.sig_reader.specs.declared.draft.OpenReceive.{OpenReceive}
 use Rattle.sig_reader.specs.declared.draft.Draft.{Draft}
 use Rattle.sig_reader.specs.declared.form.Form.{Form}
 use Rattle.sig_reader.specs.declared.form.Form.TheVariants as form
@@ -32,7 +31,7 @@ blank = record { turns = None; procs = []; section = Before }
 abbrev pub open_proc : Section → List Declared
 open_proc Before = []
 open_proc (Outside p) = p ∷ []
-open_proc (Inside r) = r.proc ∷ []
+open_proc (Inside p r) = p ∷ []
 
 -- the processes so far
 abbrev pub all_procs : Draft → List Declared
@@ -66,10 +65,6 @@ labelled p name =
 abbrev pub with_instr : Declared → Instr → Declared
 with_instr p i = record p { instrs = p.instrs ++ i ∷ [] }
 
--- a receive of these parts
-abbrev pub receive_of : Option Var → List Clause → Option After → Instr
-receive_of using clauses after = instr.Receive (record { using = using; clauses = clauses; after = after })
-
 -- the marker's variable is pinned in the pattern; a receive without a marker asks for none
 abbrev pub is_marked : Option Var → Pattern → Bool
 is_marked None pattern = true
@@ -80,13 +75,9 @@ abbrev pub with_clause : Option Var → List Clause → Pattern → Option ℕ �
 with_clause using clauses pattern target =
     if is_marked using pattern then Ok (clauses ++ plain_clause pattern target ∷ []) else Err MarkerNotInClause
 
--- a receive begins in a process
-abbrev pub open_receive : Declared → Option Var → OpenReceive
-open_receive p using = record { proc = p; using = using; clauses = []; after = None }
-
--- a receive with all its lines is one instruction
-abbrev pub received : OpenReceive → Instr
-received r = receive_of r.using r.clauses r.after
+-- a receive of which only its first line was read
+abbrev pub bare_receive : Option Var → Receiving
+bare_receive using = record { using = using; clauses = []; after = None }
 
 -- a form behind what was read so far
 abbrev pub taken_at : Draft → Section → Form → Result Draft FaultKind
@@ -95,11 +86,11 @@ taken_at d Before (form.Process name) = begun d name
 taken_at d (Outside p) (form.Process name) = begun d name
 taken_at d (Outside p) (form.Label name) = on_ok (λ q. record d { section = Outside q }) (labelled p name)
 taken_at d (Outside p) (form.Do i) = Ok (record d { section = Outside (with_instr p i) })
-taken_at d (Outside p) (form.Receive using) = Ok (record d { section = Inside (open_receive p using) })
-taken_at d (Inside r) (form.On pattern target) =
-    on_ok (λ more. record d { section = Inside (record r { clauses = more }) }) (with_clause r.using r.clauses pattern target)
-taken_at d (Inside r) (form.After next) = Ok (record d { section = Inside (record r { after = Some next }) })
-taken_at d (Inside r) form.End = Ok (record d { section = Outside (with_instr r.proc (received r)) })
+taken_at d (Outside p) (form.Receive using) = Ok (record d { section = Inside p (bare_receive using) })
+taken_at d (Inside p r) (form.On pattern target) =
+    on_ok (λ more. record d { section = Inside p (record r { clauses = more }) }) (with_clause r.using r.clauses pattern target)
+taken_at d (Inside p r) (form.After next) = Ok (record d { section = Inside p (record r { after = Some next }) })
+taken_at d (Inside p r) form.End = Ok (record d { section = Outside (with_instr p (instr.Receive r)) })
 taken_at d _ _ = Err Syntax
 
 abbrev pub taken : Draft → Form → Result Draft FaultKind

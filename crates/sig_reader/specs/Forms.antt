@@ -71,7 +71,7 @@ may_be_inside has_after _ = false
 abbrev pub may_stand_at : Draft → Section → Keyword → Bool
 may_stand_at d Before word = may_begin d.turns word
 may_stand_at d (Outside p) word = may_be_outside word
-may_stand_at d (Inside r) word = may_be_inside (is_some r.after) word
+may_stand_at d (Inside p r) word = may_be_inside (is_some r.after) word
 
 abbrev pub may_stand : Draft → Keyword → Bool
 may_stand d word = may_stand_at d d.section word

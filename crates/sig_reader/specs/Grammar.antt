@@ -34,7 +34,7 @@ located n (Err kind) = at_line n kind
 
 -- A text doesn't end inside a receive. The line that is refused is the one after the last.
 abbrev pub finished : ℕ → Draft → Section → Result Program Fault
-finished n d (Inside r) = at_line n Syntax
+finished n d (Inside p r) = at_line n Syntax
 finished n d _ = Ok (program_of d)
 
 -- a line that says nothing is passed over

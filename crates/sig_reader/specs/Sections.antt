@@ -8,23 +8,24 @@ use Rattle.sig_reader.specs.declared.draft.Section.TheVariants.{Outside, Inside}
 use Rattle.sig_reader.specs.declared.form.Form.{Form}
 use Rattle.sig_reader.specs.declared.form.Form.TheVariants as form
 use Rattle.sig_tokens.specs.Faults.{on_ok}
-use Rattle.sig_reader.specs.Drafts.{labelled, with_instr, with_clause, open_receive, received}
+use Rattle.sig_reader.specs.Drafts.{labelled, with_instr, with_clause, bare_receive}
+use Rattle.sig_program.specs.declared.instruction.Instr.TheVariants as instr
 
 -- a receive begins in the process that is being read
 abbrev pub inside_of : Section → Option Var → Section
-inside_of (Outside p) using = Inside (open_receive p using)
+inside_of (Outside p) using = Inside p (bare_receive using)
 inside_of section using = section
 
 -- a receive ends, which is one instruction
 abbrev pub outside_of : Section → Section
-outside_of (Inside r) = Outside (with_instr r.proc (received r))
+outside_of (Inside p r) = Outside (with_instr p (instr.Receive r))
 outside_of section = section
 
 abbrev pub section_taken : Section → Form → Result Section FaultKind
 section_taken (Outside p) (form.Label name) = on_ok Outside (labelled p name)
 section_taken (Outside p) (form.Do i) = Ok (Outside (with_instr p i))
-section_taken (Outside p) (form.Receive using) = Ok (Inside (open_receive p using))
-section_taken (Inside r) (form.On pattern target) = on_ok (λ more. Inside (record r { clauses = more })) (with_clause r.using r.clauses pattern target)
-section_taken (Inside r) (form.After next) = Ok (Inside (record r { after = Some next }))
-section_taken (Inside r) form.End = Ok (Outside (with_instr r.proc (received r)))
+section_taken (Outside p) (form.Receive using) = Ok (Inside p (bare_receive using))
+section_taken (Inside p r) (form.On pattern target) = on_ok (λ more. Inside p (record r { clauses = more })) (with_clause r.using r.clauses pattern target)
+section_taken (Inside p r) (form.After next) = Ok (Inside p (record r { after = Some next }))
+section_taken (Inside p r) form.End = Ok (Outside (with_instr p (instr.Receive r)))
 section_taken _ _ = Err Syntax

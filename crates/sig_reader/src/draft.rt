@@ -16,6 +16,7 @@ ghost use Rattle.sig_reader.specs.Drafts.{
   with_instr,
   is_marked,
   with_clause,
+  bare_receive,
   taken_at,
   taken,
 };
@@ -36,19 +37,6 @@ use sig_tokens::{
 use std::alloc::Global;
 use std::mem::{drop, replace};
 
-/// A receive that is being read.
-#[derive(Drop)]
-pub struct OpenReceive {
-    /// The process in which it stands.
-    pub proc: DraftProc,
-    /// The variable of its marker, where it has one.
-    pub using: Option<Var>,
-    /// Its clauses so far.
-    pub clauses: Clauses,
-    /// Where it goes on that finds no message, where its `after` has stood.
-    pub after: Option<After>,
-}
-
 /// Where in a script a line stands.
 #[derive(Drop)]
 pub enum Section {
@@ -56,8 +44,8 @@ pub enum Section {
     Before,
     /// In this process, outside a receive.
     Outside(DraftProc),
-    /// In a receive.
-    Inside(OpenReceive),
+    /// In a receive of this process, of which so much was read.
+    Inside(DraftProc, Receiving),
 }
 
 /// What was read so far.
@@ -108,8 +96,8 @@ fn close(procs: &mut DraftProcs, section: Section) -> Result<(), Stop>
             procs.add(proc)?;
             Ok(())
         }
-        Section::Inside(receive) => {
-            procs.add(receive.proc)?;
+        Section::Inside(proc, _receiving) => {
+            procs.add(proc)?;
             Ok(())
         }
     }
@@ -205,7 +193,7 @@ fn take_process(alloc: Global, draft: &mut Draft, name: Name) -> Result<(), Stop
     ensures { Gives (λ u. draft.new) result (taken_at draft.old draft.old.section (Form.Process name)) }
 {
     match &draft.section {
-        Section::Inside(_) => Err(Stop::Fault(FaultKind::Syntax)),
+        Section::Inside(_, _) => Err(Stop::Fault(FaultKind::Syntax)),
         _ => begin(alloc, draft, name),
     }
 }
@@ -232,17 +220,23 @@ fn place_instr(section: &mut Section, instr: Instr) -> Result<(), Stop>
     }
 }
 
+/// A receive of which only its first line was read.
+fn bare_receive(alloc: Global, using: Option<Var>) -> Receiving
+    ensures { result ≡ bare_receive using }
+{
+    Receiving {
+        using,
+        clauses: Sequence::new(alloc),
+        after: None,
+    }
+}
+
 /// A receive begins in the process that is being read.
 fn inside(alloc: Global, section: Section, marker: Option<Var>) -> Section
     ensures { result ≡ inside_of section marker }
 {
     match section {
-        Section::Outside(proc) => Section::Inside(OpenReceive {
-            proc,
-            using: marker,
-            clauses: Sequence::new(alloc),
-            after: None,
-        }),
+        Section::Outside(proc) => Section::Inside(proc, bare_receive(alloc, marker)),
         other => other,
     }
 }
@@ -301,8 +295,8 @@ fn place_clause(section: &mut Section, pattern: Pattern, target: Option<u32>) ->
     ensures { Gives (λ u. section.new) result (section_taken section.old (Form.On pattern target)) }
 {
     match section {
-        Section::Inside(receive) => {
-            add_clause(&receive.using, &mut receive.clauses, pattern, target)
+        Section::Inside(_, receiving) => {
+            add_clause(&receiving.using, &mut receiving.clauses, pattern, target)
         }
         _ => refuse(pattern),
     }
@@ -313,8 +307,8 @@ fn place_after(section: &mut Section, next: After) -> Result<(), Stop>
     ensures { Gives (λ u. section.new) result (section_taken section.old (Form.After next)) }
 {
     match section {
-        Section::Inside(receive) => {
-            receive.after = Some(next);
+        Section::Inside(_, receiving) => {
+            receiving.after = Some(next);
             Ok(())
         }
         _ => Err(Stop::Fault(FaultKind::Syntax)),
@@ -340,13 +334,8 @@ fn outside(section: Section) -> Result<Section, Stop>
     ensures { Gives (λ s. s) result (Ok (outside_of section)) }
 {
     match section {
-        Section::Inside(receive) => {
-            let receiving = Receiving {
-                using: receive.using,
-                clauses: receive.clauses,
-                after: receive.after,
-            };
-            longer(receive.proc, Instr::Receive(receiving)).map(Section::Outside)
+        Section::Inside(proc, receiving) => {
+            longer(proc, Instr::Receive(receiving)).map(Section::Outside)
         }
         other => Ok(other),
     }
@@ -357,7 +346,7 @@ fn place_end(section: &mut Section) -> Result<(), Stop>
     ensures { Gives (λ u. section.new) result (section_taken section.old Form.End) }
 {
     match section {
-        Section::Inside(_) => {
+        Section::Inside(_, _) => {
             let receive = replace(section, Section::Before);
             enter(section, outside(receive)?);
             Ok(())
@@ -417,7 +406,7 @@ pub fn discard(draft: Draft) {
 fn check_end(section: &Section, n: u64) -> Result<(), ScriptError>
     ensures { MayEnd n section.now result }
 {
-    if let Section::Inside(_) = section {
+    if let Section::Inside(_, _) = section {
         return Err(ScriptError::Fault {
             line: n,
             kind: FaultKind::Syntax,

@@ -452,7 +452,7 @@ fn stands(draft: &Draft, word: Keyword) -> bool
     match &draft.section {
         Section::Before => word.may_begin(draft.turns),
         Section::Outside(_) => word.may_be_outside(),
-        Section::Inside(receive) => word.may_be_inside(receive.after.is_some()),
+        Section::Inside(_, receiving) => word.may_be_inside(receiving.after.is_some()),
     }
 }
 

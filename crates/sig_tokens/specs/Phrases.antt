@@ -15,7 +15,7 @@ use Rattle.sig_tokens.specs.Faults.{◌>>=◌, on_ok}
 use Rattle.sig_tokens.specs.Names.{pid_of}
 use Rattle.sig_tokens.specs.Numbers.{int_of}
 use Rattle.sig_tokens.specs.Signs.{is_word, is_open_brace, is_open_bracket, is_comma, is_bar, closes}
-use Rattle.sig_tokens.specs.Tokens.{text, unquoted}
+use Rattle.sig_tokens.specs.Tokens.{text, unquoted, CutLine}
 
 -- How phrases of one kind are made: of an integer, an atom, a variable and a process; whether a sign begins one that opens no
 -- bracket, and what it begins, with the tokens behind; of elements, by the sign that closes them; and, where lists have tails, of
@@ -106,3 +106,23 @@ phrase_at s known line (suc depth) nodes ts = phrase_front s known line (phrase_
 -- a phrase of at most MOST_NODES nodes and depth MOST_DEPTH, and the tokens behind it
 abbrev pub phrase_of : {A : Type 0} → Spelling A → Known → List ℕ → List Token → Result (A × List Token) FaultKind
 phrase_of s known line ts = on_ok (λ x. (x.0, x.2)) (phrase_at s known line MOST_DEPTH MOST_NODES ts)
+
+-- the same of a line: a phrase without elements, by its first token and the line behind; and by the depth that is left, what ends
+-- elements, elements with what ends them, what stands behind an opening bracket, and the phrase that a token begins
+abbrev pub single_in : {A : Type 0} → Spelling A → Known → Token → CutLine → Result (A × List Token) FaultKind
+single_in s known t rest = single s known rest.text t.kind (text rest.text t) rest.tokens
+
+abbrev pub ending_in : {A : Type 0} → Spelling A → Known → ℕ → signs.Sign → List A → ℕ → CutLine → Read A
+ending_in s known depth close items nodes line = ending s close (phrase_at s known line.text depth) items nodes line.tokens
+
+abbrev pub elements_in : {A : Type 0} → Spelling A → Known → ℕ → signs.Sign → ℕ → CutLine → Read A
+elements_in s known depth close nodes line =
+    let read = phrase_at s known line.text depth in
+    elements read (ending s close read) (length line.tokens) nodes [] line.tokens
+
+abbrev pub bracketed_in : {A : Type 0} → Spelling A → Known → ℕ → signs.Sign → ℕ → CutLine → Read A
+bracketed_in s known depth close nodes line = bracketed s close (phrase_at s known line.text depth) nodes line.tokens
+
+abbrev pub phrase_behind : {A : Type 0} → Spelling A → Known → ℕ → Token → ℕ → CutLine → Read A
+phrase_behind s known depth t nodes rest =
+    phrase_by s known rest.text (phrase_at s known rest.text depth) t.kind (text rest.text t) nodes rest.tokens

@@ -1,25 +1,25 @@
 //! Phrases, which are expressions and patterns, at the front of a line, within a depth and a number
 //! of nodes.
 
-ghost use Rattle.std.specs.Prelude.{◌≡◌, [], length, true, IfOk};
+ghost use Rattle.std.specs.Prelude.{◌≡◌, true, IfOk};
 ghost use Rattle.sig_terms.specs.Words.{is_atom};
 ghost use Rattle.sig_tokens.specs.Faults.{Gives};
 ghost use Rattle.sig_tokens.specs.Phrases.{
   Spelling,
   begins_phrase,
   refusal_of,
-  elements,
   is_before_tail,
   closed,
-  ending,
-  bracketed,
-  single,
-  phrase_by,
+  single_in,
+  ending_in,
+  elements_in,
+  bracketed_in,
+  phrase_behind,
   phrase_at,
   phrase_of,
 };
 ghost use Rattle.sig_tokens.specs.Signs.{closes};
-ghost use Rattle.sig_tokens.specs.Tokens.{IsWellSpelled, text};
+ghost use Rattle.sig_tokens.specs.Tokens.{IsWellSpelled};
 
 use crate::fault::{FaultKind, Stop};
 use crate::known::{Known, find_pid};
@@ -111,7 +111,7 @@ fn take_single<'l, T: Phrase>(
     rest: Line<'l>,
 ) -> Result<(T, Line<'l>), Stop>
     requires { IsWellSpelled rest.text token }
-    ensures value { Gives (λ x. (x.0, x.1.tokens)) result (single T.spelling known.now rest.entry.text token.kind (text rest.entry.text token) rest.entry.tokens) }
+    ensures value { Gives (λ x. (x.0, x.1.tokens)) result (single_in T.spelling known.now token rest.entry) }
     ensures line { IfOk result (λ x. x.1.text ≡ rest.entry.text) }
 {
     let word = rest.word(token);
@@ -168,7 +168,7 @@ fn end<'l, T: Phrase>(
     nodes: u64,
     line: &Line<'l>,
 ) -> Result<(T, u64, Line<'l>), Stop>
-    ensures value { Gives (λ x. (x.0, x.1, x.2.tokens)) result (ending T.spelling close (phrase_at T.spelling known.now line.now.text depth) items nodes line.now.tokens) }
+    ensures value { Gives (λ x. (x.0, x.1, x.2.tokens)) result (ending_in T.spelling known.now depth close items nodes line.now) }
     ensures line { IfOk result (λ x. x.2.text ≡ line.now.text) }
 {
     match line.split_first() {
@@ -191,7 +191,7 @@ fn some_elements<'l, T: Phrase>(
     nodes: u64,
     line: Line<'l>,
 ) -> Result<(T, u64, Line<'l>), Stop>
-    ensures value { Gives (λ x. (x.0, x.1, x.2.tokens)) result (elements (phrase_at T.spelling known.now line.entry.text depth) (ending T.spelling close (phrase_at T.spelling known.now line.entry.text depth)) (length line.entry.tokens) nodes [] line.entry.tokens) }
+    ensures value { Gives (λ x. (x.0, x.1, x.2.tokens)) result (elements_in T.spelling known.now depth close nodes line.entry) }
     ensures line { IfOk result (λ x. x.2.text ≡ line.entry.text) }
 {
     let mut items = Sequence::new(alloc);
@@ -220,7 +220,7 @@ fn behind_bracket<'l, T: Phrase>(
     nodes: u64,
     line: Line<'l>,
 ) -> Result<(T, u64, Line<'l>), Stop>
-    ensures value { Gives (λ x. (x.0, x.1, x.2.tokens)) result (bracketed T.spelling close (phrase_at T.spelling known.now line.entry.text depth) nodes line.entry.tokens) }
+    ensures value { Gives (λ x. (x.0, x.1, x.2.tokens)) result (bracketed_in T.spelling known.now depth close nodes line.entry) }
     ensures line { IfOk result (λ x. x.2.text ≡ line.entry.text) }
 {
     match line.split_first() {
@@ -246,7 +246,7 @@ fn behind_token<'l, T: Phrase>(
     rest: Line<'l>,
 ) -> Result<(T, u64, Line<'l>), Stop>
     requires { IsWellSpelled rest.text token }
-    ensures value { Gives (λ x. (x.0, x.1, x.2.tokens)) result (phrase_by T.spelling known.now rest.entry.text (phrase_at T.spelling known.now rest.entry.text depth) token.kind (text rest.entry.text token) nodes rest.entry.tokens) }
+    ensures value { Gives (λ x. (x.0, x.1, x.2.tokens)) result (phrase_behind T.spelling known.now depth token nodes rest.entry) }
     ensures line { IfOk result (λ x. x.2.text ≡ rest.entry.text) }
 {
     if token.kind.is_open_brace() {
