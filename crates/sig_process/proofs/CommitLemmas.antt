@@ -13,6 +13,7 @@ use Rattle.sig_patterns.proofs.MarkLemmas.{cleared_none}
 use Rattle.sig_inner.specs.InnerQueue.{InnerQueue, marked_by, cleared}
 use Rattle.sig_inner.specs.InnerQueue.{bound as bound_queue}
 use Rattle.sig_model.specs.declared.event.Event.{Event}
+use Rattle.sig_model.specs.declared.event.Outcome.{Outcome}
 use Rattle.sig_model.specs.ProcessState.{ProcessState, Post}
 use Rattle.sig_model.specs.Finishing.{numbered, finished_exec}
 use Rattle.sig_model.specs.Running.{to_itself, to_others}
@@ -21,9 +22,9 @@ use Rattle.sig_process.specs.declared.plan.Binding.{Binding}
 use Rattle.sig_process.specs.declared.plan.Outgoing.{Outgoing}
 use Rattle.sig_process.specs.declared.plan.Execution.{Execution}
 use Rattle.sig_process.specs.declared.progress.Progress.{Progress}
-use Rattle.sig_process.specs.Plans.{post_of, bound, inbox_by, changed, after_obeying, executed_body}
+use Rattle.sig_process.specs.Plans.{outgoing_of, post_of, bound, inbox_by, changed, after_obeying, executed_body}
 use Rattle.sig_process.specs.Committing.{HasBound, HasTaken, IsCommittable, gone_on}
-use Rattle.sig_process.specs.Progressing.{state_of, HasAdvanced}
+use Rattle.sig_process.specs.Progressing.{state_of, IsSameButRoom, HasAdvanced}
 
 -- the messages and markers after the rules of the inner queue
 marked : (q : InnerQueue) (answer : Bool × Inbox) → (answer.0 ≡ false → answer.1 ≡ q.inbox) → ((marked_by q answer).inbox ≡ answer.1) × ((marked_by q answer).owner ≡ q.owner)
@@ -52,12 +53,12 @@ bound_committable posts b old bound_one is k = record {
 
 module _ (pid : ℕ) (x : Execution) (old bound_one gone after : Progress) where
   abbrev posts : List Post
-  posts = map post_of x.plan.posts.items
+  posts = map post_of (outgoing_of x.plan.posts)
 
   abbrev stamp : ℕ
   stamp = old.counts.stamp + 1
 
-  -- the signals are sent, and the changes made
+  -- the signals are outgoing_of, and the changes made
   pub record HasGoneOn : Type 0 where
     pub state : state_of gone ≡ gone_on (changed (after_obeying (state_of bound_one) x.plan.obeyed) x.plan.change) stamp bound_one.counts.next_numbers.items posts
     pub executed : gone.counts.executed ≡ bound_one.counts.executed
@@ -119,6 +120,23 @@ module _ (pid : ℕ) (x : Execution) (old bound_one gone after : Progress) where
       taken_in = ap (λ (p : Progress). p.taken_in.items) f.rest ∙ ap (λ l. l.items) g.taken_in ∙ b.taken_in;
       outbox = sent_from (λ p. p.outbox.items) (to_others pid) g.outbox b.outbox (ap (λ (p : Progress). p.outbox.items) f.rest);
     }
+
+-- what the begin of an execution leaves, where the events lay beside the process
+pub begun_beside : {T E : Type 0} (o : Result T E) (n : ℕ) (w : Growing) (b : Binding) (how : Outcome) (p q : Progress) (none all more list : List Event) →
+    MatchResult o (λ _. HasBound n w b (record p { events = all }) (record q { events = more }) how) (λ _. IsSameButRoom (record p { events = none }) q × (more ≡ all)) →
+    all ≡ p.events → list ≡ more → MatchResult o (λ _. HasBound n w b p (record q { events = list }) how) (λ _. IsSameButRoom p (record q { events = list }))
+begun_beside (Ok _) n w b how p q none all more list h was now =
+    subst (λ (es : List Event). HasBound n w b (record p { events = es }) (record q { events = list }) how) was
+    (subst (λ (es : List Event). HasBound n w b (record p { events = all }) (record q { events = es }) how) (sym now) h)
+begun_beside (Err _) n w b how p q none all more list h was now = record {
+  state = h.0.state;
+  queue = h.0.queue;
+  events = now ∙ h.1 ∙ was;
+  handled = h.0.handled;
+  own = h.0.own;
+  taken_in = h.0.taken_in;
+  outbox = h.0.outbox;
+}
 
 -- what a message that is taken leaves, where the events lay beside the process
 pub taken_beside : {T E : Type 0} (o : Result T E) (place clause looked : ℕ) (pattern : Pattern) (p q : Progress) (none all more list : List Event) →

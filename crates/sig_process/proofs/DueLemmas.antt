@@ -18,7 +18,7 @@ use Rattle.sig_process.specs.declared.plan.Outgoing.{Outgoing}
 use Rattle.sig_process.specs.declared.plan.Plan.{Plan}
 use Rattle.sig_process.specs.declared.plan.Execution.{Execution}
 use Rattle.sig_process.specs.declared.progress.Progress.{Progress}
-use Rattle.sig_process.specs.Plans.{body_of, executed_body, post_of}
+use Rattle.sig_process.specs.Plans.{outgoing_of, body_of, executed_body, post_of}
 use Rattle.sig_process.specs.Progressing.{state_of}
 use Rattle.sig_process.specs.Committing.{IsCommittable}
 use Rattle.sig_process.specs.Executions.{IsExecDue, IsHandleDue}
@@ -52,23 +52,23 @@ module _ (proc : Declared) (p : Progress) where
   execution_here pid body e = ap (option_map (finished_exec pid (state_of p))) (executing_here ∙ e)
 
   pub instr_committable : (x : Execution) → IsExecDue proc p → exec_body from_mark proc (state_of p) (slice_get proc.instrs (p.counts.place - 1)) ≡ Some (executed_body (state_of p) x) →
-      IsCommittable x.plan.posts.items p
+      IsCommittable (outgoing_of x.plan.posts) p
   instr_committable x due e =
       let b : IsBoundedBody proc (state_of p) (executed_body (state_of p) x) =
       subst (λ (o : Option Body). IfSome o (IsBoundedBody proc (state_of p))) (executing_here ∙ e) (executing_bounded proc (state_of p) due.bounds due.within) in
-      committable proc p x.plan.posts.items due.bounds due.stamp (λ peer. omega (arith, b.posts peer))
+      committable proc p (outgoing_of x.plan.posts) due.bounds due.stamp (λ peer. omega (arith, b.posts peer))
 
   -- the next signal
-  signal_committable : (plan : Plan) (pid : ℕ) (x : Signal) → IsHandleDue proc p → handling pid (state_of p) x ≡ body_of (state_of p) plan → IsCommittable plan.posts.items p
+  signal_committable : (plan : Plan) (pid : ℕ) (x : Signal) → IsHandleDue proc p → handling pid (state_of p) x ≡ body_of (state_of p) plan → IsCommittable (outgoing_of plan.posts) p
   signal_committable plan pid x due e =
       let b : IsBoundedBody proc (state_of p) (body_of (state_of p) plan) = subst (IsBoundedBody proc (state_of p)) e (handling_bounded proc (state_of p) due.bounds pid x) in
-      committable proc p plan.posts.items due.bounds due.stamp (λ peer. omega (arith, b.posts peer))
+      committable proc p (outgoing_of plan.posts) due.bounds due.stamp (λ peer. omega (arith, b.posts peer))
 
   next_committable : (plan : Plan) (pid : ℕ) (o : Option Signal) → IsHandleDue proc p → IsSomeAnd o (λ x. x.stamp < LAST_STAMP) →
-      IfSome o (λ x. handling pid (state_of p) x ≡ body_of (state_of p) plan) → IsCommittable plan.posts.items p
+      IfSome o (λ x. handling pid (state_of p) x ≡ body_of (state_of p) plan) → IsCommittable (outgoing_of plan.posts) p
   next_committable plan pid (Some x) due early e = signal_committable plan pid x due e
   next_committable plan pid None due early e = absurd early
 
   pub plan_committable : (plan : Plan) (pid : ℕ) → IsHandleDue proc p → IfSome (next_of p.own.items p.taken_in.items) (λ x. handling pid (state_of p) x ≡ body_of (state_of p) plan) →
-      IsCommittable plan.posts.items p
+      IsCommittable (outgoing_of plan.posts) p
   plan_committable plan pid due e = next_committable plan pid (next_of p.own.items p.taken_in.items) due due.next e

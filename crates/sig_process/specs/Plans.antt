@@ -1,5 +1,5 @@
 -- What a plan does to the state of a process.
-use Rattle.std.specs.Prelude.{ℕ, ◌+◌, map, Option, Some, None}
+use Rattle.std.specs.Prelude.{ℕ, ◌+◌, List, [], ◌∷◌, map, Option, Some, None}
 use Rattle.std.specs.FinMap.{insert}
 use Rattle.sig_terms.specs.declared.pid.Pid.{Pid}
 use Rattle.sig_terms.specs.declared.term.Term.TheVariants as term
@@ -19,6 +19,8 @@ use Rattle.sig_process.specs.declared.changing.WatchChange.TheVariants.{Monitor,
 use Rattle.sig_process.specs.declared.changing.Growing.{Growing}
 use Rattle.sig_process.specs.declared.changing.Growing.TheVariants as grows
 use Rattle.sig_process.specs.declared.plan.Plan.{Plan}
+use Rattle.sig_process.specs.declared.plan.Posts.{Posts}
+use Rattle.sig_process.specs.declared.plan.Posts.TheVariants as posts
 use Rattle.sig_process.specs.declared.plan.Binding.{Binding}
 use Rattle.sig_process.specs.declared.plan.Binding.TheVariants as binding
 use Rattle.sig_process.specs.declared.plan.InboxChange.{InboxChange}
@@ -80,9 +82,15 @@ after_obeying s (Some peer) = relinked s (deactivated s.tables.links peer.0)
 abbrev pub post_of : Outgoing → Post
 post_of o = record { to = o.to.0; kind = o.kind }
 
+-- what an event sends, in order
+abbrev pub outgoing_of : Posts → List Outgoing
+outgoing_of posts.Nothing = []
+outgoing_of (posts.One outgoing) = outgoing ∷ []
+outgoing_of (posts.Many all) = all.items
+
 -- what the event does
 abbrev pub body_of : ProcessState → Plan → Body
-body_of s plan = record { state = changed (after_obeying s plan.obeyed) plan.change; outcome = plan.outcome; posts = map post_of plan.posts.items }
+body_of s plan = record { state = changed (after_obeying s plan.obeyed) plan.change; outcome = plan.outcome; posts = map post_of (outgoing_of plan.posts) }
 
 -- the variables, after one of them got a value, and the next serial
 abbrev pub bound_by : Environment → Binding → Environment

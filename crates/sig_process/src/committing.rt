@@ -1,15 +1,15 @@
 //! An event that was planned happens.
 
-ghost use Rattle.std.specs.Prelude.{List, ◌≡◌, ◌+◌, ◌<◌, ◌≤◌, ◌^◌, ◌++◌, ◌∷◌, [], length, map, max, false, IfSome, IsSome, IsSomeAnd, MatchResult, OnOk, OnErr, Some};
+ghost use Rattle.std.specs.Prelude.{◌≡◌, ◌+◌, ◌<◌, ◌≤◌, ◌^◌, ◌++◌, ◌∷◌, [], length, map, max, false, IfSome, IsSome, IsSomeAnd, MatchResult, OnOk, OnErr, Some, vec_len, vec_capacity};
 ghost use Rattle.sig_inner.specs.Receiving.{is_saved};
 ghost use Rattle.sig_model.specs.Finishing.{numbered, finished_exec, finished_handle};
 ghost use Rattle.sig_model.specs.Running.{to_itself, to_others, next_of};
 ghost use Rattle.sig_process.specs.Committing.{HasRoom, IsCommittable, HasBegun, HasBound, HasHandled, HasTaken, gone_on, env_found, queue_after, behind_first, others_behind};
-ghost use Rattle.sig_process.specs.Plans.{growing, bound_by, serial_by, inbox_by, changed, after_obeying, post_of, body_of, executed_body};
+ghost use Rattle.sig_process.specs.Plans.{growing, inbox_by, changed, after_obeying, outgoing_of, post_of, body_of, executed_body};
 ghost use Rattle.sig_process.specs.Progressing.{state_of, IsSameButRoom, HasAdvanced};
 
 use crate::changing::{Change, Growing};
-use crate::plan::{Binding, Execution, InboxChange, Outgoing, Plan};
+use crate::plan::{Binding, Execution, InboxChange, Plan, Posts};
 use crate::posting::send_all;
 use crate::progress::Progress;
 use crate::waiting::{next_signal, pop_next};
@@ -47,26 +47,19 @@ impl Progress {
 
     /// Changes what is left, with this stamp, and sends. There is room for it.
     #[tactic(auto, using(crate::proofs::RoomLemmas::room_obeyed))]
-    fn go_on(
-        &mut self,
-        pid: Pid,
-        stamp: u64,
-        obeyed: Option<Pid>,
-        change: Change,
-        posts: Vec<Outgoing>,
-    )
-        requires room { HasRoom (length posts.items) (growing change) self.old }
-        requires committable { IsCommittable posts.items self.old }
-        ensures state { state_of self.new ≡ gone_on (changed (after_obeying (state_of self.old) obeyed) change) stamp self.old.counts.next_numbers.items (map post_of posts.items) }
+    fn go_on(&mut self, pid: Pid, stamp: u64, obeyed: Option<Pid>, change: Change, posts: Posts)
+        requires room { HasRoom (length (outgoing_of posts)) (growing change) self.old }
+        requires committable { IsCommittable (outgoing_of posts) self.old }
+        ensures state { state_of self.new ≡ gone_on (changed (after_obeying (state_of self.old) obeyed) change) stamp self.old.counts.next_numbers.items (map post_of (outgoing_of posts)) }
         ensures env { self.new.tables.env ≡ self.old.tables.env }
         ensures counts { self.new.counts ≡ record self.old.counts { stamp = stamp; next_numbers = self.new.counts.next_numbers } }
         ensures queue { self.new.tables.inner.queue ≡ queue_after self.old.tables.inner.queue change }
         ensures owner { self.new.tables.inner.queue.owner ≡ self.old.tables.inner.queue.owner }
         ensures events { self.new.events ≡ self.old.events }
         ensures handled { self.new.handled ≡ self.old.handled }
-        ensures own { self.new.own.items ≡ self.old.own.items ++ to_itself pid.0 (numbered pid.0 stamp self.old.counts.next_numbers.items (map post_of posts.items)) }
+        ensures own { self.new.own.items ≡ self.old.own.items ++ to_itself pid.0 (numbered pid.0 stamp self.old.counts.next_numbers.items (map post_of (outgoing_of posts))) }
         ensures taken_in { self.new.taken_in ≡ self.old.taken_in }
-        ensures outbox { self.new.outbox.items ≡ self.old.outbox.items ++ to_others pid.0 (numbered pid.0 stamp self.old.counts.next_numbers.items (map post_of posts.items)) }
+        ensures outbox { self.new.outbox.items ≡ self.old.outbox.items ++ to_others pid.0 (numbered pid.0 stamp self.old.counts.next_numbers.items (map post_of (outgoing_of posts))) }
     {
         // The link of an exit signal ends first: a process that ends doesn't tell the peer that told it.
         self.obey(obeyed);
@@ -82,32 +75,25 @@ impl Progress {
         );
     }
 
-    /// Takes back the event that was noted last.
-    fn take_back(&mut self)
-        ensures { (before : List Event) (event : Event) → self.old.events ≡ before ++ event ∷ [] → self.new ≡ record self.old { events = before } }
+    /// Makes all room, for one more event in this list too.
+    fn make_all_room(
+        &mut self,
+        events: &mut Vec<Event>,
+        posts: usize,
+        grows: Growing,
+    ) -> Result<(), AllocError>
+        ensures same { IsSameButRoom self.old self.new }
+        ensures counts { self.new.counts ≡ self.old.counts }
+        ensures room { OnOk result (HasRoom posts grows self.new) }
+        ensures items { events.new.items ≡ events.old.items }
+        ensures one { OnOk result (vec_len events.new < vec_capacity events.new) }
     {
-        drop(self.events.pop());
+        events.reserve(1)?;
+        self.make_room(posts, grows)
     }
 
-    /// Binds the variable of an instruction, or takes back the event that was noted last.
-    fn bind_noted(&mut self, binding: Binding) -> Result<(), AllocError>
-        requires { self.old.counts.next_serial < 2 ^ 63 }
-        ensures ok { OnOk result (self.new ≡ record self.old {
-          tables = record self.old.tables { env = bound_by self.old.tables.env binding };
-          counts = record self.old.counts { next_serial = serial_by self.old.counts.next_serial binding };
-        }) }
-        ensures err { OnErr result ((before : List Event) (event : Event) → self.old.events ≡ before ++ event ∷ [] → self.new ≡ record self.old { events = before }) }
-    {
-        if let Err(fault) = self.bind(binding) {
-            self.take_back();
-            return Err(fault);
-        }
-        Ok(())
-    }
-
-    /// Makes all room, notes the event of an instruction, and binds its variable. Where memory is
-    /// refused all but the room is as before: a binding is the last that can be refused, and then only
-    /// the event has to be taken back.
+    /// Makes all room, binds the variable of an instruction, and notes its event. Where memory is
+    /// refused all but the room is as before: a binding is the last that can be refused.
     fn begin_exec(
         &mut self,
         outcome: Outcome,
@@ -119,18 +105,45 @@ impl Progress {
         requires serials { self.old.counts.next_serial < 2 ^ 63 }
         ensures { MatchResult result (λ _. HasBound posts grows binding self.old self.new outcome) (λ _. IsSameButRoom self.old self.new) }
     {
-        let event = Event {
+        let mut events = mem::replace(&mut self.events, Sequence::new(self.alloc)).into_vec();
+        let begun = self.begin_into(&mut events, outcome, binding, posts, grows);
+        self.events = Sequence::from_vec(events);
+        begun
+    }
+
+    /// The same, with the event noted in a list beside the process. A list of this kind makes room
+    /// ahead, so that the event is noted last.
+    fn begin_into(
+        &mut self,
+        events: &mut Vec<Event>,
+        outcome: Outcome,
+        binding: Binding,
+        posts: usize,
+        grows: Growing,
+    ) -> Result<(), AllocError>
+        requires stamp { self.old.counts.stamp < LAST_STAMP }
+        requires serials { self.old.counts.next_serial < 2 ^ 63 }
+        ensures { MatchResult result
+            (λ _. HasBound posts grows binding (record self.old { events = events.old.items }) (record self.new { events = events.new.items }) outcome)
+            (λ _. IsSameButRoom self.old self.new × (events.new.items ≡ events.old.items)) }
+    {
+        if let Err(fault) = self.make_all_room(events, posts, grows) {
+            drop(outcome);
+            drop(binding);
+            return Err(fault);
+        }
+        if let Err(fault) = self.bind(binding) {
+            drop(outcome);
+            return Err(fault);
+        }
+        events.push_reserved(Event {
             stamp: self.counts.stamp + 1,
             did: Did::Exec {
                 place: self.counts.place,
             },
             outcome,
-        };
-        if let Err(fault) = self.begin(event, posts, grows) {
-            drop(binding);
-            return Err(fault);
-        }
-        self.bind_noted(binding)
+        });
+        Ok(())
     }
 
     /// Makes the last change of an execution, which goes on at this place. Nothing is left of a scan.
@@ -152,7 +165,7 @@ impl Progress {
 
     /// The plan of an instruction happens, or for want of memory nothing does.
     pub(crate) fn commit_exec(&mut self, pid: Pid, execution: Execution) -> Result<(), AllocError>
-        requires committable { IsCommittable execution.plan.posts.items self.old }
+        requires committable { IsCommittable (outgoing_of execution.plan.posts) self.old }
         requires turns { self.old.counts.executed + 1 < 2 ^ 32 }
         requires serials { self.old.counts.next_serial < 2 ^ 63 }
         requires owner { self.old.tables.inner.queue.owner ≡ self.old.tables.watch.watch.owner }
@@ -226,7 +239,7 @@ impl Progress {
 
     /// The plan of the next signal's handling happens, or for want of memory nothing does.
     pub(crate) fn commit_handle(&mut self, pid: Pid, plan: Plan) -> Result<(), AllocError>
-        requires committable { IsCommittable plan.posts.items self.old }
+        requires committable { IsCommittable (outgoing_of plan.posts) self.old }
         requires due { IsSomeAnd (next_of self.old.own.items self.old.taken_in.items) (λ x. x.stamp < LAST_STAMP) }
         ensures event { MatchResult result
             (λ _. IfSome (next_of self.old.own.items self.old.taken_in.items) (λ x.

@@ -6,7 +6,7 @@ ghost use Rattle.sig_process.specs.Progressing.{state_of};
 
 use crate::changing::Change;
 use crate::copying::with_copy;
-use crate::plan::{Binding, Execution, InboxChange, Plan};
+use crate::plan::{Binding, Execution, InboxChange, Plan, Posts};
 use crate::progress::Progress;
 use sig_model::Outcome;
 use sig_terms::{Pid, Term};
@@ -25,7 +25,7 @@ impl Progress {
                 obeyed,
                 change: Change::End { reason },
                 outcome: Outcome::Ended { reason: told },
-                posts,
+                posts: Posts::Many(posts),
             }),
             Err(fault) => {
                 drop(reason);

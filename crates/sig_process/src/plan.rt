@@ -1,3 +1,6 @@
+ghost use Rattle.std.specs.Prelude.{◌≡◌, length};
+ghost use Rattle.sig_process.specs.Plans.{outgoing_of};
+
 use crate::changing::Change;
 use sig_kinds::Kind;
 use sig_model::Outcome;
@@ -13,6 +16,30 @@ pub(crate) struct Outgoing {
     pub kind: Kind,
 }
 
+/// What an event sends, in order. Most events send nothing or one signal, and that takes no list.
+#[derive(Drop)]
+pub(crate) enum Posts {
+    /// Nothing.
+    Nothing,
+    /// One signal.
+    One(Outgoing),
+    /// These signals.
+    Many(Vec<Outgoing>),
+}
+
+impl Posts {
+    /// How many signals there are.
+    pub(crate) fn len(&self) -> usize
+        ensures { result ≡ length (outgoing_of self.now) }
+    {
+        match self {
+            Posts::Nothing => 0,
+            Posts::One(_) => 1,
+            Posts::Many(posts) => posts.len(),
+        }
+    }
+}
+
 /// What an event will do, with all that it needs. Nothing has happened yet.
 #[derive(Drop)]
 pub(crate) struct Plan {
@@ -23,7 +50,7 @@ pub(crate) struct Plan {
     /// How the event goes.
     pub outcome: Outcome,
     /// What it sends, in order.
-    pub posts: Vec<Outgoing>,
+    pub posts: Posts,
 }
 
 /// The variable that an instruction gives a value.

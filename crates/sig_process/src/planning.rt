@@ -4,12 +4,12 @@ ghost use Rattle.sig_model.specs.Bodies.{Body, place_after, going_on, at_next};
 ghost use Rattle.sig_model.specs.Executing.{sending, setting, linking, unlinking, sending_exit, trapping, new_ref, making_ref, monitoring, aliasing, demonitor_posts, demonitoring, unaliasing, reserving, marked_by, binding, clearing, with_pid, with_target, from_mark, exec_body};
 ghost use Rattle.sig_program.specs.Parts.{exprs_of};
 ghost use Rattle.sig_process.specs.Planning.{IsPlanned, IsRow, is_receive};
-ghost use Rattle.sig_process.specs.Plans.{changed, post_of, body_of, executed_body};
+ghost use Rattle.sig_process.specs.Plans.{changed, outgoing_of, post_of, body_of, executed_body};
 ghost use Rattle.sig_process.specs.Progressing.{state_of};
 
 use crate::changing::{Change, LinkChange, WatchChange};
 use crate::copying::with_copy;
-use crate::plan::{Binding, Execution, InboxChange, Outgoing, Plan};
+use crate::plan::{Binding, Execution, InboxChange, Outgoing, Plan, Posts};
 use crate::progress::Progress;
 use crate::values::ValueFault;
 use sig_kinds::{AliasMode, Kind};
@@ -17,28 +17,23 @@ use sig_model::{Outcome, Target};
 use sig_patterns::{Expr, Var};
 use sig_program::{Instr, Proc};
 use sig_terms::{Pid, Ref, Term};
-use std::alloc::{AllocError, Global};
+use std::alloc::AllocError;
 use std::mem::drop;
 
 /// One signal that an event sends.
-pub(crate) fn one_post(alloc: Global, to: Pid, kind: Kind) -> Result<Vec<Outgoing>, AllocError>
-    ensures { IfOk result (λ posts. map post_of posts.items ≡ record { to = to.0; kind = kind } ∷ []) }
+pub(crate) fn one_post(to: Pid, kind: Kind) -> Posts
+    ensures { map post_of (outgoing_of result) ≡ record { to = to.0; kind = kind } ∷ [] }
 {
-    let posts = vec![in alloc; Outgoing { to, kind }]?;
-    Ok(posts)
+    Posts::One(Outgoing { to, kind })
 }
 
 /// A demonitor signal, where a process is told.
-pub(crate) fn demonitor_posts(
-    alloc: Global,
-    reference: Ref,
-    told: Option<Pid>,
-) -> Result<Vec<Outgoing>, AllocError>
-    ensures { IfOk result (λ posts. map post_of posts.items ≡ demonitor_posts reference told) }
+pub(crate) fn demonitor_posts(reference: Ref, told: Option<Pid>) -> Posts
+    ensures { map post_of (outgoing_of result) ≡ demonitor_posts reference told }
 {
     match told {
-        None => Ok(Vec::new(alloc)),
-        Some(target) => one_post(alloc, target, Kind::Demonitor { reference }),
+        None => Posts::Nothing,
+        Some(target) => one_post(target, Kind::Demonitor { reference }),
     }
 }
 
@@ -54,8 +49,8 @@ fn in_memory(planned: Result<Execution, AllocError>) -> Result<Execution, ValueF
 
 impl Plan {
     /// A change by which these signals are sent.
-    pub(crate) fn sending(change: Change, outcome: Outcome, posts: Vec<Outgoing>) -> Plan
-        ensures { (s : ProcessState) → body_of s result ≡ record { state = changed s change; outcome = outcome; posts = map post_of posts.items } }
+    pub(crate) fn sending(change: Change, outcome: Outcome, posts: Posts) -> Plan
+        ensures { (s : ProcessState) → body_of s result ≡ record { state = changed s change; outcome = outcome; posts = map post_of (outgoing_of posts) } }
     {
         Plan {
             obeyed: None,
@@ -71,7 +66,7 @@ impl Progress {
     pub(crate) fn silent(&self, change: Change, outcome: Outcome) -> Plan
         ensures { (s : ProcessState) → body_of s result ≡ record { state = changed s change; outcome = outcome; posts = [] } }
     {
-        Plan::sending(change, outcome, Vec::new(self.alloc))
+        Plan::sending(change, outcome, Posts::Nothing)
     }
 
     /// Where the process goes on from the next instruction: at the label of the target, or at the
@@ -103,26 +98,12 @@ impl Progress {
     }
 
     /// The execution that changes nothing and sends one signal.
-    fn posting(
-        &self,
-        proc: &Proc,
-        to: Pid,
-        kind: Kind,
-        outcome: Outcome,
-    ) -> Result<Execution, AllocError>
+    fn posting(&self, proc: &Proc, to: Pid, kind: Kind, outcome: Outcome) -> Execution
         requires { self.now.counts.place ≤ length proc.now.instrs }
-        ensures { IfOk result (λ x. executed_body (state_of self.now) x ≡ record { state = at_next (state_of self.now); outcome = outcome; posts = record { to = to.0; kind = kind } ∷ [] }) }
+        ensures { executed_body (state_of self.now) result ≡ record { state = at_next (state_of self.now); outcome = outcome; posts = record { to = to.0; kind = kind } ∷ [] } }
     {
-        match one_post(self.alloc, to, kind) {
-            Ok(posts) => {
-                let plan = Plan::sending(Change::Nothing, outcome, posts);
-                Ok(self.going(proc, None, plan))
-            }
-            Err(fault) => {
-                drop(outcome);
-                Err(fault)
-            }
-        }
+        let plan = Plan::sending(Change::Nothing, outcome, one_post(to, kind));
+        self.going(proc, None, plan)
     }
 
     /// A message to a process, or through an alias to the process that made it.
@@ -135,12 +116,12 @@ impl Progress {
             Target::Process(pid) => {
                 let kind = Kind::Message { term };
                 let to = Term::Pid(pid);
-                self.posting(proc, pid, kind, Outcome::Sent { to, message })
+                Ok(self.posting(proc, pid, kind, Outcome::Sent { to, message }))
             }
             Target::Alias(reference) => {
                 let kind = Kind::AliasMessage { reference, term };
                 let to = Term::Ref(reference);
-                self.posting(proc, reference.owner, kind, Outcome::Sent { to, message })
+                Ok(self.posting(proc, reference.owner, kind, Outcome::Sent { to, message }))
             }
         }
     }
@@ -167,56 +148,56 @@ impl Progress {
     }
 
     /// The signal of a link, which is sent but to oneself or where the link is active.
-    fn link_posts(&self, peer: Pid) -> Result<Vec<Outgoing>, AllocError>
-        ensures { IfOk result (λ posts. map post_of posts.items ≡ (linking (state_of self.now) peer).posts) }
+    fn link_posts(&self, peer: Pid) -> Posts
+        ensures { map post_of (outgoing_of result) ≡ (linking (state_of self.now) peer).posts }
     {
         let links = &self.tables.links;
         if peer != links.owner() && !links.active(peer) {
-            one_post(self.alloc, peer, Kind::Link)
+            one_post(peer, Kind::Link)
         } else {
-            Ok(Vec::new(self.alloc))
+            Posts::Nothing
         }
     }
 
     /// A link to a process.
-    fn plan_link(&self, proc: &Proc, peer: Pid) -> Result<Execution, AllocError>
+    fn plan_link(&self, proc: &Proc, peer: Pid) -> Execution
         requires { self.now.counts.place ≤ length proc.now.instrs }
-        ensures { IfOk result (λ x. linking (state_of self.now) peer ≡ executed_body (state_of self.now) x) }
+        ensures { linking (state_of self.now) peer ≡ executed_body (state_of self.now) result }
     {
-        let posts = self.link_posts(peer)?;
+        let posts = self.link_posts(peer);
         let change = Change::Links(LinkChange::Link { peer });
         let plan = Plan::sending(change, Outcome::Done, posts);
-        Ok(self.going(proc, None, plan))
+        self.going(proc, None, plan)
     }
 
     /// The signal of the end of a link, which is sent where the link is active.
-    fn unlink_posts(&self, peer: Pid) -> Result<Vec<Outgoing>, AllocError>
-        ensures { IfOk result (λ posts. map post_of posts.items ≡ (unlinking (state_of self.now) peer).posts) }
+    fn unlink_posts(&self, peer: Pid) -> Posts
+        ensures { map post_of (outgoing_of result) ≡ (unlinking (state_of self.now) peer).posts }
     {
         let links = &self.tables.links;
         if links.active(peer) {
             let id = links.next_id();
-            one_post(self.alloc, peer, Kind::Unlink { id })
+            one_post(peer, Kind::Unlink { id })
         } else {
-            Ok(Vec::new(self.alloc))
+            Posts::Nothing
         }
     }
 
     /// The end of the link to a process.
-    fn plan_unlink(&self, proc: &Proc, peer: Pid) -> Result<Execution, AllocError>
+    fn plan_unlink(&self, proc: &Proc, peer: Pid) -> Execution
         requires { self.now.counts.place ≤ length proc.now.instrs }
-        ensures { IfOk result (λ x. unlinking (state_of self.now) peer ≡ executed_body (state_of self.now) x) }
+        ensures { unlinking (state_of self.now) peer ≡ executed_body (state_of self.now) result }
     {
-        let posts = self.unlink_posts(peer)?;
+        let posts = self.unlink_posts(peer);
         let change = Change::Links(LinkChange::Unlink { peer });
         let plan = Plan::sending(change, Outcome::Done, posts);
-        Ok(self.going(proc, None, plan))
+        self.going(proc, None, plan)
     }
 
     /// An exit signal to a process.
-    fn plan_exit_to(&self, proc: &Proc, target: Pid, reason: Term) -> Result<Execution, AllocError>
+    fn plan_exit_to(&self, proc: &Proc, target: Pid, reason: Term) -> Execution
         requires { self.now.counts.place ≤ length proc.now.instrs }
-        ensures { IfOk result (λ x. sending_exit (state_of self.now) reason target ≡ executed_body (state_of self.now) x) }
+        ensures { sending_exit (state_of self.now) reason target ≡ executed_body (state_of self.now) result }
     {
         let kind = Kind::Exit {
             reason,
@@ -253,9 +234,9 @@ impl Progress {
         }
     }
 
-    /// A change by which these signals are sent, and a variable gets the reference.
-    fn made(&self, change: Change, reference: Ref, posts: Vec<Outgoing>) -> Plan
-        ensures { (s : ProcessState) → body_of s result ≡ record { state = changed s change; outcome = Outcome.Set (Term.Ref reference); posts = map post_of posts.items } }
+    /// A change by which these signals are outgoing_of, and a variable gets the reference.
+    fn made(&self, change: Change, reference: Ref, posts: Posts) -> Plan
+        ensures { (s : ProcessState) → body_of s result ≡ record { state = changed s change; outcome = Outcome.Set (Term.Ref reference); posts = map post_of (outgoing_of posts) } }
     {
         let value = Term::Ref(reference);
         Plan::sending(change, Outcome::Set { value }, posts)
@@ -292,18 +273,18 @@ impl Progress {
         ensures { IfOk result (λ x. making_ref (state_of self.now) var.now.0 ≡ executed_body (state_of self.now) x) }
     {
         let reference = self.new_ref();
-        let plan = self.made(Change::Nothing, reference, Vec::new(self.alloc));
+        let plan = self.made(Change::Nothing, reference, Posts::Nothing);
         self.making(proc, var, reference, plan)
     }
 
     /// The signal of a monitor, which is sent but to oneself.
-    fn monitor_posts(&self, target: Pid, reference: Ref) -> Result<Vec<Outgoing>, AllocError>
-        ensures { IfOk result (λ posts. map post_of posts.items ≡ (if target.0 == self.now.tables.watch.watch.owner then [] else record { to = target.0; kind = Kind.Monitor reference } ∷ [])) }
+    fn monitor_posts(&self, target: Pid, reference: Ref) -> Posts
+        ensures { map post_of (outgoing_of result) ≡ (if target.0 == self.now.tables.watch.watch.owner then [] else record { to = target.0; kind = Kind.Monitor reference } ∷ []) }
     {
         if target == self.tables.watch.owner() {
-            Ok(Vec::new(self.alloc))
+            Posts::Nothing
         } else {
-            one_post(self.alloc, target, Kind::Monitor { reference })
+            one_post(target, Kind::Monitor { reference })
         }
     }
 
@@ -324,7 +305,7 @@ impl Progress {
             target,
             mode,
         };
-        let posts = self.monitor_posts(target, reference)?;
+        let posts = self.monitor_posts(target, reference);
         let plan = self.made(Change::Watch(change), reference, posts);
         self.making(proc, var, reference, plan)
     }
@@ -336,7 +317,7 @@ impl Progress {
     {
         let reference = self.new_ref();
         let change = Change::Watch(WatchChange::Alias { reference, reply });
-        let plan = self.made(change, reference, Vec::new(self.alloc));
+        let plan = self.made(change, reference, Posts::Nothing);
         self.making(proc, var, reference, plan)
     }
 
@@ -353,17 +334,12 @@ impl Progress {
     }
 
     /// The end of the monitor of a reference. With `flush` the message of its end is removed.
-    fn plan_demonitor(
-        &self,
-        proc: &Proc,
-        reference: Ref,
-        flush: bool,
-    ) -> Result<Execution, AllocError>
+    fn plan_demonitor(&self, proc: &Proc, reference: Ref, flush: bool) -> Execution
         requires { self.now.counts.place ≤ length proc.now.instrs }
-        ensures { IfOk result (λ x. demonitoring (state_of self.now) flush reference ≡ executed_body (state_of self.now) x) }
+        ensures { demonitoring (state_of self.now) flush reference ≡ executed_body (state_of self.now) result }
     {
         let told = self.tables.watch.told(reference);
-        let posts = demonitor_posts(self.alloc, reference, told)?;
+        let posts = demonitor_posts(reference, told);
         let outcome = self.flushing(reference, flush);
         let change = Change::Watch(WatchChange::Demonitor { reference });
         let plan = Plan::sending(change, outcome, posts);
@@ -372,12 +348,12 @@ impl Progress {
         } else {
             InboxChange::Nothing
         };
-        Ok(Execution {
+        Execution {
             binding: Binding::Nothing,
             inbox,
             place: self.place_after(proc, None),
             plan,
-        })
+        }
     }
 
     /// The end of an alias.
@@ -508,7 +484,7 @@ impl Progress {
         ensures { IsRow proc.now (state_of self.now) (Instr.Link peer.now) result }
     {
         match self.target_of(peer) {
-            Ok(peer) => in_memory(self.plan_link(proc, peer)),
+            Ok(peer) => Ok(self.plan_link(proc, peer)),
             Err(fault) => Err(fault),
         }
     }
@@ -519,7 +495,7 @@ impl Progress {
         ensures { IsRow proc.now (state_of self.now) (Instr.Unlink peer.now) result }
     {
         match self.target_of(peer) {
-            Ok(peer) => in_memory(self.plan_unlink(proc, peer)),
+            Ok(peer) => Ok(self.plan_unlink(proc, peer)),
             Err(fault) => Err(fault),
         }
     }
@@ -552,7 +528,7 @@ impl Progress {
         ensures { IsRow proc.now (state_of self.now) (Instr.Demonitor reference.now flush) result }
     {
         match self.reference_of(reference) {
-            Ok(reference) => in_memory(self.plan_demonitor(proc, reference, flush)),
+            Ok(reference) => Ok(self.plan_demonitor(proc, reference, flush)),
             Err(fault) => Err(fault),
         }
     }
@@ -586,7 +562,7 @@ impl Progress {
         let pid = self.pid_of(&target);
         drop(target);
         match pid {
-            Ok(pid) => in_memory(self.plan_exit_to(proc, pid, reason)),
+            Ok(pid) => Ok(self.plan_exit_to(proc, pid, reason)),
             Err(fault) => {
                 drop(reason);
                 Err(fault)

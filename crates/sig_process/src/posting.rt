@@ -4,9 +4,9 @@ ghost use Rattle.std.specs.Prelude.{ℕ, ◌≡◌, ◌+◌, ◌<◌, ◌≤◌,
 ghost use Rattle.sig_model.specs.Bounds.{posts_to};
 ghost use Rattle.sig_model.specs.Finishing.{drawn, numbers_after, numbered};
 ghost use Rattle.sig_model.specs.Running.{to_itself, to_others};
-ghost use Rattle.sig_process.specs.Plans.{post_of};
+ghost use Rattle.sig_process.specs.Plans.{post_of, outgoing_of};
 
-use crate::plan::Outgoing;
+use crate::plan::{Outgoing, Posts};
 use sig_kinds::{Signal, Signals};
 use sig_terms::Pid;
 
@@ -71,9 +71,9 @@ fn send_one(
     put(pid, signal, own, outbox);
 }
 
-/// Sends the signals of an event in their order, each with the next number for its receiver. Room
-/// was made for them.
-pub(crate) fn send_all(
+/// Sends these signals in their order, each with the next number for its receiver. Room was made for
+/// them.
+fn send_each(
     pid: Pid,
     stamp: u64,
     posts: Vec<Outgoing>,
@@ -90,5 +90,29 @@ pub(crate) fn send_all(
 {
     for post in posts {
         send_one(pid, stamp, post, numbers, own, outbox);
+    }
+}
+
+/// Sends what an event sends, in order, each signal with the next number for its receiver. Room was
+/// made for them.
+pub(crate) fn send_all(
+    pid: Pid,
+    stamp: u64,
+    posts: Posts,
+    numbers: &mut Vec<u64>,
+    own: &mut Signals,
+    outbox: &mut Signals,
+)
+    requires numbers { (peer : ℕ) → slice_index numbers.old.items peer + posts_to peer (map post_of (outgoing_of posts)) < 2 ^ 63 }
+    requires own { length (outgoing_of posts) ≤ own.old.spare }
+    requires outbox { length (outgoing_of posts) ≤ outbox.old.spare }
+    ensures numbers { numbers.new.items ≡ numbers_after numbers.old.items (map post_of (outgoing_of posts)) }
+    ensures own { own.new.items ≡ own.old.items ++ to_itself pid.0 (numbered pid.0 stamp numbers.old.items (map post_of (outgoing_of posts))) }
+    ensures outbox { outbox.new.items ≡ outbox.old.items ++ to_others pid.0 (numbered pid.0 stamp numbers.old.items (map post_of (outgoing_of posts))) }
+{
+    match posts {
+        Posts::Nothing => {}
+        Posts::One(post) => send_one(pid, stamp, post, numbers, own, outbox),
+        Posts::Many(posts) => send_each(pid, stamp, posts, numbers, own, outbox),
     }
 }

@@ -13,7 +13,7 @@ ghost use Rattle.sig_process.specs.Progressing.{state_of};
 
 use crate::changing::{Change, LinkChange, WatchChange};
 use crate::copying::with_copy;
-use crate::plan::Plan;
+use crate::plan::{Plan, Posts};
 use crate::planning::{demonitor_posts, one_post};
 use crate::progress::Progress;
 use sig_kinds::{AliasMode, Kind, Signal};
@@ -21,7 +21,6 @@ use sig_lists::Sequence;
 use sig_model::Outcome;
 use sig_terms::{Pid, Ref, Term};
 use std::alloc::{AllocError, Global};
-use std::mem::drop;
 
 /// The message of an exit signal that is trapped.
 fn exit_message(alloc: Global, sender: Pid, reason: &Term) -> Result<Term, AllocError>
@@ -65,7 +64,7 @@ impl Progress {
             obeyed,
             change: Change::Append { message },
             outcome: Outcome::Kept { message: told },
-            posts: Vec::new(self.alloc),
+            posts: Posts::Nothing,
         })
     }
 
@@ -77,7 +76,7 @@ impl Progress {
             obeyed,
             change: Change::Nothing,
             outcome: Outcome::Dropped,
-            posts: Vec::new(self.alloc),
+            posts: Posts::Nothing,
         }
     }
 
@@ -95,12 +94,12 @@ impl Progress {
     }
 
     /// An unlink signal ends the link, and gets its id back.
-    fn plan_unlink_by(&self, sender: Pid, id: u64) -> Result<Plan, AllocError>
-        ensures { IfOk result (λ plan. unlinking_from (state_of self.now) sender.0 id (on_unlink self.now.tables.links.links sender.0) ≡ body_of (state_of self.now) plan) }
+    fn plan_unlink_by(&self, sender: Pid, id: u64) -> Plan
+        ensures { unlinking_from (state_of self.now) sender.0 id (on_unlink self.now.tables.links.links sender.0) ≡ body_of (state_of self.now) result }
     {
-        let posts = one_post(self.alloc, sender, Kind::UnlinkAck { id })?;
+        let posts = one_post(sender, Kind::UnlinkAck { id });
         let change = Change::Links(LinkChange::UnlinkBy { peer: sender });
-        Ok(Plan::sending(change, Outcome::Unlinked, posts))
+        Plan::sending(change, Outcome::Unlinked, posts)
     }
 
     /// An acknowledgement counts where its id is the awaited one.
@@ -185,18 +184,10 @@ impl Progress {
         let message = term.copy(self.alloc)?;
         let (message, kept) = with_copy(self.alloc, message)?;
         let told = self.told_by(mode, reference);
-        match demonitor_posts(self.alloc, reference, told) {
-            Ok(posts) => {
-                let change = Change::ThroughAlias { reference, message };
-                let outcome = Outcome::Kept { message: kept };
-                Ok(Plan::sending(change, outcome, posts))
-            }
-            Err(fault) => {
-                drop(message);
-                drop(kept);
-                Err(fault)
-            }
-        }
+        let posts = demonitor_posts(reference, told);
+        let change = Change::ThroughAlias { reference, message };
+        let outcome = Outcome::Kept { message: kept };
+        Ok(Plan::sending(change, outcome, posts))
     }
 
     /// A message through an alias: kept where the alias is active.
@@ -262,7 +253,7 @@ impl Progress {
             Kind::Message { term: _ } => unreachable!(),
             Kind::AliasMessage { reference, term } => self.plan_through_alias(*reference, term),
             Kind::Link => Ok(self.plan_link_up(sender)),
-            Kind::Unlink { id } => self.plan_unlink_by(sender, *id),
+            Kind::Unlink { id } => Ok(self.plan_unlink_by(sender, *id)),
             Kind::UnlinkAck { id } => Ok(self.plan_acknowledge(sender, *id)),
             Kind::Monitor { reference } => Ok(self.plan_watched(sender, *reference)),
             Kind::Demonitor { reference } => Ok(self.plan_unwatched(*reference)),
@@ -290,7 +281,7 @@ impl Progress {
             },
             Some(reference) => Kind::Down { reference, reason },
         };
-        let posts = one_post(self.alloc, sender, kind)?;
+        let posts = one_post(sender, kind);
         Ok(Plan::sending(Change::Nothing, Outcome::NoProc, posts))
     }
 

@@ -56,8 +56,8 @@ pub(crate) fn join_all(
 {
     let mut done = VecDeque::from_vec(done);
     let mut whole = take_first(&mut done)?;
-    while let Some(worked) = done.pop_front() {
-        let Worked { part, moved } = worked?;
+    while !done.is_empty() {
+        let Worked { part, moved } = take_first(&mut done)?;
         join_parts(queues, &mut whole.part, part)?;
         whole.moved |= moved;
     }

@@ -1,10 +1,11 @@
 use Rattle.std.proofs.Common.{ap}
+use Rattle.sig_process.specs.Plans.{outgoing_of}
 use Rattle.sig_process.specs.declared.progress.Counts.{Counts}
 use Rattle.sig_process.proofs.CommitLemmas.{bound_committable, executed_so}
 use Rattle.sig_process.proofs.progress.Progress.commit_exec.Goals as goal
 
 pub go_on-requires-clause-committable : goal.go_on-requires-clause-committable
-go_on-requires-clause-committable c = bound_committable c.args.execution.plan.posts.items c.args.execution.binding c.args.self.now c.begin_exec.new.self c.in-Ok.ensures.state c.requires.committable
+go_on-requires-clause-committable c = bound_committable (outgoing_of c.args.execution.plan.posts) c.args.execution.binding c.args.self.now c.begin_exec.new.self c.in-Ok.ensures.state c.requires.committable
 
 pub returns-in-Ok-clause-event : goal.returns-in-Ok-clause-event
 returns-in-Ok-clause-event c =

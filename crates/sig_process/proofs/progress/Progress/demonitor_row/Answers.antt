@@ -1,8 +1,10 @@
+use Rattle.std.proofs.Common.{ap, Some}
+use Rattle.std.specs.Prelude.{Ok}
 use Rattle.sig_process.proofs.ValueLemmas.{planned_for}
 use Rattle.sig_process.proofs.progress.Progress.demonitor_row.Goals as goal
 
 pub returns-in-Ok : goal.returns-in-Ok
-returns-in-Ok c = planned_for _ _ _ c.in-Ok.reference c.in_memory.result c.in-Ok.ensures (c.in_memory.ensures _ _ c.plan_demonitor.ensures)
+returns-in-Ok c = planned_for _ _ _ c.in-Ok.reference (Ok c.plan_demonitor.result) c.in-Ok.ensures (ap Some c.plan_demonitor.ensures)
 
 pub returns-in-Err : goal.returns-in-Err
 returns-in-Err c = c.in-Err.ensures _

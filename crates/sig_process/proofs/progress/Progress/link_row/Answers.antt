@@ -1,8 +1,10 @@
+use Rattle.std.proofs.Common.{ap, Some}
+use Rattle.std.specs.Prelude.{Ok}
 use Rattle.sig_process.proofs.ValueLemmas.{planned_for}
 use Rattle.sig_process.proofs.progress.Progress.link_row.Goals as goal
 
 pub returns-in-Ok : goal.returns-in-Ok
-returns-in-Ok c = planned_for _ _ _ c.in-Ok.peer c.in_memory.result c.in-Ok.ensures (c.in_memory.ensures _ _ c.plan_link.ensures)
+returns-in-Ok c = planned_for _ _ _ c.in-Ok.peer (Ok c.plan_link.result) c.in-Ok.ensures (ap Some c.plan_link.ensures)
 
 pub returns-in-Err : goal.returns-in-Err
 returns-in-Err c = c.in-Err.ensures _

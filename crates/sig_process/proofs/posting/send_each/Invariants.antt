@@ -5,7 +5,7 @@ use Rattle.sig_model.specs.Bounds.{posts_to}
 use Rattle.sig_model.specs.Finishing.{numbers_after, numbered}
 use Rattle.sig_model.specs.Running.{to_itself, to_others}
 use Rattle.sig_process.specs.Plans.{post_of}
-use Rattle.sig_process.proofs.posting.send_all.Given as goal
+use Rattle.sig_process.proofs.posting.send_each.Given as goal
 
 -- what was sent so far, and what the rest will add, is all
 abbrev pub invariant-loop-post : goal.invariant-loop-post
