@@ -11,7 +11,7 @@ use Rattle.sig_record.specs.declared.merging.Key.{Key}
 use Rattle.sig_record.specs.Sorting.{inserted, sorted_by}
 use Rattle.sig_record.specs.Merging.{IsMerged}
 use Rattle.sig_record.specs.Keys.{NotAfter, keys_of}
-use Rattle.sig_record.proofs.Chains.{Chain, adjacent_from}
+use Rattle.sig_runs.proofs.Chains.{Chain, adjacent_from}
 use Rattle.sig_record.proofs.MergeLemmas.{sorted_is_merged}
 
 -- of the numbers that keys are sorted by, the first that differ are lower

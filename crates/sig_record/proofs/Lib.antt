@@ -1,6 +1,5 @@
 pub mod Lists
 pub mod Fronts
-pub mod Chains
 pub mod SortLemmas
 pub mod QueueLemmas
 pub mod CountedLemmas

@@ -21,7 +21,7 @@ use Rattle.sig_record.specs.RecordText.{event_text, left_text, queued_text, stat
 use Rattle.sig_record.specs.RecordFronts.{is_process_name, event_front, left_front, signal_of, signal_front, may_follow, queued_front, state_front, head_front, begins_by_digit, begins_by, events_front, lefts_front, all_queued_front}
 use Rattle.sig_record.specs.StoredRecord.{IsStoredEvent, IsStoredLeft, IsStoredSignal, IsStoredState}
 use Rattle.sig_record.specs.SizedRecord.{IsSizedEvent, IsSizedLeft, IsSizedSignal, IsSizedState}
-use Rattle.sig_record.proofs.Chains.{Chain, chain_from, adjacent_from}
+use Rattle.sig_runs.proofs.Chains.{Chain, chain_from, adjacent_from}
 use Rattle.sig_record.proofs.ReaderLaws.{Law, Anything, text_law, spaced_law, ended_law, behind_law, read_as_law, passing_law}
 use Rattle.sig_record.proofs.PieceLaws.{narrow_law, wide_law, term_law, name_law}
 use Rattle.sig_record.proofs.PhraseLaws.{kept_term, readable_term}

@@ -14,7 +14,7 @@ use Rattle.sig_model.specs.declared.event.Event.{Event}
 use Rattle.sig_record.specs.declared.report.Report.{Report}
 use Rattle.sig_record.specs.declared.merging.MergedAt.{MergedAt}
 use Rattle.sig_record.specs.Merging.{IsMerged, IsBefore, is_same, event_at, events_in, stamp_in, stamp_at, place_of}
-use Rattle.sig_record.proofs.Chains.{chain_from, chain_map, adjacent_from}
+use Rattle.sig_runs.proofs.Chains.{chain_from, chain_map, adjacent_from}
 
 is_some_map : {A B : Type 0} (f : A → B) (o : Option A) → is_some (option_map f o) ≡ is_some o
 is_some_map f None = refl

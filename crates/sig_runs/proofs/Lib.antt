@@ -4,6 +4,7 @@ pub mod Entries
 pub mod Steps
 pub mod Merge
 pub mod Order
+pub mod Chains
 pub mod Sorting
 pub mod Replay
 pub mod Choices

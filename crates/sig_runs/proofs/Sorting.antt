@@ -7,31 +7,8 @@ use Rattle.std.proofs.lemmas.List.Sums.{sum_by-cons}
 use Rattle.std.proofs.lemmas.List.Elements.{All-head, All-tail}
 use Rattle.sig_runs.specs.Rules.{Rules}
 use Rattle.sig_runs.specs.Crew.{Member}
+use Rattle.sig_runs.proofs.Chains.{Chain, chain_from, adjacent_from}
 use Rattle.sig_runs.specs.Order.{Place, is_at, act_at, stamp_at, IsBefore, IsOrder, NotAfter, counts}
-
--- neighbours, by recursion
-abbrev pub Chain : {A : Type 0} → (A → A → Type 0) → List A → Type 0
-Chain R [] = Unit {0}
-Chain R (x ∷ []) = Unit {0}
-Chain R (x ∷ y ∷ rest) = R x y × Chain R (y ∷ rest)
-
-chain_from : {A : Type 0} (R : A → A → Type 0) (xs : List A) → AllAdjacentBelow R xs (length xs) → Chain R xs
-chain_from R [] h = tt
-chain_from R (x ∷ []) h = tt
-chain_from {A} R (x ∷ y ∷ rest) h = (
-  h 0 x (omega arith),
-  chain_from R (y ∷ rest) (λ k d l.
-      let e : suc k + 1 ≡ suc (k + 1) = omega arith in
-      subst (λ j. R (get_or (y ∷ rest) k d) (get_or (x ∷ y ∷ rest) j d)) e (h (suc k) d (omega arith))),
-)
-
-adjacent_from : {A : Type 0} (R : A → A → Type 0) (xs : List A) → Chain R xs → AllAdjacentBelow R xs (length xs)
-adjacent_from R [] h k d l = absurd (omega arith)
-adjacent_from R (x ∷ []) h k d l = absurd (omega arith)
-adjacent_from R (x ∷ y ∷ rest) h zero d l = h.0
-adjacent_from R (x ∷ y ∷ rest) h (suc k) d l =
-    let e : suc (k + 1) ≡ suc k + 1 = omega arith in
-    subst (λ j. R (get_or (y ∷ rest) k d) (get_or (x ∷ y ∷ rest) j d)) e (adjacent_from R (y ∷ rest) h.1 k d (omega arith))
 
 module _ {S X E K : Type 0} (rules : Rules S X E) (crew : List (Member S X E)) (stamp : K → ℕ) (place : K → Place) where
   count_by-map : (a : Place) (ks : List K) → count_by (is_at a) (map place ks) ≡ count_by (counts place a) ks

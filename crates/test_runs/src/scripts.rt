@@ -7,50 +7,59 @@ use crate::workers::count;
 use sig_script::{ScriptError, generate, print_script, read_script};
 use std::alloc::{AllocError, Global};
 
-/// Texts of scripts, and the canonical text of each.
-static PRINTED: [(&[u8], &[u8]); 6] = [
-    (
-        br"sigscript 1
-process a
+/// A piece of a script's text, and how it is printed.
+enum Piece {
+    /// As it is.
+    Same(&'static [u8]),
+    /// Otherwise: first as it is written, and then as it is printed.
+    Spelled(&'static [u8], &'static [u8]),
+}
+
+/// The texts of scripts, piece by piece.
+static PRINTED: [&[Piece]; 6] = [
+    &[
+        Piece::Same(b"sigscript 1\n"),
+        Piece::Spelled(b"", b"turns 1000\n"),
+        Piece::Same(
+            br"process a
 send @b hi
 process b
 receive
 on X
 end
 ",
-        br"sigscript 1
-turns 1000
-process a
-send @b hi
-process b
-receive
-on X
-end
-",
-    ),
-    (b"sigscript 1", b"sigscript 1\nturns 1000\n"),
-    (
+        ),
+    ],
+    &[
+        Piece::Same(b"sigscript 1"),
+        Piece::Spelled(b"", b"\nturns 1000\n"),
+    ],
+    &[Piece::Spelled(
         b" sigscript 001 % a comment\r\n\n turns 0020000\t\nprocess b\nlabel l % twice\nlabel m\nprocess a",
         b"sigscript 1\nturns 20000\nprocess b\nlabel l\nlabel m\nprocess a\n",
-    ),
+    )],
     // Each expression.
-    (
-        br"sigscript 1
-process a@1
-send 'a@1' {-007, 9223372036854775807, -9223372036854775808, -0}
-set X_1 [ a , 'a b' , '' , 'A' , @a@1 , X_1 , { } , [ ] , {[{[]}]} ]
-",
-        br"sigscript 1
-turns 1000
-process a@1
-send a@1 {-7,9223372036854775807,-9223372036854775808,0}
-set X_1 [a,'a b','','A',@a@1,X_1,{},[],{[{[]}]}]
-",
-    ),
+    &[
+        Piece::Same(b"sigscript 1\n"),
+        Piece::Spelled(b"", b"turns 1000\n"),
+        Piece::Same(b"process a@1\nsend "),
+        Piece::Spelled(
+            b"'a@1' {-007, 9223372036854775807, -9223372036854775808, -0}",
+            b"a@1 {-7,9223372036854775807,-9223372036854775808,0}",
+        ),
+        Piece::Same(b"\nset X_1 "),
+        Piece::Spelled(
+            b"[ a , 'a b' , '' , 'A' , @a@1 , X_1 , { } , [ ] , {[{[]}]} ]",
+            b"[a,'a b','','A',@a@1,X_1,{},[],{[{[]}]}]",
+        ),
+        Piece::Same(b"\n"),
+    ],
     // Each pattern, and where a clause goes on.
-    (
-        br"sigscript 1
-process a
+    &[
+        Piece::Same(b"sigscript 1\n"),
+        Piece::Spelled(b"", b"turns 1000\n"),
+        Piece::Same(
+            br"process a
 receive
 on _
 on X -> here
@@ -59,50 +68,46 @@ on -1 -> there
 on 'x y'
 on @a
 on {}
-on {_, X, ^X, 1, a, @a, {}, []}
-on []
-on [_, [X]]
+on ",
+        ),
+        Piece::Spelled(b"{_, X, ^X, 1, a, @a, {}, []}", b"{_,X,^X,1,a,@a,{},[]}"),
+        Piece::Same(b"\non []\non "),
+        Piece::Spelled(
+            br"[_, [X]]
 on [ H | T ]
 on [a, b | c]
 on [a | [b | [c | T]]]
 on [[a | b] | {c}]
 on [a | [b, c]]
-end
-label here
-label there
 ",
-        br"sigscript 1
-turns 1000
-process a
-receive
-on _
-on X -> here
-on ^X
-on -1 -> there
-on 'x y'
-on @a
-on {}
-on {_,X,^X,1,a,@a,{},[]}
-on []
-on [_,[X]]
+            br"[_,[X]]
 on [H|T]
 on [a,b|c]
 on [a,b,c|T]
 on [[a|b]|{c}]
 on [a|[b,c]]
-end
+",
+        ),
+        Piece::Same(
+            br"end
 label here
 label there
 ",
-    ),
+        ),
+    ],
     // Each instruction, each label before its place, and those behind the last.
-    (
-        br"sigscript 1
+    &[
+        Piece::Same(
+            br"sigscript 1
 turns 7
 process a
 label start
 label again
-send @b {hello, @a}
+send @b ",
+        ),
+        Piece::Spelled(b"{hello, @a}", b"{hello,@a}"),
+        Piece::Same(
+            br"
 set X 1
 make_ref R
 link @b
@@ -126,7 +131,11 @@ clear R
 receive
 end
 receive using R
-on {^R, V} -> again
+on ",
+        ),
+        Piece::Spelled(b"{^R, V}", b"{^R,V}"),
+        Piece::Same(
+            br" -> again
 on [^R]
 after -> middle
 end
@@ -140,51 +149,24 @@ label first
 label last
 process b
 ",
-        br"sigscript 1
-turns 7
-process a
-label start
-label again
-send @b {hello,@a}
-set X 1
-make_ref R
-link @b
-unlink @b
-monitor M @b
-monitor M @b explicit_unalias
-monitor M @b demonitor
-monitor M @b reply_demonitor
-demonitor M
-demonitor M flush
-label middle
-alias A
-alias A reply
-unalias A
-exit_to @b kill
-trap on
-trap off
-reserve
-bind R
-clear R
-receive
-end
-receive using R
-on {^R,V} -> again
-on [^R]
-after -> middle
-end
-receive
-after
-end
-goto start
-exit done
-stop
-label first
-label last
-process b
-",
-    ),
+        ),
+    ],
 ];
+
+/// The text of these pieces as it is written, and as it is printed.
+fn spell(alloc: Global, pieces: &[Piece]) -> Result<(Vec<u8>, Vec<u8>), AllocError> {
+    let mut written = Vec::new(alloc);
+    let mut printed = Vec::new(alloc);
+    for piece in pieces {
+        let (one, other) = match piece {
+            Piece::Same(text) => (*text, *text),
+            Piece::Spelled(one, other) => (*one, *other),
+        };
+        written.extend_from_slice(one)?;
+        printed.extend_from_slice(other)?;
+    }
+    Ok((written, printed))
+}
 
 /// Whether the script of this text is printed so, behind what was there.
 fn is_printed(alloc: Global, text: &[u8], canonical: &[u8]) -> Result<bool, ScriptError> {
@@ -194,14 +176,21 @@ fn is_printed(alloc: Global, text: &[u8], canonical: &[u8]) -> Result<bool, Scri
     Ok(printed.as_slice().starts_with(b"before\n") && &printed[7..] == canonical)
 }
 
+/// Whether the script of these pieces is printed as they say, and what is printed again as it is.
+fn are_printed(alloc: Global, pieces: &[Piece]) -> Result<bool, ScriptError> {
+    let (written, printed) = spell(alloc, pieces)?;
+    Ok(
+        is_printed(alloc, written.as_slice(), printed.as_slice())?
+            && is_printed(alloc, printed.as_slice(), printed.as_slice())?,
+    )
+}
+
 #[test]
 fn scripts_have_their_canonical_texts(rt: HostRuntime) {
     let alloc = rt.alloc();
-    for (text, canonical) in &PRINTED {
-        let printed = is_printed(alloc, text, canonical);
-        assert!(rt; matches!(printed, Ok(true)), "{text:?}");
-        let again = is_printed(alloc, canonical, canonical);
-        assert!(rt; matches!(again, Ok(true)), "{canonical:?}");
+    for (place, pieces) in PRINTED.iter().enumerate() {
+        let printed = are_printed(alloc, pieces);
+        assert!(rt; matches!(printed, Ok(true)), "{place}");
     }
 }
 
