@@ -3,7 +3,7 @@
 ghost use Rattle.std.specs.Prelude.{◌≡◌, ◌++◌, OnOk, OnErr, map, take, length};
 ghost use Rattle.sig_terms.specs.TermText.{joined};
 ghost use Rattle.sig_terms.specs.Putting.{IsPut};
-ghost use Rattle.sig_canon.specs.ScriptText.{names_of, process_text, expr_text};
+ghost use Rattle.sig_canon.specs.ScriptText.{name_of_place, names_of, process_text, expr_text};
 
 use crate::putting::{put, put_int};
 use sig_patterns::Expr;
@@ -11,15 +11,22 @@ use sig_program::Proc;
 use sig_terms::Pid;
 use std::alloc::AllocError;
 
+/// The name of the process, in constant time. No bytes where there is none.
+fn name_of<'p>(procs: &'p [Proc], pid: Pid) -> &'p [u8]
+    ensures { result.now ≡ name_of_place (names_of procs.now) pid.0 }
+{
+    match procs.get(pid.0 as usize) {
+        Some(proc) => proc.name.bytes(),
+        None => &[],
+    }
+}
+
 /// Appends `@` and the name of the process, in constant time but for the name's bytes.
 pub fn put_process(into: &mut Vec<u8>, procs: &[Proc], pid: Pid) -> Result<(), AllocError>
     ensures { IsPut into.old.items into.new.items (process_text (names_of procs.now) pid.0) result }
 {
     put(into, b"@")?;
-    match procs.get(pid.0 as usize) {
-        Some(proc) => put(into, proc.name.bytes()),
-        None => Ok(()),
-    }
+    put(into, name_of(procs, pid))
 }
 
 /// Appends the texts of the expressions, with a comma between two.
