@@ -10,5 +10,5 @@ mod printing;
 mod putting;
 
 pub use generating::{MOST_CALLS, generate};
-pub use laws::a_printed_script_is_read_back;
+pub use laws::{a_printed_script_is_read_back, names_of_scripts_are_name_tokens};
 pub use printing::print_script;
