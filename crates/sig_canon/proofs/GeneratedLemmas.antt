@@ -19,6 +19,7 @@ use Rattle.sig_program.specs.declared.label.Label.{Label}
 use Rattle.sig_program.specs.declared.instruction.Instr.{Instr}
 use Rattle.sig_program.specs.declared.instruction.Instr.TheVariants as instr
 use Rattle.sig_program.specs.declared.script.TheConstants.{MOST_TURNS}
+use Rattle.sig_program.specs.declared.version.Version.TheVariants.{One}
 use Rattle.sig_program.specs.Parts.{pids_of, pids_of_pattern}
 use Rattle.sig_program.specs.Scripts.{Declared, IsInstrWithin, IsPlace, AreRising, IsWithin, IsExprBelow, IsPatternBelow, IsInstrBelow, IsProcBelow, IsScriptWithin}
 use Rattle.sig_canon.specs.Generated.{var_named, call_clause, hub_receive, hub_answer, hub, to_hub, watch_hub, bind_mark, send_call, answer_clause, down_clause, await_answer, call, client, client_names, generated}
@@ -220,6 +221,6 @@ pub client_is : (n : ℕ) (name own : List ℕ) (labels : List Label) (is : List
 unfolding client
 client_is n name own labels is e f g = cc
 
-pub sound_with : (n : ℕ) (procs : List Declared) → procs ≡ (generated n).procs → IsScriptWithin (record { turns = MOST_TURNS; procs = procs })
+pub sound_with : (n : ℕ) (procs : List Declared) → procs ≡ (generated n).procs → IsScriptWithin (record { version = One; turns = MOST_TURNS; procs = procs })
 unfolding generated
-sound_with n procs e = subst (λ (ps : List Declared). IsScriptWithin (record { turns = MOST_TURNS; procs = ps })) (sym e) (generated_sound n)
+sound_with n procs e = subst (λ (ps : List Declared). IsScriptWithin (record { version = One; turns = MOST_TURNS; procs = ps })) (sym e) (generated_sound n)

@@ -20,7 +20,7 @@ use Rattle.sig_canon.specs.ReadableScript.{IsReadablePattern, IsReadableInstr}
 use Rattle.sig_reader.specs.Forms.{may_stand_at, may_stand, said}
 use Rattle.sig_tokens.specs.Tokens.{cut_of, IsNameToken, IsVariableToken, tokens_of}
 use Rattle.sig_tokens.specs.Numbers.{number_after}
-use Rattle.sig_reader.specs.declared.version.Version.TheVariants.{One}
+use Rattle.sig_program.specs.declared.version.Version.TheVariants.{One}
 use Rattle.sig_reader.specs.Grammar.{header_of}
 use Rattle.sig_reader.proofs.Seen.{pattern_seen, instr_seen}
 use Rattle.sig_canon.proofs.FormReads.{line_said}

@@ -15,7 +15,7 @@ use Rattle.sig_tokens.specs.declared.known.Known.TheVariants.{Any, Among}
 use Rattle.sig_reader.specs.declared.draft.Section.{Section}
 use Rattle.sig_reader.specs.declared.draft.Section.TheVariants.{Before, Outside, Inside}
 use Rattle.sig_reader.specs.declared.draft.Draft.{Draft}
-use Rattle.sig_reader.specs.declared.version.Version.{Version}
+use Rattle.sig_program.specs.declared.version.Version.{Version}
 use Rattle.sig_reader.specs.declared.form.Form.TheVariants as form
 use Rattle.sig_program.specs.declared.script.TheConstants.{DEFAULT_TURNS, MOST_PROCESSES, MOST_TURNS}
 use Rattle.sig_reader.specs.declared.reader.TheConstants.{MOST_BYTES}

@@ -12,6 +12,7 @@ use Rattle.sig_patterns.specs.declared.pattern.Pattern.TheVariants as pattern
 use Rattle.sig_program.specs.declared.instruction.Instr.{Instr}
 use Rattle.sig_program.specs.declared.instruction.Instr.TheVariants as instr
 use Rattle.sig_program.specs.declared.script.TheConstants.{MOST_TURNS}
+use Rattle.sig_program.specs.declared.version.Version.TheVariants.{One}
 use Rattle.sig_program.specs.Parts.{plain_clause}
 use Rattle.sig_program.specs.Scripts.{Declared, Program, bare_process}
 
@@ -87,4 +88,4 @@ abbrev pub client_names : List (List ℕ)
 client_names = codes "c0" ∷ codes "c1" ∷ codes "c2" ∷ codes "c3" ∷ codes "c4" ∷ codes "c5" ∷ codes "c6" ∷ codes "c7" ∷ []
 
 unfoldable pub generated : ℕ → Program
-generated n = record { turns = MOST_TURNS; procs = hub ∷ map (client n) client_names }
+generated n = record { version = One; turns = MOST_TURNS; procs = hub ∷ map (client n) client_names }

@@ -28,7 +28,9 @@ ghost use Rattle.sig_canon.specs.Generated.{
 use sig_kinds::AliasMode;
 use sig_lists::Sequence;
 use sig_patterns::{Clause, Clauses, Expr, Exprs, Pattern, Patterns, Var};
-use sig_program::{Instr, Instrs, Label, Labels, MOST_TURNS, Proc, Procs, Receiving, Script};
+use sig_program::{
+    Instr, Instrs, Label, Labels, MOST_TURNS, Proc, Procs, Receiving, Script, Version,
+};
 use sig_terms::Pid;
 use sig_tokens::{atom_of, name_of};
 use std::alloc::{AllocError, Global};
@@ -97,6 +99,7 @@ fn add_hub_receive(alloc: Global, instrs: &mut Instrs) -> Result<(), AllocError>
     let mut clauses = Sequence::new(alloc);
     clauses.add(Clause {
         pattern: Pattern::Tuple(parts),
+        guard: None,
         target: Some(1),
     })?;
     instrs.add(Instr::Receive(Receiving {
@@ -222,6 +225,7 @@ fn add_answer_clause(alloc: Global, clauses: &mut Clauses) -> Result<(), AllocEr
     add_bind(alloc, &mut parts, b"V")?;
     clauses.add(Clause {
         pattern: Pattern::Tuple(parts),
+        guard: None,
         target: None,
     })
 }
@@ -246,6 +250,7 @@ fn add_down_clause(alloc: Global, clauses: &mut Clauses) -> Result<(), AllocErro
     let pattern = make_down(alloc)?;
     clauses.add(Clause {
         pattern,
+        guard: None,
         target: None,
     })
 }
@@ -360,6 +365,7 @@ pub fn generate(alloc: Global, n: u32) -> Result<Script, AllocError>
     let mut procs = Sequence::new(alloc);
     add_procs(alloc, &mut procs, n)?;
     Ok(Script {
+        version: Version::One,
         turns: MOST_TURNS,
         procs,
     })

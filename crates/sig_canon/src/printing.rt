@@ -20,7 +20,7 @@ ghost use Rattle.sig_canon.specs.ScriptText.{
 
 use crate::instruction_text::put_instr;
 use crate::putting::{put, put_count, put_word};
-use sig_program::{Instr, Label, Proc, Script};
+use sig_program::{Instr, Label, Proc, Script, Version};
 use sig_terms::Name;
 use std::alloc::AllocError;
 
@@ -110,8 +110,13 @@ fn put_turns(into: &mut Vec<u8>, turns: u32) -> Result<(), AllocError>
 }
 
 #[tactic(auto, using(crate::proofs::PrintLemmas::kept_front))]
-fn put_script(into: &mut Vec<u8>, turns: u32, procs: &[Proc]) -> Result<(), AllocError>
-    ensures { IsPut into.old.items into.new.items (script_text (record { turns = turns; procs = procs.now })) result }
+fn put_script(
+    into: &mut Vec<u8>,
+    version: Version,
+    turns: u32,
+    procs: &[Proc],
+) -> Result<(), AllocError>
+    ensures { IsPut into.old.items into.new.items (script_text (record { version = version; turns = turns; procs = procs.now })) result }
 {
     put(into, b"sigscript 1\n")?;
     put_turns(into, turns)?;
@@ -128,7 +133,7 @@ pub fn print_script(script: &Script, into: &mut Vec<u8>) -> Result<(), AllocErro
     ensures err { OnErr result (into.new.items ≡ into.old.items) }
 {
     let before = into.len();
-    let appended = put_script(into, script.turns, script.procs.as_slice());
+    let appended = put_script(into, script.version, script.turns, script.procs.as_slice());
     if appended.is_err() {
         into.truncate(before);
     }

@@ -7,6 +7,7 @@ mod clause;
 mod env;
 mod expression;
 mod found;
+mod guard;
 mod laws;
 mod mark;
 mod matching;
@@ -24,6 +25,7 @@ pub use clause::{Clause, Clauses};
 pub use env::Env;
 pub use expression::{Expr, Exprs};
 pub use found::Found;
+pub use guard::{Alternatives, Guard, Op, Operand, TermKind, Test, Tests};
 pub use laws::{
     a_hit_tells_its_match, a_list_is_a_head_and_a_list, a_pin_compares_with_the_value_before,
     a_pinned_reference_is_held, a_repeated_variable_compares, older_messages_are_skipped,

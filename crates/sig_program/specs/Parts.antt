@@ -18,7 +18,7 @@ use Rattle.sig_program.specs.Instructions.{Operand, an_expr, a_variable, a_label
 
 -- a clause with nothing but a pattern and where it goes on
 abbrev pub plain_clause : Pattern → Option ℕ → Clause
-plain_clause pattern target = record { pattern = pattern; target = target }
+plain_clause pattern target = record { pattern = pattern; guard = None; target = target }
 
 -- the expressions among operands
 abbrev pub said_exprs : (os : List Operand) → AllSaid os → List Expr

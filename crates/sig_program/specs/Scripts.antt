@@ -8,6 +8,7 @@ use Rattle.sig_patterns.specs.declared.var.Var.{Var}
 use Rattle.sig_patterns.specs.Pinning.{pins}
 use Rattle.sig_program.specs.declared.label.Label.{Label}
 use Rattle.sig_program.specs.declared.instruction.Instr.{Instr}
+use Rattle.sig_program.specs.declared.version.Version.{Version}
 use Rattle.sig_program.specs.Parts.{exprs_of, using_of, clauses_of, targets_of, mode_in, pids_of, pids_of_pattern}
 use Rattle.sig_program.specs.declared.script.TheConstants.{MOST_PROCESSES, MOST_TURNS}
 
@@ -21,8 +22,9 @@ pub record Declared : Type 0 where
 abbrev pub bare_process : List ℕ → Declared
 bare_process name = record { name = name; labels = []; instrs = [] }
 
--- a script: how many instructions each process may execute, and the processes
+-- a script: the version of its language, how many instructions each process may execute, and the processes
 pub record Program : Type 0 where
+  pub version : Version
   pub turns : ℕ
   pub procs : List Declared
 

@@ -3,9 +3,8 @@ ghost use Rattle.sig_program.specs.Instructions.{word_of};
 ghost use Rattle.sig_program.specs.Parts.{exprs_of, vars_of};
 ghost use Rattle.sig_program.specs.declared.instruction.Instr.TheVariants as instr;
 
-use crate::copying::copy_all;
 use sig_kinds::AliasMode;
-use sig_lists::Sequence;
+use sig_lists::{Copied, Sequence, copy_all};
 use sig_patterns::{Clauses, Expr, Var};
 use std::alloc::{AllocError, Global};
 use std::mem::drop;
@@ -369,5 +368,11 @@ impl Verb {
             Verb::Goto => b"goto",
             Verb::Stop => b"stop",
         }
+    }
+}
+
+impl Copied for Instr {
+    fn copied(&self, alloc: Global) -> Result<Instr, AllocError> {
+        self.copy(alloc)
     }
 }

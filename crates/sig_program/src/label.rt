@@ -1,6 +1,6 @@
 ghost use Rattle.std.specs.Prelude.{◌≡◌, IfOk};
 
-use sig_lists::Sequence;
+use sig_lists::{Copied, Sequence};
 use sig_terms::Name;
 use std::alloc::{AllocError, Global};
 
@@ -26,5 +26,11 @@ impl Label {
             name,
             place: self.place,
         })
+    }
+}
+
+impl Copied for Label {
+    fn copied(&self, alloc: Global) -> Result<Label, AllocError> {
+        self.copy(alloc)
     }
 }

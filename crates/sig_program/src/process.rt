@@ -14,10 +14,9 @@ ghost use Rattle.std.specs.Prelude.{
 };
 ghost use Rattle.sig_program.specs.Scripts.{IsWithin, IsInstrWithin};
 
-use crate::copying::copy_all;
 use crate::instruction::{Instr, Instrs};
 use crate::label::Labels;
-use sig_lists::Sequence;
+use sig_lists::{Sequence, copy_all};
 use sig_terms::Name;
 use std::alloc::{AllocError, Global};
 use std::marker::Model;

@@ -2,6 +2,7 @@ ghost use Rattle.std.specs.Prelude.{◌≡◌, ◌≤◌, length, slice_get, opt
 ghost use Rattle.sig_program.specs.Scripts.{IsScriptWithin};
 
 use crate::process::{Proc, Procs};
+use crate::version::Version;
 use std::marker::Model;
 
 /// The most processes of a script.
@@ -18,6 +19,8 @@ pub const DEFAULT_TURNS: u32 = 1000;
 /// processes.
 #[derive(Debug, Drop)]
 pub struct Script {
+    /// The version of the language in which it was written.
+    pub version: Version,
     /// How many instructions each process may execute.
     pub turns: u32,
     /// The processes. The pid of each is its place among them, from 0.
@@ -34,9 +37,9 @@ impl Model for Script {
 
     ghost coded = { Prim.hlevel (codes, expr.the_row.coded, pattern.the_row.coded) };
 
-    ghost view = { λ s. record { turns = s.turns; procs = s.procs } };
+    ghost view = { λ s. record { version = s.version; turns = s.turns; procs = s.procs } };
 
-    ghost invariant = { λ s. IsScriptWithin (record { turns = s.turns; procs = s.procs }) };
+    ghost invariant = { λ s. IsScriptWithin (record { version = s.version; turns = s.turns; procs = s.procs }) };
 }
 
 impl Script {

@@ -5,7 +5,7 @@ use Rattle.sig_tokens.specs.declared.fault.FaultKind.{FaultKind}
 use Rattle.sig_tokens.specs.declared.fault.FaultKind.TheVariants.{Header}
 use Rattle.sig_tokens.specs.declared.known.Known.{Known}
 use Rattle.sig_reader.specs.declared.draft.Draft.{Draft}
-use Rattle.sig_reader.specs.declared.version.Version.{Version}
+use Rattle.sig_program.specs.declared.version.Version.{Version}
 use Rattle.sig_program.specs.Scripts.{Program}
 use Rattle.sig_tokens.specs.Faults.{Fault}
 use Rattle.sig_tokens.specs.Lines.{lines_of}

@@ -18,6 +18,7 @@ use Rattle.sig_reader.specs.declared.draft.Section.TheVariants.{Before, Outside,
 use Rattle.sig_reader.specs.declared.draft.Draft.{Draft}
 use Rattle.sig_reader.specs.declared.form.Form.{Form}
 use Rattle.sig_reader.specs.declared.form.Form.TheVariants as form
+use Rattle.sig_program.specs.declared.version.Version.TheVariants.{One}
 use Rattle.sig_program.specs.Parts.{plain_clause}
 use Rattle.sig_program.specs.Scripts.{Declared, Program, bare_process}
 use Rattle.sig_tokens.specs.Faults.{on_ok}
@@ -39,7 +40,7 @@ all_procs d = d.procs ++ open_proc d.section
 
 -- each process may execute DEFAULT_TURNS instructions where nothing else is said
 abbrev pub program_of : Draft → Program
-program_of d = record { turns = option_map_or (λ n. n) d.turns DEFAULT_TURNS; procs = all_procs d }
+program_of d = record { version = One; turns = option_map_or (λ n. n) d.turns DEFAULT_TURNS; procs = all_procs d }
 
 -- a process begins: its name is a new one, and there are at most MOST_PROCESSES processes
 abbrev pub begun : Draft → List ℕ → Result Draft FaultKind

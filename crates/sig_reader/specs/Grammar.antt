@@ -12,8 +12,8 @@ use Rattle.sig_reader.specs.declared.draft.Section.{Section}
 use Rattle.sig_reader.specs.declared.draft.Section.TheVariants.{Inside}
 use Rattle.sig_reader.specs.declared.draft.Draft.{Draft}
 use Rattle.sig_reader.specs.declared.form.Form.{Form}
-use Rattle.sig_reader.specs.declared.version.Version.{Version}
-use Rattle.sig_reader.specs.declared.version.Version.TheVariants.{One}
+use Rattle.sig_program.specs.declared.version.Version.{Version}
+use Rattle.sig_program.specs.declared.version.Version.TheVariants.{One}
 use Rattle.sig_program.specs.Scripts.{Program}
 use Rattle.sig_tokens.specs.Faults.{Fault, ◌>>=◌}
 use Rattle.sig_tokens.specs.Lines.{lines_of}

@@ -29,7 +29,9 @@ use crate::form::{Form, read_line};
 use crate::reader::ScriptError;
 use sig_lists::Sequence;
 use sig_patterns::{Clause, Clauses, Pattern, Var, pins};
-use sig_program::{After, DEFAULT_TURNS, Instr, Label, MOST_PROCESSES, MOST_TURNS, Receiving};
+use sig_program::{
+    After, DEFAULT_TURNS, Instr, Label, MOST_PROCESSES, MOST_TURNS, Receiving, Version,
+};
 use sig_terms::Name;
 use sig_tokens::{
     DraftProc, DraftProcs, DraftScript, FaultKind, Known, LabelTable, Stop, Tokens, place_of_proc,
@@ -283,7 +285,12 @@ fn add_clause(
     ensures { Gives (λ u. clauses.new) result (with_clause marker.now clauses.old pattern target) }
 {
     if pins_marker(marker, &pattern) {
-        add_pinned(clauses, Clause { pattern, target })
+        let clause = Clause {
+            pattern,
+            guard: None,
+            target,
+        };
+        add_pinned(clauses, clause)
     } else {
         drop(pattern);
         Err(Stop::Fault(FaultKind::MarkerNotInClause))
@@ -428,6 +435,7 @@ pub fn finish(draft: Draft, n: u64) -> Result<DraftScript, ScriptError>
     ended?;
     match closed {
         Ok(()) => Ok(DraftScript {
+            version: Version::One,
             turns: draft.turns.unwrap_or(DEFAULT_TURNS),
             procs,
         }),

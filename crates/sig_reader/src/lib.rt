@@ -7,6 +7,5 @@ mod guess;
 mod keyword;
 mod reader;
 mod same_names;
-mod version;
 
 pub use reader::{MOST_BYTES, ScriptError, read_script};

@@ -20,9 +20,8 @@ ghost use Rattle.sig_reader.specs.declared.reader.ScriptError.TheVariants.{Memor
 use crate::draft::{Draft, discard, finish, take_line};
 use crate::guess::guess_names;
 use crate::same_names::are_its_names;
-use crate::version::Version;
 use sig_lists::Sequence;
-use sig_program::{Proc, Procs, Script};
+use sig_program::{Proc, Procs, Script, Version};
 use sig_terms::bytes::equal_bytes;
 use sig_tokens::{
     DraftProcs, DraftScript, FaultKind, Known, Line, Stop, TokenKind, first_line, read_tokens,
@@ -179,6 +178,7 @@ fn seal(alloc: Global, draft: DraftScript) -> Result<Script, AllocError>
 {
     let procs = seal_procs(alloc, draft.procs)?;
     Ok(Script {
+        version: draft.version,
         turns: draft.turns,
         procs,
     })
@@ -259,7 +259,7 @@ fn read_text(alloc: Global, bytes: &[u8]) -> Result<Script, ScriptError>
     }
     let first = first_line(bytes);
     match read_header(alloc, first)? {
-        Some(Version::One) => read_body(alloc, behind_line(bytes, first)),
+        Some(_version) => read_body(alloc, behind_line(bytes, first)),
         None => Err(header),
     }
 }

@@ -7,7 +7,7 @@ ghost use Rattle.sig_tokens.specs.Names.{labels_at};
 
 use crate::label_table::LabelTable;
 use sig_lists::Sequence;
-use sig_program::Instrs;
+use sig_program::{Instrs, Version};
 use sig_terms::Name;
 use sig_terms::bytes::equal_bytes;
 use std::marker::Model;
@@ -39,6 +39,8 @@ pub type DraftProcs = Sequence<DraftProc>;
 /// A script as it was read, of at most [`MOST_PROCESSES`](sig_program::MOST_PROCESSES) processes.
 #[derive(Drop)]
 pub struct DraftScript {
+    /// The version of the language in which it is written.
+    pub version: Version,
     /// How many instructions each process may execute.
     pub turns: u32,
     pub procs: DraftProcs,
@@ -56,7 +58,7 @@ impl Model for DraftScript {
 
     ghost coded = { Prim.hlevel (codes, expr.the_row.coded, pattern.the_row.coded) };
 
-    ghost view = { λ s. record { turns = s.turns; procs = s.procs } };
+    ghost view = { λ s. record { version = s.version; turns = s.turns; procs = s.procs } };
 
     ghost invariant = { λ s. length s.procs ≤ MOST_PROCESSES };
 }

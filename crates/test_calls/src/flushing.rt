@@ -26,6 +26,7 @@ fn one(alloc: Global, pattern: Pattern) -> Result<Clauses, AllocError> {
     let mut clauses = Sequence::new(alloc);
     clauses.add(Clause {
         pattern,
+        guard: None,
         target: None,
     })?;
     Ok(clauses)

@@ -2,38 +2,17 @@
 
 ghost use Rattle.std.specs.Prelude.{◌≡◌, IfOk};
 
-use crate::instruction::Instr;
-use crate::label::Label;
-use sig_lists::Sequence;
-use sig_patterns::Clause;
+use crate::sequence::Sequence;
 use std::alloc::{AllocError, Global};
 
 /// What has equal values.
 pub trait Copied: Drop + Sized {
-    /// An equal value.
+    /// An equal value. The error is want of memory.
     fn copied(&self, alloc: Global) -> Result<Self, AllocError>
         ensures { IfOk result (λ x. x ≡ self.now) };
 }
 
-impl Copied for Clause {
-    fn copied(&self, alloc: Global) -> Result<Clause, AllocError> {
-        self.copy(alloc)
-    }
-}
-
-impl Copied for Instr {
-    fn copied(&self, alloc: Global) -> Result<Instr, AllocError> {
-        self.copy(alloc)
-    }
-}
-
-impl Copied for Label {
-    fn copied(&self, alloc: Global) -> Result<Label, AllocError> {
-        self.copy(alloc)
-    }
-}
-
-/// Equal values in the same order.
+/// Equal values in the same order. The error is want of memory.
 pub fn copy_all<T: Copied>(alloc: Global, items: &Sequence<T>) -> Result<Sequence<T>, AllocError>
     ensures { IfOk result (λ xs. xs ≡ items.now) }
 {
@@ -43,4 +22,10 @@ pub fn copy_all<T: Copied>(alloc: Global, items: &Sequence<T>) -> Result<Sequenc
         copies.add(copy)?;
     }
     Ok(copies)
+}
+
+impl<T: Copied> Copied for Sequence<T> {
+    fn copied(&self, alloc: Global) -> Result<Sequence<T>, AllocError> {
+        copy_all(alloc, self)
+    }
 }

@@ -1,5 +1,5 @@
 use Rattle.std.proofs.Common.{◌≡◌, take}
-use Rattle.sig_program.proofs.copying.copy_all.Given as goal
+use Rattle.sig_lists.proofs.copying.copy_all.Given as goal
 
 -- the copies so far equal the items so far
 abbrev pub invariant-loop-item : goal.invariant-loop-item
