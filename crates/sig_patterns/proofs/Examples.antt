@@ -16,13 +16,13 @@ use Rattle.sig_patterns.specs.declared.pattern.Pattern.TheFolds.{fold-roll-Patte
 use Rattle.sig_patterns.specs.Environment.{Environment, value_of_var}
 use Rattle.sig_patterns.specs.Matching.{Bindings, Matcher, asking, binding, bound_to, match_each, match_cons, match_step, matching, match_of, overlaid, tuple_layer, list_layer, tuple_items, list_items}
 
-items_of_list : (ts : List Term) → list_items (term.List ts) ≡ Some ts
+pub items_of_list : (ts : List Term) → list_items (term.List ts) ≡ Some ts
 items_of_list ts = ap list_items (sym (term.rolls-List ts)) ∙ ap list_layer (out-roll-Term (layer.List ts))
 
 items_of_tuple : (ts : List Term) → tuple_items (term.Tuple ts) ≡ Some ts
 items_of_tuple ts = ap tuple_items (sym (term.rolls-Tuple ts)) ∙ ap tuple_layer (out-roll-Term (layer.Tuple ts))
 
-cons_is : (env : Environment) (head tail : Pattern) (t : Term) (bound : Bindings)
+pub cons_is : (env : Environment) (head tail : Pattern) (t : Term) (bound : Bindings)
     → matching env (pattern.Cons head tail) t bound ≡ option_and_then (λ ts. match_cons (matching env head) (matching env tail) ts bound) (list_items t)
 cons_is env head tail t bound =
     ap (λ (m : Matcher). m t bound) (ap (matching env) (sym (pattern.rolls-Cons head tail)) ∙ fold-roll-Pattern Matcher (match_step env) (pattern_layer.Cons head tail))
@@ -35,7 +35,7 @@ tuple_is : (env : Environment) (ps : List Pattern) (t : Term) (bound : Bindings)
 tuple_is env ps t bound =
     ap (λ (m : Matcher). m t bound) (ap (matching env) (sym (pattern.rolls-Tuple ps)) ∙ fold-roll-Pattern Matcher (match_step env) (pattern_layer.Tuple ps))
 
-bind_is : (env : Environment) (x : Var) → matching env (pattern.Bind x) ≡ (λ t bound. binding (bound_to bound x.0) x.0 t bound)
+pub bind_is : (env : Environment) (x : Var) → matching env (pattern.Bind x) ≡ (λ t bound. binding (bound_to bound x.0) x.0 t bound)
 bind_is env x = ap (matching env) (sym (pattern.rolls-Bind x)) ∙ fold-roll-Pattern Matcher (match_step env) (pattern_layer.Bind x)
 
 pin_is : (env : Environment) (x : Var) → matching env (pattern.Pin x) ≡ (λ t bound. asking (value_of_var env x.0) t bound)

@@ -13,3 +13,6 @@ pub mod OldestLemmas
 pub mod PinLemmas
 pub mod MarkLemmas
 pub mod Taking
+pub mod GuardLemmas
+pub mod Comparing
+pub mod GuardExamples

@@ -87,7 +87,7 @@ step (pattern.Cons e q) = at (pattern.Cons e.0 q.0) (λ t x. cons_of e q (list_i
 placings : (p : Pattern) → IsPlacing p
 placings = ind-Pattern IsPlacing (λ x y is. subst (λ z. IsPlacing (roll-Pattern z)) is (step y))
 
-get-overlaid : (env : Environment) (bound : Bindings) (x : List ℕ) → get (overlaid env bound) x ≡ option_or (bound_to bound x) (get env x)
+pub get-overlaid : (env : Environment) (bound : Bindings) (x : List ℕ) → get (overlaid env bound) x ≡ option_or (bound_to bound x) (get env x)
 get-overlaid env [] x = refl
 get-overlaid env (b ∷ bound) x =
     get-inserted (overlaid env bound) b.0 b.1 x

@@ -1,7 +1,7 @@
 -- The match once more, for a walk that carries no bindings: at each variable it compares with the term at the variable's
 -- first place in the whole pattern. And what a match binds, place by place.
 use Rattle.std.specs.Prelude.{ℕ, List, [], ◌∷◌, ◌++◌, map, Bool, true, false, ◌&&◌, ◌==◌, length, if◌then◌else◌, Option, Some, None, option_and_then}
-use Rattle.std.specs.Option.{option_or, option_map_or}
+use Rattle.std.specs.Option.{option_or, option_map_or, unwrap_or}
 use Rattle.std.specs.Str.{bytes_eq}
 use Rattle.sig_terms.specs.TermTest.{same_term}
 use Rattle.sig_terms.specs.declared.term.Term.{Term}
@@ -11,10 +11,12 @@ use Rattle.sig_patterns.specs.declared.pattern.Pattern.TheOpen.{Pattern-F}
 use Rattle.sig_patterns.specs.declared.pattern.Pattern.TheOpen as pattern
 use Rattle.sig_patterns.specs.declared.pattern.Pattern.TheFolds.{fold-Pattern}
 use Rattle.sig_patterns.specs.declared.binding.Binding.{Binding}
+use Rattle.sig_patterns.specs.declared.matching.Against.{Against}
 use Rattle.sig_patterns.specs.declared.seen.Seen.{Seen}
 use Rattle.sig_patterns.specs.declared.seen.Seen.TheVariants.{Whole, Rest}
 use Rattle.sig_patterns.specs.Environment.{Environment, value_of_var}
 use Rattle.sig_patterns.specs.Matching.{Bindings, tuple_items, list_items}
+use Rattle.sig_patterns.specs.Guarding.{Values}
 
 -- the rest of a list is a list
 abbrev pub term_seen : Seen → Term
@@ -72,6 +74,13 @@ fits_step env first (pattern.Cons head tail) t = option_map_or (fits_cons head t
 
 abbrev pub fits : Environment → Places → Pattern → Term → Bool
 fits env first = fold-Pattern (Term → Bool) (fits_step env first)
+
+-- the values of the variables after a match: what each meets at its first place, else its value before the match
+abbrev pub values_met : Places → Environment → Values
+values_met first env x = unwrap_or (first x) (value_of_var env x)
+
+abbrev pub values_in : Against → Values
+values_in whole = values_met (first_in whole.pattern.now (term_seen whole.seen)) whole.env.now
 
 -- the variables of a pattern, each with the term at each of its places, in the order of the places
 abbrev pub Placer : Type 0

@@ -2,6 +2,7 @@ pub mod Environment
 pub mod Inbox
 pub mod Entries
 pub mod Matching
+pub mod Guarding
 pub mod Fitting
 pub mod Building
 pub mod Scanning

@@ -1,17 +1,20 @@
 -- The scan of a receive (Erlang Reference Manual, Expressions, Receive): the oldest message that some clause takes, and the
 -- first clause that takes it.
-use Rattle.std.specs.Prelude.{◌≡◌, ℕ, ◌+◌, List, [], ◌∷◌, length, Option, None, is_some, position}
+use Rattle.std.specs.Prelude.{◌≡◌, ℕ, ◌+◌, List, [], ◌∷◌, length, if◌then◌else◌, Option, Some, None, is_some, option_and_then, position}
 use Rattle.std.specs.List.{All}
 use Rattle.std.specs.Option.{option_map, option_map_or, option_or}
 use Rattle.sig_terms.specs.declared.term.Term.{Term}
 use Rattle.sig_patterns.specs.declared.clause.Clause.{Clause}
 use Rattle.sig_patterns.specs.declared.found.Found.{Found}
-use Rattle.sig_patterns.specs.Environment.{Environment}
+use Rattle.sig_patterns.specs.Environment.{Environment, value_of_var}
 use Rattle.sig_patterns.specs.Matching.{match_of}
+use Rattle.sig_patterns.specs.Guarding.{guard_holds}
 
--- what a clause makes of a message: none where it doesn't take it, or the environment after its match
+-- What a clause makes of a message: the environment after the match of its pattern, where its guard is true in that environment;
+-- else none, and it doesn't take the message (Erlang Reference Manual, Expressions, Receive).
 abbrev pub takes : Clause → Environment → Term → Option Environment
-takes clause env message = match_of clause.pattern env message
+takes clause env message =
+    option_and_then (λ after. if guard_holds (value_of_var after) clause.guard then Some after else None) (match_of clause.pattern env message)
 
 -- what a scan found: the place of the message, from 0; the clause, from 0; the message; where the clause goes on; and the
 -- environment after the match

@@ -39,7 +39,8 @@ fn collect_each<'a>(
     terms: Option<&[Term]>,
     into: &mut Vec<Binding<'a>>,
 ) -> Result<(), AllocError>
-    ensures { OnOk result (bindings_of into.new.items ≡ bindings_of into.old.items ++ option_map_or (placed_each (map placed patterns.now)) (option_map (λ ts. ts.now) terms.entry) []) }
+    ensures { OnOk result (bindings_of into.new.items ≡ bindings_of into.old.items
+        ++ option_map_or (placed_each (map placed patterns.now)) (option_map (λ ts. ts.now) terms.entry) []) }
 {
     let Some(terms) = terms else {
         return Ok(());

@@ -1,8 +1,24 @@
 //! What a match is, in the manual's words, what a hit of a scan tells, and which messages a scan may skip. Each function is a
 //! theorem on the definitions: its contract is what was proved, and its body is empty. (Erlang Reference Manual, Pattern
-//! Matching; Expressions, Receive.)
+//! Matching; Expressions, Receive and Guard Sequences.)
 
-ghost use Rattle.std.specs.Prelude.{◌≡◌, if◌then◌else◌, List, [], ◌∷◌, ◌++◌, All, length, take, true, false, Some, None, slice_get};
+ghost use Rattle.std.specs.Prelude.{
+  ◌≡◌,
+  if◌then◌else◌,
+  ℤ,
+  List,
+  [],
+  ◌∷◌,
+  ◌++◌,
+  All,
+  length,
+  take,
+  true,
+  false,
+  Some,
+  None,
+  slice_get,
+};
 ghost use Rattle.std.specs.Option.{option_map};
 ghost use Rattle.std.specs.FinMap as map;
 ghost use Rattle.sig_terms.specs.Nodes.{holds};
@@ -11,11 +27,14 @@ ghost use Rattle.sig_terms.specs.declared.reference.Ref.{Ref};
 ghost use Rattle.sig_terms.specs.declared.term.Term.{Term};
 ghost use Rattle.sig_terms.specs.declared.term.Term.TheVariants as term;
 ghost use Rattle.sig_patterns.specs.declared.clause.Clause.{Clause};
+ghost use Rattle.sig_patterns.specs.declared.guard.Op.{Op};
+ghost use Rattle.sig_patterns.specs.declared.guard.TermKind.TheVariants as kind;
 ghost use Rattle.sig_patterns.specs.declared.var.Var.{Var};
 ghost use Rattle.sig_patterns.specs.declared.pattern.Pattern.{Pattern};
 ghost use Rattle.sig_patterns.specs.declared.pattern.Pattern.TheVariants as pattern;
 ghost use Rattle.sig_patterns.specs.Environment.{Environment, value_of_var};
 ghost use Rattle.sig_patterns.specs.Matching.{match_of};
+ghost use Rattle.sig_patterns.specs.Guarding.{guard_holds, is_kind, compares_ints, compares};
 ghost use Rattle.sig_patterns.specs.Pinning.{pins, AskFor};
 ghost use Rattle.sig_patterns.specs.Scanning.{Hit, NoneMatches, behind_messages, found_behind, hit, scan, takes};
 
@@ -37,6 +56,25 @@ pub fn a_pin_compares_with_the_value_before()
     ensures { (env : Environment) (x : Var) (t u : Term) →
         match_of (pattern.Tuple (pattern.Bind x ∷ pattern.Pin x ∷ [])) env (term.Tuple (t ∷ u ∷ []))
         ≡ (if same_term (value_of_var env x.0) u then Some (map.insert env x.0 t) else None) }
+{}
+
+/// A comparison is true exactly where both terms are integers that compare so. A variable without an entry is the atom `undefined`.
+pub fn a_comparison_is_of_integers()
+    ensures integers { (op : Op) (m n : ℤ) → compares op (term.Int m) (term.Int n) ≡ compares_ints op m n }
+    ensures others { (op : Op) (t u : Term) → compares op t u ≡ true → (m : ℤ) × (n : ℤ) × ((t ≡ term.Int m) × (u ≡ term.Int n)) }
+    ensures undefined { (env : Environment) (x : Var) → map.get env x.0 ≡ None → is_kind kind.Atom (value_of_var env x.0) ≡ true }
+{}
+
+/// A clause takes a message exactly where its pattern matches it and its guard is true in the environment after the match, which
+/// is then what the clause makes of the environment. A clause without a guard takes all that its pattern matches.
+pub fn a_clause_takes_what_it_matches()
+    ensures matched { (c : Clause) (env : Environment) (t : Term) (after : Environment) →
+        takes c env t ≡ Some after → match_of c.pattern env t ≡ Some after }
+    ensures guarded { (c : Clause) (env : Environment) (t : Term) (after : Environment) →
+        takes c env t ≡ Some after → guard_holds (value_of_var after) c.guard ≡ true }
+    ensures taken { (c : Clause) (env : Environment) (t : Term) (after : Environment) →
+        match_of c.pattern env t ≡ Some after → guard_holds (value_of_var after) c.guard ≡ true → takes c env t ≡ Some after }
+    ensures plain { (c : Clause) (env : Environment) (t : Term) → c.guard ≡ None → takes c env t ≡ match_of c.pattern env t }
 {}
 
 /// A hit tells the oldest message that some clause takes, and the first clause that takes it: the message stands at the

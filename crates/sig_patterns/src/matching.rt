@@ -16,10 +16,10 @@ use std::sync::ledger::Ledger;
 
 /// A whole pattern, what it meets, and the environment before the match.
 #[derive(Clone, Copy)]
-struct Against<'a> {
-    pattern: &'a Pattern,
-    seen: Seen<'a>,
-    env: &'a Env,
+pub(crate) struct Against<'a> {
+    pub(crate) pattern: &'a Pattern,
+    pub(crate) seen: Seen<'a>,
+    pub(crate) env: &'a Env,
 }
 
 /// Whether it is the value of the variable.
@@ -34,7 +34,8 @@ fn is_value(env: &Env, var: &Var, seen: Seen<'_>) -> bool
 
 /// Whether it is what the variable meets at its first place in the whole pattern.
 fn is_first(whole: Against<'_>, var: &Var, seen: Seen<'_>) -> bool
-    ensures { result ≡ option_map_or (λ u. same_term u (term_seen seen.entry)) (first_in whole.entry.pattern.now (term_seen whole.entry.seen) var.now.0) false }
+    ensures { result ≡ option_map_or (λ u. same_term u (term_seen seen.entry))
+        (first_in whole.entry.pattern.now (term_seen whole.entry.seen) var.now.0) false }
 {
     match first_in(whole.pattern, whole.seen, var) {
         Some(first) => first.same(seen),
@@ -45,7 +46,9 @@ fn is_first(whole: Against<'_>, var: &Var, seen: Seen<'_>) -> bool
 /// Whether there are as many terms, and each of the patterns fits the term at its place.
 #[cycle(fits)]
 fn each_fits(patterns: &[Pattern], terms: Option<&[Term]>, whole: Against<'_>) -> bool
-    ensures { result ≡ option_map_or (fits_all (map (fits whole.entry.env.now (first_in whole.entry.pattern.now (term_seen whole.entry.seen))) patterns.now)) (option_map (λ ts. ts.now) terms.entry) false }
+    ensures { result ≡ option_map_or
+        (fits_all (map (fits whole.entry.env.now (first_in whole.entry.pattern.now (term_seen whole.entry.seen))) patterns.now))
+        (option_map (λ ts. ts.now) terms.entry) false }
 {
     let Some(terms) = terms else {
         return false;
@@ -66,8 +69,9 @@ fn each_fits(patterns: &[Pattern], terms: Option<&[Term]>, whole: Against<'_>) -
 /// Whether the part of the whole pattern fits what it meets, where each of its variables asks for
 /// what the variable meets at its first place in the whole.
 #[cycle(fits)]
-fn fits(pattern: &Pattern, seen: Seen<'_>, whole: Against<'_>) -> bool
-    ensures { result ≡ fits whole.entry.env.now (first_in whole.entry.pattern.now (term_seen whole.entry.seen)) pattern.now (term_seen seen.entry) }
+pub(crate) fn fits(pattern: &Pattern, seen: Seen<'_>, whole: Against<'_>) -> bool
+    ensures { result ≡ fits whole.entry.env.now (first_in whole.entry.pattern.now (term_seen whole.entry.seen))
+        pattern.now (term_seen seen.entry) }
 {
     match pattern {
         Pattern::Any => true,

@@ -17,7 +17,8 @@ fn first_in_each<'a>(
     terms: Option<&'a [Term]>,
     var: &Var,
 ) -> Option<Seen<'a>>
-    ensures { option_map term_seen result ≡ option_and_then (λ ts. first_each (map first_in patterns.now) ts var.now.0) (option_map (λ ts. ts.now) terms.entry) }
+    ensures { option_map term_seen result ≡
+        option_and_then (λ ts. first_each (map first_in patterns.now) ts var.now.0) (option_map (λ ts. ts.now) terms.entry) }
 {
     let Some(terms) = terms else {
         return None;

@@ -3,8 +3,11 @@ ghost use Rattle.std.specs.Option.{option_map};
 ghost use Rattle.sig_terms.specs.TermTest.{same_term};
 ghost use Rattle.sig_terms.specs.declared.term.Term.TheVariants as term;
 ghost use Rattle.sig_patterns.specs.Matching.{tuple_items, list_items};
+ghost use Rattle.sig_patterns.specs.Guarding.{int_value, is_kind};
+ghost use Rattle.sig_patterns.specs.declared.guard.TermKind.TheVariants as kind;
 ghost use Rattle.sig_patterns.specs.Fitting.{term_seen, split};
 
+use crate::guard::TermKind;
 use sig_terms::bytes::equal_bytes;
 use sig_terms::{Pid, Term, copy_terms, same_terms};
 use std::alloc::{AllocError, Global};
@@ -86,6 +89,70 @@ impl<'a> Seen<'a> {
         match self {
             Seen::Whole(Term::Pid(other)) => pid.0 == other.0,
             _ => false,
+        }
+    }
+
+    /// The integer, where it is one.
+    pub(crate) fn int_value(self) -> Option<i64>
+        ensures { result ≡ int_value (term_seen self.entry) }
+    {
+        match self {
+            Seen::Whole(Term::Int(n)) => Some(*n),
+            _ => None,
+        }
+    }
+
+    fn is_any_integer(self) -> bool
+        ensures { result ≡ is_kind kind.Integer (term_seen self.entry) }
+    {
+        matches!(self, Seen::Whole(Term::Int(_)))
+    }
+
+    fn is_any_atom(self) -> bool
+        ensures { result ≡ is_kind kind.Atom (term_seen self.entry) }
+    {
+        matches!(self, Seen::Whole(Term::Atom(_)))
+    }
+
+    fn is_any_pid(self) -> bool
+        ensures { result ≡ is_kind kind.Pid (term_seen self.entry) }
+    {
+        matches!(self, Seen::Whole(Term::Pid(_)))
+    }
+
+    fn is_any_reference(self) -> bool
+        ensures { result ≡ is_kind kind.Reference (term_seen self.entry) }
+    {
+        matches!(self, Seen::Whole(Term::Ref(_)))
+    }
+
+    fn is_any_tuple(self) -> bool
+        ensures { result ≡ is_kind kind.Tuple (term_seen self.entry) }
+    {
+        matches!(self, Seen::Whole(Term::Tuple(_)))
+    }
+
+    fn is_any_list(self) -> bool
+        ensures { result ≡ is_kind kind.List (term_seen self.entry) }
+    {
+        match self {
+            Seen::Whole(Term::List(_)) => true,
+            Seen::Rest(_) => true,
+            _ => false,
+        }
+    }
+
+    /// Whether it is of the kind.
+    pub(crate) fn is_kind(self, kind: TermKind) -> bool
+        ensures { result ≡ is_kind kind (term_seen self.entry) }
+    {
+        match kind {
+            TermKind::Integer => self.is_any_integer(),
+            TermKind::Atom => self.is_any_atom(),
+            TermKind::Pid => self.is_any_pid(),
+            TermKind::Reference => self.is_any_reference(),
+            TermKind::Tuple => self.is_any_tuple(),
+            TermKind::List => self.is_any_list(),
         }
     }
 
