@@ -51,3 +51,6 @@ pub takes_where_fits : (c : Clause) (env : Environment) (t : Term)
 takes_where_fits c env t =
     guarded_by c.guard (match_of c.pattern env t) (values_met (first_in c.pattern t) env) (value_after env c.pattern t)
     ∙ ap (λ (b : Bool). b && guard_holds (values_met (first_in c.pattern t) env) c.guard) (is_some-match_of env c.pattern t)
+
+pub unfit : (c : Clause) (env : Environment) (t : Term) → fits env (first_in c.pattern t) c.pattern t ≡ false → is_some (takes c env t) ≡ false
+unfit c env t h = takes_where_fits c env t ∙ ap (λ (b : Bool). b && guard_holds (values_met (first_in c.pattern t) env) c.guard) h
