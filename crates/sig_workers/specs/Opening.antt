@@ -23,7 +23,7 @@ first_seated q = record { queue = q.id; knows = first_seat q.setup.senders }
 -- the queue of p, of a crew: it is opened off the heap
 pub record IsQueueOf (policy : Policy) (crew : List Running) (p : ℕ) (q : Queue) : Type 0 where
   pub policy_is : q.setup.given ≡ policy
-  pub data : q.setup.queue_data ≡ OffHeap
+  pub queue_data_is : q.setup.queue_data ≡ OffHeap
   pub receiver : q.setup.opening.receiver.0 ≡ p
   pub count : q.setup.opening.count ≡ length crew
   pub senders : (s : ℕ) → has q.setup.senders s ≡ (is_in 0 (length crew) s && not (s == p))

@@ -12,10 +12,10 @@ ghost use Rattle.sig_queue.specs.Tied.{Foreign, list_in};
 ghost use Rattle.sig_queue.specs.Parts.{first_part, held_or, IsOne, IsFirst, OfBuffer};
 ghost use Rattle.sig_queue.specs.SeatWords.{IsBufferOf, IsSameSeat, key_of, table_of};
 
+use super::Words;
 use crate::plays::{LeaveBuffer, LeaveBufferPut, LeavePart, LeavePassed, TryBuffer};
 use crate::rule::SeatAt;
 use crate::slot::Slot;
-use super::Words;
 use sig_layout::{APART, Batch, FIRST_TURN};
 
 // Tries the turn of a buffer once.
@@ -31,7 +31,10 @@ pub(crate) fn try_buffer(words: &Words, place: &mut SeatAt, buffer: usize, my_wo
         → (place.new.me ≡ (turned_away_at place.old.me.0 (buffer + 3) result, place.old.me.1))
         × Foreign place.old.me.0 result }
 {
-    words.table.shared.compare_exchange::<TryBuffer>(place, FIRST_TURN + buffer * APART, 0, my_word)
+    words
+        .table
+        .shared
+        .compare_exchange::<TryBuffer>(place, FIRST_TURN + buffer * APART, 0, my_word)
 }
 
 // The list out.
@@ -55,7 +58,10 @@ pub(crate) fn put_list(words: &Words, place: &mut SeatAt, buffer: usize, list: B
     ensures same { IsSameSeat place.new place.old }
     ensures back { place.new.me ≡ (place.old.me.0, (buffer + 1, Slot.List list) ∷ rest place.old.me.1) }
 {
-    words.table.shared.exchange(place, buffer + 1, Slot::List(list));
+    words
+        .table
+        .shared
+        .exchange(place, buffer + 1, Slot::List(list));
 }
 
 // Leaves the buffer that was taken first, with its list as it was found.
@@ -66,7 +72,10 @@ pub(crate) fn leave_buffer(words: &Words, place: &mut SeatAt, buffer: usize)
     ensures same { IsSameSeat place.new place.old }
     ensures left { place.new.me ≡ (loses place.old.me.0, rest place.old.me.1) }
 {
-    words.table.shared.store::<LeaveBuffer>(place, FIRST_TURN + buffer * APART, 0);
+    words
+        .table
+        .shared
+        .store::<LeaveBuffer>(place, FIRST_TURN + buffer * APART, 0);
 }
 
 // Leaves the one buffer that the seat holds, with one more signal, which lies in the slot.
@@ -81,7 +90,10 @@ pub(crate) fn leave_buffer_put(words: &Words, place: &mut SeatAt, buffer: usize)
     ensures same { IsSameSeat place.new place.old }
     ensures left { place.new.me ≡ (put_to_buffer place.old.me.0 (list_in place.old.me.1), rest place.old.me.1) }
 {
-    words.table.shared.store::<LeaveBufferPut>(place, FIRST_TURN + buffer * APART, 0);
+    words
+        .table
+        .shared
+        .store::<LeaveBufferPut>(place, FIRST_TURN + buffer * APART, 0);
 }
 
 // Leaves the buffer that a fetch took first, empty.
@@ -97,7 +109,10 @@ pub(crate) fn leave_part(words: &Words, place: &mut SeatAt, buffer: usize)
       rest place.old.me.1,
     ) }
 {
-    words.table.shared.store::<LeavePart>(place, FIRST_TURN + buffer * APART, 0);
+    words
+        .table
+        .shared
+        .store::<LeavePart>(place, FIRST_TURN + buffer * APART, 0);
 }
 
 // Leaves the buffer that a removal passes, empty.
@@ -113,5 +128,8 @@ pub(crate) fn leave_passed(words: &Words, place: &mut SeatAt, buffer: usize)
       rest place.old.me.1,
     ) }
 {
-    words.table.shared.store::<LeavePassed>(place, FIRST_TURN + buffer * APART, 0);
+    words
+        .table
+        .shared
+        .store::<LeavePassed>(place, FIRST_TURN + buffer * APART, 0);
 }

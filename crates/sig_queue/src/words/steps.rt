@@ -18,6 +18,7 @@ ghost use Rattle.sig_queue.specs.Tied.{Foreign, FreshBut, TookCarried, outer_in}
 ghost use Rattle.sig_queue.specs.Parts.{first_part, IsOne};
 ghost use Rattle.sig_queue.specs.SeatWords.{IsOf, IsBufferOf, IsSameSeat, key_of, table_of};
 
+use super::Words;
 use crate::outer_box::OuterBox;
 use crate::plays::{
     LeaveFetch, LeavePut, LeaveRemove, LeaveSame, Leaves, LoadFilled, LoadMode, LoadUnder,
@@ -25,7 +26,6 @@ use crate::plays::{
 };
 use crate::rule::SeatAt;
 use crate::slot::Slot;
-use super::Words;
 use sig_layout::{FILLED, MODE, OUTER};
 
 // Tries the outer turn once.
@@ -36,7 +36,10 @@ pub(crate) fn try_outer(words: &Words, place: &mut SeatAt, my_word: u64) -> u64
     ensures took { result ≡ 0 → (o : Outer) × (place.new.me ≡ (holding place.old.me.0 o, (0, Slot.Outer o) ∷ place.old.me.1)) }
     ensures refused { result ≢ 0 → (place.new.me ≡ (turned_away place.old.me.0 result, place.old.me.1)) × Foreign place.old.me.0 result }
 {
-    words.table.shared.compare_exchange::<TryOuter>(place, OUTER, 0, my_word)
+    words
+        .table
+        .shared
+        .compare_exchange::<TryOuter>(place, OUTER, 0, my_word)
 }
 
 // The outer value out.
@@ -195,7 +198,10 @@ pub(crate) fn set_bit(words: &Words, place: &mut SeatAt, buffer: usize)
     ensures same { IsSameSeat place.new place.old }
     ensures set { place.new.me ≡ (marked place.old.me.0 (first_part place.old.me.0.parts), place.old.me.1) }
 {
-    words.table.shared.fetch_or::<SetBit>(place, FILLED, 1u64 << buffer);
+    words
+        .table
+        .shared
+        .fetch_or::<SetBit>(place, FILLED, 1u64 << buffer);
 }
 
 // Gives a bit back that the fetch has. The proof picks `G` by the number.
@@ -207,7 +213,10 @@ pub(crate) fn set_back<G: Which>(words: &Words, place: &mut SeatAt, buffer: usiz
     ensures same { IsSameSeat place.new place.old }
     ensures back { place.new.me ≡ (given_back place.old.me.0 buffer, place.old.me.1) }
 {
-    words.table.shared.fetch_or::<SetBack<G>>(place, FILLED, 1u64 << buffer);
+    words
+        .table
+        .shared
+        .fetch_or::<SetBack<G>>(place, FILLED, 1u64 << buffer);
 }
 
 // A load of OUTER that tells nothing.
