@@ -1,6 +1,6 @@
 //! How the table is made, and how it is taken apart.
 ghost use Rattle.std.specs.Prelude.{◌≡◌, [], IfOk, length};
-ghost use Rattle.core.specs.Mem.Slots.{IsFull, slots_items, slots_len};
+ghost use Rattle.std.specs.Slots.{IsFull, slots_items, slots_len};
 ghost use Rattle.atomic_table.specs.Table.{opening, Final, Seen};
 ghost use Rattle.sig_layout.specs.Views.{first_seat};
 ghost use Rattle.sig_queue.specs.SeatWords.{key_of, table_of};
