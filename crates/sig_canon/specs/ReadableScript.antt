@@ -1,5 +1,5 @@
 -- The scripts that a reader gives: those whose canonical text is read back as an equal script.
-use Rattle.std.specs.Prelude.{◌≡◌, ◌≢◌, ◌≤◌, ℕ, ◌+◌, List, [], ◌∷◌, length, map, sum, max, Bool, true, ◌&&◌, nat_lt, IsTrue, All, IfSome}
+use Rattle.std.specs.Prelude.{◌≡◌, ◌≢◌, ◌≤◌, ℕ, ◌+◌, List, [], ◌∷◌, length, map, sum, max, Bool, true, ◌&&◌, nat_lt, IsTrue, All, IfSome, None}
 use Rattle.std.specs.List.{list_all}
 use Rattle.sig_terms.specs.Words.{is_variable, is_atom}
 use Rattle.sig_terms.specs.Nodes.{greatest}
@@ -15,6 +15,7 @@ use Rattle.sig_patterns.specs.declared.pattern.Pattern.{Pattern}
 use Rattle.sig_patterns.specs.declared.pattern.Pattern.TheOpen.{Pattern-F}
 use Rattle.sig_patterns.specs.declared.pattern.Pattern.TheOpen as pattern
 use Rattle.sig_patterns.specs.declared.pattern.Pattern.TheFolds.{fold-Pattern}
+use Rattle.sig_program.specs.declared.version.Version.{Version}
 use Rattle.sig_program.specs.declared.label.Label.{Label}
 use Rattle.sig_program.specs.declared.instruction.Instr.{Instr}
 use Rattle.sig_program.specs.Parts.{exprs_of, vars_of, clauses_of, using_of}
@@ -107,10 +108,15 @@ pub record IsReadablePattern (count : ℕ) (p : Pattern) : Type 0 where
   pub nodes : pattern_nodes p ≤ MOST_NODES
   pub depth : pattern_depth p ≤ MOST_DEPTH
 
--- an instruction that lines may hold
-pub record IsReadableInstr (count : ℕ) (i : Instr) : Type 0 where
+-- a clause that a line of this version may hold
+pub record IsReadableClause (version : Version) (count : ℕ) (c : Clause) : Type 0 where
+  pub pattern : IsReadablePattern count c.pattern
+  pub guard : c.guard ≡ None
+
+-- an instruction that lines of this version may hold
+pub record IsReadableInstr (version : Version) (count : ℕ) (i : Instr) : Type 0 where
   pub exprs : All (IsReadableExpr count) (exprs_of i)
-  pub clauses : All (λ (c : Clause). IsReadablePattern count c.pattern) (clauses_of i)
+  pub clauses : All (IsReadableClause version count) (clauses_of i)
   pub vars : All IsVariableToken (vars_of i)
   pub using : IfSome (using_of i) (λ x. IsVariableToken x.0)
 
@@ -119,16 +125,16 @@ pub data AreDistinct : List (List ℕ) → Type 0 where
   none : AreDistinct []
   more : {name : List ℕ} {names : List (List ℕ)} → All (λ other. name ≢ other) names → AreDistinct names → AreDistinct (name ∷ names)
 
--- a process that lines may hold
-pub record IsReadableProc (count : ℕ) (p : Declared) : Type 0 where
+-- a process that lines of this version may hold
+pub record IsReadableProc (version : Version) (count : ℕ) (p : Declared) : Type 0 where
   pub name : IsNameToken p.name
   pub labels : All (λ (l : Label). IsNameToken l.name) p.labels
   pub distinct : AreDistinct (map (λ (l : Label). l.name) p.labels)
   pub within : IsWithin p
-  pub instrs : All (IsReadableInstr count) p.instrs
+  pub instrs : All (IsReadableInstr version count) p.instrs
 
 -- a script that a text may spell
 pub record IsReadableScript (s : Program) : Type 0 where
   pub sound : IsScriptWithin s
   pub names : AreDistinct (map (λ (p : Declared). p.name) s.procs)
-  pub procs : All (IsReadableProc (length s.procs)) s.procs
+  pub procs : All (IsReadableProc s.version (length s.procs)) s.procs

@@ -17,6 +17,8 @@ use Rattle.sig_patterns.specs.declared.pattern.Pattern.TheOpen.{Pattern-F}
 use Rattle.sig_patterns.specs.declared.pattern.Pattern.TheOpen as pattern
 use Rattle.sig_patterns.specs.declared.pattern.Pattern.TheFolds.{fold-Pattern}
 use Rattle.sig_terms.specs.TermText.{atom_text, joined}
+use Rattle.sig_program.specs.declared.version.Version.{Version}
+use Rattle.sig_program.specs.declared.version.Version.TheVariants.{One, Two}
 use Rattle.sig_program.specs.declared.label.Label.{Label}
 use Rattle.sig_program.specs.declared.instruction.After.{After}
 use Rattle.sig_program.specs.declared.instruction.Instr.{Instr}
@@ -161,9 +163,14 @@ procs_lines procs = flat_map (process_lines (names_of procs)) procs
 abbrev pub turns_line : ℕ → List ℕ
 turns_line n = spaced (codes "turns") (decimal n ∷ [])
 
+-- the first line
+abbrev pub header_line : Version → List ℕ
+header_line One = codes "sigscript 1"
+header_line Two = codes "sigscript 2"
+
 -- the lines of a script
 unfoldable pub script_lines : Program → List (List ℕ)
-script_lines s = codes "sigscript 1" ∷ turns_line s.turns ∷ procs_lines s.procs
+script_lines s = header_line s.version ∷ turns_line s.turns ∷ procs_lines s.procs
 
 abbrev pub line_text : List ℕ → List ℕ
 line_text line = line ++ codes "\n"

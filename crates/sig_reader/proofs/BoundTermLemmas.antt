@@ -358,4 +358,4 @@ module _ (s : Program) (d : Draft) (line : List ℕ) where
   -- what a line says behind what was read so far
   pub said-meant : Holds (λ o. IfSome o IsMeantNext) (said (Among s) d line)
   unfolding said
-  said-meant = holds-then (λ _. Unit {0}) (λ o. IfSome o IsMeantNext) (said_by (Among s) d line) (tokens_of line) (anything (tokens_of line)) (λ ts _. said_by-meant ts)
+  said-meant = holds-then (λ _. Unit {0}) (λ o. IfSome o IsMeantNext) (said_by (Among s) d line) (tokens_of d.version line) (anything (tokens_of d.version line)) (λ ts _. said_by-meant ts)

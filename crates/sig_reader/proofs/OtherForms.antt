@@ -151,5 +151,5 @@ module _ (f g : ℕ → ℕ) (known other : Known) (seen : AreSeen f g known oth
   pub said-sees : (d : Draft) → Sees (option_map (form_seen f g)) (said known d line) (said other (draft_seen f g d) line)
   unfolding said
   said-sees d =
-      sees-then (λ ts. ts) (option_map (form_seen f g)) (said_by known d line) (said_by other (draft_seen f g d) line) (tokens_of line) (tokens_of line) (sees-same (λ ts. ts) (tokens_of line) (λ ts. refl))
+      sees-then (λ ts. ts) (option_map (form_seen f g)) (said_by known d line) (said_by other (draft_seen f g d) line) (tokens_of d.version line) (tokens_of d.version line) (sees-same (λ ts. ts) (tokens_of d.version line) (λ ts. refl))
       (λ ts. said_by-sees d ts)

@@ -8,6 +8,7 @@ use Rattle.std.proofs.lemmas.List.{map-append, length-map}
 use Rattle.sig_patterns.specs.declared.clause.Clause.{Clause}
 use Rattle.sig_patterns.specs.declared.pattern.Pattern.{Pattern}
 use Rattle.sig_patterns.specs.declared.var.Var.{Var}
+use Rattle.sig_program.specs.declared.version.Version.{Version}
 use Rattle.sig_program.specs.declared.label.Label.{Label}
 use Rattle.sig_program.specs.declared.instruction.Instr.{Instr}
 use Rattle.sig_tokens.specs.declared.fault.FaultKind.{FaultKind}
@@ -183,8 +184,8 @@ module _ (f g : ℕ → ℕ) (known other : Known) (seen : AreSeen f g known oth
       located-sees (draft_seen f g) (program_seen f g) n (λ e. body known (n + 1) e lines) (λ e. body other (n + 1) e lines)
       (line_taken known d line) (line_taken other (draft_seen f g d) line) (line-sees d line) (λ e. body-sees (n + 1) e lines)
 
-  walk-sees : (lines : List (List ℕ)) (s : Program) → walk known lines ≡ Ok s → walk other lines ≡ Ok (program_seen f g s)
-  walk-sees lines s e = sees-of (program_seen f g) (walk known lines) (walk other lines) s (body-sees 2 blank lines) e
+  walk-sees : (v : Version) (lines : List (List ℕ)) (s : Program) → walk v known lines ≡ Ok s → walk v other lines ≡ Ok (program_seen f g s)
+  walk-sees v lines s e = sees-of (program_seen f g) (walk v known lines) (walk v other lines) s (body-sees 2 (blank v) lines) e
 
 -- nothing changes where each number is as it was
 instrs-kept : (is : List Instr) → map (instr_seen kept kept) is ≡ is
@@ -201,31 +202,31 @@ procs-kept (p ∷ ps) =
 abbrev found_first : Program → Program
 found_first s = program_seen zeroed zeroed s
 
-first_walk : (lines : List (List ℕ)) (guess s : Program) → walk (Among guess) lines ≡ Ok s → walk Any lines ≡ Ok (found_first s)
-first_walk lines guess s e = walk-sees zeroed zeroed (Among guess) Any (any-names (Among guess)) lines s e
+first_walk : (v : Version) (lines : List (List ℕ)) (guess s : Program) → walk v (Among guess) lines ≡ Ok s → walk v Any lines ≡ Ok (found_first s)
+first_walk v lines guess s e = walk-sees zeroed zeroed (Among guess) Any (any-names (Among guess)) v lines s e
 
-second_walk : (lines : List (List ℕ)) (guess s : Program) → names_within guess.procs ≡ names_within s.procs → walk (Among guess) lines ≡ Ok s → walk (Among (found_first s)) lines ≡ Ok s
-second_walk lines guess s same e =
+second_walk : (v : Version) (lines : List (List ℕ)) (guess s : Program) → names_within guess.procs ≡ names_within s.procs → walk v (Among guess) lines ≡ Ok s → walk v (Among (found_first s)) lines ≡ Ok s
+second_walk v lines guess s same e =
     let names : names_within guess.procs ≡ names_within (found_first s).procs = same ∙ sym (names-same zeroed zeroed s.procs) in
-    walk-sees kept kept (Among guess) (Among (found_first s)) (same-names guess (found_first s) names) lines s e
+    walk-sees kept kept (Among guess) (Among (found_first s)) (same-names guess (found_first s) names) v lines s e
     ∙ ap (λ (ps : List Declared). Ok (record s { procs = ps })) (procs-kept s.procs)
 
 -- one walk among the names of the script that it gives is as good as both walks
-module _ (known : Known) (lines : List (List ℕ)) (s : Program) (e : walk known lines ≡ Ok s) (its : AreItsNames known s) where
-  among-its : walk (Among its.0) lines ≡ Ok s
-  among-its = subst (λ (k : Known). walk k lines ≡ Ok s) its.1 e
+module _ (v : Version) (known : Known) (lines : List (List ℕ)) (s : Program) (e : walk v known lines ≡ Ok s) (its : AreItsNames known s) where
+  among-its : walk v (Among its.0) lines ≡ Ok s
+  among-its = subst (λ (k : Known). walk v k lines ≡ Ok s) its.1 e
 
-  first-is : walk Any lines ≡ Ok (found_first s)
-  first-is = first_walk lines its.0 s among-its
+  first-is : walk v Any lines ≡ Ok (found_first s)
+  first-is = first_walk v lines its.0 s among-its
 
-  second-is : walk (Among (found_first s)) lines ≡ Ok s
-  second-is = second_walk lines its.0 s its.2 among-its
+  second-is : walk v (Among (found_first s)) lines ≡ Ok s
+  second-is = second_walk v lines its.0 s its.2 among-its
 
-  pub once_read : walk_twice lines ≡ Ok s
-  once_read = ap (λ (r : Result Program Fault). r >>= λ first. walk (Among first) lines) first-is ∙ second-is
+  pub once_read : walk_twice v lines ≡ Ok s
+  once_read = ap (λ (r : Result Program Fault). r >>= λ first. walk v (Among first) lines) first-is ∙ second-is
 
   pub once_within : length lines ≤ 2 ^ 30 → All IsWithin s.procs
-  once_within le = procs_within lines (found_first s) s first-is second-is le
+  once_within le = procs_within v lines (found_first s) s first-is second-is le
 
   pub once_sound : length lines ≤ 2 ^ 30 → IsScriptWithin s
-  once_sound le = script_sound lines (found_first s) s first-is second-is le
+  once_sound le = script_sound v lines (found_first s) s first-is second-is le

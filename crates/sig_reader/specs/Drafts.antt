@@ -7,6 +7,7 @@ use Rattle.sig_patterns.specs.declared.clause.Clause.{Clause}
 use Rattle.sig_patterns.specs.declared.pattern.Pattern.{Pattern}
 use Rattle.sig_patterns.specs.declared.var.Var.{Var}
 use Rattle.sig_patterns.specs.Pinning.{pins}
+use Rattle.sig_program.specs.declared.version.Version.{Version}
 use Rattle.sig_program.specs.declared.label.Label.{Label}
 use Rattle.sig_program.specs.declared.instruction.Receiving.{Receiving}
 use Rattle.sig_program.specs.declared.instruction.Instr.{Instr}
@@ -18,15 +19,14 @@ use Rattle.sig_reader.specs.declared.draft.Section.TheVariants.{Before, Outside,
 use Rattle.sig_reader.specs.declared.draft.Draft.{Draft}
 use Rattle.sig_reader.specs.declared.form.Form.{Form}
 use Rattle.sig_reader.specs.declared.form.Form.TheVariants as form
-use Rattle.sig_program.specs.declared.version.Version.TheVariants.{One}
 use Rattle.sig_program.specs.Parts.{plain_clause}
 use Rattle.sig_program.specs.Scripts.{Declared, Program, bare_process}
 use Rattle.sig_tokens.specs.Faults.{on_ok}
 use Rattle.sig_program.specs.declared.script.TheConstants.{DEFAULT_TURNS, MOST_PROCESSES, MOST_TURNS}
 
 -- before the first line
-abbrev pub blank : Draft
-blank = record { turns = None; procs = []; section = Before }
+abbrev pub blank : Version → Draft
+blank version = record { version = version; turns = None; procs = []; section = Before }
 
 -- the process that is being read
 abbrev pub open_proc : Section → List Declared
@@ -40,7 +40,7 @@ all_procs d = d.procs ++ open_proc d.section
 
 -- each process may execute DEFAULT_TURNS instructions where nothing else is said
 abbrev pub program_of : Draft → Program
-program_of d = record { version = One; turns = option_map_or (λ n. n) d.turns DEFAULT_TURNS; procs = all_procs d }
+program_of d = record { version = d.version; turns = option_map_or (λ n. n) d.turns DEFAULT_TURNS; procs = all_procs d }
 
 -- a process begins: its name is a new one, and there are at most MOST_PROCESSES processes
 abbrev pub begun : Draft → List ℕ → Result Draft FaultKind

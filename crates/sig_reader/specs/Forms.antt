@@ -190,6 +190,7 @@ unfoldable pub said_by : Known → Draft → List ℕ → List Token → Result 
 said_by known draft line [] = Ok None
 said_by known draft line (word ∷ ts) = on_ok Some (form_behind known draft (keyword_of (text line word)) line ts)
 
--- what a line says behind what was read so far, or the first that is wrong with it: its tokens are cut before its form is read
+-- what a line says behind what was read so far, or the first that is wrong with it: its tokens, which are those of the script's
+-- version, are cut before its form is read
 unfoldable pub said : Known → Draft → List ℕ → Result (Option Form) FaultKind
-said known draft line = tokens_of line >>= said_by known draft line
+said known draft line = tokens_of draft.version line >>= said_by known draft line

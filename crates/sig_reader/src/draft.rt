@@ -53,6 +53,8 @@ pub enum Section {
 /// What was read so far.
 #[derive(Drop)]
 pub struct Draft {
+    /// The version of the script, which its first line tells.
+    pub version: Version,
     /// How many instructions each process may execute, where that was said.
     pub turns: Option<u32>,
     /// The processes before the one that is being read.
@@ -62,11 +64,12 @@ pub struct Draft {
 }
 
 impl Draft {
-    /// Before the first line.
-    pub fn new(alloc: Global) -> Draft
-        ensures { result ≡ blank }
+    /// Before the first line behind the header of this version.
+    pub fn new(alloc: Global, version: Version) -> Draft
+        ensures { result ≡ blank version }
     {
         Draft {
+            version,
             turns: None,
             procs: Sequence::new(alloc),
             section: Section::Before,
@@ -223,11 +226,11 @@ fn place_instr(section: &mut Section, instr: Instr) -> Result<(), Stop>
 }
 
 /// A receive of which only its first line was read.
-fn bare_receive(alloc: Global, using: Option<Var>) -> Receiving
-    ensures { result ≡ bare_receive using }
+fn bare_receive(alloc: Global, marker: Option<Var>) -> Receiving
+    ensures { result ≡ bare_receive marker }
 {
     Receiving {
-        using,
+        using: marker,
         clauses: Sequence::new(alloc),
         after: None,
     }
@@ -435,7 +438,7 @@ pub fn finish(draft: Draft, n: u64) -> Result<DraftScript, ScriptError>
     ended?;
     match closed {
         Ok(()) => Ok(DraftScript {
-            version: Version::One,
+            version: draft.version,
             turns: draft.turns.unwrap_or(DEFAULT_TURNS),
             procs,
         }),

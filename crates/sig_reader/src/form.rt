@@ -498,6 +498,6 @@ pub fn read_line(
 ) -> Result<Option<Form>, Stop>
     ensures { Gives (λ f. f) result (said known.now draft.now text.now) }
 {
-    read_tokens(alloc, tokens, text)?;
+    read_tokens(alloc, draft.version, tokens, text)?;
     read_said(alloc, known, draft, &Line::new(text, tokens.as_slice()))
 }
