@@ -6,3 +6,4 @@ pub mod LineLemmas
 pub mod LabelLemmas
 pub mod PhraseLemmas
 pub mod NestLemmas
+pub mod GuardLemmas

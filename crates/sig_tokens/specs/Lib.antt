@@ -7,5 +7,6 @@ pub mod Names
 pub mod Phrases
 pub mod Expressions
 pub mod PatternTexts
+pub mod Guards
 pub mod LabelPlaces
 pub mod FaultWords

@@ -1,10 +1,11 @@
 //! The lines of a script cut into tokens, and what stands at the front of tokens: numbers, names,
-//! expressions and patterns.
+//! expressions, patterns and guards.
 #![tactic(auto)]
 
 mod drafted;
 mod expressions;
 mod fault;
+mod guards;
 mod known;
 mod label_table;
 mod line;
@@ -16,6 +17,7 @@ mod token;
 
 pub use drafted::{DraftProc, DraftProcs, DraftScript, place_of_proc};
 pub use fault::{FaultKind, Stop};
+pub use guards::{MOST_TESTS, take_guard};
 pub use known::Known;
 pub use label_table::LabelTable;
 pub use line::{Line, first_line, read_tokens};
