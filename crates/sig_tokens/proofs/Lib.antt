@@ -6,4 +6,3 @@ pub mod LineLemmas
 pub mod LabelLemmas
 pub mod PhraseLemmas
 pub mod NestLemmas
-pub mod GuardLemmas

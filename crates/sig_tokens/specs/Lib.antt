@@ -7,6 +7,5 @@ pub mod Names
 pub mod Phrases
 pub mod Expressions
 pub mod PatternTexts
-pub mod Guards
 pub mod LabelPlaces
 pub mod FaultWords

@@ -1,11 +1,10 @@
 //! The lines of a script cut into tokens, and what stands at the front of tokens: numbers, names,
-//! expressions, patterns and guards.
+//! expressions and patterns.
 #![tactic(auto)]
 
 mod drafted;
 mod expressions;
 mod fault;
-mod guards;
 mod known;
 mod label_table;
 mod line;
@@ -17,7 +16,6 @@ mod token;
 
 pub use drafted::{DraftProc, DraftProcs, DraftScript, place_of_proc};
 pub use fault::{FaultKind, Stop};
-pub use guards::{MOST_TESTS, take_guard};
 pub use known::Known;
 pub use label_table::LabelTable;
 pub use line::{Line, first_line, read_tokens};
