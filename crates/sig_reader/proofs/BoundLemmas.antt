@@ -8,7 +8,6 @@ use Rattle.std.proofs.lemmas.Bool.Decides.{nat_tests}
 use Rattle.std.proofs.lemmas.List.{map-append, length-map}
 use Rattle.std.proofs.lemmas.List.Elements.{All-nil, All-cons, All-head, All-tail, All-append, All-push, All-weaker}
 use Rattle.sig_patterns.specs.declared.clause.Clause.{Clause}
-use Rattle.sig_patterns.specs.declared.pattern.Pattern.{Pattern}
 use Rattle.sig_patterns.specs.declared.var.Var.{Var}
 use Rattle.sig_patterns.specs.Pinning.{pins}
 use Rattle.sig_program.specs.declared.version.Version.{Version}
@@ -27,15 +26,15 @@ use Rattle.sig_reader.specs.declared.draft.Draft.{Draft}
 use Rattle.sig_reader.specs.declared.form.Form.{Form}
 use Rattle.sig_reader.specs.declared.form.Form.TheVariants as form
 use Rattle.sig_program.specs.Scripts.{Declared, Program, AreMarked, IsInstrWithin, IsPlace, AreRising, IsWithin, IsExprBelow, IsPatternBelow, IsInstrBelow, IsScriptWithin, bare_process}
-use Rattle.sig_program.specs.Parts.{targets_of, plain_clause}
+use Rattle.sig_program.specs.Parts.{targets_of}
 use Rattle.sig_tokens.specs.declared.fault.Stop.{Stop}
 use Rattle.sig_tokens.specs.Faults.{Fault, ◌>>=◌, on_ok, Gives}
 use Rattle.sig_tokens.specs.Lines.{lines_of, onto_first}
 use Rattle.sig_tokens.specs.Tokens.{text, tokens_of}
 use Rattle.sig_tokens.specs.Names.{labels_at}
 use Rattle.sig_tokens.specs.PatternTexts.{pattern_of}
-use Rattle.sig_reader.specs.Forms.{keyword_of, may_stand, ends, arrow_of, count_from, turns_of, whole_name, marker_of, on_of, instr_of, form_of, form_behind, said_by, said}
-use Rattle.sig_reader.specs.Drafts.{blank, open_proc, all_procs, program_of, begun, labelled, with_instr, is_marked, with_clause, taken_at}
+use Rattle.sig_reader.specs.Forms.{keyword_of, may_stand, ends, arrow_of, count_from, turns_of, whole_name, marker_of, behind_pattern, on_of, instr_of, form_of, form_behind, said_by, said}
+use Rattle.sig_reader.specs.Drafts.{blank, open_proc, all_procs, program_of, begun, labelled, with_instr, is_marked, may_guard, with_clause, taken_at}
 use Rattle.sig_reader.specs.Grammar.{located, finished, taken_if, line_taken, body, walk}
 use Rattle.sig_reader.specs.Fitting.{IsSmall, IsFit}
 use Rattle.sig_reader.proofs.FitLemmas.{all-last}
@@ -111,9 +110,9 @@ fit_at n d (Outside p) (form.Label name) h =
 fit_at n d (Outside p) (form.Do i) h = fit_last n d p (with_instr p i) h (small_instr n p i (all-last (IsSmall n) d.procs p h.small))
 fit_at n d (Outside p) (form.Receive using) h = record { few = h.few; small = all-later n (d.procs ++ p ∷ []) h.small }
 fit_at n d (Outside p) _ h = tt
-fit_at n d (Inside p r) (form.On pattern target) h =
-    holds-on_ok (λ _. Unit {0}) (IsFit (n + 1)) (λ more. record d { section = Inside p (record r { clauses = more }) }) (with_clause r.using r.clauses pattern target)
-    (anything (with_clause r.using r.clauses pattern target)) (λ more _. record { few = h.few; small = all-later n (d.procs ++ p ∷ []) h.small })
+fit_at n d (Inside p r) (form.On c) h =
+    holds-on_ok (λ _. Unit {0}) (IsFit (n + 1)) (λ more. record d { section = Inside p (record r { clauses = more }) }) (with_clause d.version r.using r.clauses c)
+    (anything (with_clause d.version r.using r.clauses c)) (λ more _. record { few = h.few; small = all-later n (d.procs ++ p ∷ []) h.small })
 fit_at n d (Inside p r) (form.After next) h = record { few = h.few; small = all-later n (d.procs ++ p ∷ []) h.small }
 fit_at n d (Inside p r) form.End h =
     fit_last n d p (with_instr p (instr.Receive r)) (record { few = h.few; small = h.small })
@@ -239,8 +238,10 @@ turns-counted line (t ∷ ts) =
 
 on-counted : (known : Known) (here : ℕ) (line : List ℕ) (ts : List Token) → Holds (SaysAs keyword.On) (on_of known here line ts)
 on-counted known here line ts =
-    holds-then (λ _. Unit {0}) (SaysAs keyword.On) (λ x. on_ok (form.On x.0) (arrow_of known here line x.1)) (pattern_of known line ts) (anything (pattern_of known line ts))
-    (λ x _. holds-on_ok (λ _. Unit {0}) (SaysAs keyword.On) (form.On x.0) (arrow_of known here line x.1) (anything (arrow_of known here line x.1)) (λ o _ cs. refl))
+    holds-then (λ _. Unit {0}) (SaysAs keyword.On) (λ x. on_ok (λ y. form.On (record { pattern = x.0; guard = y.0; target = y.1 })) (behind_pattern known here line x.1))
+    (pattern_of known line ts) (anything (pattern_of known line ts))
+    (λ x _. holds-on_ok (λ _. Unit {0}) (SaysAs keyword.On) (λ y. form.On (record { pattern = x.0; guard = y.0; target = y.1 })) (behind_pattern known here line x.1)
+    (anything (behind_pattern known here line x.1)) (λ o _ cs. refl))
 
 form-counted : (known : Known) (here : ℕ) (word : Keyword) (line : List ℕ) (ts : List Token) → Holds (SaysAs word) (form_of known here word line ts)
 unfolding form_of
@@ -324,9 +325,9 @@ taken_at-counted d (Outside p) (form.Label name) =
 taken_at-counted d (Outside p) (form.Do i) = (counts-last d.procs p (with_instr p i) refl, refl)
 taken_at-counted d (Outside p) (form.Receive using) = (refl, refl)
 taken_at-counted d (Outside p) _ = tt
-taken_at-counted d (Inside p r) (form.On pattern target) =
+taken_at-counted d (Inside p r) (form.On c) =
     holds-on_ok (λ _. Unit {0}) (CountedAs d.version (counts (d.procs ++ p ∷ []))) (λ more. record d { section = Inside p (record r { clauses = more }) })
-    (with_clause r.using r.clauses pattern target) (anything (with_clause r.using r.clauses pattern target)) (λ more _. (refl, refl))
+    (with_clause d.version r.using r.clauses c) (anything (with_clause d.version r.using r.clauses c)) (λ more _. (refl, refl))
 taken_at-counted d (Inside p r) (form.After next) = (refl, refl)
 taken_at-counted d (Inside p r) form.End = (counts-last d.procs p (with_instr p (instr.Receive r)) refl, refl)
 taken_at-counted d (Inside p r) _ = tt
@@ -519,12 +520,13 @@ module _ (s : Program) (n : ℕ) (d : Draft) (bounded : IfSome d.turns (λ t. t 
     marked-more r.using r.clauses c m h.4,
   )
 
-  with_clause-meant : (p : Declared) (r : Receiving) (pattern : Pattern) (target : Option ℕ) →
-      IsOpen s n (length d.procs) (Inside p r) → IsPatternBelow (length s.procs) pattern → IsTarget (length (labels_at (length d.procs) s.procs)) target →
-      Holds (λ more. IsOpen s (n + 1) (length d.procs) (Inside p (record r { clauses = more }))) (with_clause r.using r.clauses pattern target)
-  with_clause-meant p r pattern target h b t =
-      holds-if (λ (more : List Clause). IsOpen s (n + 1) (length d.procs) (Inside p (record r { clauses = more }))) (is_marked r.using pattern) _ _
-      (λ m. clause-more p r (plain_clause pattern target) h b t m) (λ _. tt)
+  with_clause-meant : (p : Declared) (r : Receiving) (c : Clause) →
+      IsOpen s n (length d.procs) (Inside p r) → IsPatternBelow (length s.procs) c.pattern → IsTarget (length (labels_at (length d.procs) s.procs)) c.target →
+      Holds (λ more. IsOpen s (n + 1) (length d.procs) (Inside p (record r { clauses = more }))) (with_clause d.version r.using r.clauses c)
+  with_clause-meant p r c h b t =
+      let IsNext : List Clause → Type 0 = λ more. IsOpen s (n + 1) (length d.procs) (Inside p (record r { clauses = more })) in
+      holds-if IsNext (may_guard d.version c.guard) _ _
+      (λ _. holds-if IsNext (is_marked r.using c.pattern) _ _ (λ m. clause-more p r c h b t m) (λ _. tt)) (λ _. tt)
 
   receive-more : (p : Declared) (r : Receiving) → n < 2 ^ 32 → IsOpen s n (length d.procs) (Inside p r) →
       IsMeant s (length d.procs) p → IsMeant s (length d.procs) (with_instr p (instr.Receive r))
@@ -560,10 +562,10 @@ module _ (s : Program) (n : ℕ) (d : Draft) (bounded : IfSome d.turns (λ t. t 
     );
   }
   taken_at-meant (Outside p) _ lt h o k = tt
-  taken_at-meant (Inside p r) (form.On pattern target) lt h o k =
+  taken_at-meant (Inside p r) (form.On c) lt h o k =
       holds-on_ok (λ (more : List Clause). IsOpen s (n + 1) (length d.procs) (Inside p (record r { clauses = more }))) (IsMeantDraft s (n + 1))
-      (λ more. record d { section = Inside p (record r { clauses = more }) }) (with_clause r.using r.clauses pattern target)
-      (with_clause-meant p r pattern target o k.0 k.1) (λ more m. record { turns = bounded; procs = h; receive = m })
+      (λ more. record d { section = Inside p (record r { clauses = more }) }) (with_clause d.version r.using r.clauses c)
+      (with_clause-meant p r c o k.0 k.1) (λ more m. record { turns = bounded; procs = h; receive = m })
   taken_at-meant (Inside p r) (form.After next) lt h o k = record { turns = bounded; procs = h; receive = (omega (arith, o.0), o.1, o.2, k, o.4) }
   taken_at-meant (Inside p r) form.End lt h o k =
       changed p (with_instr p (instr.Receive r)) h (receive-more p r lt o (current p h))

@@ -22,12 +22,11 @@ use Rattle.sig_reader.specs.declared.form.Form.{Form}
 use Rattle.sig_reader.specs.declared.form.Form.TheVariants as form
 use Rattle.sig_program.specs.declared.script.TheConstants.{MOST_PROCESSES, MOST_TURNS}
 use Rattle.sig_program.specs.Scripts.{Declared, Program, IsWithin, IsScriptWithin, bare_process}
-use Rattle.sig_program.specs.Parts.{plain_clause}
 use Rattle.sig_program.specs.declared.instruction.Instr.TheVariants as instr
 use Rattle.sig_tokens.specs.Faults.{Fault, ◌>>=◌}
 use Rattle.sig_tokens.specs.Names.{pid_of, labels_at, label_of}
 use Rattle.sig_reader.specs.Forms.{said}
-use Rattle.sig_reader.specs.Drafts.{blank, open_proc, all_procs, program_of, begun, labelled, with_instr, is_marked, with_clause, taken_at}
+use Rattle.sig_reader.specs.Drafts.{blank, open_proc, all_procs, program_of, begun, labelled, with_instr, is_marked, may_guard, with_clause, taken_at}
 use Rattle.sig_reader.specs.Grammar.{located, finished, taken_if, line_taken, body, walk, walk_twice}
 use Rattle.sig_reader.proofs.BoundLemmas.{procs_within, script_sound}
 use Rattle.sig_tokens.proofs.LabelLemmas.{next, position-cons}
@@ -127,11 +126,11 @@ module _ (f g : ℕ → ℕ) where
   marked-same None p = refl
   marked-same (Some x) p = pins_seen f p x
 
-  clause-sees : (using : Option Var) (clauses : List Clause) (p : Pattern) (target : Option ℕ) →
-      Sees (map (clause_seen f g)) (with_clause using clauses p target) (with_clause using (map (clause_seen f g) clauses) (pattern_seen f p) (option_map g target))
-  clause-sees using clauses p target =
-      rw (marked-same using p) (sees-if (map (clause_seen f g)) (is_marked using p) _ _ _ _
-      (ap (λ (cs : List Clause). Ok cs) (sym (map-append (clause_seen f g) clauses (plain_clause p target ∷ [])))) tt)
+  clause-sees : (v : Version) (using : Option Var) (clauses : List Clause) (c : Clause) →
+      Sees (map (clause_seen f g)) (with_clause v using clauses c) (with_clause v using (map (clause_seen f g) clauses) (clause_seen f g c))
+  clause-sees v using clauses c =
+      rw (marked-same using c.pattern) (sees-if (map (clause_seen f g)) (may_guard v c.guard) _ _ _ _ (sees-if (map (clause_seen f g)) (is_marked using c.pattern) _ _ _ _
+      (ap (λ (cs : List Clause). Ok cs) (sym (map-append (clause_seen f g) clauses (c ∷ [])))) tt) tt)
 
   taken_at-sees : (d : Draft) (section : Section) (said : Form) →
       let e : Draft = record d { section = section } in Sees (draft_seen f g) (taken_at e section said) (taken_at (draft_seen f g e) (section_seen f g section) (form_seen f g said))
@@ -146,10 +145,10 @@ module _ (f g : ℕ → ℕ) where
       ap (λ (q : Declared). Ok (record (draft_seen f g d) { section = Outside q })) (instr-more p i)
   taken_at-sees d (Outside p) (form.Receive using) = refl
   taken_at-sees d (Outside p) _ = tt
-  taken_at-sees d (Inside p r) (form.On pattern target) =
+  taken_at-sees d (Inside p r) (form.On c) =
       sees-on_ok (map (clause_seen f g)) (draft_seen f g) (λ more. record d { section = Inside p (record r { clauses = more }) })
       (λ more. record (draft_seen f g d) { section = Inside (proc_seen f g p) (record (receiving_seen f g r) { clauses = more }) })
-      (with_clause r.using r.clauses pattern target) (with_clause r.using (map (clause_seen f g) r.clauses) (pattern_seen f pattern) (option_map g target)) (clause-sees r.using r.clauses pattern target) (λ more. refl)
+      (with_clause d.version r.using r.clauses c) (with_clause d.version r.using (map (clause_seen f g) r.clauses) (clause_seen f g c)) (clause-sees d.version r.using r.clauses c) (λ more. refl)
   taken_at-sees d (Inside p r) (form.After next) = refl
   taken_at-sees d (Inside p r) form.End =
       ap (λ (q : Declared). Ok (record (draft_seen f g d) { section = Outside q })) (instr-more p (instr.Receive r))
