@@ -18,6 +18,7 @@ pub mod FormReads
 pub mod FormTexts
 pub mod CleanLines
 pub mod PrintLemmas
+pub mod GuardPrints
 pub mod JoinedLemmas
 pub mod LabelTextLemmas
 pub mod GeneratedLemmas
