@@ -37,7 +37,7 @@ use sig_terms::bytes::{
 };
 
 /// A token that stands for itself. Comparison signs and parentheses are tokens in version 2 alone.
-#[derive(Clone, Copy)]
+#[derive(Clone, Copy, PartialEq, Eq)]
 pub enum Sign {
     /// `{`
     OpenBrace,
@@ -102,67 +102,14 @@ impl TokenKind {
         !matches!(self, TokenKind::Sign(_))
     }
 
-    /// Whether it is `{`.
-    pub fn is_open_brace(self) -> bool
-        ensures { result ≡ signs.is_open_brace self }
+    /// Whether it is this sign.
+    pub fn is_sign(self, sign: Sign) -> bool
+        ensures { result ≡ signs.is_sign sign self }
     {
-        matches!(self, TokenKind::Sign(Sign::OpenBrace))
-    }
-
-    /// Whether it is `[`.
-    pub fn is_open_bracket(self) -> bool
-        ensures { result ≡ signs.is_open_bracket self }
-    {
-        matches!(self, TokenKind::Sign(Sign::OpenBracket))
-    }
-
-    /// Whether it is `(`.
-    pub fn is_open_paren(self) -> bool
-        ensures { result ≡ signs.is_open_paren self }
-    {
-        matches!(self, TokenKind::Sign(Sign::OpenParen))
-    }
-
-    /// Whether it is `)`.
-    pub fn is_close_paren(self) -> bool
-        ensures { result ≡ signs.is_close_paren self }
-    {
-        matches!(self, TokenKind::Sign(Sign::CloseParen))
-    }
-
-    /// Whether it is `,`.
-    pub fn is_comma(self) -> bool
-        ensures { result ≡ signs.is_comma self }
-    {
-        matches!(self, TokenKind::Sign(Sign::Comma))
-    }
-
-    /// Whether it is `|`.
-    pub fn is_bar(self) -> bool
-        ensures { result ≡ signs.is_bar self }
-    {
-        matches!(self, TokenKind::Sign(Sign::Bar))
-    }
-
-    /// Whether it is `^`.
-    pub fn is_caret(self) -> bool
-        ensures { result ≡ signs.is_caret self }
-    {
-        matches!(self, TokenKind::Sign(Sign::Caret))
-    }
-
-    /// Whether it is `->`.
-    pub fn is_arrow(self) -> bool
-        ensures { result ≡ signs.is_arrow self }
-    {
-        matches!(self, TokenKind::Sign(Sign::Arrow))
-    }
-
-    /// Whether it is `_`.
-    pub fn is_underscore(self) -> bool
-        ensures { result ≡ signs.is_underscore self }
-    {
-        matches!(self, TokenKind::Sign(Sign::Underscore))
+        match self {
+            TokenKind::Sign(own) => own == sign,
+            _ => false,
+        }
     }
 
     /// Whether it is the sign that ends a tuple or a list.
