@@ -1,6 +1,7 @@
 pub mod WordLemmas
 pub mod ReadableTerms
 pub mod ReadablePhrases
+pub mod ReadableGuards
 pub mod ReadableForms
 pub mod DistinctLemmas
 pub mod ReadableLemmas
