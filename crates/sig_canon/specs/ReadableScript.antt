@@ -122,7 +122,7 @@ IsReadableSide (operand.Var x) = IsVariableToken x.0
 
 -- the same of a test
 abbrev pub IsReadableTest : Test → Type 0
-IsReadableTest (test.Compare left op right) = IsReadableSide left × IsReadableSide right
+IsReadableTest (test.Compare left sign right) = IsReadableSide left × IsReadableSide right
 IsReadableTest (test.Is kind x) = IsVariableToken x.0
 
 -- the same of an alternative, which has a test

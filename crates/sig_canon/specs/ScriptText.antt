@@ -129,7 +129,7 @@ op_text op.Unequal = codes "/="
 
 -- the texts of a test, in front of other texts; a test for a kind of terms is one text
 abbrev pub test_text : Test → List (List ℕ) → List (List ℕ)
-test_text (test.Compare left op right) rest = side_text left ∷ op_text op ∷ side_text right ∷ rest
+test_text (test.Compare left sign right) rest = side_text left ∷ op_text sign ∷ side_text right ∷ rest
 test_text (test.Is kind x) rest = (kind_word kind ++ codes "(" ++ x.0 ++ codes ")") ∷ rest
 
 -- tests of one alternative, the first behind this word and each other behind `and`

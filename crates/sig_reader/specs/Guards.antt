@@ -12,6 +12,8 @@ use Rattle.sig_patterns.specs.declared.guard.Test.TheVariants as test
 use Rattle.sig_patterns.specs.declared.guard.Guard.{Guard}
 use Rattle.sig_tokens.specs.declared.fault.FaultKind.{FaultKind}
 use Rattle.sig_tokens.specs.declared.fault.FaultKind.TheVariants.{Syntax, TermTooLarge}
+use Rattle.sig_tokens.specs.declared.token.Sign as signs
+use Rattle.sig_tokens.specs.declared.token.Sign.TheVariants.{OpenParen, CloseParen}
 use Rattle.sig_tokens.specs.declared.token.TokenKind.{TokenKind}
 use Rattle.sig_tokens.specs.declared.token.TokenKind.TheVariants.{Name, Variable, Integer}
 use Rattle.sig_tokens.specs.declared.token.Token.{Token}
@@ -21,7 +23,7 @@ use Rattle.sig_reader.specs.declared.guards.TheConstants.{MOST_TESTS}
 use Rattle.sig_tokens.specs.Faults.{◌>>=◌, on_ok}
 use Rattle.sig_tokens.specs.Numbers.{int_of}
 use Rattle.sig_tokens.specs.Tokens.{text}
-use Rattle.sig_tokens.specs.Signs.{is_open_paren, is_close_paren, op_of}
+use Rattle.sig_tokens.specs.Signs.{is_sign, op_of}
 use Rattle.sig_tokens.specs.Names.{name_at, variable_at}
 
 -- the word of the test for a kind of terms
@@ -65,13 +67,13 @@ abbrev pub compare_at : List ℕ → List Token → Result (Test × List Token) 
 compare_at line ts = side_at line ts >>= λ x. op_at x.1 >>= λ y. on_ok (λ z. (test.Compare x.0 y.0 z.0, z.1)) (side_at line y.1)
 
 -- the tokens behind this sign
-abbrev pub behind_sign : (TokenKind → Bool) → List Token → Result (List Token) FaultKind
-behind_sign is_it [] = Err Syntax
-behind_sign is_it (t ∷ ts) = if is_it t.kind then Ok ts else Err Syntax
+abbrev pub behind_sign : signs.Sign → List Token → Result (List Token) FaultKind
+behind_sign sign [] = Err Syntax
+behind_sign sign (t ∷ ts) = if is_sign sign t.kind then Ok ts else Err Syntax
 
 -- a variable between parentheses
 abbrev pub enclosed_at : List ℕ → List Token → Result (List ℕ × List Token) FaultKind
-enclosed_at line ts = behind_sign is_open_paren ts >>= λ us. variable_at line us >>= λ x. on_ok (λ vs. (x.0, vs)) (behind_sign is_close_paren x.1)
+enclosed_at line ts = behind_sign OpenParen ts >>= λ us. variable_at line us >>= λ x. on_ok (λ vs. (x.0, vs)) (behind_sign CloseParen x.1)
 
 -- the word for a kind, and a variable between parentheses
 abbrev pub is_at : List ℕ → List Token → Result (Test × List Token) FaultKind

@@ -36,8 +36,8 @@ use sig_program::{After, Instr, Verb};
 use sig_terms::Name;
 use sig_terms::bytes::equal_bytes;
 use sig_tokens::{
-    FaultKind, Known, Line, Stop, TokenKind, Tokens, name_of, read_count, read_tokens, take_phrase,
-    take_target, take_variable, take_word,
+    FaultKind, Known, Line, Sign, Stop, TokenKind, Tokens, name_of, read_count, read_tokens,
+    take_phrase, take_target, take_variable, take_word,
 };
 use std::alloc::Global;
 use std::mem::drop;
@@ -103,7 +103,7 @@ fn take_arrow(known: &Known, here: usize, line: &Line) -> Result<Option<u32>, St
     match line.split_first() {
         None => Ok(None),
         Some((token, rest)) => {
-            if token.kind.is_arrow() {
+            if token.kind.is_sign(Sign::Arrow) {
                 some_target(known, here, &rest)
             } else {
                 Err(Stop::Fault(FaultKind::Syntax))

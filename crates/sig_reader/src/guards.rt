@@ -2,7 +2,6 @@
 
 ghost use Rattle.std.specs.Prelude.{◌≡◌, ◌++◌, ◌∷◌, [], Ok, IfOk, IfSome, option_map};
 ghost use Rattle.sig_tokens.specs.Faults.{Gives};
-ghost use Rattle.sig_tokens.specs.Signs.{is_open_paren, is_close_paren};
 ghost use Rattle.sig_reader.specs.Guards.{
   kind_of,
   side_at,
@@ -25,9 +24,10 @@ ghost use Rattle.sig_reader.specs.Guards.{
 use sig_lists::Sequence;
 use sig_patterns::{Alternatives, Guard, Op, Operand, TermKind, Test, Tests, Var};
 use sig_terms::bytes::equal_bytes;
-use sig_tokens::{FaultKind, Line, Stop, TokenKind, name_of, read_int, take_variable, take_word};
+use sig_tokens::{
+    FaultKind, Line, Sign, Stop, TokenKind, name_of, read_int, take_variable, take_word,
+};
 use std::alloc::Global;
-use std::mem::drop;
 
 /// The most tests of a guard, in all of its alternatives.
 pub const MOST_TESTS: u64 = 64;
@@ -105,24 +105,13 @@ fn take_compare<'l>(alloc: Global, line: &Line<'l>) -> Result<(Test, Line<'l>), 
     Ok((Test::Compare { left, op, right }, rest))
 }
 
-/// The line behind `(`.
-fn behind_open<'l>(line: &Line<'l>) -> Result<Line<'l>, Stop>
-    ensures value { Gives (λ x. x.tokens) result (behind_sign is_open_paren line.now.tokens) }
+/// The line behind this sign.
+fn behind_sign<'l>(sign: Sign, line: &Line<'l>) -> Result<Line<'l>, Stop>
+    ensures value { Gives (λ x. x.tokens) result (behind_sign sign line.now.tokens) }
     ensures line { IfOk result (λ x. x.text ≡ line.now.text) }
 {
     match line.split_first() {
-        Some((token, rest)) if token.kind.is_open_paren() => Ok(rest),
-        _ => Err(Stop::Fault(FaultKind::Syntax)),
-    }
-}
-
-/// The line behind `)`.
-fn behind_close<'l>(line: &Line<'l>) -> Result<Line<'l>, Stop>
-    ensures value { Gives (λ x. x.tokens) result (behind_sign is_close_paren line.now.tokens) }
-    ensures line { IfOk result (λ x. x.text ≡ line.now.text) }
-{
-    match line.split_first() {
-        Some((token, rest)) if token.kind.is_close_paren() => Ok(rest),
+        Some((token, rest)) if token.kind.is_sign(sign) => Ok(rest),
         _ => Err(Stop::Fault(FaultKind::Syntax)),
     }
 }
@@ -132,9 +121,9 @@ fn take_enclosed<'l>(alloc: Global, line: &Line<'l>) -> Result<(Var, Line<'l>), 
     ensures value { Gives (λ x. (x.0.0, x.1.tokens)) result (enclosed_at line.now.text line.now.tokens) }
     ensures line { IfOk result (λ x. x.1.text ≡ line.now.text) }
 {
-    let inside = behind_open(line)?;
+    let inside = behind_sign(Sign::OpenParen, line)?;
     let (var, behind_var) = take_variable(alloc, &inside)?;
-    let rest = behind_close(&behind_var)?;
+    let rest = behind_sign(Sign::CloseParen, &behind_var)?;
     Ok((var, rest))
 }
 
