@@ -16,13 +16,10 @@ use Rattle.sig_reader.specs.declared.form.Form.TheVariants as form
 use Rattle.sig_program.specs.declared.script.TheConstants.{MOST_TURNS}
 use Rattle.sig_program.specs.Scripts.{Declared, IsInstrWithin}
 use Rattle.sig_canon.specs.ScriptText.{spaced, target_text, marker_text, clause_line, instr_lines, label_line, turns_line}
-use Rattle.sig_canon.specs.ReadableScript.{IsReadablePattern, IsReadableInstr}
+use Rattle.sig_canon.specs.ReadableScript.{IsReadableClause, IsReadableInstr}
 use Rattle.sig_reader.specs.Forms.{may_stand_at, may_stand, said}
-use Rattle.sig_tokens.specs.Tokens.{cut_of, IsNameToken, IsVariableToken, tokens_of}
-use Rattle.sig_tokens.specs.Numbers.{number_after}
-use Rattle.sig_program.specs.declared.version.Version.TheVariants.{One}
-use Rattle.sig_reader.specs.Grammar.{header_of}
-use Rattle.sig_reader.proofs.Seen.{pattern_seen, instr_seen}
+use Rattle.sig_tokens.specs.Tokens.{IsNameToken, IsVariableToken}
+use Rattle.sig_reader.proofs.Seen.{clause_seen, instr_seen}
 use Rattle.sig_canon.proofs.FormReads.{line_said}
 use Rattle.sig_canon.proofs.FormTexts.{turns_form, process_form, label_form, receive_form, clause_form, after_form, end_form, instr_form}
 pub use Rattle.sig_canon.proofs.KnownNames.{Reads, any_reads, among_reads}
@@ -40,45 +37,40 @@ pub record IsSaid (known : Known) (d : Draft) (lines : List (List ℕ)) (f : For
   pub said : said known d line ≡ Ok (Some f)
 
 pub turns_said : (known : Known) (d : Draft) (n : ℕ) → may_stand d keyword.Turns ≡ true → n ≤ MOST_TURNS → said known d (turns_line n) ≡ Ok (Some (form.Turns n))
-turns_said known d n here few = line_said known d (turns_line n) keyword.Turns (form.Turns n) (turns_form known (length d.procs) n few) here
+turns_said known d n here few = line_said known d (turns_line n) keyword.Turns (form.Turns n) (turns_form d.version known (length d.procs) n few) here
 
 pub process_said : (known : Known) (d : Draft) (name : List ℕ) → may_stand d keyword.Process ≡ true → IsNameToken name →
     said known d (spaced (codes "process") (name ∷ [])) ≡ Ok (Some (form.Process name))
-process_said known d name here named = line_said known d (spaced (codes "process") (name ∷ [])) keyword.Process (form.Process name) (process_form known (length d.procs) name named) here
+process_said known d name here named = line_said known d (spaced (codes "process") (name ∷ [])) keyword.Process (form.Process name) (process_form d.version known (length d.procs) name named) here
 
 pub label_said : (known : Known) (d : Draft) (l : Label) → may_stand d keyword.Label ≡ true → IsNameToken l.name →
     said known d (label_line l) ≡ Ok (Some (form.Label l.name))
-label_said known d l here named = line_said known d (label_line l) keyword.Label (form.Label l.name) (label_form known (length d.procs) l named) here
+label_said known d l here named = line_said known d (label_line l) keyword.Label (form.Label l.name) (label_form d.version known (length d.procs) l named) here
 
 -- an instruction that is no receive
 pub instr_said : (known : Known) (d : Draft) (names labels : List (List ℕ)) (f g : ℕ → ℕ) → Reads known (length d.procs) names labels f g → (p : Declared) → d.section ≡ Outside p →
-    (i : Instr) → is_receive i ≡ false → IsReadableInstr (length names) i → IsInstrWithin (length labels) i → IsSaid known d (instr_lines names labels i) (form.Do (instr_seen f g i))
+    (i : Instr) → is_receive i ≡ false → IsReadableInstr d.version (length names) i → IsInstrWithin (length labels) i → IsSaid known d (instr_lines names labels i) (form.Do (instr_seen f g i))
 instr_said known d names labels f g reads p here i other readable lawful =
-    let l = instr_form known (length d.procs) names labels f g reads i other readable lawful in
+    let l = instr_form d.version known (length d.procs) names labels f g reads i other readable lawful in
     let stands : may_stand d (keyword.Do l.verb) ≡ true = ap (λ (s : Section). may_stand_at d s (keyword.Do l.verb)) here in
     record { line = l.line; is = l.is; said = line_said known d l.line (keyword.Do l.verb) (form.Do (instr_seen f g i)) l.form stands }
 
 -- the lines of a receive
 pub receive_said : (known : Known) (d : Draft) (using : Option Var) → may_stand d keyword.Receive ≡ true → IfSome using (λ x. IsVariableToken x.0) →
     said known d (spaced (codes "receive") (marker_text using)) ≡ Ok (Some (form.Receive using))
-receive_said known d using here named = line_said known d (spaced (codes "receive") (marker_text using)) keyword.Receive (form.Receive using) (receive_form known (length d.procs) using named) here
+receive_said known d using here named = line_said known d (spaced (codes "receive") (marker_text using)) keyword.Receive (form.Receive using) (receive_form d.version known (length d.procs) using named) here
 
 pub clause_said : (known : Known) (d : Draft) (names labels : List (List ℕ)) (f g : ℕ → ℕ) → Reads known (length d.procs) names labels f g → may_stand d keyword.On ≡ true →
-    (c : Clause) → IsReadablePattern (length names) c.pattern → IfSome c.target (λ n. n < length labels) →
-    said known d (clause_line names labels c) ≡ Ok (Some (form.On (pattern_seen f c.pattern) (option_map g c.target)))
+    (c : Clause) → IsReadableClause d.version (length names) c → IfSome c.target (λ n. n < length labels) →
+    said known d (clause_line names labels c) ≡ Ok (Some (form.On (clause_seen f g c)))
 clause_said known d names labels f g reads here c readable within =
-    line_said known d (clause_line names labels c) keyword.On (form.On (pattern_seen f c.pattern) (option_map g c.target)) (clause_form known (length d.procs) names labels f g reads c readable within) here
+    line_said known d (clause_line names labels c) keyword.On (form.On (clause_seen f g c)) (clause_form d.version known (length d.procs) names labels f g reads c readable within) here
 
 pub after_said : (known : Known) (d : Draft) (names labels : List (List ℕ)) (f g : ℕ → ℕ) → Reads known (length d.procs) names labels f g → may_stand d keyword.After ≡ true →
     (a : After) → IfSome a.target (λ n. n < length labels) →
     said known d (spaced (codes "after") (target_text labels a.target)) ≡ Ok (Some (form.After (record { target = option_map g a.target })))
 after_said known d names labels f g reads here a within =
-    line_said known d (spaced (codes "after") (target_text labels a.target)) keyword.After (form.After (record { target = option_map g a.target })) (after_form known (length d.procs) names labels f g reads a within) here
+    line_said known d (spaced (codes "after") (target_text labels a.target)) keyword.After (form.After (record { target = option_map g a.target })) (after_form d.version known (length d.procs) names labels f g reads a within) here
 
 pub end_said : (known : Known) (d : Draft) → may_stand d keyword.End ≡ true → said known d (codes "end") ≡ Ok (Some form.End)
-end_said known d here = line_said known d (codes "end") keyword.End form.End (end_form known (length d.procs)) here
-
--- the first line
-pub header_again : header_of (tokens_of (codes "sigscript 1")) (codes "sigscript 1") ≡ Some One
-unfolding cut_of number_after
-header_again = refl
+end_said known d here = line_said known d (codes "end") keyword.End form.End (end_form d.version known (length d.procs)) here

@@ -18,7 +18,7 @@ use Rattle.sig_program.specs.Scripts.{Declared, AreMarked, IsInstrWithin, IsPlac
 use Rattle.sig_program.specs.declared.instruction.Receiving.{Receiving}
 use Rattle.sig_reader.specs.Drafts.{with_instr, is_marked, taken}
 use Rattle.sig_canon.specs.ScriptText.{spaced, marker_text, target_text, clause_line, after_lines, instr_lines, label_line, labels_there, placed_lines}
-use Rattle.sig_canon.specs.ReadableScript.{IsReadablePattern, IsReadableInstr, AreDistinct}
+use Rattle.sig_canon.specs.ReadableScript.{IsReadableClause, IsReadableInstr, AreDistinct}
 use Rattle.sig_canon.proofs.DistinctLemmas.{all_before, all_after, name_free, distinct-before, distinct-front}
 use Rattle.sig_canon.proofs.LabelOrder.{StandAt, StandFrom, StandBefore, IsCut, cut_at, found_there, none_later}
 use Rattle.sig_canon.proofs.WalkSteps.{Leads, no_lines, one_line, lines_joined, same_lines, same_end, one_more}
@@ -67,7 +67,7 @@ module _ (known : Known) (names : List (List ℕ)) (f g : ℕ → ℕ) (e : Draf
   seen i = instr_seen f g i
 
   -- the clauses of a receive
-  clauses-lead : (p : Declared) (using : Option Var) (before clauses : List Clause) → All (λ (c : Clause). IsReadablePattern (length names) c.pattern) clauses →
+  clauses-lead : (p : Declared) (using : Option Var) (before clauses : List Clause) → All (IsReadableClause e.version (length names)) clauses →
       All (λ (c : Clause). IsTarget (length tags) c.target) clauses → All (Pinned using) clauses →
       Leads known (inside p using before None) (map (clause_line names tags) clauses) (inside p using (before ++ map (clause_seen f g) clauses) None)
   clauses-lead p using before [] readable within marked =
@@ -76,11 +76,12 @@ module _ (known : Known) (names : List (List ℕ)) (f g : ℕ → ℕ) (e : Draf
   clauses-lead p using before (c ∷ clauses) readable within marked =
       let d : Draft = inside p using before None in
       let more : List Clause = before ++ clause_seen f g c ∷ [] in
-      let says = clause_said known d names tags f g reads refl c (All-head (λ (c : Clause). IsReadablePattern (length names) c.pattern) c clauses readable) (All-head (λ (c : Clause). IsTarget (length tags) c.target) c clauses within) in
+      let good : IsReadableClause e.version (length names) c = All-head (IsReadableClause e.version (length names)) c clauses readable in
+      let says = clause_said known d names tags f g reads refl c good (All-head (λ (c : Clause). IsTarget (length tags) c.target) c clauses within) in
       let allowed : is_marked using (pattern_seen f c.pattern) ≡ true = still-marked using c (All-head (Pinned using) c clauses marked) in
-      let takes : taken d (form.On (pattern_seen f c.pattern) (option_map g c.target)) ≡ Ok (inside p using more None) = rw allowed refl in
-      let first = one_line known d (inside p using more None) (clause_line names tags c) (form.On (pattern_seen f c.pattern) (option_map g c.target)) says takes in
-      let rest = clauses-lead p using more clauses (All-tail (λ (c : Clause). IsReadablePattern (length names) c.pattern) c clauses readable) (All-tail (λ (c : Clause). IsTarget (length tags) c.target) c clauses within) (All-tail (Pinned using) c clauses marked) in
+      let takes : taken d (form.On (clause_seen f g c)) ≡ Ok (inside p using more None) = rw (good.allowed, allowed) refl in
+      let first = one_line known d (inside p using more None) (clause_line names tags c) (form.On (clause_seen f g c)) says takes in
+      let rest = clauses-lead p using more clauses (All-tail (IsReadableClause e.version (length names)) c clauses readable) (All-tail (λ (c : Clause). IsTarget (length tags) c.target) c clauses within) (All-tail (Pinned using) c clauses marked) in
       same_end known d (inside p using (more ++ map (clause_seen f g) clauses) None) (inside p using (before ++ map (clause_seen f g) (c ∷ clauses)) None) (map (clause_line names tags) (c ∷ clauses))
       (ap (λ (cs : List Clause). inside p using cs None) (append_assoc before (clause_seen f g c ∷ []) (map (clause_seen f g) clauses)))
       (one_more known d (inside p using more None) (inside p using (more ++ map (clause_seen f g) clauses) None) (clause_line names tags c) (map (clause_line names tags) clauses) first rest)
@@ -99,7 +100,7 @@ module _ (known : Known) (names : List (List ℕ)) (f g : ℕ → ℕ) (e : Draf
 
   -- an instruction
   abbrev IsFine : Instr → Type 0
-  IsFine i = IsReadableInstr (length names) i × IsInstrWithin (length tags) i
+  IsFine i = IsReadableInstr e.version (length names) i × IsInstrWithin (length tags) i
 
   one-leads : (p : Declared) (i : Instr) (lines : List (List ℕ)) → IsSaid known (outside p) lines (form.Do (seen i)) → Leads known (outside p) lines (outside (with_instr p (seen i)))
   one-leads p i lines h =

@@ -2,8 +2,10 @@
 use Rattle.std.proofs.Common.{◌≡◌, ℕ, List, [], ◌∷◌, length, All, IfSome, Bool, false, Option, Some, None, Result, codes, sym, subst}
 use Rattle.std.proofs.lemmas.List.Elements.{All-nil, All-cons}
 use Rattle.sig_patterns.specs.declared.clause.Clause.{Clause}
+use Rattle.sig_patterns.specs.declared.guard.Guard.{Guard}
 use Rattle.sig_patterns.specs.declared.var.Var.{Var}
 use Rattle.sig_patterns.specs.declared.pattern.Pattern.{Pattern}
+use Rattle.sig_program.specs.declared.version.Version.{Version}
 use Rattle.sig_program.specs.declared.instruction.Instr.{Instr}
 use Rattle.sig_tokens.specs.declared.fault.FaultKind.{FaultKind}
 use Rattle.sig_tokens.specs.declared.token.Token.{Token}
@@ -21,21 +23,23 @@ use Rattle.sig_tokens.specs.Faults.{◌>>=◌, on_ok}
 use Rattle.sig_tokens.specs.Tokens.{text, tokens_of, IsNameToken, IsVariableToken}
 use Rattle.sig_tokens.specs.Names.{label_of, name_at, variable_at}
 use Rattle.sig_tokens.specs.PatternTexts.{pattern_of}
-use Rattle.sig_reader.specs.Forms.{operand_at, all_said, mode_of, flag_of, switch_of, word_at, keyword_of, may_stand, ends, arrow_of, count_from, turns_of, whole_name, marker_of, on_of, instr_of, form_of, form_behind, said_by, said}
-use Rattle.sig_canon.specs.ReadableScript.{IsReadableExpr, IsReadablePattern, IsReadableInstr}
+use Rattle.sig_reader.specs.Forms.{operand_at, all_said, mode_of, flag_of, switch_of, word_at, keyword_of, may_stand, ends, arrow_of, count_from, turns_of, whole_name, marker_of, behind_pattern, on_of, instr_of, form_of, form_behind, said_by, said}
+use Rattle.sig_canon.specs.ReadableScript.{IsReadableExpr, IsReadablePattern, IsReadableGuard, IsReadableClause, IsReadableInstr}
 use Rattle.sig_reader.proofs.TableLemmas.{spoken_again, instr_as}
 use Rattle.sig_reader.proofs.BoundTermLemmas.{Holds, anything, holds-if, holds-on_ok, holds-then, holds-ends}
 use Rattle.sig_canon.proofs.WordLemmas.{AreWords, tokens-words}
+use Rattle.sig_reader.specs.Guards.{guard_at}
+use Rattle.sig_canon.proofs.ReadableGuards.{IsGuardRead, guard-read}
 use Rattle.sig_canon.proofs.ReadablePhrases.{holds-weaker, name-read, variable-read, expr-read, pattern-read}
 
--- what is known of a form
-abbrev pub IsReadableForm : ℕ → Form → Type 0
-IsReadableForm count (form.Process name) = IsNameToken name
-IsReadableForm count (form.Label name) = IsNameToken name
-IsReadableForm count (form.Do i) = IsReadableInstr count i
-IsReadableForm count (form.Receive using) = IfSome using (λ x. IsVariableToken x.0)
-IsReadableForm count (form.On pattern target) = IsReadablePattern count pattern
-IsReadableForm count _ = Unit {0}
+-- what is known of a form in a script of this version
+abbrev pub IsReadableForm : Version → ℕ → Form → Type 0
+IsReadableForm v count (form.Process name) = IsNameToken name
+IsReadableForm v count (form.Label name) = IsNameToken name
+IsReadableForm v count (form.Do i) = IsReadableInstr v count i
+IsReadableForm v count (form.Receive using) = IfSome using (λ x. IsVariableToken x.0)
+IsReadableForm v count (form.On c) = IsReadablePattern count c.pattern × IfSome c.guard IsReadableGuard
+IsReadableForm v count _ = Unit {0}
 
 -- a word that means something
 meaning-read : {B : Type 0} (line : List ℕ) (meaning : List ℕ → Result B FaultKind) (ts : List Token) → AreWords line ts →
@@ -48,7 +52,7 @@ word-read : {B : Type 0} (line : List ℕ) (nothing : B) (meaning : List ℕ →
 word-read line nothing meaning [] h = tt
 word-read line nothing meaning (t ∷ ts) h = meaning-read line meaning (t ∷ ts) h
 
-module _ (s : Program) (here : ℕ) (line : List ℕ) where
+module _ (v : Version) (s : Program) (here : ℕ) (line : List ℕ) where
   abbrev count : ℕ
   count = length s.procs
 
@@ -91,25 +95,25 @@ module _ (s : Program) (here : ℕ) (line : List ℕ) where
   vars-read (_ ∷ os) x h = vars-read os x.1 h.1
 
   abbrev IsReadable : Instr → Type 0
-  IsReadable i = IsReadableInstr count i
+  IsReadable i = IsReadableInstr v count i
 
-  made-read : (v : Verb) (x : AllSaid (operands_of v)) → AreReadable (operands_of v) x → IsReadable (instr_by v x)
-  made-read v x h =
-      let same : Says v x ≡ spoken (instr_by v x) = sym (spoken_again v x) in
+  made-read : (verb : Verb) (x : AllSaid (operands_of verb)) → AreReadable (operands_of verb) x → IsReadable (instr_by verb x)
+  made-read verb x h =
+      let same : Says verb x ≡ spoken (instr_by verb x) = sym (spoken_again verb x) in
       record {
-        exprs = subst (λ s. All (IsReadableExpr count) (exprs_in s)) same (exprs-read (operands_of v) x h);
-        clauses = subst (λ s. All (λ (c : Clause). IsReadablePattern count c.pattern) (clauses_in s)) same (All-nil (λ (c : Clause). IsReadablePattern count c.pattern));
-        vars = subst (λ s. All IsVariableToken (vars_in s)) same (vars-read (operands_of v) x h);
+        exprs = subst (λ s. All (IsReadableExpr count) (exprs_in s)) same (exprs-read (operands_of verb) x h);
+        clauses = subst (λ s. All (IsReadableClause v count) (clauses_in s)) same (All-nil (IsReadableClause v count));
+        vars = subst (λ s. All IsVariableToken (vars_in s)) same (vars-read (operands_of verb) x h);
         using = subst (λ s. IfSome (using_in s) (λ y. IsVariableToken y.0)) same tt;
       }
 
-  instr-read : (v : Verb) (ts : List Token) → AreWords line ts → Holds IsReadable (instr_of (Among s) here v line ts)
-  instr-read v ts w =
-      subst (Holds IsReadable) (sym (instr_as (Among s) here v line ts))
-      (holds-on_ok (AreReadable (operands_of v)) IsReadable (instr_by v) (all_said (Among s) here line (operands_of v) ts) (operands-read (operands_of v) ts w) (λ x h. made-read v x h))
+  instr-read : (verb : Verb) (ts : List Token) → AreWords line ts → Holds IsReadable (instr_of (Among s) here verb line ts)
+  instr-read verb ts w =
+      subst (Holds IsReadable) (sym (instr_as (Among s) here verb line ts))
+      (holds-on_ok (AreReadable (operands_of verb)) IsReadable (instr_by verb) (all_said (Among s) here line (operands_of verb) ts) (operands-read (operands_of verb) ts w) (λ x h. made-read verb x h))
 
   abbrev IsForm : Form → Type 0
-  IsForm f = IsReadableForm count f
+  IsForm f = IsReadableForm v count f
 
   whole_name-read : (ts : List Token) → AreWords line ts → Holds IsNameToken (whole_name line ts)
   whole_name-read ts h =
@@ -127,10 +131,19 @@ module _ (s : Program) (here : ℕ) (line : List ℕ) where
       (λ u _. holds-then (λ (y : List ℕ × List Token). IsVariableToken y.0 × AreWords line y.1) IsMarker (λ y. ends (Some (record { 0 = y.0 })) y.1) (variable_at line x.1) (variable-read line x.1 k.1)
       (λ y l. holds-ends IsMarker (Some (record { 0 = y.0 })) y.1 l.0)))
 
+  abbrev IsEnd : Option Guard × Option ℕ → Type 0
+  IsEnd y = IfSome y.0 IsReadableGuard
+
+  behind_pattern-read : (ts : List Token) → AreWords line ts → Holds IsEnd (behind_pattern (Among s) here line ts)
+  behind_pattern-read ts h =
+      holds-then (IsGuardRead line) IsEnd (λ x. on_ok (λ target. (x.0, target)) (arrow_of (Among s) here line x.1)) (guard_at line ts) (guard-read line ts h)
+      (λ x k. holds-on_ok (λ _. Unit {0}) IsEnd (λ target. (x.0, target)) (arrow_of (Among s) here line x.1) (anything (arrow_of (Among s) here line x.1)) (λ o _. k.0))
+
   on-read : (ts : List Token) → AreWords line ts → Holds IsForm (on_of (Among s) here line ts)
   on-read ts h =
-      holds-then (λ (x : Pattern × List Token). IsReadablePattern count x.0 × AreWords line x.1) IsForm (λ x. on_ok (form.On x.0) (arrow_of (Among s) here line x.1)) (pattern_of (Among s) line ts) (pattern-read s line ts h)
-      (λ x k. holds-on_ok (λ _. Unit {0}) IsForm (form.On x.0) (arrow_of (Among s) here line x.1) (anything (arrow_of (Among s) here line x.1)) (λ o _. k.0))
+      holds-then (λ (x : Pattern × List Token). IsReadablePattern count x.0 × AreWords line x.1) IsForm
+      (λ x. on_ok (λ y. form.On (record { pattern = x.0; guard = y.0; target = y.1 })) (behind_pattern (Among s) here line x.1)) (pattern_of (Among s) line ts) (pattern-read s line ts h)
+      (λ x k. holds-on_ok IsEnd IsForm (λ y. form.On (record { pattern = x.0; guard = y.0; target = y.1 })) (behind_pattern (Among s) here line x.1) (behind_pattern-read x.1 k.1) (λ y m. (k.0, m)))
 
   turns-read : (ts : List Token) → Holds IsForm (turns_of line ts)
   turns-read [] = tt
@@ -147,15 +160,15 @@ module _ (s : Program) (here : ℕ) (line : List ℕ) where
   form-read keyword.After ts h =
       holds-on_ok (λ _. Unit {0}) IsForm (λ target. form.After (record { target = target })) (arrow_of (Among s) here line ts) (anything (arrow_of (Among s) here line ts)) (λ o _. tt)
   form-read keyword.End ts h = holds-ends IsForm form.End ts tt
-  form-read (keyword.Do v) ts h = holds-on_ok IsReadable IsForm form.Do (instr_of (Among s) here v line ts) (instr-read v ts h) (λ i k. k)
+  form-read (keyword.Do verb) ts h = holds-on_ok IsReadable IsForm form.Do (instr_of (Among s) here verb line ts) (instr-read verb ts h) (λ i k. k)
 
 module _ (s : Program) (d : Draft) (line : List ℕ) where
   abbrev IsNext : Form → Type 0
-  IsNext f = IsReadableForm (length s.procs) f
+  IsNext f = IsReadableForm d.version (length s.procs) f
 
   form_behind-read : (word : Option Keyword) (ts : List Token) → AreWords line ts → Holds IsNext (form_behind (Among s) d word line ts)
   form_behind-read None ts h = tt
-  form_behind-read (Some word) ts h = holds-if IsNext (may_stand d word) _ _ (λ _. form-read s (length d.procs) line word ts h) (λ _. tt)
+  form_behind-read (Some word) ts h = holds-if IsNext (may_stand d word) _ _ (λ _. form-read d.version s (length d.procs) line word ts h) (λ _. tt)
 
   said_by-read : (ts : List Token) → AreWords line ts → Holds (λ o. IfSome o IsNext) (said_by (Among s) d line ts)
   unfolding said_by
@@ -166,4 +179,4 @@ module _ (s : Program) (d : Draft) (line : List ℕ) where
   -- what a line says behind what was read so far
   pub said-read : Holds (λ o. IfSome o IsNext) (said (Among s) d line)
   unfolding said
-  said-read = holds-then (AreWords line) (λ o. IfSome o IsNext) (said_by (Among s) d line) (tokens_of line) (tokens-words line) (λ ts h. said_by-read ts h)
+  said-read = holds-then (AreWords line) (λ o. IfSome o IsNext) (said_by (Among s) d line) (tokens_of d.version line) (tokens-words d.version line) (λ ts h. said_by-read ts h)

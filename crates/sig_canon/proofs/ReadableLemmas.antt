@@ -6,7 +6,6 @@ use Rattle.std.proofs.lemmas.Bool.Decides.{nat_tests}
 use Rattle.std.proofs.lemmas.List.{map-append}
 use Rattle.std.proofs.lemmas.List.Elements.{All-nil, All-push}
 use Rattle.sig_patterns.specs.declared.clause.Clause.{Clause}
-use Rattle.sig_patterns.specs.declared.pattern.Pattern.{Pattern}
 use Rattle.sig_patterns.specs.declared.var.Var.{Var}
 use Rattle.sig_program.specs.declared.label.Label.{Label}
 use Rattle.sig_program.specs.declared.instruction.After.{After}
@@ -16,16 +15,16 @@ use Rattle.sig_reader.specs.declared.draft.Section.{Section}
 use Rattle.sig_reader.specs.declared.draft.Section.TheVariants.{Before, Outside, Inside}
 use Rattle.sig_reader.specs.declared.draft.Draft.{Draft}
 use Rattle.sig_program.specs.declared.version.Version.{Version}
+use Rattle.sig_program.specs.declared.version.Version.TheVariants.{One}
 use Rattle.sig_reader.specs.declared.form.Form.{Form}
 use Rattle.sig_reader.specs.declared.form.Form.TheVariants as form
 use Rattle.sig_program.specs.Scripts.{Declared, Program, bare_process}
-use Rattle.sig_program.specs.Parts.{plain_clause}
 use Rattle.sig_tokens.specs.Faults.{Fault, ◌>>=◌}
 use Rattle.sig_tokens.specs.Lines.{lines_of}
 use Rattle.sig_reader.specs.Forms.{said}
-use Rattle.sig_reader.specs.Drafts.{blank, open_proc, all_procs, begun, labelled, with_instr, is_marked, with_clause, taken_at}
-use Rattle.sig_reader.specs.Grammar.{taken_if, line_taken, walk, walk_twice, header_of, script_behind, script_of_lines, script_of}
-use Rattle.sig_canon.specs.ReadableScript.{IsReadablePattern, IsReadableInstr, AreDistinct, IsReadableScript}
+use Rattle.sig_reader.specs.Drafts.{blank, open_proc, all_procs, begun, labelled, with_instr, is_marked, may_guard, with_clause, taken_at}
+use Rattle.sig_reader.specs.Grammar.{taken_if, line_taken, walk, header_of, script_behind, script_of_lines, script_of}
+use Rattle.sig_canon.specs.ReadableScript.{IsReadablePattern, IsReadableGuard, IsReadableClause, IsReadableInstr, AreDistinct, IsReadableScript}
 use Rattle.sig_program.specs.declared.script.TheConstants.{MOST_PROCESSES, MOST_TURNS}
 use Rattle.sig_program.specs.declared.instruction.Receiving.{Receiving}
 use Rattle.sig_program.specs.declared.instruction.Instr.TheVariants as instr
@@ -38,35 +37,35 @@ use Rattle.sig_canon.proofs.ReadableForms.{IsReadableForm, said-read}
 use Rattle.sig_tokens.specs.Tokens.{tokens_of, IsNameToken, IsVariableToken}
 
 -- the process that is read, and the others
-record IsGood (count : ℕ) (p : Declared) : Type 0 where
+record IsGood (v : Version) (count : ℕ) (p : Declared) : Type 0 where
   name : IsNameToken p.name
   labels : All (λ (l : Label). IsNameToken l.name) p.labels
   distinct : AreDistinct (map (λ (l : Label). l.name) p.labels)
-  instrs : All (IsReadableInstr count) p.instrs
+  instrs : All (IsReadableInstr v count) p.instrs
 
 -- the receive that is read
-abbrev IsGoodReceive : ℕ → Section → Type 0
-IsGoodReceive count (Inside p r) = All (λ (c : Clause). IsReadablePattern count c.pattern) r.clauses × IfSome r.using (λ x. IsVariableToken x.0)
-IsGoodReceive count _ = Unit {0}
+abbrev IsGoodReceive : Version → ℕ → Section → Type 0
+IsGoodReceive v count (Inside p r) = All (IsReadableClause v count) r.clauses × IfSome r.using (λ x. IsVariableToken x.0)
+IsGoodReceive v count _ = Unit {0}
 
 abbrev names : List Declared → List (List ℕ)
 names ps = map (λ (p : Declared). p.name) ps
 
 record IsGoodDraft (count : ℕ) (d : Draft) : Type 0 where
   names : AreDistinct (names (all_procs d))
-  procs : All (IsGood count) (all_procs d)
-  receive : IsGoodReceive count d.section
+  procs : All (IsGood d.version count) (all_procs d)
+  receive : IsGoodReceive d.version count d.section
 
 names-last : (ps : List Declared) (p q : Declared) → q.name ≡ p.name → names (ps ++ p ∷ []) ≡ names (ps ++ q ∷ [])
 names-last ps p q e =
     map-append (λ (p : Declared). p.name) ps (p ∷ []) ∙ ap (λ (name : List ℕ). names ps ++ name ∷ []) (sym e) ∙ sym (map-append (λ (p : Declared). p.name) ps (q ∷ []))
 
-empty-good : (count : ℕ) (name : List ℕ) → IsNameToken name → IsGood count (bare_process name)
-empty-good count name h = record {
+empty-good : (v : Version) (count : ℕ) (name : List ℕ) → IsNameToken name → IsGood v count (bare_process name)
+empty-good v count name h = record {
   name = h;
   labels = All-nil (λ (l : Label). IsNameToken l.name);
   distinct = AreDistinct.none;
-  instrs = All-nil (IsReadableInstr count);
+  instrs = All-nil (IsReadableInstr v count);
 }
 
 begun-good : (count : ℕ) (d : Draft) (name : List ℕ) → IsNameToken name → IsGoodDraft count d → Holds (IsGoodDraft count) (begun d name)
@@ -77,23 +76,23 @@ begun-good count d name named h =
     (λ _. record {
       names = subst AreDistinct (sym (map-append (λ (p : Declared). p.name) (all_procs d) (p ∷ [])))
           (distinct-push (names (all_procs d)) name h.names (free_name (λ (p : Declared). p.name) (all_procs d) name free));
-      procs = All-push (IsGood count) (all_procs d) p h.procs (empty-good count name named);
+      procs = All-push (IsGood d.version count) (all_procs d) p h.procs (empty-good d.version count name named);
       receive = tt;
     }))
 
-instr-good : (count : ℕ) (p : Declared) (i : Instr) → IsReadableInstr count i → IsGood count p → IsGood count (with_instr p i)
-instr-good count p i k h = record {
+instr-good : (v : Version) (count : ℕ) (p : Declared) (i : Instr) → IsReadableInstr v count i → IsGood v count p → IsGood v count (with_instr p i)
+instr-good v count p i k h = record {
   name = h.name;
   labels = h.labels;
   distinct = h.distinct;
-  instrs = All-push (IsReadableInstr count) p.instrs i h.instrs k;
+  instrs = All-push (IsReadableInstr v count) p.instrs i h.instrs k;
 }
 
 -- a label more, and the process has the same name
-labelled-good : (count : ℕ) (p : Declared) (name : List ℕ) → IsNameToken name → IsGood count p → Holds (λ q. IsGood count q × (q.name ≡ p.name)) (labelled p name)
-labelled-good count p name named h =
+labelled-good : (v : Version) (count : ℕ) (p : Declared) (name : List ℕ) → IsNameToken name → IsGood v count p → Holds (λ q. IsGood v count q × (q.name ≡ p.name)) (labelled p name)
+labelled-good v count p name named h =
     let l : Label = record { name = name; place = length p.instrs + 1 } in
-    holds-if (λ (q : Declared). IsGood count q × (q.name ≡ p.name)) (list_any (λ (l : Label). bytes_eq l.name name) p.labels) _ _ (λ _. tt)
+    holds-if (λ (q : Declared). IsGood v count q × (q.name ≡ p.name)) (list_any (λ (l : Label). bytes_eq l.name name) p.labels) _ _ (λ _. tt)
     (λ free. (
       record {
         name = h.name;
@@ -106,89 +105,96 @@ labelled-good count p name named h =
     ))
 
 module _ (count : ℕ) (draft : Draft) where
-  changed : (p q : Declared) → AreDistinct (names (draft.procs ++ p ∷ [])) → All (IsGood count) (draft.procs ++ p ∷ []) → q.name ≡ p.name → IsGood count q →
+  abbrev IsGoodHere : Declared → Type 0
+  IsGoodHere p = IsGood draft.version count p
+
+  changed : (p q : Declared) → AreDistinct (names (draft.procs ++ p ∷ [])) → All IsGoodHere (draft.procs ++ p ∷ []) → q.name ≡ p.name → IsGoodHere q →
       IsGoodDraft count (record draft { section = Outside q })
   changed p q d h e k = record {
     names = subst AreDistinct (names-last draft.procs p q e) d;
-    procs = All-push (IsGood count) draft.procs q (all-front (IsGood count) draft.procs p h) k;
+    procs = All-push IsGoodHere draft.procs q (all-front IsGoodHere draft.procs p h) k;
     receive = tt;
   }
 
-  with_clause-good : (using : Option Var) (clauses : List Clause) (pattern : Pattern) (target : Option ℕ) → IsReadablePattern count pattern → All (λ (c : Clause). IsReadablePattern count c.pattern) clauses →
-      Holds (λ more. All (λ (c : Clause). IsReadablePattern count c.pattern) more) (with_clause using clauses pattern target)
-  with_clause-good using clauses pattern target k h =
-      holds-if (λ (more : List Clause). All (λ (c : Clause). IsReadablePattern count c.pattern) more) (is_marked using pattern) _ _
-      (λ _. All-push (λ (c : Clause). IsReadablePattern count c.pattern) clauses (plain_clause pattern target) h k) (λ _. tt)
+  abbrev AreGoodHere : List Clause → Type 0
+  AreGoodHere clauses = All (IsReadableClause draft.version count) clauses
 
-  receive-good : (r : Receiving) → All (λ (c : Clause). IsReadablePattern count c.pattern) r.clauses → IfSome r.using (λ x. IsVariableToken x.0) → IsReadableInstr count (instr.Receive r)
+  with_clause-good : (using : Option Var) (clauses : List Clause) (c : Clause) → IsReadablePattern count c.pattern → IfSome c.guard IsReadableGuard → AreGoodHere clauses →
+      Holds AreGoodHere (with_clause draft.version using clauses c)
+  with_clause-good using clauses c k g h =
+      holds-if AreGoodHere (may_guard draft.version c.guard) _ _
+      (λ may. holds-if AreGoodHere (is_marked using c.pattern) _ _
+      (λ _. All-push (IsReadableClause draft.version count) clauses c h (record { pattern = k; guard = g; allowed = may })) (λ _. tt)) (λ _. tt)
+
+  receive-good : (r : Receiving) → All (IsReadableClause draft.version count) r.clauses → IfSome r.using (λ x. IsVariableToken x.0) → IsReadableInstr draft.version count (instr.Receive r)
   receive-good r h k = record { exprs = All-nil _; clauses = h; vars = All-nil IsVariableToken; using = k }
 
-  taken_at-good : (section : Section) (f : Form) → AreDistinct (names (draft.procs ++ open_proc section)) → All (IsGood count) (draft.procs ++ open_proc section) → IsGoodReceive count section →
-      IsReadableForm count f → Holds (IsGoodDraft count) (taken_at (record draft { section = section }) section f)
+  taken_at-good : (section : Section) (f : Form) → AreDistinct (names (draft.procs ++ open_proc section)) → All IsGoodHere (draft.procs ++ open_proc section) → IsGoodReceive draft.version count section →
+      IsReadableForm draft.version count f → Holds (IsGoodDraft count) (taken_at (record draft { section = section }) section f)
   taken_at-good Before (form.Turns m) d h o k = holds-if (IsGoodDraft count) (nat_le m MOST_TURNS) _ _ (λ _. record { names = d; procs = h; receive = tt }) (λ _. tt)
   taken_at-good Before (form.Process name) d h o k = begun-good count (record draft { section = Before }) name k (record { names = d; procs = h; receive = tt })
   taken_at-good Before _ d h o k = tt
   taken_at-good (Outside p) (form.Process name) d h o k = begun-good count (record draft { section = Outside p }) name k (record { names = d; procs = h; receive = tt })
   taken_at-good (Outside p) (form.Label name) d h o k =
-      holds-on_ok (λ q. IsGood count q × (q.name ≡ p.name)) (IsGoodDraft count) (λ q. record draft { section = Outside q })
-      (labelled p name) (labelled-good count p name k (all-last (IsGood count) draft.procs p h)) (λ q m. changed p q d h m.1 m.0)
-  taken_at-good (Outside p) (form.Do i) d h o k = changed p (with_instr p i) d h refl (instr-good count p i k (all-last (IsGood count) draft.procs p h))
-  taken_at-good (Outside p) (form.Receive using) d h o k = record { names = d; procs = h; receive = (All-nil (λ (c : Clause). IsReadablePattern count c.pattern), k) }
+      holds-on_ok (λ q. IsGoodHere q × (q.name ≡ p.name)) (IsGoodDraft count) (λ q. record draft { section = Outside q })
+      (labelled p name) (labelled-good draft.version count p name k (all-last IsGoodHere draft.procs p h)) (λ q m. changed p q d h m.1 m.0)
+  taken_at-good (Outside p) (form.Do i) d h o k = changed p (with_instr p i) d h refl (instr-good draft.version count p i k (all-last IsGoodHere draft.procs p h))
+  taken_at-good (Outside p) (form.Receive using) d h o k = record { names = d; procs = h; receive = (All-nil (IsReadableClause draft.version count), k) }
   taken_at-good (Outside p) _ d h o k = tt
-  taken_at-good (Inside p r) (form.On pattern target) d h o k =
-      holds-on_ok (λ (more : List Clause). All (λ (c : Clause). IsReadablePattern count c.pattern) more) (IsGoodDraft count)
-      (λ more. record draft { section = Inside p (record r { clauses = more }) }) (with_clause r.using r.clauses pattern target)
-      (with_clause-good r.using r.clauses pattern target k o.0) (λ more m. record { names = d; procs = h; receive = (m, o.1) })
+  taken_at-good (Inside p r) (form.On c) d h o k =
+      holds-on_ok AreGoodHere (IsGoodDraft count)
+      (λ more. record draft { section = Inside p (record r { clauses = more }) }) (with_clause draft.version r.using r.clauses c)
+      (with_clause-good r.using r.clauses c k.0 k.1 o.0) (λ more m. record { names = d; procs = h; receive = (m, o.1) })
   taken_at-good (Inside p r) (form.After next) d h o k = record { names = d; procs = h; receive = o }
   taken_at-good (Inside p r) form.End d h o k =
       changed p (with_instr p (instr.Receive r)) d h refl
-      (instr-good count p (instr.Receive r) (receive-good r o.0 o.1) (all-last (IsGood count) draft.procs p h))
+      (instr-good draft.version count p (instr.Receive r) (receive-good r o.0 o.1) (all-last IsGoodHere draft.procs p h))
   taken_at-good (Inside p r) _ d h o k = tt
 
-taken_if-good : (count : ℕ) (d : Draft) (o : Option Form) → IsGoodDraft count d → IfSome o (IsReadableForm count) → Holds (IsGoodDraft count) (taken_if d o)
+taken_if-good : (count : ℕ) (d : Draft) (o : Option Form) → IsGoodDraft count d → IfSome o (IsReadableForm d.version count) → Holds (IsGoodDraft count) (taken_if d o)
 taken_if-good count d None h k = h
 taken_if-good count d (Some f) h k = taken_at-good count d d.section f h.names h.procs h.receive k
 
 line-good : (first : Program) (d : Draft) (line : List ℕ) → IsGoodDraft (length first.procs) d → Holds (IsGoodDraft (length first.procs)) (line_taken (Among first) d line)
 line-good first d line h =
-    holds-then (λ o. IfSome o (IsReadableForm (length first.procs))) (IsGoodDraft (length first.procs)) (taken_if d) (said (Among first) d line) (said-read first d line)
+    holds-then (λ o. IfSome o (IsReadableForm d.version (length first.procs))) (IsGoodDraft (length first.procs)) (taken_if d) (said (Among first) d line) (said-read first d line)
     (λ o k. taken_if-good (length first.procs) d o h k)
 
 abbrev IsGoodScript : ℕ → Program → Type 0
-IsGoodScript count s = AreDistinct (names s.procs) × All (IsGood count) s.procs
+IsGoodScript count s = AreDistinct (names s.procs) × All (IsGood s.version count) s.procs
 
-blank-good : (count : ℕ) → IsGoodDraft count blank
-blank-good count = record { names = AreDistinct.none; procs = All-nil (IsGood count); receive = tt }
+blank-good : (v : Version) (count : ℕ) → IsGoodDraft count (blank v)
+blank-good v count = record { names = AreDistinct.none; procs = All-nil (IsGood v count); receive = tt }
 
-walk-good : (first : Program) (lines : List (List ℕ)) (s : Program) → walk (Among first) lines ≡ Ok s → IsGoodScript (length first.procs) s
-walk-good first lines s e =
-    holds-of (IsGoodScript (length first.procs)) (walk (Among first) lines) s
+walk-good : (v : Version) (first : Program) (lines : List (List ℕ)) (s : Program) → walk v (Among first) lines ≡ Ok s → IsGoodScript (length first.procs) s
+walk-good v first lines s e =
+    holds-of (IsGoodScript (length first.procs)) (walk v (Among first) lines) s
     (body-holds (Among first) (λ n d. IsGoodDraft (length first.procs) d) (IsGoodScript (length first.procs)) (2 + length lines) (λ n d line _ h. line-good first d line h)
-    (λ n d _ h. (h.names, h.procs)) 2 blank lines (le_refl (2 + length lines)) (blank-good (length first.procs))) e
+    (λ n d _ h. (h.names, h.procs)) 2 (blank v) lines (le_refl (2 + length lines)) (blank-good v (length first.procs))) e
 
 -- both walks
-walked : (lines : List (List ℕ)) (first s : Program) → length lines ≤ 2 ^ 30 → walk Any lines ≡ Ok first → walk (Among first) lines ≡ Ok s → IsReadableScript s
-walked lines first s le e k =
-    let good = walk-good first lines s k in
-    let within = procs_within lines first s e k le in
-    let same : length first.procs ≡ length s.procs = same-number first.procs s.procs (same_counts Any (Among first) lines first s e k) in
-    let each : All (IsGood (length s.procs)) s.procs = subst (λ (n : ℕ). All (IsGood n) s.procs) same good.1 in
+walked : (v : Version) (lines : List (List ℕ)) (first s : Program) → length lines ≤ 2 ^ 30 → walk v Any lines ≡ Ok first → walk v (Among first) lines ≡ Ok s → IsReadableScript s
+walked v lines first s le e k =
+    let good = walk-good v first lines s k in
+    let within = procs_within v lines first s e k le in
+    let same : length first.procs ≡ length s.procs = same-number first.procs s.procs (same_counts v Any (Among first) lines first s e k) in
+    let each : All (IsGood s.version (length s.procs)) s.procs = subst (λ (n : ℕ). All (IsGood s.version n) s.procs) same good.1 in
     record {
-      sound = script_sound lines first s e k le;
+      sound = script_sound v lines first s e k le;
       names = good.0;
       procs = λ i d lt.
           let h = each i d lt in
           record { name = h.name; labels = h.labels; distinct = h.distinct; within = within i d lt; instrs = h.instrs };
     }
 
-walked_twice : (lines : List (List ℕ)) (s : Program) (r : Result Program Fault) → length lines ≤ 2 ^ 30 → walk Any lines ≡ r → (r >>= λ first. walk (Among first) lines) ≡ Ok s → IsReadableScript s
-walked_twice lines s (Ok first) le e k = walked lines first s le e k
-walked_twice lines s (Err f) le e k = absurd cc
+walked_twice : (v : Version) (lines : List (List ℕ)) (s : Program) (r : Result Program Fault) → length lines ≤ 2 ^ 30 → walk v Any lines ≡ r → (r >>= λ first. walk v (Among first) lines) ≡ Ok s → IsReadableScript s
+walked_twice v lines s (Ok first) le e k = walked v lines first s le e k
+walked_twice v lines s (Err f) le e k = absurd cc
 
 -- only behind a header there is a script
-behind-header : (version : Option Version) (lines : List (List ℕ)) (s : Program) → script_behind version lines ≡ Ok s → walk_twice lines ≡ Ok s
-behind-header None lines s e = absurd cc
-behind-header (Some version) lines s e = e
+behind-header : (version : Option Version) (lines : List (List ℕ)) (s : Program) → length lines ≤ 2 ^ 30 → script_behind version lines ≡ Ok s → IsReadableScript s
+behind-header None lines s le e = absurd cc
+behind-header (Some v) lines s le e = walked_twice v lines s (walk v Any lines) le refl e
 
 chosen : {A : Type 0} (v : Bool) (r : Result A Fault) (f : Fault) (x : A) → (if v then r else Err f) ≡ Ok x → r ≡ Ok x
 chosen true r f x e = e
@@ -202,7 +208,7 @@ lines-readable : (lines : List (List ℕ)) (s : Program) → length lines ≤ 2 
 unfolding script_of_lines
 lines-readable [] s le e = absurd cc
 lines-readable (first ∷ lines) s le e =
-    walked_twice lines s (walk Any lines) (omega (arith, le)) refl (behind-header (header_of (tokens_of first) first) lines s e)
+    behind-header (header_of (tokens_of One first) first) lines s (omega (arith, le)) e
 
 few-bytes : (n : ℕ) → nat_le n MOST_BYTES ≡ true → n ≤ 2 ^ 30
 few-bytes n h = grind (arith, nat_tests)

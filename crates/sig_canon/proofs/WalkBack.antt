@@ -16,6 +16,7 @@ use Rattle.sig_reader.specs.declared.draft.Section.{Section}
 use Rattle.sig_reader.specs.declared.draft.Section.TheVariants.{Before, Outside, Inside}
 use Rattle.sig_reader.specs.declared.draft.Draft.{Draft}
 use Rattle.sig_program.specs.declared.version.Version.{Version}
+use Rattle.sig_program.specs.declared.version.Version.TheVariants.{One, Two}
 use Rattle.sig_reader.specs.declared.form.Form.TheVariants as form
 use Rattle.sig_program.specs.declared.script.TheConstants.{DEFAULT_TURNS, MOST_PROCESSES, MOST_TURNS}
 use Rattle.sig_reader.specs.declared.reader.TheConstants.{MOST_BYTES}
@@ -24,15 +25,16 @@ use Rattle.sig_tokens.specs.Faults.{Fault, ◌>>=◌}
 use Rattle.sig_tokens.specs.Names.{labels_at}
 use Rattle.sig_reader.specs.Forms.{may_stand_at}
 use Rattle.sig_reader.specs.Drafts.{blank, all_procs, program_of, begun, taken_at, taken}
-use Rattle.sig_reader.specs.Grammar.{finished, body, walk, script_behind, script_of_lines, script_of}
-use Rattle.sig_canon.specs.ScriptText.{spaced, process_lines, names_of, procs_lines, turns_line, script_lines, script_text}
+use Rattle.sig_reader.specs.Grammar.{finished, body, walk, header_of, script_behind, script_of_lines, script_of}
+use Rattle.sig_canon.specs.ScriptText.{spaced, process_lines, names_of, procs_lines, turns_line, header_line, script_lines, script_text}
 use Rattle.sig_canon.specs.ReadableScript.{IsReadableInstr, AreDistinct, IsReadableProc, IsReadableScript}
 use Rattle.sig_canon.proofs.DistinctLemmas.{all_after, name_free, distinct-before}
 use Rattle.sig_canon.proofs.WalkSteps.{Leads, no_lines, one_line, lines_joined, one_more}
 use Rattle.sig_canon.proofs.ProcessBack.{process-leads}
 use Rattle.sig_reader.proofs.Seen.{kept, zeroed, instr_seen}
-use Rattle.sig_canon.proofs.LineReads.{Reads, label_names, any_reads, among_reads, instr_kept, turns_said, process_said, header_again, lines_again}
-use Rattle.sig_tokens.specs.Tokens.{IsNameToken}
+use Rattle.sig_canon.proofs.LineReads.{Reads, label_names, any_reads, among_reads, instr_kept, turns_said, process_said, lines_again}
+use Rattle.sig_tokens.specs.Tokens.{cut_of, tokens_of, IsNameToken}
+use Rattle.sig_tokens.specs.Numbers.{number_after}
 
 -- a process, and a script, of which pids and targets are given as other numbers
 abbrev pub proc_seen : (ℕ → ℕ) → (ℕ → ℕ) → Declared → Declared
@@ -89,6 +91,7 @@ module _ (known : Known) (f g : ℕ → ℕ) (s : Program) (readable : IsReadabl
 
   -- so many processes were read
   record IsAt (done : List Declared) (d : Draft) : Type 0 where
+    version : d.version ≡ s.version
     turns : d.turns ≡ Some s.turns
     procs : all_procs d ≡ map seen done
     closed : is_closed d.section ≡ true
@@ -98,6 +101,7 @@ module _ (known : Known) (f g : ℕ → ℕ) (s : Program) (readable : IsReadabl
 
   next-at : (done : List Declared) (p : Declared) (d : Draft) → IsAt done d → IsAt (done ++ p ∷ []) (next d p)
   next-at done p d h = record {
+    version = h.version;
     turns = h.turns;
     procs = ap (λ (ps : List Declared). ps ++ seen p ∷ []) h.procs ∙ sym (map-append seen done (p ∷ []));
     closed = refl;
@@ -107,9 +111,9 @@ module _ (known : Known) (f g : ℕ → ℕ) (s : Program) (readable : IsReadabl
   so-many done d h = sym (ap length h.procs ∙ length-map done seen)
 
   -- the process at hand
-  at-hand : (done ps : List Declared) (p : Declared) → s.procs ≡ done ++ p ∷ ps → IsReadableProc (length s.procs) p
+  at-hand : (done ps : List Declared) (p : Declared) → s.procs ≡ done ++ p ∷ ps → IsReadableProc s.version (length s.procs) p
   at-hand done ps p is =
-      All-head (IsReadableProc (length s.procs)) p ps (all_after (IsReadableProc (length s.procs)) done (p ∷ ps) (subst (λ (qs : List Declared). All (IsReadableProc (length s.procs)) qs) is readable.procs))
+      All-head (IsReadableProc s.version (length s.procs)) p ps (all_after (IsReadableProc s.version (length s.procs)) done (p ∷ ps) (subst (λ (qs : List Declared). All (IsReadableProc s.version (length s.procs)) qs) is readable.procs))
 
   new-name : (done ps : List Declared) (p : Declared) (d : Draft) → s.procs ≡ done ++ p ∷ ps → IsAt done d → list_any (λ (q : Declared). bytes_eq q.name p.name) (all_procs d) ≡ false
   new-name done ps p d is h =
@@ -125,12 +129,13 @@ module _ (known : Known) (f g : ℕ → ℕ) (s : Program) (readable : IsReadabl
       has-room (length (all_procs d)) (length s.procs) (omega (arith, so-many done d h, ap length is, length-behind done ps p)) readable.sound.few in
       let takes : taken d (form.Process p.name) ≡ Ok (begun_as d p.name) = takes-process d d.section p.name h.closed ∙ begun-again d p.name (new-name done ps p d is h) room in
       let first = one_line known d (begun_as d p.name) (spaced (codes "process") (p.name ∷ [])) (form.Process p.name) (process_said known d p.name (stands d d.section h.closed) good.name) takes in
-      let here : Reads known (length (all_procs d)) names (label_names p.labels) f g = subst (λ (n : ℕ). Reads known n names (label_names p.labels) f g) (so-many done d h) (reads done p ps is) in
+      let known_here : Reads known (length (all_procs d)) names (label_names p.labels) f g = subst (λ (n : ℕ). Reads known n names (label_names p.labels) f g) (so-many done d h) (reads done p ps is) in
       let count : length s.procs ≡ length names = sym (length-map s.procs (λ (q : Declared). q.name)) in
       let tags : length p.labels ≡ length (label_names p.labels) = sym (length-map p.labels (λ (l : Label). l.name)) in
-      let fine : All (IsReadableInstr (length names)) p.instrs = subst (λ (n : ℕ). All (IsReadableInstr n) p.instrs) count good.instrs in
+      let here : All (IsReadableInstr s.version (length names)) p.instrs = subst (λ (n : ℕ). All (IsReadableInstr s.version n) p.instrs) count good.instrs in
+      let fine : All (IsReadableInstr d.version (length names)) p.instrs = subst (λ (v : Version). All (IsReadableInstr v (length names)) p.instrs) (sym h.version) here in
       let lawful : All (IsInstrWithin (length (label_names p.labels))) p.instrs = subst (λ (n : ℕ). All (IsInstrWithin n) p.instrs) tags good.within.lawful in
-      let rest = process-leads known names f g (begun_as d p.name) p.labels here good.labels good.distinct p.name p.instrs good.within.rising good.within.places (λ i e lt. (fine i e lt, lawful i e lt)) in
+      let rest = process-leads known names f g (begun_as d p.name) p.labels known_here good.labels good.distinct p.name p.instrs good.within.rising good.within.places (λ i e lt. (fine i e lt, lawful i e lt)) in
       one_more known d (begun_as d p.name) (next d p) (spaced (codes "process") (p.name ∷ [])) _ first rest
 
   -- all processes
@@ -149,30 +154,39 @@ module _ (known : Known) (f g : ℕ → ℕ) (s : Program) (readable : IsReadabl
   few-turns : (n : ℕ) → n ≤ MOST_TURNS → nat_le n MOST_TURNS ≡ true
   few-turns n h = grind (arith, nat_tests)
 
-  abbrev begin : Draft
-  begin = record blank { turns = Some s.turns }
+  abbrev start : Draft
+  start = blank s.version
 
-  all-lead : IsEnd blank (turns_line s.turns ∷ procs_lines s.procs)
+  abbrev begin : Draft
+  begin = record start { turns = Some s.turns }
+
+  all-lead : IsEnd start (turns_line s.turns ∷ procs_lines s.procs)
   all-lead =
       let few : nat_le s.turns MOST_TURNS ≡ true = few-turns s.turns readable.sound.turns in
-      let takes : taken blank (form.Turns s.turns) ≡ Ok begin = rw few refl in
-      let first = one_line known blank begin (turns_line s.turns) (form.Turns s.turns) (turns_said known blank s.turns refl readable.sound.turns) takes in
-      let rest = procs-lead s.procs [] begin refl (record { turns = refl; procs = refl; closed = refl }) in
-      record { end = rest.end; at = rest.at; leads = one_more known blank begin rest.end (turns_line s.turns) (procs_lines s.procs) first rest.leads }
+      let takes : taken start (form.Turns s.turns) ≡ Ok begin = rw few refl in
+      let first = one_line known start begin (turns_line s.turns) (form.Turns s.turns) (turns_said known start s.turns refl readable.sound.turns) takes in
+      let rest = procs-lead s.procs [] begin refl (record { version = refl; turns = refl; procs = refl; closed = refl }) in
+      record { end = rest.end; at = rest.at; leads = one_more known start begin rest.end (turns_line s.turns) (procs_lines s.procs) first rest.leads }
 
   said-at-end : (d : Draft) → IsAt s.procs d → program_of d ≡ program_seen f g s
   said-at-end d h =
-      let made : Option ℕ → List Declared → Program = λ turns procs. record s { turns = option_map_or (λ n. n) turns DEFAULT_TURNS; procs = procs } in
-      ap (λ (turns : Option ℕ). made turns (all_procs d)) h.turns ∙ ap (made (Some s.turns)) h.procs
+      let made : Version → Option ℕ → List Declared → Program = λ version turns procs. record { version = version; turns = option_map_or (λ n. n) turns DEFAULT_TURNS; procs = procs } in
+      ap (λ (version : Version). made version d.turns (all_procs d)) h.version ∙ ap (λ (turns : Option ℕ). made s.version turns (all_procs d)) h.turns ∙ ap (made s.version (Some s.turns)) h.procs
 
-  pub walk_back : walk known (turns_line s.turns ∷ procs_lines s.procs) ≡ Ok (program_seen f g s)
+  pub walk_back : walk s.version known (turns_line s.turns ∷ procs_lines s.procs) ≡ Ok (program_seen f g s)
   unfolding body
   walk_back =
       let lines : List (List ℕ) = turns_line s.turns ∷ procs_lines s.procs in
       let whole = all-lead in
       let n : ℕ = whole.leads.number 2 in
-      ap (body known 2 blank) (sym (append-nil lines)) ∙ whole.leads.goes_on 2 [] ∙ ends-well n whole.end whole.end.section whole.at.closed
+      ap (body known 2 start) (sym (append-nil lines)) ∙ whole.leads.goes_on 2 [] ∙ ends-well n whole.end whole.end.section whole.at.closed
       ∙ ap (λ (t : Program). Ok t) (said-at-end whole.end whole.at)
+
+-- the first line tells the version
+header_again : (v : Version) → header_of (tokens_of One (header_line v)) (header_line v) ≡ Some v
+unfolding cut_of number_after
+header_again One = refl
+header_again Two = refl
 
 -- ---- both walks
 
@@ -180,9 +194,9 @@ module _ (s : Program) (readable : IsReadableScript s) where
   abbrev behind_header : List (List ℕ)
   behind_header = turns_line s.turns ∷ procs_lines s.procs
 
-  one-readable : (done ps : List Declared) (p : Declared) → s.procs ≡ done ++ p ∷ ps → IsReadableProc (length s.procs) p
+  one-readable : (done ps : List Declared) (p : Declared) → s.procs ≡ done ++ p ∷ ps → IsReadableProc s.version (length s.procs) p
   one-readable done ps p is =
-      All-head (IsReadableProc (length s.procs)) p ps (all_after (IsReadableProc (length s.procs)) done (p ∷ ps) (subst (λ (qs : List Declared). All (IsReadableProc (length s.procs)) qs) is readable.procs))
+      All-head (IsReadableProc s.version (length s.procs)) p ps (all_after (IsReadableProc s.version (length s.procs)) done (p ∷ ps) (subst (λ (qs : List Declared). All (IsReadableProc s.version (length s.procs)) qs) is readable.procs))
 
   names-named : All IsNameToken (names_of s.procs)
   names-named = All-map IsNameToken (λ (p : Declared). p.name) s.procs (λ i d lt. (readable.procs i d lt).name)
@@ -194,7 +208,7 @@ module _ (s : Program) (readable : IsReadableScript s) where
   abbrev first : Program
   first = program_seen zeroed zeroed s
 
-  first-walk : walk Any behind_header ≡ Ok first
+  first-walk : walk s.version Any behind_header ≡ Ok first
   first-walk =
       walk_back Any zeroed zeroed s readable
       (λ done p ps is. any_reads (length done) (names_of s.procs) (label_names p.labels) names-named (tags-named p.labels (one-readable done ps p is).labels))
@@ -227,14 +241,14 @@ module _ (s : Program) (readable : IsReadableScript s) where
   procs-kept (p ∷ ps) =
       ap (λ (is : List Instr). record p { instrs = is } ∷ map (proc_seen kept kept) ps) (instrs-kept p.instrs) ∙ ap (λ (qs : List Declared). p ∷ qs) (procs-kept ps)
 
-  second-walk : walk (Among first) behind_header ≡ Ok s
+  second-walk : walk s.version (Among first) behind_header ≡ Ok s
   second-walk = walk_back (Among first) kept kept s readable second-reads ∙ ap (λ (ps : List Declared). Ok (record s { procs = ps })) (procs-kept s.procs)
 
   lines-back : script_of_lines (script_lines s) ≡ Ok s
   unfolding script_of_lines script_lines
   lines-back =
-      ap (λ (version : Option Version). script_behind version behind_header) header_again
-      ∙ ap (λ (r : Result Program Fault). r >>= λ script. walk (Among script) behind_header) first-walk ∙ second-walk
+      ap (λ (version : Option Version). script_behind version behind_header) (header_again s.version)
+      ∙ ap (λ (r : Result Program Fault). r >>= λ script. walk s.version (Among script) behind_header) first-walk ∙ second-walk
 
 few-bytes : (n : ℕ) → n ≤ MOST_BYTES → nat_le n MOST_BYTES ≡ true
 few-bytes n h = grind (arith, nat_tests)

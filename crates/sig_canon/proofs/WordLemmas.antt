@@ -16,6 +16,7 @@ use Rattle.sig_tokens.specs.Tokens.{is_blank, front_run, front_token, with_token
 use Rattle.sig_tokens.proofs.FrontTokens.{AtFront, OfEach, at_front}
 use Rattle.sig_tokens.proofs.SpellingLemmas.{and-first, and-second, run-passes, lower-in_atom, names-in_atom, front-word, front-length, quoted-spelled}
 use Rattle.sig_reader.proofs.BoundTermLemmas.{Holds, holds-if}
+use Rattle.sig_program.specs.declared.version.Version.{Version}
 
 -- the bytes of a name, of a variable, and between the quotes of an atom
 abbrev pub IsShaped : TokenKind → List ℕ → Type 0
@@ -59,17 +60,17 @@ with_token-shaped line (Some t) at after h k =
     let same : t.1 ≡ at + t.1 - at = omega arith in
     (subst (λ (n : ℕ). IsShaped t.0 (take n (drop at line))) same h, k (t.1 - 1))
 
-cut-shaped : (line : List ℕ) (at skip : ℕ) (bs : List ℕ) → bs ≡ drop at line → AreShaped line (cut_of at skip bs).tokens
+cut-shaped : (version : Version) (line : List ℕ) (at skip : ℕ) (bs : List ℕ) → bs ≡ drop at line → AreShaped line (cut_of version at skip bs).tokens
 unfolding cut_of
-cut-shaped line at skip [] e = tt
-cut-shaped line at (suc skip) (b ∷ bs) e = cut-shaped line (at + 1) skip bs (ap (drop 1) e ∙ drop-drop 1 at line)
-cut-shaped line at zero (b ∷ bs) e =
+cut-shaped version line at skip [] e = tt
+cut-shaped version line at (suc skip) (b ∷ bs) e = cut-shaped version line (at + 1) skip bs (ap (drop 1) e ∙ drop-drop 1 at line)
+cut-shaped version line at zero (b ∷ bs) e =
     let next : bs ≡ drop (at + 1) line = ap (drop 1) e ∙ drop-drop 1 at line in
     let Shaped : Cut → Type 0 = λ c. AreShaped line c.tokens in
-    by_test Shaped (is_blank b) _ _ (λ _. cut-shaped line (at + 1) 0 bs next)
+    by_test Shaped (is_blank b) _ _ (λ _. cut-shaped version line (at + 1) 0 bs next)
     (λ _. by_test Shaped (b == 37) _ _ (λ _. tt)
-    (λ _. with_token-shaped line (front_token (b ∷ bs)) at (λ skip. cut_of (at + 1) skip bs)
-    (subst (λ (xs : List ℕ). AtFront IsShaped xs (front_token (b ∷ bs))) e (at_front IsShaped each-shaped (b ∷ bs))) (λ skip. cut-shaped line (at + 1) skip bs next)))
+    (λ _. with_token-shaped line (front_token version (b ∷ bs)) at (λ skip. cut_of version (at + 1) skip bs)
+    (subst (λ (xs : List ℕ). AtFront IsShaped xs (front_token version (b ∷ bs))) e (at_front IsShaped each-shaped version (b ∷ bs))) (λ skip. cut-shaped version line (at + 1) skip bs next)))
 
 -- an integer that is in range is of 64 bits
 negative-wide : (n : ℕ) → nat_le n (2 ^ 63) ≡ true → is_wide (negative n) ≡ true
@@ -106,8 +107,8 @@ words-of line (t ∷ ts) h e =
     let rest = and-second (is_token_in_range (text line t) t.kind) (list_all (λ u. is_token_in_range (text line u) u.kind) ts) e in
     (word-of t.kind (text line t) h.0 first, words-of line ts h.1 rest)
 
-pub tokens-words : (line : List ℕ) → Holds (AreWords line) (tokens_of line)
-tokens-words line =
-    let cut : Cut = cut_of 0 0 line in
+pub tokens-words : (version : Version) (line : List ℕ) → Holds (AreWords line) (tokens_of version line)
+tokens-words version line =
+    let cut : Cut = cut_of version 0 0 line in
     holds-if (AreWords line) (list_all (λ t. is_token_in_range (text line t) t.kind) cut.tokens) _ _
-    (λ e. holds-if (AreWords line) (is_some cut.stop) _ _ (λ _. tt) (λ _. words-of line cut.tokens (cut-shaped line 0 0 line refl) e)) (λ _. tt)
+    (λ e. holds-if (AreWords line) (is_some cut.stop) _ _ (λ _. tt) (λ _. words-of line cut.tokens (cut-shaped version line 0 0 line refl) e)) (λ _. tt)

@@ -18,6 +18,8 @@ use Rattle.sig_tokens.specs.declared.token.TokenKind.{TokenKind}
 use Rattle.sig_tokens.specs.declared.token.TokenKind.TheVariants.{Name, Variable, Integer, Quoted, Process, Sign}
 use Rattle.sig_tokens.specs.Tokens.{is_blank, front_run, front_token, short_word, is_token_in_range, unquoted, IsNameToken, IsVariableToken}
 use Rattle.sig_tokens.specs.Numbers.{number_after, number, negative, int_of, count_of}
+use Rattle.sig_program.specs.declared.version.Version.{Version}
+use Rattle.sig_program.specs.declared.version.Version.TheVariants.{Two}
 
 -- a byte that ends no line
 abbrev pub is_inline : ℕ → Bool
@@ -27,8 +29,8 @@ abbrev pub Anything : List ℕ → Type 0
 Anything rest = Unit {0}
 
 -- The word is a token of this kind, whatever follows that lets it end.
-pub record IsWord (Ends : List ℕ → Type 0) (kind : TokenKind) (word : List ℕ) : Type 0 where
-  pub front : (rest : List ℕ) → Ends rest → front_token (word ++ rest) ≡ Some (kind, length word)
+pub record IsWord (version : Version) (Ends : List ℕ → Type 0) (kind : TokenKind) (word : List ℕ) : Type 0 where
+  pub front : (rest : List ℕ) → Ends rest → front_token version (word ++ rest) ≡ Some (kind, length word)
   pub first : ℕ
   pub others : List ℕ
   pub is : word ≡ first ∷ others
@@ -93,9 +95,9 @@ when_false false x y h = refl
 
 -- ---- names and variables
 
-pub name_word : (word : List ℕ) → IsNameToken word → IsWord Stops Name word
-name_word [] named = absurd cc
-name_word (b ∷ bs) named =
+pub name_word : (version : Version) (word : List ℕ) → IsNameToken word → IsWord version Stops Name word
+name_word version [] named = absurd cc
+name_word version (b ∷ bs) named =
     let each = both_true (is_lower b) (list_all is_name_byte bs) named.1 in
     record {
       front = λ rest stops.
@@ -114,9 +116,9 @@ name_word (b ∷ bs) named =
 upper_is_not_lower : (b : ℕ) → is_upper b ≡ true → is_lower b ≡ false
 upper_is_not_lower b h = grind (arith, nat_tests)
 
-pub variable_word : (word : List ℕ) → IsVariableToken word → IsWord Stops Variable word
-variable_word [] named = absurd cc
-variable_word (b ∷ bs) named =
+pub variable_word : (version : Version) (word : List ℕ) → IsVariableToken word → IsWord version Stops Variable word
+variable_word version [] named = absurd cc
+variable_word version (b ∷ bs) named =
     let each = both_true (is_upper b) (list_all is_variable_byte bs) named.1 in
     record {
       front = λ rest stops.
@@ -133,9 +135,9 @@ variable_word (b ∷ bs) named =
     }
 
 -- `@` and a name
-pub process_word : (word : List ℕ) → IsNameToken word → IsWord Stops Process (64 ∷ word)
-process_word [] named = absurd cc
-process_word (b ∷ bs) named =
+pub process_word : (version : Version) (word : List ℕ) → IsNameToken word → IsWord version Stops Process (64 ∷ word)
+process_word version [] named = absurd cc
+process_word version (b ∷ bs) named =
     let each = both_true (is_lower b) (list_all is_name_byte bs) named.1 in
     record {
       front = λ rest stops.
@@ -156,15 +158,15 @@ process_word (b ∷ bs) named =
 quote_found : (bytes rest : List ℕ) → list_all is_atom_byte bytes ≡ true → take_while is_atom_byte (bytes ++ 39 ∷ rest) ≡ bytes
 quote_found bytes rest h = run_of is_atom_byte bytes (39 ∷ rest) h refl
 
-pub quoted_word : (bytes : List ℕ) → is_atom bytes ≡ true → IsWord Anything Quoted (39 ∷ (bytes ++ 39 ∷ []))
-quoted_word bytes atom =
+pub quoted_word : (version : Version) (bytes : List ℕ) → is_atom bytes ≡ true → IsWord version Anything Quoted (39 ∷ (bytes ++ 39 ∷ []))
+quoted_word version bytes atom =
     let each = both_true (nat_le (length bytes) MOST_WORD_BYTES) (list_all is_atom_byte bytes) atom in
     record {
       front = λ rest _.
           let n : front_run is_atom_byte (bytes ++ 39 ∷ rest) ≡ length bytes = ap length (quote_found bytes rest each.1) in
           let few : length bytes ≤ MOST_WORD_BYTES = grind (arith, nat_tests, each.0) in
           let behind : drop (length bytes) (bytes ++ 39 ∷ rest) ≡ 39 ∷ rest = drop-append_seam bytes (39 ∷ rest) in
-          ap (λ (bs : List ℕ). front_token (39 ∷ bs)) (append_assoc bytes (39 ∷ []) rest)
+          ap (λ (bs : List ℕ). front_token version (39 ∷ bs)) (append_assoc bytes (39 ∷ []) rest)
           ∙ rw (n, behind) (short Quoted 2 (length bytes) (length (39 ∷ (bytes ++ 39 ∷ []))) few (omega (arith, length-append bytes (39 ∷ []))));
       first = 39;
       others = bytes ++ 39 ∷ [];
@@ -215,27 +217,27 @@ one_digit_more n ds big w =
 pub writes : (n : ℕ) → n < 2 ^ 64 → Writes n (decimal n)
 writes n fits = decimal_by_steps Writes one_digit one_digit_more n fits
 
-digit_front : (b : ℕ) (bs rest : List ℕ) → is_digit b ≡ true → list_all is_digit bs ≡ true → StopsAt is_digit rest → front_token (b ∷ (bs ++ rest)) ≡ Some (Integer, suc (length bs))
-digit_front b bs rest first others stops =
+digit_front : (version : Version) (b : ℕ) (bs rest : List ℕ) → is_digit b ≡ true → list_all is_digit bs ≡ true → StopsAt is_digit rest → front_token version (b ∷ (bs ++ rest)) ≡ Some (Integer, suc (length bs))
+digit_front version b bs rest first others stops =
     let n : 1 + front_run is_digit (bs ++ rest) ≡ suc (length bs) = omega (arith, run_length is_digit bs rest others stops) in
     let low : is_lower b ≡ false = grind (arith, nat_tests, first) in
     let up : is_upper b ≡ false = grind (arith, nat_tests, first) in
     when_false (is_lower b) _ _ low ∙ when_false (is_upper b) _ _ up ∙ when_true (is_digit b) _ _ first ∙ ap (λ (k : ℕ). Some (Integer, k)) n
 
-minus_front : (b : ℕ) (bs rest : List ℕ) → is_digit b ≡ true → list_all is_digit bs ≡ true → StopsAt is_digit rest → front_token (45 ∷ (b ∷ (bs ++ rest))) ≡ Some (Integer, suc (suc (length bs)))
-minus_front b bs rest first others stops =
+minus_front : (version : Version) (b : ℕ) (bs rest : List ℕ) → is_digit b ≡ true → list_all is_digit bs ≡ true → StopsAt is_digit rest → front_token version (45 ∷ (b ∷ (bs ++ rest))) ≡ Some (Integer, suc (suc (length bs)))
+minus_front version b bs rest first others stops =
     let n : 2 + front_run is_digit (bs ++ rest) ≡ suc (suc (length bs)) = omega (arith, run_length is_digit bs rest others stops) in
     when_true (is_digit b) _ _ first ∙ ap (λ (k : ℕ). Some (Integer, k)) n
 
 digit_is_no_minus : (b : ℕ) → is_digit b ≡ true → (b == 45) ≡ false
 digit_is_no_minus b h = grind (arith, nat_tests)
 
-digits_word : (n : ℕ) (b : ℕ) (bs : List ℕ) → n < 2 ^ 63 → list_all is_digit (b ∷ bs) ≡ true → number (b ∷ bs) ≡ n → IsWord Stops Integer (b ∷ bs)
-digits_word n b bs fits digits value =
+digits_word : (version : Version) (n : ℕ) (b : ℕ) (bs : List ℕ) → n < 2 ^ 63 → list_all is_digit (b ∷ bs) ≡ true → number (b ∷ bs) ≡ n → IsWord version Stops Integer (b ∷ bs)
+digits_word version n b bs fits digits value =
     let each = both_true (is_digit b) (list_all is_digit bs) digits in
     let within : nat_le n (2 ^ 63 - 1) ≡ true = grind (arith, nat_tests) in
     record {
-      front = λ rest stops. digit_front b bs rest each.0 each.1 (stops_sooner is_name_byte is_digit name_ends_digit rest stops);
+      front = λ rest stops. digit_front version b bs rest each.0 each.1 (stops_sooner is_name_byte is_digit name_ends_digit rest stops);
       first = b;
       others = bs;
       is = refl;
@@ -245,12 +247,12 @@ digits_word n b bs fits digits value =
       clean = all_pass is_digit is_inline digit_inline (b ∷ bs) digits;
     }
 
-minus_word : (n : ℕ) (b : ℕ) (bs : List ℕ) → n ≤ 2 ^ 63 → list_all is_digit (b ∷ bs) ≡ true → number (b ∷ bs) ≡ n → IsWord Stops Integer (45 ∷ (b ∷ bs))
-minus_word n b bs fits digits value =
+minus_word : (version : Version) (n : ℕ) (b : ℕ) (bs : List ℕ) → n ≤ 2 ^ 63 → list_all is_digit (b ∷ bs) ≡ true → number (b ∷ bs) ≡ n → IsWord version Stops Integer (45 ∷ (b ∷ bs))
+minus_word version n b bs fits digits value =
     let each = both_true (is_digit b) (list_all is_digit bs) digits in
     let within : nat_le n (2 ^ 63) ≡ true = grind (arith, nat_tests) in
     record {
-      front = λ rest stops. minus_front b bs rest each.0 each.1 (stops_sooner is_name_byte is_digit name_ends_digit rest stops);
+      front = λ rest stops. minus_front version b bs rest each.0 each.1 (stops_sooner is_name_byte is_digit name_ends_digit rest stops);
       first = 45;
       others = b ∷ bs;
       is = refl;
@@ -260,15 +262,15 @@ minus_word n b bs fits digits value =
       clean = all_pass is_digit is_inline digit_inline (b ∷ bs) digits;
     }
 
-pub int_word : (z : ℤ) → is_wide z ≡ true → IsWord Stops Integer (signed_decimal z)
-int_word (pos n) wide =
+pub int_word : (version : Version) (z : ℤ) → is_wide z ≡ true → IsWord version Stops Integer (signed_decimal z)
+int_word version (pos n) wide =
     let fits : n < 2 ^ 63 = grind (arith, nat_tests) in
     let w = writes n (omega arith) in
-    subst (IsWord Stops Integer) (sym w.is) (digits_word n w.first w.others fits (ap (list_all is_digit) (sym w.is) ∙ w.digits) (ap number (sym w.is) ∙ w.value))
-int_word (negsuc n) wide =
+    subst (IsWord version Stops Integer) (sym w.is) (digits_word version n w.first w.others fits (ap (list_all is_digit) (sym w.is) ∙ w.digits) (ap number (sym w.is) ∙ w.value))
+int_word version (negsuc n) wide =
     let fits : n < 2 ^ 63 = grind (arith, nat_tests) in
     let w = writes (suc n) (omega arith) in
-    subst (λ (ds : List ℕ). IsWord Stops Integer (45 ∷ ds)) (sym w.is) (minus_word (suc n) w.first w.others (omega arith) (ap (list_all is_digit) (sym w.is) ∙ w.digits) (ap number (sym w.is) ∙ w.value))
+    subst (λ (ds : List ℕ). IsWord version Stops Integer (45 ∷ ds)) (sym w.is) (minus_word version (suc n) w.first w.others (omega arith) (ap (list_all is_digit) (sym w.is) ∙ w.digits) (ap number (sym w.is) ∙ w.value))
 
 unsigned : (n b : ℕ) (bs : List ℕ) → is_digit b ≡ true → number (b ∷ bs) ≡ n → int_of (b ∷ bs) ≡ pos n
 unsigned n b bs digit value = when_false (b == 45) _ _ (digit_is_no_minus b digit) ∙ ap pos value
@@ -295,41 +297,79 @@ count_again n fits =
     let digits : list_all is_digit (w.first ∷ w.others) ≡ true = ap (list_all is_digit) (sym w.is) ∙ w.digits in
     ap count_of w.is ∙ count_of_digits n w.first w.others (both_true (is_digit w.first) (list_all is_digit w.others) digits).0 (ap number (sym w.is) ∙ w.value)
 
-pub count_word : (n : ℕ) → n < 2 ^ 63 → IsWord Stops Integer (decimal n)
-count_word n fits = let wide : nat_lt n (2 ^ 63) ≡ true = grind (arith, nat_tests) in int_word (pos n) wide
+pub count_word : (version : Version) (n : ℕ) → n < 2 ^ 63 → IsWord version Stops Integer (decimal n)
+count_word version n fits = let wide : nat_lt n (2 ^ 63) ≡ true = grind (arith, nat_tests) in int_word version (pos n) wide
 
 -- ---- signs
 
-abbrev pub sign_word : TokenKind → ℕ → Type 0
-sign_word kind b = IsWord Anything kind (b ∷ [])
+abbrev pub sign_word : Version → TokenKind → ℕ → Type 0
+sign_word version kind b = IsWord version Anything kind (b ∷ [])
 
-pub open_brace : sign_word (Sign sign.OpenBrace) 123
-open_brace = record { front = λ rest _. refl; first = 123; others = []; is = refl; seen = refl; plain = refl; range = refl; clean = refl }
+pub open_brace : (version : Version) → sign_word version (Sign sign.OpenBrace) 123
+open_brace version = record { front = λ rest _. refl; first = 123; others = []; is = refl; seen = refl; plain = refl; range = refl; clean = refl }
 
-pub close_brace : sign_word (Sign sign.CloseBrace) 125
-close_brace = record { front = λ rest _. refl; first = 125; others = []; is = refl; seen = refl; plain = refl; range = refl; clean = refl }
+pub close_brace : (version : Version) → sign_word version (Sign sign.CloseBrace) 125
+close_brace version = record { front = λ rest _. refl; first = 125; others = []; is = refl; seen = refl; plain = refl; range = refl; clean = refl }
 
-pub open_bracket : sign_word (Sign sign.OpenBracket) 91
-open_bracket = record { front = λ rest _. refl; first = 91; others = []; is = refl; seen = refl; plain = refl; range = refl; clean = refl }
+pub open_bracket : (version : Version) → sign_word version (Sign sign.OpenBracket) 91
+open_bracket version = record { front = λ rest _. refl; first = 91; others = []; is = refl; seen = refl; plain = refl; range = refl; clean = refl }
 
-pub close_bracket : sign_word (Sign sign.CloseBracket) 93
-close_bracket = record { front = λ rest _. refl; first = 93; others = []; is = refl; seen = refl; plain = refl; range = refl; clean = refl }
+pub close_bracket : (version : Version) → sign_word version (Sign sign.CloseBracket) 93
+close_bracket version = record { front = λ rest _. refl; first = 93; others = []; is = refl; seen = refl; plain = refl; range = refl; clean = refl }
 
-pub comma : sign_word (Sign sign.Comma) 44
-comma = record { front = λ rest _. refl; first = 44; others = []; is = refl; seen = refl; plain = refl; range = refl; clean = refl }
+pub comma : (version : Version) → sign_word version (Sign sign.Comma) 44
+comma version = record { front = λ rest _. refl; first = 44; others = []; is = refl; seen = refl; plain = refl; range = refl; clean = refl }
 
-pub bar : sign_word (Sign sign.Bar) 124
-bar = record { front = λ rest _. refl; first = 124; others = []; is = refl; seen = refl; plain = refl; range = refl; clean = refl }
+pub bar : (version : Version) → sign_word version (Sign sign.Bar) 124
+bar version = record { front = λ rest _. refl; first = 124; others = []; is = refl; seen = refl; plain = refl; range = refl; clean = refl }
 
-pub caret : sign_word (Sign sign.Caret) 94
-caret = record { front = λ rest _. refl; first = 94; others = []; is = refl; seen = refl; plain = refl; range = refl; clean = refl }
+pub caret : (version : Version) → sign_word version (Sign sign.Caret) 94
+caret version = record { front = λ rest _. refl; first = 94; others = []; is = refl; seen = refl; plain = refl; range = refl; clean = refl }
 
-pub arrow : IsWord Anything (Sign sign.Arrow) (codes "->")
-arrow = record { front = λ rest _. refl; first = 45; others = 62 ∷ []; is = refl; seen = refl; plain = refl; range = refl; clean = refl }
+pub arrow : (version : Version) → IsWord version Anything (Sign sign.Arrow) (codes "->")
+arrow version = record { front = λ rest _. refl; first = 45; others = 62 ∷ []; is = refl; seen = refl; plain = refl; range = refl; clean = refl }
 
-underscore_front : (rest : List ℕ) → Stops rest → front_token (95 ∷ rest) ≡ Some (Sign sign.Underscore, 1)
-underscore_front [] stops = refl
-underscore_front (b ∷ bs) stops = rw stops refl
+underscore_front : (version : Version) (rest : List ℕ) → Stops rest → front_token version (95 ∷ rest) ≡ Some (Sign sign.Underscore, 1)
+underscore_front version [] stops = refl
+underscore_front version (b ∷ bs) stops = rw stops refl
 
-pub underscore : IsWord Stops (Sign sign.Underscore) (codes "_")
-underscore = record { front = underscore_front; first = 95; others = []; is = refl; seen = refl; plain = refl; range = refl; clean = refl }
+pub underscore : (version : Version) → IsWord version Stops (Sign sign.Underscore) (codes "_")
+underscore version = record { front = underscore_front version; first = 95; others = []; is = refl; seen = refl; plain = refl; range = refl; clean = refl }
+
+-- ---- signs of guards, which version 2 has
+
+pub open_paren : sign_word Two (Sign sign.OpenParen) 40
+open_paren = record { front = λ rest _. refl; first = 40; others = []; is = refl; seen = refl; plain = refl; range = refl; clean = refl }
+
+pub close_paren : sign_word Two (Sign sign.CloseParen) 41
+close_paren = record { front = λ rest _. refl; first = 41; others = []; is = refl; seen = refl; plain = refl; range = refl; clean = refl }
+
+pub less_sign : IsWord Two Anything (Sign sign.Less) (codes "<")
+less_sign = record { front = λ rest _. refl; first = 60; others = []; is = refl; seen = refl; plain = refl; range = refl; clean = refl }
+
+pub at_most_sign : IsWord Two Anything (Sign sign.AtMost) (codes "=<")
+at_most_sign = record { front = λ rest _. refl; first = 61; others = 60 ∷ []; is = refl; seen = refl; plain = refl; range = refl; clean = refl }
+
+pub at_least_sign : IsWord Two Anything (Sign sign.AtLeast) (codes ">=")
+at_least_sign = record { front = λ rest _. refl; first = 62; others = 61 ∷ []; is = refl; seen = refl; plain = refl; range = refl; clean = refl }
+
+pub equal_sign : IsWord Two Anything (Sign sign.EqualTo) (codes "==")
+equal_sign = record { front = λ rest _. refl; first = 61; others = 61 ∷ []; is = refl; seen = refl; plain = refl; range = refl; clean = refl }
+
+pub unequal_sign : IsWord Two Anything (Sign sign.UnequalTo) (codes "/=")
+unequal_sign = record { front = λ rest _. refl; first = 47; others = 61 ∷ []; is = refl; seen = refl; plain = refl; range = refl; clean = refl }
+
+-- nothing follows, or a blank
+abbrev pub BeforeBlank : List ℕ → Type 0
+BeforeBlank rest = StopsAt (λ b. not (b == 32)) rest
+
+blank_is_no_equals : (b : ℕ) → not (b == 32) ≡ false → (b == 61) ≡ false
+blank_is_no_equals b h = grind (arith, nat_tests)
+
+greater_front : (rest : List ℕ) → BeforeBlank rest → front_token Two (62 ∷ rest) ≡ Some (Sign sign.Greater, 1)
+greater_front [] blank = refl
+greater_front (b ∷ bs) blank = rw (blank_is_no_equals b blank) refl
+
+-- behind it `=` would belong to the sign
+pub greater_sign : IsWord Two BeforeBlank (Sign sign.Greater) (codes ">")
+greater_sign = record { front = greater_front; first = 62; others = []; is = refl; seen = refl; plain = refl; range = refl; clean = refl }

@@ -7,6 +7,11 @@ use Rattle.sig_terms.specs.Readable.{is_wide}
 use Rattle.sig_terms.specs.declared.bytes.TheConstants.{MOST_WORD_BYTES}
 use Rattle.sig_patterns.specs.declared.building.TheConstants.{MOST_NODES, MOST_DEPTH}
 use Rattle.sig_patterns.specs.declared.clause.Clause.{Clause}
+use Rattle.sig_patterns.specs.declared.guard.Guard.{Guard}
+use Rattle.sig_patterns.specs.declared.guard.Operand.{Operand}
+use Rattle.sig_patterns.specs.declared.guard.Operand.TheVariants as operand
+use Rattle.sig_patterns.specs.declared.guard.Test.{Test}
+use Rattle.sig_patterns.specs.declared.guard.Test.TheVariants as test
 use Rattle.sig_patterns.specs.declared.expression.Expr.{Expr}
 use Rattle.sig_patterns.specs.declared.expression.Expr.TheOpen.{Expr-F}
 use Rattle.sig_patterns.specs.declared.expression.Expr.TheOpen as expression
@@ -15,11 +20,14 @@ use Rattle.sig_patterns.specs.declared.pattern.Pattern.{Pattern}
 use Rattle.sig_patterns.specs.declared.pattern.Pattern.TheOpen.{Pattern-F}
 use Rattle.sig_patterns.specs.declared.pattern.Pattern.TheOpen as pattern
 use Rattle.sig_patterns.specs.declared.pattern.Pattern.TheFolds.{fold-Pattern}
+use Rattle.sig_program.specs.declared.version.Version.{Version}
 use Rattle.sig_program.specs.declared.label.Label.{Label}
 use Rattle.sig_program.specs.declared.instruction.Instr.{Instr}
 use Rattle.sig_program.specs.Parts.{exprs_of, vars_of, clauses_of, using_of}
 use Rattle.sig_program.specs.Scripts.{Declared, Program, IsWithin, IsScriptWithin}
 use Rattle.sig_tokens.specs.Tokens.{IsNameToken, IsVariableToken}
+use Rattle.sig_reader.specs.Drafts.{may_guard}
+use Rattle.sig_reader.specs.declared.guards.TheConstants.{MOST_TESTS}
 
 -- how many nodes an expression has and how deep they lie, as of a term
 abbrev pub expr_count_step : Expr-F ℕ → ℕ
@@ -107,10 +115,36 @@ pub record IsReadablePattern (count : ℕ) (p : Pattern) : Type 0 where
   pub nodes : pattern_nodes p ≤ MOST_NODES
   pub depth : pattern_depth p ≤ MOST_DEPTH
 
--- an instruction that lines may hold
-pub record IsReadableInstr (count : ℕ) (i : Instr) : Type 0 where
+-- a side of a comparison that a line may hold
+abbrev pub IsReadableSide : Operand → Type 0
+IsReadableSide (operand.Int n) = is_wide n ≡ true
+IsReadableSide (operand.Var x) = IsVariableToken x.0
+
+-- the same of a test
+abbrev pub IsReadableTest : Test → Type 0
+IsReadableTest (test.Compare left sign right) = IsReadableSide left × IsReadableSide right
+IsReadableTest (test.Is kind x) = IsVariableToken x.0
+
+-- the same of an alternative, which has a test
+abbrev pub IsReadableAlternative : List Test → Type 0
+IsReadableAlternative tests = (1 ≤ length tests) × All IsReadableTest tests
+
+-- the same of a guard: it has an alternative, and at most so many tests in all
+pub record IsReadableGuard (g : Guard) : Type 0 where
+  pub some : 1 ≤ length g.alternatives
+  pub each : All IsReadableAlternative g.alternatives
+  pub few : sum (map (λ (tests : List Test). length tests) g.alternatives) ≤ MOST_TESTS
+
+-- a clause that a line of this version may hold
+pub record IsReadableClause (version : Version) (count : ℕ) (c : Clause) : Type 0 where
+  pub pattern : IsReadablePattern count c.pattern
+  pub guard : IfSome c.guard IsReadableGuard
+  pub allowed : may_guard version c.guard ≡ true
+
+-- an instruction that lines of this version may hold
+pub record IsReadableInstr (version : Version) (count : ℕ) (i : Instr) : Type 0 where
   pub exprs : All (IsReadableExpr count) (exprs_of i)
-  pub clauses : All (λ (c : Clause). IsReadablePattern count c.pattern) (clauses_of i)
+  pub clauses : All (IsReadableClause version count) (clauses_of i)
   pub vars : All IsVariableToken (vars_of i)
   pub using : IfSome (using_of i) (λ x. IsVariableToken x.0)
 
@@ -119,16 +153,16 @@ pub data AreDistinct : List (List ℕ) → Type 0 where
   none : AreDistinct []
   more : {name : List ℕ} {names : List (List ℕ)} → All (λ other. name ≢ other) names → AreDistinct names → AreDistinct (name ∷ names)
 
--- a process that lines may hold
-pub record IsReadableProc (count : ℕ) (p : Declared) : Type 0 where
+-- a process that lines of this version may hold
+pub record IsReadableProc (version : Version) (count : ℕ) (p : Declared) : Type 0 where
   pub name : IsNameToken p.name
   pub labels : All (λ (l : Label). IsNameToken l.name) p.labels
   pub distinct : AreDistinct (map (λ (l : Label). l.name) p.labels)
   pub within : IsWithin p
-  pub instrs : All (IsReadableInstr count) p.instrs
+  pub instrs : All (IsReadableInstr version count) p.instrs
 
 -- a script that a text may spell
 pub record IsReadableScript (s : Program) : Type 0 where
   pub sound : IsScriptWithin s
   pub names : AreDistinct (map (λ (p : Declared). p.name) s.procs)
-  pub procs : All (IsReadableProc (length s.procs)) s.procs
+  pub procs : All (IsReadableProc s.version (length s.procs)) s.procs

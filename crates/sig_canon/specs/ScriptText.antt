@@ -7,6 +7,13 @@ use Rattle.std.specs.Option.{option_map_or}
 use Rattle.sig_kinds.specs.declared.alias_mode.AliasMode.{AliasMode}
 use Rattle.sig_kinds.specs.declared.alias_mode.AliasMode.TheVariants as alias_mode
 use Rattle.sig_patterns.specs.declared.clause.Clause.{Clause}
+use Rattle.sig_patterns.specs.declared.guard.Guard.{Guard}
+use Rattle.sig_patterns.specs.declared.guard.Op.{Op}
+use Rattle.sig_patterns.specs.declared.guard.Op.TheVariants as op
+use Rattle.sig_patterns.specs.declared.guard.Operand as side
+use Rattle.sig_patterns.specs.declared.guard.Operand.TheVariants as sides
+use Rattle.sig_patterns.specs.declared.guard.Test.{Test}
+use Rattle.sig_patterns.specs.declared.guard.Test.TheVariants as test
 use Rattle.sig_patterns.specs.declared.var.Var.{Var}
 use Rattle.sig_patterns.specs.declared.expression.Expr.{Expr}
 use Rattle.sig_patterns.specs.declared.expression.Expr.TheOpen.{Expr-F}
@@ -17,11 +24,14 @@ use Rattle.sig_patterns.specs.declared.pattern.Pattern.TheOpen.{Pattern-F}
 use Rattle.sig_patterns.specs.declared.pattern.Pattern.TheOpen as pattern
 use Rattle.sig_patterns.specs.declared.pattern.Pattern.TheFolds.{fold-Pattern}
 use Rattle.sig_terms.specs.TermText.{atom_text, joined}
+use Rattle.sig_program.specs.declared.version.Version.{Version}
+use Rattle.sig_program.specs.declared.version.Version.TheVariants.{One, Two}
 use Rattle.sig_program.specs.declared.label.Label.{Label}
 use Rattle.sig_program.specs.declared.instruction.After.{After}
 use Rattle.sig_program.specs.declared.instruction.Instr.{Instr}
 use Rattle.sig_program.specs.Instructions.{Operand, an_expr, a_variable, a_label, a_switch, a_mode, a_flag, Said, AllSaid, word_of, operands_of, Spoken, Says, Receives, spoken}
 use Rattle.sig_program.specs.Scripts.{Declared, Program}
+use Rattle.sig_reader.specs.Guards.{kind_word}
 
 -- the name at this place, from 0; every place that a script names has one
 abbrev pub name_of_place : List (List ℕ) → ℕ → List ℕ
@@ -104,8 +114,41 @@ abbrev pub marker_text : Option Var → List (List ℕ)
 marker_text None = []
 marker_text (Some x) = codes "using" ∷ x.0 ∷ []
 
+-- a side of a comparison
+abbrev pub side_text : side.Operand → List ℕ
+side_text (sides.Int n) = signed_decimal n
+side_text (sides.Var x) = x.0
+
+abbrev pub op_text : Op → List ℕ
+op_text op.Less = codes "<"
+op_text op.Greater = codes ">"
+op_text op.AtMost = codes "=<"
+op_text op.AtLeast = codes ">="
+op_text op.Equal = codes "=="
+op_text op.Unequal = codes "/="
+
+-- the texts of a test, in front of other texts; a test for a kind of terms is one text
+abbrev pub test_text : Test → List (List ℕ) → List (List ℕ)
+test_text (test.Compare left sign right) rest = side_text left ∷ op_text sign ∷ side_text right ∷ rest
+test_text (test.Is kind x) rest = (kind_word kind ++ codes "(" ++ x.0 ++ codes ")") ∷ rest
+
+-- tests of one alternative, the first behind this word and each other behind `and`
+abbrev pub tests_text : List ℕ → List Test → List (List ℕ) → List (List ℕ)
+tests_text word [] rest = rest
+tests_text word (t ∷ ts) rest = word ∷ test_text t (tests_text (codes "and") ts rest)
+
+-- alternatives, the first behind this word and each other behind `or`
+abbrev pub alternatives_text : List ℕ → List (List Test) → List (List ℕ) → List (List ℕ)
+alternatives_text word [] rest = rest
+alternatives_text word (tests ∷ more) rest = tests_text word tests (alternatives_text (codes "or") more rest)
+
+-- nothing, or `when` and the guard
+abbrev pub guard_text : Option Guard → List (List ℕ) → List (List ℕ)
+guard_text None rest = rest
+guard_text (Some g) rest = alternatives_text (codes "when") g.alternatives rest
+
 unfoldable pub clause_line : List (List ℕ) → List (List ℕ) → Clause → List ℕ
-clause_line names labels c = spaced (codes "on") (pattern_text names c.pattern ∷ target_text labels c.target)
+clause_line names labels c = spaced (codes "on") (pattern_text names c.pattern ∷ guard_text c.guard (target_text labels c.target))
 
 abbrev pub after_lines : List (List ℕ) → Option After → List (List ℕ)
 after_lines labels None = []
@@ -161,9 +204,14 @@ procs_lines procs = flat_map (process_lines (names_of procs)) procs
 abbrev pub turns_line : ℕ → List ℕ
 turns_line n = spaced (codes "turns") (decimal n ∷ [])
 
+-- the first line
+abbrev pub header_line : Version → List ℕ
+header_line One = codes "sigscript 1"
+header_line Two = codes "sigscript 2"
+
 -- the lines of a script
 unfoldable pub script_lines : Program → List (List ℕ)
-script_lines s = codes "sigscript 1" ∷ turns_line s.turns ∷ procs_lines s.procs
+script_lines s = header_line s.version ∷ turns_line s.turns ∷ procs_lines s.procs
 
 abbrev pub line_text : List ℕ → List ℕ
 line_text line = line ++ codes "\n"

@@ -57,7 +57,8 @@ fn put_between(
     items: &[Expr],
     closing: &[u8],
 ) -> Result<(), AllocError>
-    ensures text { OnOk result (into.new.items ≡ into.old.items ++ opening.now ++ joined (map (expr_text (names_of procs.now)) items.now) ++ closing.now) }
+    ensures text { OnOk result (into.new.items
+        ≡ into.old.items ++ opening.now ++ joined (map (expr_text (names_of procs.now)) items.now) ++ closing.now) }
     ensures front { OnErr result (take (length into.old.items) into.new.items ≡ into.old.items) }
 {
     put(into, opening)?;

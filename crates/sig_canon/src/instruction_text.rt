@@ -23,6 +23,7 @@ ghost use Rattle.sig_canon.specs.Printing.{first_of, rest_of, inside_lines};
 ghost use Rattle.sig_program.specs.declared.label.Label.{Label};
 
 use crate::expression_text::put_expr;
+use crate::guard_text::put_guard;
 use crate::pattern_text::put_pattern;
 use crate::putting::{put, put_word};
 use sig_kinds::AliasMode;
@@ -195,6 +196,7 @@ fn put_clause(
 {
     put(into, b"on ")?;
     put_pattern(into, procs, &clause.pattern)?;
+    put_guard(into, &clause.guard)?;
     put_target(into, labels, clause.target)?;
     put(into, b"\n")
 }

@@ -3,6 +3,7 @@
 
 mod expression_text;
 mod generating;
+mod guard_text;
 mod instruction_text;
 mod laws;
 mod pattern_text;

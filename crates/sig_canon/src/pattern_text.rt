@@ -22,7 +22,8 @@ fn put_pinned(into: &mut Vec<u8>, var: &Var) -> Result<(), AllocError>
 /// Appends the texts of the patterns, with a comma between two.
 #[cycle(pattern)]
 fn put_elements(into: &mut Vec<u8>, procs: &[Proc], items: &[Pattern]) -> Result<(), AllocError>
-    ensures text { OnOk result (into.new.items ≡ into.old.items ++ joined (map (λ w. w.whole) (map (pattern_written (names_of procs.now)) items.now))) }
+    ensures text { OnOk result (into.new.items
+        ≡ into.old.items ++ joined (map (λ w. w.whole) (map (pattern_written (names_of procs.now)) items.now))) }
     ensures front { OnErr result (take (length into.old.items) into.new.items ≡ into.old.items) }
 {
     match items {
@@ -46,7 +47,9 @@ fn put_between(
     items: &[Pattern],
     closing: &[u8],
 ) -> Result<(), AllocError>
-    ensures text { OnOk result (into.new.items ≡ into.old.items ++ opening.now ++ joined (map (λ w. w.whole) (map (pattern_written (names_of procs.now)) items.now)) ++ closing.now) }
+    ensures text { OnOk result (into.new.items
+        ≡ into.old.items ++ opening.now
+            ++ joined (map (λ w. w.whole) (map (pattern_written (names_of procs.now)) items.now)) ++ closing.now) }
     ensures front { OnErr result (take (length into.old.items) into.new.items ≡ into.old.items) }
 {
     put(into, opening)?;

@@ -13,6 +13,7 @@ ghost use Rattle.sig_canon.specs.ScriptText.{
   process_lines,
   procs_lines,
   turns_line,
+  header_line,
   spaced,
   line_text,
   script_text,
@@ -109,6 +110,16 @@ fn put_turns(into: &mut Vec<u8>, turns: u32) -> Result<(), AllocError>
     put(into, b"\n")
 }
 
+/// Appends the first line.
+fn put_header(into: &mut Vec<u8>, version: Version) -> Result<(), AllocError>
+    ensures { IsPut into.old.items into.new.items (line_text (header_line version)) result }
+{
+    match version {
+        Version::One => put(into, b"sigscript 1\n"),
+        Version::Two => put(into, b"sigscript 2\n"),
+    }
+}
+
 #[tactic(auto, using(crate::proofs::PrintLemmas::kept_front))]
 fn put_script(
     into: &mut Vec<u8>,
@@ -118,7 +129,7 @@ fn put_script(
 ) -> Result<(), AllocError>
     ensures { IsPut into.old.items into.new.items (script_text (record { version = version; turns = turns; procs = procs.now })) result }
 {
-    put(into, b"sigscript 1\n")?;
+    put_header(into, version)?;
     put_turns(into, turns)?;
     put_procs(into, procs)?;
     Ok(())

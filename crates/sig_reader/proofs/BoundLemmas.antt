@@ -8,9 +8,9 @@ use Rattle.std.proofs.lemmas.Bool.Decides.{nat_tests}
 use Rattle.std.proofs.lemmas.List.{map-append, length-map}
 use Rattle.std.proofs.lemmas.List.Elements.{All-nil, All-cons, All-head, All-tail, All-append, All-push, All-weaker}
 use Rattle.sig_patterns.specs.declared.clause.Clause.{Clause}
-use Rattle.sig_patterns.specs.declared.pattern.Pattern.{Pattern}
 use Rattle.sig_patterns.specs.declared.var.Var.{Var}
 use Rattle.sig_patterns.specs.Pinning.{pins}
+use Rattle.sig_program.specs.declared.version.Version.{Version}
 use Rattle.sig_program.specs.declared.label.Label.{Label}
 use Rattle.sig_program.specs.declared.instruction.After.{After}
 use Rattle.sig_program.specs.declared.instruction.Instr.{Instr}
@@ -26,15 +26,15 @@ use Rattle.sig_reader.specs.declared.draft.Draft.{Draft}
 use Rattle.sig_reader.specs.declared.form.Form.{Form}
 use Rattle.sig_reader.specs.declared.form.Form.TheVariants as form
 use Rattle.sig_program.specs.Scripts.{Declared, Program, AreMarked, IsInstrWithin, IsPlace, AreRising, IsWithin, IsExprBelow, IsPatternBelow, IsInstrBelow, IsScriptWithin, bare_process}
-use Rattle.sig_program.specs.Parts.{targets_of, plain_clause}
+use Rattle.sig_program.specs.Parts.{targets_of}
 use Rattle.sig_tokens.specs.declared.fault.Stop.{Stop}
 use Rattle.sig_tokens.specs.Faults.{Fault, ◌>>=◌, on_ok, Gives}
 use Rattle.sig_tokens.specs.Lines.{lines_of, onto_first}
 use Rattle.sig_tokens.specs.Tokens.{text, tokens_of}
 use Rattle.sig_tokens.specs.Names.{labels_at}
 use Rattle.sig_tokens.specs.PatternTexts.{pattern_of}
-use Rattle.sig_reader.specs.Forms.{keyword_of, may_stand, ends, arrow_of, count_from, turns_of, whole_name, marker_of, on_of, instr_of, form_of, form_behind, said_by, said}
-use Rattle.sig_reader.specs.Drafts.{blank, open_proc, all_procs, program_of, begun, labelled, with_instr, is_marked, with_clause, taken_at}
+use Rattle.sig_reader.specs.Forms.{keyword_of, may_stand, ends, arrow_of, count_from, turns_of, whole_name, marker_of, behind_pattern, on_of, instr_of, form_of, form_behind, said_by, said}
+use Rattle.sig_reader.specs.Drafts.{blank, open_proc, all_procs, program_of, begun, labelled, with_instr, is_marked, may_guard, with_clause, taken_at}
 use Rattle.sig_reader.specs.Grammar.{located, finished, taken_if, line_taken, body, walk}
 use Rattle.sig_reader.specs.Fitting.{IsSmall, IsFit}
 use Rattle.sig_reader.proofs.FitLemmas.{all-last}
@@ -58,8 +58,8 @@ all-later n ps h = All-weaker (IsSmall n) (IsSmall (n + 1)) (small_later n) ps h
 pub fit_later : (n : ℕ) (d : Draft) → IsFit n d → IsFit (n + 1) d
 fit_later n d h = record { few = h.few; small = all-later n (all_procs d) h.small }
 
-pub fit_blank : (n : ℕ) → IsFit n blank
-fit_blank n = record { few = omega arith; small = All-nil (IsSmall n) }
+pub fit_blank : (n : ℕ) (v : Version) → IsFit n (blank v)
+fit_blank n v = record { few = omega arith; small = All-nil (IsSmall n) }
 
 -- another last process
 same-length : {A : Type 0} (xs : List A) (x y : A) → length (xs ++ x ∷ []) ≡ length (xs ++ y ∷ [])
@@ -110,9 +110,9 @@ fit_at n d (Outside p) (form.Label name) h =
 fit_at n d (Outside p) (form.Do i) h = fit_last n d p (with_instr p i) h (small_instr n p i (all-last (IsSmall n) d.procs p h.small))
 fit_at n d (Outside p) (form.Receive using) h = record { few = h.few; small = all-later n (d.procs ++ p ∷ []) h.small }
 fit_at n d (Outside p) _ h = tt
-fit_at n d (Inside p r) (form.On pattern target) h =
-    holds-on_ok (λ _. Unit {0}) (IsFit (n + 1)) (λ more. record d { section = Inside p (record r { clauses = more }) }) (with_clause r.using r.clauses pattern target)
-    (anything (with_clause r.using r.clauses pattern target)) (λ more _. record { few = h.few; small = all-later n (d.procs ++ p ∷ []) h.small })
+fit_at n d (Inside p r) (form.On c) h =
+    holds-on_ok (λ _. Unit {0}) (IsFit (n + 1)) (λ more. record d { section = Inside p (record r { clauses = more }) }) (with_clause d.version r.using r.clauses c)
+    (anything (with_clause d.version r.using r.clauses c)) (λ more _. record { few = h.few; small = all-later n (d.procs ++ p ∷ []) h.small })
 fit_at n d (Inside p r) (form.After next) h = record { few = h.few; small = all-later n (d.procs ++ p ∷ []) h.small }
 fit_at n d (Inside p r) form.End h =
     fit_last n d p (with_instr p (instr.Receive r)) (record { few = h.few; small = h.small })
@@ -166,11 +166,11 @@ small_more n m p le h = record { instrs = omega (arith, h.instrs); labels = omeg
 few-more : (n m : ℕ) (ps : List Declared) → n ≤ m → All (IsSmall n) ps → All (IsSmall m) ps
 few-more n m ps le h = All-weaker (IsSmall n) (IsSmall m) (λ p k. small_more n m p le k) ps h
 
-few_walked : (known : Known) (lines : List (List ℕ)) (s : Program) → walk known lines ≡ Ok s → IsFew (2 + length lines) s
-few_walked known lines s e =
-    holds-of (IsFew (2 + length lines)) (walk known lines) s
+few_walked : (v : Version) (known : Known) (lines : List (List ℕ)) (s : Program) → walk v known lines ≡ Ok s → IsFew (2 + length lines) s
+few_walked v known lines s e =
+    holds-of (IsFew (2 + length lines)) (walk v known lines) s
     (body-holds known IsFit (IsFew (2 + length lines)) (2 + length lines) (λ n d line _ h. fit_line known n d line h)
-    (λ n d le h. (h.few, few-more n (2 + length lines) (all_procs d) le h.small)) 2 blank lines (le_refl (2 + length lines)) (fit_blank 2)) e
+    (λ n d le h. (h.few, few-more n (2 + length lines) (all_procs d) le h.small)) 2 (blank v) lines (le_refl (2 + length lines)) (fit_blank 2 v)) e
 
 -- a text has no more lines than bytes
 few-if : (v : Bool) (n : ℕ) (x y : List (List ℕ)) → length x ≤ n → length y ≤ n → length (if v then x else y) ≤ n
@@ -220,12 +220,12 @@ counted_in line (Err k) cs = cs
 counted_in line (Ok []) cs = cs
 counted_in line (Ok (w ∷ ts)) cs = counted_by (keyword_of (text line w)) cs
 
-counted : List ℕ → List ℕ → List ℕ
-counted line cs = counted_in line (tokens_of line) cs
+counted : Version → List ℕ → List ℕ → List ℕ
+counted v line cs = counted_in line (tokens_of v line) cs
 
-abbrev counted_all : List (List ℕ) → List ℕ → List ℕ
-counted_all [] cs = cs
-counted_all (line ∷ lines) cs = counted_all lines (counted line cs)
+abbrev counted_all : Version → List (List ℕ) → List ℕ → List ℕ
+counted_all v [] cs = cs
+counted_all v (line ∷ lines) cs = counted_all v lines (counted v line cs)
 
 abbrev SaysAs : Keyword → Form → Type 0
 SaysAs word f = (cs : List ℕ) → counted_form f cs ≡ counted_word word cs
@@ -238,8 +238,10 @@ turns-counted line (t ∷ ts) =
 
 on-counted : (known : Known) (here : ℕ) (line : List ℕ) (ts : List Token) → Holds (SaysAs keyword.On) (on_of known here line ts)
 on-counted known here line ts =
-    holds-then (λ _. Unit {0}) (SaysAs keyword.On) (λ x. on_ok (form.On x.0) (arrow_of known here line x.1)) (pattern_of known line ts) (anything (pattern_of known line ts))
-    (λ x _. holds-on_ok (λ _. Unit {0}) (SaysAs keyword.On) (form.On x.0) (arrow_of known here line x.1) (anything (arrow_of known here line x.1)) (λ o _ cs. refl))
+    holds-then (λ _. Unit {0}) (SaysAs keyword.On) (λ x. on_ok (λ y. form.On (record { pattern = x.0; guard = y.0; target = y.1 })) (behind_pattern known here line x.1))
+    (pattern_of known line ts) (anything (pattern_of known line ts))
+    (λ x _. holds-on_ok (λ _. Unit {0}) (SaysAs keyword.On) (λ y. form.On (record { pattern = x.0; guard = y.0; target = y.1 })) (behind_pattern known here line x.1)
+    (anything (behind_pattern known here line x.1)) (λ o _ cs. refl))
 
 form-counted : (known : Known) (here : ℕ) (word : Keyword) (line : List ℕ) (ts : List Token) → Holds (SaysAs word) (form_of known here word line ts)
 unfolding form_of
@@ -276,9 +278,9 @@ said_in-counted : (known : Known) (d : Draft) (line : List ℕ) (r : Result (Lis
 said_in-counted known d line (Ok ts) = said_by-counted known d line ts
 said_in-counted known d line (Err k) = tt
 
-said-counted : (known : Known) (d : Draft) (line : List ℕ) → Holds (λ o. (cs : List ℕ) → counted_said o cs ≡ counted line cs) (said known d line)
+said-counted : (known : Known) (d : Draft) (line : List ℕ) → Holds (λ o. (cs : List ℕ) → counted_said o cs ≡ counted d.version line cs) (said known d line)
 unfolding said counted
-said-counted known d line = said_in-counted known d line (tokens_of line)
+said-counted known d line = said_in-counted known d line (tokens_of d.version line)
 
 -- a form more
 counts-push : (ps : List Declared) (p : Declared) → counts (ps ++ p ∷ []) ≡ counts ps ++ length p.labels ∷ []
@@ -296,62 +298,64 @@ counts-more : (ps : List Declared) (p q : Declared) → length q.labels ≡ leng
 counts-more ps p q e =
     counts-push ps q ∙ ap (λ (n : ℕ). counts ps ++ n ∷ []) e ∙ sym (one_more-last (counts ps) (length p.labels)) ∙ ap one_more (sym (counts-push ps p))
 
-begun-counted : (d : Draft) (name : List ℕ) → Holds (λ e. counts (all_procs e) ≡ counts (all_procs d) ++ 0 ∷ []) (begun d name)
+-- so many labels, in a script of the same version
+abbrev CountedAs : Version → List ℕ → Draft → Type 0
+CountedAs v cs e = (counts (all_procs e) ≡ cs) × (e.version ≡ v)
+
+begun-counted : (d : Draft) (name : List ℕ) → Holds (CountedAs d.version (counts (all_procs d) ++ 0 ∷ [])) (begun d name)
 begun-counted d name =
-    let P : Draft → Type 0 = λ e. counts (all_procs e) ≡ counts (all_procs d) ++ 0 ∷ [] in
+    let P : Draft → Type 0 = CountedAs d.version (counts (all_procs d) ++ 0 ∷ []) in
     holds-if P (list_any (λ (p : Declared). bytes_eq p.name name) (all_procs d)) _ _ (λ _. tt)
-    (λ _. holds-if P (nat_le MOST_PROCESSES (length (all_procs d))) _ _ (λ _. tt) (λ _. counts-push (all_procs d) (bare_process name)))
+    (λ _. holds-if P (nat_le MOST_PROCESSES (length (all_procs d))) _ _ (λ _. tt) (λ _. (counts-push (all_procs d) (bare_process name), refl)))
 
 labelled-counted : (p : Declared) (name : List ℕ) → Holds (λ q. length q.labels ≡ length p.labels + 1) (labelled p name)
 labelled-counted p name =
     holds-if (λ (q : Declared). length q.labels ≡ length p.labels + 1) (list_any (λ (l : Label). bytes_eq l.name name) p.labels) _ _ (λ _. tt)
     (λ _. length-append p.labels (record { name = name; place = length p.instrs + 1 } ∷ []))
 
-abbrev CountedAs : List ℕ → Draft → Type 0
-CountedAs cs e = counts (all_procs e) ≡ cs
-
 taken_at-counted : (d : Draft) (section : Section) (f : Form) →
-    Holds (CountedAs (counted_form f (counts (d.procs ++ open_proc section)))) (taken_at (record d { section = section }) section f)
-taken_at-counted d Before (form.Turns m) = holds-if (CountedAs (counts (d.procs ++ []))) (nat_le m MOST_TURNS) _ _ (λ _. refl) (λ _. tt)
+    Holds (CountedAs d.version (counted_form f (counts (d.procs ++ open_proc section)))) (taken_at (record d { section = section }) section f)
+taken_at-counted d Before (form.Turns m) = holds-if (CountedAs d.version (counts (d.procs ++ []))) (nat_le m MOST_TURNS) _ _ (λ _. (refl, refl)) (λ _. tt)
 taken_at-counted d Before (form.Process name) = begun-counted (record d { section = Before }) name
 taken_at-counted d Before _ = tt
 taken_at-counted d (Outside p) (form.Process name) = begun-counted (record d { section = Outside p }) name
 taken_at-counted d (Outside p) (form.Label name) =
-    holds-on_ok (λ q. length q.labels ≡ length p.labels + 1) (CountedAs (one_more (counts (d.procs ++ p ∷ [])))) (λ q. record d { section = Outside q })
-    (labelled p name) (labelled-counted p name) (λ q h. counts-more d.procs p q h)
-taken_at-counted d (Outside p) (form.Do i) = counts-last d.procs p (with_instr p i) refl
-taken_at-counted d (Outside p) (form.Receive using) = refl
+    holds-on_ok (λ q. length q.labels ≡ length p.labels + 1) (CountedAs d.version (one_more (counts (d.procs ++ p ∷ [])))) (λ q. record d { section = Outside q })
+    (labelled p name) (labelled-counted p name) (λ q h. (counts-more d.procs p q h, refl))
+taken_at-counted d (Outside p) (form.Do i) = (counts-last d.procs p (with_instr p i) refl, refl)
+taken_at-counted d (Outside p) (form.Receive using) = (refl, refl)
 taken_at-counted d (Outside p) _ = tt
-taken_at-counted d (Inside p r) (form.On pattern target) =
-    holds-on_ok (λ _. Unit {0}) (CountedAs (counts (d.procs ++ p ∷ []))) (λ more. record d { section = Inside p (record r { clauses = more }) })
-    (with_clause r.using r.clauses pattern target) (anything (with_clause r.using r.clauses pattern target)) (λ more _. refl)
-taken_at-counted d (Inside p r) (form.After next) = refl
-taken_at-counted d (Inside p r) form.End = counts-last d.procs p (with_instr p (instr.Receive r)) refl
+taken_at-counted d (Inside p r) (form.On c) =
+    holds-on_ok (λ _. Unit {0}) (CountedAs d.version (counts (d.procs ++ p ∷ []))) (λ more. record d { section = Inside p (record r { clauses = more }) })
+    (with_clause d.version r.using r.clauses c) (anything (with_clause d.version r.using r.clauses c)) (λ more _. (refl, refl))
+taken_at-counted d (Inside p r) (form.After next) = (refl, refl)
+taken_at-counted d (Inside p r) form.End = (counts-last d.procs p (with_instr p (instr.Receive r)) refl, refl)
 taken_at-counted d (Inside p r) _ = tt
 
-taken_if-counted : (d : Draft) (o : Option Form) → Holds (CountedAs (counted_said o (counts (all_procs d)))) (taken_if d o)
-taken_if-counted d None = refl
+taken_if-counted : (d : Draft) (o : Option Form) → Holds (CountedAs d.version (counted_said o (counts (all_procs d)))) (taken_if d o)
+taken_if-counted d None = (refl, refl)
 taken_if-counted d (Some f) = taken_at-counted d d.section f
 
-line-counted : (known : Known) (d : Draft) (line : List ℕ) → Holds (CountedAs (counted line (counts (all_procs d)))) (line_taken known d line)
+line-counted : (known : Known) (d : Draft) (line : List ℕ) → Holds (CountedAs d.version (counted d.version line (counts (all_procs d)))) (line_taken known d line)
 line-counted known d line =
-    holds-then (λ o. (cs : List ℕ) → counted_said o cs ≡ counted line cs) (CountedAs (counted line (counts (all_procs d)))) (taken_if d) (said known d line) (said-counted known d line)
-    (λ o h. subst (λ cs. Holds (CountedAs cs) (taken_if d o)) (h (counts (all_procs d))) (taken_if-counted d o))
+    holds-then (λ o. (cs : List ℕ) → counted_said o cs ≡ counted d.version line cs) (CountedAs d.version (counted d.version line (counts (all_procs d)))) (taken_if d) (said known d line) (said-counted known d line)
+    (λ o h. subst (λ cs. Holds (CountedAs d.version cs) (taken_if d o)) (h (counts (all_procs d))) (taken_if-counted d o))
 
-body-counted : (known : Known) (n : ℕ) (d : Draft) (lines : List (List ℕ)) → Holds (λ s. counts s.procs ≡ counted_all lines (counts (all_procs d))) (body known n d lines)
+body-counted : (known : Known) (n : ℕ) (d : Draft) (lines : List (List ℕ)) → Holds (λ s. counts s.procs ≡ counted_all d.version lines (counts (all_procs d))) (body known n d lines)
 unfolding body
 body-counted known n d [] = holds-finished (λ s. counts s.procs ≡ counts (all_procs d)) n d d.section refl
 body-counted known n d (line ∷ lines) =
-    holds-located (CountedAs (counted line (counts (all_procs d)))) (λ s. counts s.procs ≡ counted_all lines (counted line (counts (all_procs d)))) n
+    holds-located (CountedAs d.version (counted d.version line (counts (all_procs d)))) (λ s. counts s.procs ≡ counted_all d.version lines (counted d.version line (counts (all_procs d)))) n
     (λ e. body known (n + 1) e lines) (line_taken known d line) (line-counted known d line)
-    (λ e h. subst (λ cs. Holds (λ s. counts s.procs ≡ counted_all lines cs) (body known (n + 1) e lines)) h (body-counted known (n + 1) e lines))
+    (λ e h. subst (λ cs. Holds (λ s. counts s.procs ≡ counted_all d.version lines cs) (body known (n + 1) e lines)) h.0
+    (subst (λ v. Holds (λ s. counts s.procs ≡ counted_all v lines (counts (all_procs e))) (body known (n + 1) e lines)) h.1 (body-counted known (n + 1) e lines)))
 
-walk-counted : (known : Known) (lines : List (List ℕ)) (s : Program) → walk known lines ≡ Ok s → counts s.procs ≡ counted_all lines []
-walk-counted known lines s e = holds-of (λ (s : Program). counts s.procs ≡ counted_all lines []) (walk known lines) s (body-counted known 2 blank lines) e
+walk-counted : (v : Version) (known : Known) (lines : List (List ℕ)) (s : Program) → walk v known lines ≡ Ok s → counts s.procs ≡ counted_all v lines []
+walk-counted v known lines s e = holds-of (λ (s : Program). counts s.procs ≡ counted_all v lines []) (walk v known lines) s (body-counted known 2 (blank v) lines) e
 
 -- two walks find as many processes, and in each as many labels
-pub same_counts : (known other : Known) (lines : List (List ℕ)) (first s : Program) → walk known lines ≡ Ok first → walk other lines ≡ Ok s → counts first.procs ≡ counts s.procs
-same_counts known other lines first s e k = walk-counted known lines first e ∙ sym (walk-counted other lines s k)
+pub same_counts : (v : Version) (known other : Known) (lines : List (List ℕ)) (first s : Program) → walk v known lines ≡ Ok first → walk v other lines ≡ Ok s → counts first.procs ≡ counts s.procs
+same_counts v known other lines first s e k = walk-counted v known lines first e ∙ sym (walk-counted v other lines s k)
 
 -- what holds of each process and its place among the processes
 abbrev Each : (ℕ → Declared → Type 0) → ℕ → List Declared → Type 0
@@ -516,12 +520,13 @@ module _ (s : Program) (n : ℕ) (d : Draft) (bounded : IfSome d.turns (λ t. t 
     marked-more r.using r.clauses c m h.4,
   )
 
-  with_clause-meant : (p : Declared) (r : Receiving) (pattern : Pattern) (target : Option ℕ) →
-      IsOpen s n (length d.procs) (Inside p r) → IsPatternBelow (length s.procs) pattern → IsTarget (length (labels_at (length d.procs) s.procs)) target →
-      Holds (λ more. IsOpen s (n + 1) (length d.procs) (Inside p (record r { clauses = more }))) (with_clause r.using r.clauses pattern target)
-  with_clause-meant p r pattern target h b t =
-      holds-if (λ (more : List Clause). IsOpen s (n + 1) (length d.procs) (Inside p (record r { clauses = more }))) (is_marked r.using pattern) _ _
-      (λ m. clause-more p r (plain_clause pattern target) h b t m) (λ _. tt)
+  with_clause-meant : (p : Declared) (r : Receiving) (c : Clause) →
+      IsOpen s n (length d.procs) (Inside p r) → IsPatternBelow (length s.procs) c.pattern → IsTarget (length (labels_at (length d.procs) s.procs)) c.target →
+      Holds (λ more. IsOpen s (n + 1) (length d.procs) (Inside p (record r { clauses = more }))) (with_clause d.version r.using r.clauses c)
+  with_clause-meant p r c h b t =
+      let IsNext : List Clause → Type 0 = λ more. IsOpen s (n + 1) (length d.procs) (Inside p (record r { clauses = more })) in
+      holds-if IsNext (may_guard d.version c.guard) _ _
+      (λ _. holds-if IsNext (is_marked r.using c.pattern) _ _ (λ m. clause-more p r c h b t m) (λ _. tt)) (λ _. tt)
 
   receive-more : (p : Declared) (r : Receiving) → n < 2 ^ 32 → IsOpen s n (length d.procs) (Inside p r) →
       IsMeant s (length d.procs) p → IsMeant s (length d.procs) (with_instr p (instr.Receive r))
@@ -557,10 +562,10 @@ module _ (s : Program) (n : ℕ) (d : Draft) (bounded : IfSome d.turns (λ t. t 
     );
   }
   taken_at-meant (Outside p) _ lt h o k = tt
-  taken_at-meant (Inside p r) (form.On pattern target) lt h o k =
+  taken_at-meant (Inside p r) (form.On c) lt h o k =
       holds-on_ok (λ (more : List Clause). IsOpen s (n + 1) (length d.procs) (Inside p (record r { clauses = more }))) (IsMeantDraft s (n + 1))
-      (λ more. record d { section = Inside p (record r { clauses = more }) }) (with_clause r.using r.clauses pattern target)
-      (with_clause-meant p r pattern target o k.0 k.1) (λ more m. record { turns = bounded; procs = h; receive = m })
+      (λ more. record d { section = Inside p (record r { clauses = more }) }) (with_clause d.version r.using r.clauses c)
+      (with_clause-meant p r c o k.0 k.1) (λ more m. record { turns = bounded; procs = h; receive = m })
   taken_at-meant (Inside p r) (form.After next) lt h o k = record { turns = bounded; procs = h; receive = (omega (arith, o.0), o.1, o.2, k, o.4) }
   taken_at-meant (Inside p r) form.End lt h o k =
       changed p (with_instr p (instr.Receive r)) h (receive-more p r lt o (current p h))
@@ -584,12 +589,12 @@ turns-or : (o : Option ℕ) → IfSome o (λ t. t ≤ MOST_TURNS) → option_map
 turns-or None h = omega arith
 turns-or (Some n) h = h
 
-walk-meant : (first : Program) (lines : List (List ℕ)) (s : Program) → length lines ≤ 2 ^ 30 → walk (Among first) lines ≡ Ok s → IsMeantScript first s
-walk-meant first lines s le e =
-    let blank-meant : IsMeantDraft first 2 blank = record { turns = tt; procs = tt; receive = tt } in
-    holds-of (IsMeantScript first) (walk (Among first) lines) s
+walk-meant : (v : Version) (first : Program) (lines : List (List ℕ)) (s : Program) → length lines ≤ 2 ^ 30 → walk v (Among first) lines ≡ Ok s → IsMeantScript first s
+walk-meant v first lines s le e =
+    let blank-meant : IsMeantDraft first 2 (blank v) = record { turns = tt; procs = tt; receive = tt } in
+    holds-of (IsMeantScript first) (walk v (Among first) lines) s
     (body-holds (Among first) (IsMeantDraft first) (IsMeantScript first) (2 + length lines) (λ n d line lt h. line-meant first n d line (omega (arith, lt, le)) h)
-    (λ n d _ h. (turns-or d.turns h.turns, h.procs)) 2 blank lines (le_refl (2 + length lines)) blank-meant) e
+    (λ n d _ h. (turns-or d.turns h.turns, h.procs)) 2 (blank v) lines (le_refl (2 + length lines)) blank-meant) e
 
 -- the labels of a process are as many as those of the process at the same place that the first walk found
 labels-counted : (k : ℕ) (ps : List Declared) → length (labels_at k ps) ≡ get_or (counts ps) k 0
@@ -617,19 +622,19 @@ proc-within first here m p lt small e h = record {
   lawful = subst (λ (n : ℕ). All (IsInstrWithin n) p.instrs) e h.lawful;
 }
 
-pub procs_within : (lines : List (List ℕ)) (first s : Program) → walk Any lines ≡ Ok first → walk (Among first) lines ≡ Ok s → length lines ≤ 2 ^ 30 → All IsWithin s.procs
-procs_within lines first s e k le =
-    let few = few_walked (Among first) lines s k in
-    let meant = walk-meant first lines s le k in
-    let same = same_counts Any (Among first) lines first s e k in
+pub procs_within : (v : Version) (lines : List (List ℕ)) (first s : Program) → walk v Any lines ≡ Ok first → walk v (Among first) lines ≡ Ok s → length lines ≤ 2 ^ 30 → All IsWithin s.procs
+procs_within v lines first s e k le =
+    let few = few_walked v (Among first) lines s k in
+    let meant = walk-meant v first lines s le k in
+    let same = same_counts v Any (Among first) lines first s e k in
     λ i d lt. proc-within first i (2 + length lines) (get_or s.procs i d) (omega (arith, le)) (few.1 i d lt) (same-labels i first.procs s.procs d same lt)
     (each-at (IsMeant first) 0 i i s.procs d (omega arith) lt meant.1)
 
-pub script_sound : (lines : List (List ℕ)) (first s : Program) → walk Any lines ≡ Ok first → walk (Among first) lines ≡ Ok s → length lines ≤ 2 ^ 30 → IsScriptWithin s
-script_sound lines first s e k le =
-    let few = few_walked (Among first) lines s k in
-    let meant = walk-meant first lines s le k in
-    let same = same-number first.procs s.procs (same_counts Any (Among first) lines first s e k) in
+pub script_sound : (v : Version) (lines : List (List ℕ)) (first s : Program) → walk v Any lines ≡ Ok first → walk v (Among first) lines ≡ Ok s → length lines ≤ 2 ^ 30 → IsScriptWithin s
+script_sound v lines first s e k le =
+    let few = few_walked v (Among first) lines s k in
+    let meant = walk-meant v first lines s le k in
+    let same = same-number first.procs s.procs (same_counts v Any (Among first) lines first s e k) in
     record {
       few = few.0;
       turns = meant.0;

@@ -6,6 +6,7 @@ use Rattle.std.proofs.lemmas.List.Elements.{All-nil, All-cons, All-push}
 use Rattle.sig_kinds.specs.declared.alias_mode.AliasMode.{AliasMode}
 use Rattle.sig_kinds.specs.declared.alias_mode.AliasMode.TheVariants as alias_mode
 use Rattle.sig_patterns.specs.declared.clause.Clause.{Clause}
+use Rattle.sig_patterns.specs.declared.guard.Guard.{Guard}
 use Rattle.sig_patterns.specs.declared.var.Var.{Var}
 use Rattle.sig_patterns.specs.declared.expression.Expr.{Expr}
 use Rattle.sig_patterns.specs.declared.pattern.Pattern.{Pattern}
@@ -36,7 +37,8 @@ use Rattle.sig_tokens.specs.Signs.{is_open_brace, is_open_bracket, is_arrow, is_
 use Rattle.sig_tokens.specs.Phrases.{Read, Spelling, behind, elements, closed, is_before_tail, ending, bracketed, single, phrase_by, phrase_front, phrase_at, phrase_of}
 use Rattle.sig_tokens.specs.Expressions.{expr_enclosing, expr_spelling, expr_of}
 use Rattle.sig_tokens.specs.PatternTexts.{pattern_signed, pattern_enclosing, pattern_spelling, pattern_of}
-use Rattle.sig_reader.specs.Forms.{word_at, mode_of, operand_at, all_said, keyword_of, may_stand, ends, arrow_of, count_from, turns_of, whole_name, marker_of, on_of, instr_of, form_of, form_behind, said_by, said}
+use Rattle.sig_reader.specs.Forms.{word_at, mode_of, operand_at, all_said, keyword_of, may_stand, ends, arrow_of, count_from, turns_of, whole_name, marker_of, behind_pattern, on_of, instr_of, form_of, form_behind, said_by, said}
+use Rattle.sig_reader.specs.Guards.{guard_at}
 use Rattle.sig_reader.proofs.TableLemmas.{spoken_again, instr_as}
 use Rattle.sig_tokens.proofs.NestLemmas.{nested_pids}
 use Rattle.sig_program.proofs.PidLemmas.{int_pids, atom_pids, var_pids, pid_pids, tuple_pids, list_pids, any_pattern_pids, bind_pattern_pids, pin_pattern_pids, int_pattern_pids, atom_pattern_pids, pid_pattern_pids, tuple_pattern_pids, list_pattern_pids}
@@ -252,7 +254,7 @@ mode-meant line (t ∷ ts) =
 -- the targets of a form are labels, and its pids those of processes
 abbrev pub IsMeantForm : ℕ → ℕ → Form → Type 0
 IsMeantForm count labels (form.Do i) = IsInstrWithin labels i × IsInstrBelow count i
-IsMeantForm count labels (form.On pattern target) = IsPatternBelow count pattern × IsTarget labels target
+IsMeantForm count labels (form.On c) = IsPatternBelow count c.pattern × IsTarget labels c.target
 IsMeantForm count labels (form.After after) = IsTarget labels after.target
 IsMeantForm count labels _ = Unit {0}
 
@@ -318,10 +320,20 @@ module _ (s : Program) (here : ℕ) (line : List ℕ) where
   abbrev IsMeantHere : Form → Type 0
   IsMeantHere f = IsMeantForm (length s.procs) (length (labels_at here s.procs)) f
 
+  abbrev IsEndMeant : Option Guard × Option ℕ → Type 0
+  IsEndMeant y = IsTarget (length (labels_at here s.procs)) y.1
+
+  behind_pattern-meant : (ts : List Token) → Holds IsEndMeant (behind_pattern (Among s) here line ts)
+  behind_pattern-meant ts =
+      holds-then (λ _. Unit {0}) IsEndMeant (λ x. on_ok (λ target. (x.0, target)) (arrow_of (Among s) here line x.1)) (guard_at line ts) (anything (guard_at line ts))
+      (λ x _. holds-on_ok (IsTarget (length (labels_at here s.procs))) IsEndMeant (λ target. (x.0, target)) (arrow_of (Among s) here line x.1) (arrow-below x.1) (λ o k. k))
+
   on-meant : (ts : List Token) → Holds IsMeantHere (on_of (Among s) here line ts)
   on-meant ts =
-      holds-then (λ (x : Pattern × List Token). IsPatternBelow (length s.procs) x.0) IsMeantHere (λ x. on_ok (form.On x.0) (arrow_of (Among s) here line x.1)) (pattern_of (Among s) line ts) (pattern_of-below s line ts)
-      (λ x h. holds-on_ok (IsTarget (length (labels_at here s.procs))) IsMeantHere (form.On x.0) (arrow_of (Among s) here line x.1) (arrow-below x.1) (λ o k. (h, k)))
+      holds-then (λ (x : Pattern × List Token). IsPatternBelow (length s.procs) x.0) IsMeantHere
+      (λ x. on_ok (λ y. form.On (record { pattern = x.0; guard = y.0; target = y.1 })) (behind_pattern (Among s) here line x.1)) (pattern_of (Among s) line ts) (pattern_of-below s line ts)
+      (λ x h. holds-on_ok IsEndMeant IsMeantHere (λ y. form.On (record { pattern = x.0; guard = y.0; target = y.1 })) (behind_pattern (Among s) here line x.1)
+      (behind_pattern-meant x.1) (λ y k. (h, k)))
 
   turns-meant : (ts : List Token) → Holds IsMeantHere (turns_of line ts)
   turns-meant [] = tt
@@ -358,4 +370,4 @@ module _ (s : Program) (d : Draft) (line : List ℕ) where
   -- what a line says behind what was read so far
   pub said-meant : Holds (λ o. IfSome o IsMeantNext) (said (Among s) d line)
   unfolding said
-  said-meant = holds-then (λ _. Unit {0}) (λ o. IfSome o IsMeantNext) (said_by (Among s) d line) (tokens_of line) (anything (tokens_of line)) (λ ts _. said_by-meant ts)
+  said-meant = holds-then (λ _. Unit {0}) (λ o. IfSome o IsMeantNext) (said_by (Among s) d line) (tokens_of d.version line) (anything (tokens_of d.version line)) (λ ts _. said_by-meant ts)

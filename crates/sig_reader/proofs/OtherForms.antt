@@ -2,6 +2,7 @@
 use Rattle.std.proofs.Common.{◌≡◌, ℕ, List, [], ◌∷◌, length, map, false, Option, Some, None, Ok, refl, sym, ap, subst}
 use Rattle.std.specs.Option.{option_map, is_some}
 use Rattle.std.proofs.lemmas.List.{length-map}
+use Rattle.sig_patterns.specs.declared.guard.Guard.{Guard}
 use Rattle.sig_program.specs.declared.instruction.After.{After}
 use Rattle.sig_tokens.specs.declared.token.Token.{Token}
 use Rattle.sig_tokens.specs.declared.known.Known.{Known}
@@ -20,7 +21,8 @@ use Rattle.sig_tokens.specs.Names.{pid_of, label_of, name_at, variable_at, targe
 use Rattle.sig_tokens.specs.Signs.{is_arrow}
 use Rattle.sig_tokens.specs.PatternTexts.{pattern_of}
 use Rattle.sig_program.specs.Instructions.{Operand, an_expr, a_variable, a_label, a_switch, a_mode, a_flag, operands_of, instr_by, Spoken}
-use Rattle.sig_reader.specs.Forms.{switch_at, word_at, mode_of, flag_of, operand_at, all_said, keyword_of, may_stand_at, may_stand, ends, arrow_of, count_from, turns_of, whole_name, marker_of, on_of, instr_of, form_of, form_behind, said_by, said}
+use Rattle.sig_reader.specs.Forms.{switch_at, word_at, mode_of, flag_of, operand_at, all_said, keyword_of, may_stand_at, may_stand, ends, arrow_of, count_from, turns_of, whole_name, marker_of, behind_pattern, on_of, instr_of, form_of, form_behind, said_by, said}
+use Rattle.sig_reader.specs.Guards.{guard_at}
 use Rattle.sig_reader.proofs.TableLemmas.{made_of, spoken_again, instr_as}
 use Rattle.sig_reader.proofs.Seen.{pattern_seen, clause_seen, after_seen, receiving_seen, said_seen, all_seen, spoken_seen, instr_seen}
 use Rattle.sig_reader.proofs.OtherPhrases.{Sees, sees-same, sees-if, sees-on_ok, sees-then, first_seen, expr_of-sees, pattern_of-sees}
@@ -28,7 +30,7 @@ use Rattle.sig_reader.proofs.OtherPhrases.{Sees, sees-same, sees-if, sees-on_ok,
 -- a form, and what was read so far, with other pids, by f, and other places of labels, by g
 abbrev pub form_seen : (ℕ → ℕ) → (ℕ → ℕ) → Form → Form
 form_seen f g (form.Do i) = form.Do (instr_seen f g i)
-form_seen f g (form.On pattern target) = form.On (pattern_seen f pattern) (option_map g target)
+form_seen f g (form.On c) = form.On (clause_seen f g c)
 form_seen f g (form.After after) = form.After (after_seen g after)
 form_seen f g (form.Turns n) = form.Turns n
 form_seen f g (form.Process name) = form.Process name
@@ -102,11 +104,24 @@ module _ (f g : ℕ → ℕ) (known other : Known) (seen : AreSeen f g known oth
         sees-then (λ n. n) (form_seen f g) (λ n. ends (form.Turns n) ts) (λ n. ends (form.Turns n) ts) (count_from t.kind (text line t)) (count_from t.kind (text line t))
         (sees-same (λ n. n) (count_from t.kind (text line t)) (λ n. refl)) (λ n. ends-see (form_seen f g) (form.Turns n) (form.Turns n) ts refl)
 
+    -- a guard is read by itself
+    abbrev end_seen : Option Guard × Option ℕ → Option Guard × Option ℕ
+    end_seen y = (y.0, option_map g y.1)
+
+    behind_pattern-sees : (ts : List Token) → Sees end_seen (behind_pattern known here line ts) (behind_pattern other here line ts)
+    behind_pattern-sees ts =
+        sees-then (λ x. x) end_seen (λ x. on_ok (λ target. (x.0, target)) (arrow_of known here line x.1)) (λ x. on_ok (λ target. (x.0, target)) (arrow_of other here line x.1))
+        (guard_at line ts) (guard_at line ts) (sees-same (λ x. x) (guard_at line ts) (λ x. refl))
+        (λ x. sees-on_ok (option_map g) end_seen (λ target. (x.0, target)) (λ target. (x.0, target)) (arrow_of known here line x.1) (arrow_of other here line x.1) (arrow-sees x.1) (λ o. refl))
+
     on-sees : (ts : List Token) → Sees (form_seen f g) (on_of known here line ts) (on_of other here line ts)
     on-sees ts =
-        sees-then (first_seen (pattern_seen f)) (form_seen f g) (λ x. on_ok (form.On x.0) (arrow_of known here line x.1)) (λ x. on_ok (form.On x.0) (arrow_of other here line x.1))
+        sees-then (first_seen (pattern_seen f)) (form_seen f g)
+        (λ x. on_ok (λ y. form.On (record { pattern = x.0; guard = y.0; target = y.1 })) (behind_pattern known here line x.1))
+        (λ x. on_ok (λ y. form.On (record { pattern = x.0; guard = y.0; target = y.1 })) (behind_pattern other here line x.1))
         (pattern_of known line ts) (pattern_of other line ts) (pattern_of-sees f known other line seen.pids ts)
-        (λ x. sees-on_ok (option_map g) (form_seen f g) (form.On x.0) (form.On (pattern_seen f x.0)) (arrow_of known here line x.1) (arrow_of other here line x.1) (arrow-sees x.1) (λ o. refl))
+        (λ x. sees-on_ok end_seen (form_seen f g) (λ y. form.On (record { pattern = x.0; guard = y.0; target = y.1 })) (λ y. form.On (record { pattern = pattern_seen f x.0; guard = y.0; target = y.1 }))
+        (behind_pattern known here line x.1) (behind_pattern other here line x.1) (behind_pattern-sees x.1) (λ y. refl))
 
     form-sees : (word : Keyword) (ts : List Token) → Sees (form_seen f g) (form_of known here word line ts) (form_of other here word line ts)
     unfolding form_of
@@ -151,5 +166,5 @@ module _ (f g : ℕ → ℕ) (known other : Known) (seen : AreSeen f g known oth
   pub said-sees : (d : Draft) → Sees (option_map (form_seen f g)) (said known d line) (said other (draft_seen f g d) line)
   unfolding said
   said-sees d =
-      sees-then (λ ts. ts) (option_map (form_seen f g)) (said_by known d line) (said_by other (draft_seen f g d) line) (tokens_of line) (tokens_of line) (sees-same (λ ts. ts) (tokens_of line) (λ ts. refl))
+      sees-then (λ ts. ts) (option_map (form_seen f g)) (said_by known d line) (said_by other (draft_seen f g d) line) (tokens_of d.version line) (tokens_of d.version line) (sees-same (λ ts. ts) (tokens_of d.version line) (λ ts. refl))
       (λ ts. said_by-sees d ts)

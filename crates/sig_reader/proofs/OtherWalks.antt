@@ -8,6 +8,7 @@ use Rattle.std.proofs.lemmas.List.{map-append, length-map}
 use Rattle.sig_patterns.specs.declared.clause.Clause.{Clause}
 use Rattle.sig_patterns.specs.declared.pattern.Pattern.{Pattern}
 use Rattle.sig_patterns.specs.declared.var.Var.{Var}
+use Rattle.sig_program.specs.declared.version.Version.{Version}
 use Rattle.sig_program.specs.declared.label.Label.{Label}
 use Rattle.sig_program.specs.declared.instruction.Instr.{Instr}
 use Rattle.sig_tokens.specs.declared.fault.FaultKind.{FaultKind}
@@ -21,12 +22,11 @@ use Rattle.sig_reader.specs.declared.form.Form.{Form}
 use Rattle.sig_reader.specs.declared.form.Form.TheVariants as form
 use Rattle.sig_program.specs.declared.script.TheConstants.{MOST_PROCESSES, MOST_TURNS}
 use Rattle.sig_program.specs.Scripts.{Declared, Program, IsWithin, IsScriptWithin, bare_process}
-use Rattle.sig_program.specs.Parts.{plain_clause}
 use Rattle.sig_program.specs.declared.instruction.Instr.TheVariants as instr
 use Rattle.sig_tokens.specs.Faults.{Fault, ◌>>=◌}
 use Rattle.sig_tokens.specs.Names.{pid_of, labels_at, label_of}
 use Rattle.sig_reader.specs.Forms.{said}
-use Rattle.sig_reader.specs.Drafts.{blank, open_proc, all_procs, program_of, begun, labelled, with_instr, is_marked, with_clause, taken_at}
+use Rattle.sig_reader.specs.Drafts.{blank, open_proc, all_procs, program_of, begun, labelled, with_instr, is_marked, may_guard, with_clause, taken_at}
 use Rattle.sig_reader.specs.Grammar.{located, finished, taken_if, line_taken, body, walk, walk_twice}
 use Rattle.sig_reader.proofs.BoundLemmas.{procs_within, script_sound}
 use Rattle.sig_tokens.proofs.LabelLemmas.{next, position-cons}
@@ -126,11 +126,11 @@ module _ (f g : ℕ → ℕ) where
   marked-same None p = refl
   marked-same (Some x) p = pins_seen f p x
 
-  clause-sees : (using : Option Var) (clauses : List Clause) (p : Pattern) (target : Option ℕ) →
-      Sees (map (clause_seen f g)) (with_clause using clauses p target) (with_clause using (map (clause_seen f g) clauses) (pattern_seen f p) (option_map g target))
-  clause-sees using clauses p target =
-      rw (marked-same using p) (sees-if (map (clause_seen f g)) (is_marked using p) _ _ _ _
-      (ap (λ (cs : List Clause). Ok cs) (sym (map-append (clause_seen f g) clauses (plain_clause p target ∷ [])))) tt)
+  clause-sees : (v : Version) (using : Option Var) (clauses : List Clause) (c : Clause) →
+      Sees (map (clause_seen f g)) (with_clause v using clauses c) (with_clause v using (map (clause_seen f g) clauses) (clause_seen f g c))
+  clause-sees v using clauses c =
+      rw (marked-same using c.pattern) (sees-if (map (clause_seen f g)) (may_guard v c.guard) _ _ _ _ (sees-if (map (clause_seen f g)) (is_marked using c.pattern) _ _ _ _
+      (ap (λ (cs : List Clause). Ok cs) (sym (map-append (clause_seen f g) clauses (c ∷ [])))) tt) tt)
 
   taken_at-sees : (d : Draft) (section : Section) (said : Form) →
       let e : Draft = record d { section = section } in Sees (draft_seen f g) (taken_at e section said) (taken_at (draft_seen f g e) (section_seen f g section) (form_seen f g said))
@@ -145,10 +145,10 @@ module _ (f g : ℕ → ℕ) where
       ap (λ (q : Declared). Ok (record (draft_seen f g d) { section = Outside q })) (instr-more p i)
   taken_at-sees d (Outside p) (form.Receive using) = refl
   taken_at-sees d (Outside p) _ = tt
-  taken_at-sees d (Inside p r) (form.On pattern target) =
+  taken_at-sees d (Inside p r) (form.On c) =
       sees-on_ok (map (clause_seen f g)) (draft_seen f g) (λ more. record d { section = Inside p (record r { clauses = more }) })
       (λ more. record (draft_seen f g d) { section = Inside (proc_seen f g p) (record (receiving_seen f g r) { clauses = more }) })
-      (with_clause r.using r.clauses pattern target) (with_clause r.using (map (clause_seen f g) r.clauses) (pattern_seen f pattern) (option_map g target)) (clause-sees r.using r.clauses pattern target) (λ more. refl)
+      (with_clause d.version r.using r.clauses c) (with_clause d.version r.using (map (clause_seen f g) r.clauses) (clause_seen f g c)) (clause-sees d.version r.using r.clauses c) (λ more. refl)
   taken_at-sees d (Inside p r) (form.After next) = refl
   taken_at-sees d (Inside p r) form.End =
       ap (λ (q : Declared). Ok (record (draft_seen f g d) { section = Outside q })) (instr-more p (instr.Receive r))
@@ -183,8 +183,8 @@ module _ (f g : ℕ → ℕ) (known other : Known) (seen : AreSeen f g known oth
       located-sees (draft_seen f g) (program_seen f g) n (λ e. body known (n + 1) e lines) (λ e. body other (n + 1) e lines)
       (line_taken known d line) (line_taken other (draft_seen f g d) line) (line-sees d line) (λ e. body-sees (n + 1) e lines)
 
-  walk-sees : (lines : List (List ℕ)) (s : Program) → walk known lines ≡ Ok s → walk other lines ≡ Ok (program_seen f g s)
-  walk-sees lines s e = sees-of (program_seen f g) (walk known lines) (walk other lines) s (body-sees 2 blank lines) e
+  walk-sees : (v : Version) (lines : List (List ℕ)) (s : Program) → walk v known lines ≡ Ok s → walk v other lines ≡ Ok (program_seen f g s)
+  walk-sees v lines s e = sees-of (program_seen f g) (walk v known lines) (walk v other lines) s (body-sees 2 (blank v) lines) e
 
 -- nothing changes where each number is as it was
 instrs-kept : (is : List Instr) → map (instr_seen kept kept) is ≡ is
@@ -201,31 +201,31 @@ procs-kept (p ∷ ps) =
 abbrev found_first : Program → Program
 found_first s = program_seen zeroed zeroed s
 
-first_walk : (lines : List (List ℕ)) (guess s : Program) → walk (Among guess) lines ≡ Ok s → walk Any lines ≡ Ok (found_first s)
-first_walk lines guess s e = walk-sees zeroed zeroed (Among guess) Any (any-names (Among guess)) lines s e
+first_walk : (v : Version) (lines : List (List ℕ)) (guess s : Program) → walk v (Among guess) lines ≡ Ok s → walk v Any lines ≡ Ok (found_first s)
+first_walk v lines guess s e = walk-sees zeroed zeroed (Among guess) Any (any-names (Among guess)) v lines s e
 
-second_walk : (lines : List (List ℕ)) (guess s : Program) → names_within guess.procs ≡ names_within s.procs → walk (Among guess) lines ≡ Ok s → walk (Among (found_first s)) lines ≡ Ok s
-second_walk lines guess s same e =
+second_walk : (v : Version) (lines : List (List ℕ)) (guess s : Program) → names_within guess.procs ≡ names_within s.procs → walk v (Among guess) lines ≡ Ok s → walk v (Among (found_first s)) lines ≡ Ok s
+second_walk v lines guess s same e =
     let names : names_within guess.procs ≡ names_within (found_first s).procs = same ∙ sym (names-same zeroed zeroed s.procs) in
-    walk-sees kept kept (Among guess) (Among (found_first s)) (same-names guess (found_first s) names) lines s e
+    walk-sees kept kept (Among guess) (Among (found_first s)) (same-names guess (found_first s) names) v lines s e
     ∙ ap (λ (ps : List Declared). Ok (record s { procs = ps })) (procs-kept s.procs)
 
 -- one walk among the names of the script that it gives is as good as both walks
-module _ (known : Known) (lines : List (List ℕ)) (s : Program) (e : walk known lines ≡ Ok s) (its : AreItsNames known s) where
-  among-its : walk (Among its.0) lines ≡ Ok s
-  among-its = subst (λ (k : Known). walk k lines ≡ Ok s) its.1 e
+module _ (v : Version) (known : Known) (lines : List (List ℕ)) (s : Program) (e : walk v known lines ≡ Ok s) (its : AreItsNames known s) where
+  among-its : walk v (Among its.0) lines ≡ Ok s
+  among-its = subst (λ (k : Known). walk v k lines ≡ Ok s) its.1 e
 
-  first-is : walk Any lines ≡ Ok (found_first s)
-  first-is = first_walk lines its.0 s among-its
+  first-is : walk v Any lines ≡ Ok (found_first s)
+  first-is = first_walk v lines its.0 s among-its
 
-  second-is : walk (Among (found_first s)) lines ≡ Ok s
-  second-is = second_walk lines its.0 s its.2 among-its
+  second-is : walk v (Among (found_first s)) lines ≡ Ok s
+  second-is = second_walk v lines its.0 s its.2 among-its
 
-  pub once_read : walk_twice lines ≡ Ok s
-  once_read = ap (λ (r : Result Program Fault). r >>= λ first. walk (Among first) lines) first-is ∙ second-is
+  pub once_read : walk_twice v lines ≡ Ok s
+  once_read = ap (λ (r : Result Program Fault). r >>= λ first. walk v (Among first) lines) first-is ∙ second-is
 
   pub once_within : length lines ≤ 2 ^ 30 → All IsWithin s.procs
-  once_within le = procs_within lines (found_first s) s first-is second-is le
+  once_within le = procs_within v lines (found_first s) s first-is second-is le
 
   pub once_sound : length lines ≤ 2 ^ 30 → IsScriptWithin s
-  once_sound le = script_sound lines (found_first s) s first-is second-is le
+  once_sound le = script_sound v lines (found_first s) s first-is second-is le

@@ -6,6 +6,7 @@ use Rattle.sig_tokens.specs.declared.fault.FaultKind.TheVariants.{Header}
 use Rattle.sig_tokens.specs.declared.known.Known.{Known}
 use Rattle.sig_reader.specs.declared.draft.Draft.{Draft}
 use Rattle.sig_program.specs.declared.version.Version.{Version}
+use Rattle.sig_program.specs.declared.version.Version.TheVariants.{One}
 use Rattle.sig_program.specs.Scripts.{Program}
 use Rattle.sig_tokens.specs.Faults.{Fault}
 use Rattle.sig_tokens.specs.Lines.{lines_of}
@@ -49,7 +50,7 @@ unfolding script_of_lines
 no_line [] h = refl
 no_line (b ∷ bs) h = cc (nonempty b bs)
 
-pub behind_header : (bytes line : List ℕ) (version : Option Version) → (length bytes == 0) ≡ false → line ≡ first_of bytes → version ≡ header_of (tokens_of line) line →
+pub behind_header : (bytes line : List ℕ) (version : Option Version) → (length bytes == 0) ≡ false → line ≡ first_of bytes → version ≡ header_of (tokens_of One line) line →
     script_of_lines (lines_of bytes) ≡ script_behind version (lines_of (drop (length line + 1) bytes))
 unfolding script_of_lines
 behind_header bytes line version some is header =

@@ -1,12 +1,15 @@
 -- What was read so far, and with one form more.
-use Rattle.std.specs.Prelude.{ℕ, ◌+◌, List, [], ◌∷◌, ◌++◌, length, nat_le, Bool, true, if◌then◌else◌, Option, Some, None, Result, Ok, Err}
+use Rattle.std.specs.Prelude.{ℕ, ◌+◌, List, [], ◌∷◌, ◌++◌, length, nat_le, Bool, true, false, if◌then◌else◌, Option, Some, None, Result, Ok, Err}
 use Rattle.std.specs.Option.{option_map_or}
 use Rattle.std.specs.List.{list_any}
 use Rattle.std.specs.Str.{bytes_eq}
 use Rattle.sig_patterns.specs.declared.clause.Clause.{Clause}
+use Rattle.sig_patterns.specs.declared.guard.Guard.{Guard}
 use Rattle.sig_patterns.specs.declared.pattern.Pattern.{Pattern}
 use Rattle.sig_patterns.specs.declared.var.Var.{Var}
 use Rattle.sig_patterns.specs.Pinning.{pins}
+use Rattle.sig_program.specs.declared.version.Version.{Version}
+use Rattle.sig_program.specs.declared.version.Version.TheVariants.{One, Two}
 use Rattle.sig_program.specs.declared.label.Label.{Label}
 use Rattle.sig_program.specs.declared.instruction.Receiving.{Receiving}
 use Rattle.sig_program.specs.declared.instruction.Instr.{Instr}
@@ -18,15 +21,13 @@ use Rattle.sig_reader.specs.declared.draft.Section.TheVariants.{Before, Outside,
 use Rattle.sig_reader.specs.declared.draft.Draft.{Draft}
 use Rattle.sig_reader.specs.declared.form.Form.{Form}
 use Rattle.sig_reader.specs.declared.form.Form.TheVariants as form
-use Rattle.sig_program.specs.declared.version.Version.TheVariants.{One}
-use Rattle.sig_program.specs.Parts.{plain_clause}
 use Rattle.sig_program.specs.Scripts.{Declared, Program, bare_process}
 use Rattle.sig_tokens.specs.Faults.{on_ok}
 use Rattle.sig_program.specs.declared.script.TheConstants.{DEFAULT_TURNS, MOST_PROCESSES, MOST_TURNS}
 
 -- before the first line
-abbrev pub blank : Draft
-blank = record { turns = None; procs = []; section = Before }
+abbrev pub blank : Version → Draft
+blank version = record { version = version; turns = None; procs = []; section = Before }
 
 -- the process that is being read
 abbrev pub open_proc : Section → List Declared
@@ -40,7 +41,7 @@ all_procs d = d.procs ++ open_proc d.section
 
 -- each process may execute DEFAULT_TURNS instructions where nothing else is said
 abbrev pub program_of : Draft → Program
-program_of d = record { version = One; turns = option_map_or (λ n. n) d.turns DEFAULT_TURNS; procs = all_procs d }
+program_of d = record { version = d.version; turns = option_map_or (λ n. n) d.turns DEFAULT_TURNS; procs = all_procs d }
 
 -- a process begins: its name is a new one, and there are at most MOST_PROCESSES processes
 abbrev pub begun : Draft → List ℕ → Result Draft FaultKind
@@ -71,10 +72,16 @@ abbrev pub is_marked : Option Var → Pattern → Bool
 is_marked None pattern = true
 is_marked (Some x) pattern = pins pattern x
 
--- one clause more
-abbrev pub with_clause : Option Var → List Clause → Pattern → Option ℕ → Result (List Clause) FaultKind
-with_clause using clauses pattern target =
-    if is_marked using pattern then Ok (clauses ++ plain_clause pattern target ∷ []) else Err MarkerNotInClause
+-- version 1 has no guards
+abbrev pub may_guard : Version → Option Guard → Bool
+may_guard version None = true
+may_guard One (Some guard) = false
+may_guard Two (Some guard) = true
+
+-- one clause more; what its guard names is no matter of the marker
+abbrev pub with_clause : Version → Option Var → List Clause → Clause → Result (List Clause) FaultKind
+with_clause version using clauses c =
+    if may_guard version c.guard then (if is_marked using c.pattern then Ok (clauses ++ c ∷ []) else Err MarkerNotInClause) else Err Syntax
 
 -- a receive of which only its first line was read
 abbrev pub bare_receive : Option Var → Receiving
@@ -88,8 +95,8 @@ taken_at d (Outside p) (form.Process name) = begun d name
 taken_at d (Outside p) (form.Label name) = on_ok (λ q. record d { section = Outside q }) (labelled p name)
 taken_at d (Outside p) (form.Do i) = Ok (record d { section = Outside (with_instr p i) })
 taken_at d (Outside p) (form.Receive using) = Ok (record d { section = Inside p (bare_receive using) })
-taken_at d (Inside p r) (form.On pattern target) =
-    on_ok (λ more. record d { section = Inside p (record r { clauses = more }) }) (with_clause r.using r.clauses pattern target)
+taken_at d (Inside p r) (form.On c) =
+    on_ok (λ more. record d { section = Inside p (record r { clauses = more }) }) (with_clause d.version r.using r.clauses c)
 taken_at d (Inside p r) (form.After next) = Ok (record d { section = Inside p (record r { after = Some next }) })
 taken_at d (Inside p r) form.End = Ok (record d { section = Outside (with_instr p (instr.Receive r)) })
 taken_at d _ _ = Err Syntax

@@ -4,6 +4,7 @@ use Rattle.std.specs.List.{find}
 use Rattle.std.specs.Str.{bytes_eq}
 use Rattle.sig_kinds.specs.declared.alias_mode.AliasMode.{AliasMode}
 use Rattle.sig_kinds.specs.declared.alias_mode.AliasMode.TheVariants as alias_mode
+use Rattle.sig_patterns.specs.declared.guard.Guard.{Guard}
 use Rattle.sig_patterns.specs.declared.var.Var.{Var}
 use Rattle.sig_program.specs.declared.instruction.Instr.{Instr}
 use Rattle.sig_tokens.specs.declared.fault.FaultKind.{FaultKind}
@@ -29,6 +30,7 @@ use Rattle.sig_tokens.specs.Signs.{is_arrow}
 use Rattle.sig_tokens.specs.Names.{name_at, variable_at, target_at}
 use Rattle.sig_tokens.specs.Expressions.{expr_of}
 use Rattle.sig_tokens.specs.PatternTexts.{pattern_of}
+use Rattle.sig_reader.specs.Guards.{guard_at}
 
 -- the word of an instruction that is no receive
 abbrev pub verb_of : List ℕ → Option Verb
@@ -164,9 +166,14 @@ marker_of line [] = Ok None
 marker_of line (t ∷ ts) =
     name_at line (t ∷ ts) >>= λ x. flag_of (codes "using") x.0 >>= λ is_using. variable_at line x.1 >>= λ y. ends (Some (record { 0 = y.0 })) y.1
 
--- `on P`, `on P -> L`
+-- behind the pattern of a clause: a guard or none, and a target or none
+abbrev pub behind_pattern : Known → ℕ → List ℕ → List Token → Result (Option Guard × Option ℕ) FaultKind
+behind_pattern known here line ts = guard_at line ts >>= λ x. on_ok (λ target. (x.0, target)) (arrow_of known here line x.1)
+
+-- `on P`, `on P -> L`, `on P when G`, `on P when G -> L`
 abbrev pub on_of : Known → ℕ → List ℕ → List Token → Result Form FaultKind
-on_of known here line ts = pattern_of known line ts >>= λ x. on_ok (form.On x.0) (arrow_of known here line x.1)
+on_of known here line ts =
+    pattern_of known line ts >>= λ x. on_ok (λ y. form.On (record { pattern = x.0; guard = y.0; target = y.1 })) (behind_pattern known here line x.1)
 
 -- what stands behind the word
 unfoldable pub form_of : Known → ℕ → Keyword → List ℕ → List Token → Result Form FaultKind
@@ -190,6 +197,7 @@ unfoldable pub said_by : Known → Draft → List ℕ → List Token → Result 
 said_by known draft line [] = Ok None
 said_by known draft line (word ∷ ts) = on_ok Some (form_behind known draft (keyword_of (text line word)) line ts)
 
--- what a line says behind what was read so far, or the first that is wrong with it: its tokens are cut before its form is read
+-- what a line says behind what was read so far, or the first that is wrong with it: its tokens, which are those of the script's
+-- version, are cut before its form is read
 unfoldable pub said : Known → Draft → List ℕ → Result (Option Form) FaultKind
-said known draft line = tokens_of line >>= said_by known draft line
+said known draft line = tokens_of draft.version line >>= said_by known draft line

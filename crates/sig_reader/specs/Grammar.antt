@@ -13,12 +13,12 @@ use Rattle.sig_reader.specs.declared.draft.Section.TheVariants.{Inside}
 use Rattle.sig_reader.specs.declared.draft.Draft.{Draft}
 use Rattle.sig_reader.specs.declared.form.Form.{Form}
 use Rattle.sig_program.specs.declared.version.Version.{Version}
-use Rattle.sig_program.specs.declared.version.Version.TheVariants.{One}
+use Rattle.sig_program.specs.declared.version.Version.TheVariants.{One, Two}
 use Rattle.sig_program.specs.Scripts.{Program}
 use Rattle.sig_tokens.specs.Faults.{Fault, ◌>>=◌}
 use Rattle.sig_tokens.specs.Lines.{lines_of}
 use Rattle.sig_tokens.specs.Tokens.{text, tokens_of}
-use Rattle.sig_tokens.specs.Numbers.{is_one}
+use Rattle.sig_tokens.specs.Numbers.{is_one, is_two}
 use Rattle.sig_reader.specs.Forms.{said}
 use Rattle.sig_reader.specs.Drafts.{blank, program_of, taken}
 use Rattle.sig_reader.specs.declared.reader.TheConstants.{MOST_BYTES}
@@ -51,13 +51,13 @@ unfoldable pub body : Known → ℕ → Draft → List (List ℕ) → Result Pro
 body known n d [] = finished n d d.section
 body known n d (line ∷ lines) = located n (line_taken known d line) >>= λ e. body known (n + 1) e lines
 
--- the script of the lines after the first
-abbrev pub walk : Known → List (List ℕ) → Result Program Fault
-walk known lines = body known 2 blank lines
+-- the script of this version of the lines after the first
+abbrev pub walk : Version → Known → List (List ℕ) → Result Program Fault
+walk version known lines = body known 2 (blank version) lines
 
--- the version that a token tells: an integer of value 1
+-- the version that a token tells: an integer of value 1 or 2
 abbrev pub version_of : TokenKind → List ℕ → Option Version
-version_of Integer text = if is_one text then Some One else None
+version_of Integer text = if is_one text then Some One else if is_two text then Some Two else None
 version_of _ text = None
 
 -- The first line is the name `sigscript` and the version.
@@ -72,18 +72,18 @@ header_of (Err kind) line = None
 
 -- The lines after the first are walked twice. In the first walk a name behind `@` is that of any process, and each label may
 -- be one of any process; in the second one the names are those that the first has found.
-abbrev pub walk_twice : List (List ℕ) → Result Program Fault
-walk_twice lines = walk Any lines >>= λ script. walk (Among script) lines
+abbrev pub walk_twice : Version → List (List ℕ) → Result Program Fault
+walk_twice version lines = walk version Any lines >>= λ script. walk version (Among script) lines
 
 -- the lines behind the header
 abbrev pub script_behind : Option Version → List (List ℕ) → Result Program Fault
 script_behind None lines = at_line 1 Header
-script_behind (Some version) lines = walk_twice lines
+script_behind (Some version) lines = walk_twice version lines
 
--- a text without lines has no header
+-- A text without lines has no header. The signs of version 2 aren't needed to tell the header.
 unfoldable pub script_of_lines : List (List ℕ) → Result Program Fault
 script_of_lines [] = at_line 1 Header
-script_of_lines (first ∷ lines) = script_behind (header_of (tokens_of first) first) lines
+script_of_lines (first ∷ lines) = script_behind (header_of (tokens_of One first) first) lines
 
 -- the script that the text spells, or its refusal; a text of more than MOST_BYTES bytes is refused as a whole
 unfoldable pub script_of : List ℕ → Result Program Fault

@@ -1,3 +1,4 @@
+pub mod Guards
 pub mod Forms
 pub mod Drafts
 pub mod Sections

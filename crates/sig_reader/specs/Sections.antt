@@ -1,5 +1,6 @@
--- Where the next line stands behind a form that begins no process and tells no turns.
+-- Where the next line stands behind a form that begins no process and tells no turns; by the version behind a clause.
 use Rattle.std.specs.Prelude.{[], Option, Some, None, Result, Ok, Err}
+use Rattle.sig_patterns.specs.declared.clause.Clause.{Clause}
 use Rattle.sig_patterns.specs.declared.var.Var.{Var}
 use Rattle.sig_tokens.specs.declared.fault.FaultKind.{FaultKind}
 use Rattle.sig_tokens.specs.declared.fault.FaultKind.TheVariants.{Syntax}
@@ -10,6 +11,7 @@ use Rattle.sig_reader.specs.declared.form.Form.TheVariants as form
 use Rattle.sig_tokens.specs.Faults.{on_ok}
 use Rattle.sig_reader.specs.Drafts.{labelled, with_instr, with_clause, bare_receive}
 use Rattle.sig_program.specs.declared.instruction.Instr.TheVariants as instr
+use Rattle.sig_program.specs.declared.version.Version.{Version}
 
 -- a receive begins in the process that is being read
 abbrev pub inside_of : Section → Option Var → Section
@@ -21,11 +23,16 @@ abbrev pub outside_of : Section → Section
 outside_of (Inside p r) = Outside (with_instr p (instr.Receive r))
 outside_of section = section
 
+-- behind each other form
 abbrev pub section_taken : Section → Form → Result Section FaultKind
 section_taken (Outside p) (form.Label name) = on_ok Outside (labelled p name)
 section_taken (Outside p) (form.Do i) = Ok (Outside (with_instr p i))
 section_taken (Outside p) (form.Receive using) = Ok (Inside p (bare_receive using))
-section_taken (Inside p r) (form.On pattern target) = on_ok (λ more. Inside p (record r { clauses = more })) (with_clause r.using r.clauses pattern target)
 section_taken (Inside p r) (form.After next) = Ok (Inside p (record r { after = Some next }))
 section_taken (Inside p r) form.End = Ok (Outside (with_instr p (instr.Receive r)))
 section_taken _ _ = Err Syntax
+
+-- a clause more in the receive that is open
+abbrev pub clause_placed : Version → Section → Clause → Result Section FaultKind
+clause_placed version (Inside p r) c = on_ok (λ more. Inside p (record r { clauses = more })) (with_clause version r.using r.clauses c)
+clause_placed version _ c = Err Syntax

@@ -15,12 +15,13 @@ ghost use Rattle.sig_reader.specs.Drafts.{
   labelled,
   with_instr,
   is_marked,
+  may_guard,
   with_clause,
   bare_receive,
   taken_at,
   taken,
 };
-ghost use Rattle.sig_reader.specs.Sections.{inside_of, outside_of, section_taken};
+ghost use Rattle.sig_reader.specs.Sections.{inside_of, outside_of, section_taken, clause_placed};
 ghost use Rattle.sig_reader.specs.Grammar.{finished, line_taken};
 ghost use Rattle.sig_reader.specs.Reading.{IsReading, MayEnd};
 ghost use Rattle.sig_reader.specs.Fitting.{IsSmall, IsFit};
@@ -28,7 +29,7 @@ ghost use Rattle.sig_reader.specs.Fitting.{IsSmall, IsFit};
 use crate::form::{Form, read_line};
 use crate::reader::ScriptError;
 use sig_lists::Sequence;
-use sig_patterns::{Clause, Clauses, Pattern, Var, pins};
+use sig_patterns::{Clause, Clauses, Guard, Pattern, Var, pins};
 use sig_program::{
     After, DEFAULT_TURNS, Instr, Label, MOST_PROCESSES, MOST_TURNS, Receiving, Version,
 };
@@ -53,6 +54,8 @@ pub enum Section {
 /// What was read so far.
 #[derive(Drop)]
 pub struct Draft {
+    /// The version of the script, which its first line tells.
+    pub version: Version,
     /// How many instructions each process may execute, where that was said.
     pub turns: Option<u32>,
     /// The processes before the one that is being read.
@@ -62,11 +65,12 @@ pub struct Draft {
 }
 
 impl Draft {
-    /// Before the first line.
-    pub fn new(alloc: Global) -> Draft
-        ensures { result ≡ blank }
+    /// Before the first line behind the header of this version.
+    pub fn new(alloc: Global, version: Version) -> Draft
+        ensures { result ≡ blank version }
     {
         Draft {
+            version,
             turns: None,
             procs: Sequence::new(alloc),
             section: Section::Before,
@@ -223,11 +227,11 @@ fn place_instr(section: &mut Section, instr: Instr) -> Result<(), Stop>
 }
 
 /// A receive of which only its first line was read.
-fn bare_receive(alloc: Global, using: Option<Var>) -> Receiving
-    ensures { result ≡ bare_receive using }
+fn bare_receive(alloc: Global, marker: Option<Var>) -> Receiving
+    ensures { result ≡ bare_receive marker }
 {
     Receiving {
-        using,
+        using: marker,
         clauses: Sequence::new(alloc),
         after: None,
     }
@@ -275,37 +279,48 @@ fn add_pinned(clauses: &mut Clauses, clause: Clause) -> Result<(), Stop>
     Ok(())
 }
 
+/// Whether a script of this version may have the guard.
+fn may_guard(version: Version, guard: &Option<Guard>) -> bool
+    ensures { result ≡ may_guard version guard.now }
+{
+    match guard {
+        None => true,
+        Some(_) => matches!(version, Version::Two),
+    }
+}
+
 /// A clause behind these, in a receive with this marker.
 fn add_clause(
+    version: Version,
     marker: &Option<Var>,
     clauses: &mut Clauses,
-    pattern: Pattern,
-    target: Option<u32>,
+    clause: Clause,
 ) -> Result<(), Stop>
-    ensures { Gives (λ u. clauses.new) result (with_clause marker.now clauses.old pattern target) }
+    ensures { Gives (λ u. clauses.new) result (with_clause version marker.now clauses.old clause) }
 {
-    if pins_marker(marker, &pattern) {
-        let clause = Clause {
-            pattern,
-            guard: None,
-            target,
-        };
+    if !may_guard(version, &clause.guard) {
+        return refuse(clause);
+    }
+    if pins_marker(marker, &clause.pattern) {
         add_pinned(clauses, clause)
     } else {
-        drop(pattern);
+        drop(clause);
         Err(Stop::Fault(FaultKind::MarkerNotInClause))
     }
 }
 
 /// A clause line in a receive.
-fn place_clause(section: &mut Section, pattern: Pattern, target: Option<u32>) -> Result<(), Stop>
-    ensures { Gives (λ u. section.new) result (section_taken section.old (Form.On pattern target)) }
+fn place_clause(version: Version, section: &mut Section, clause: Clause) -> Result<(), Stop>
+    ensures { Gives (λ u. section.new) result (clause_placed version section.old clause) }
 {
     match section {
-        Section::Inside(_, receiving) => {
-            add_clause(&receiving.using, &mut receiving.clauses, pattern, target)
-        }
-        _ => refuse(pattern),
+        Section::Inside(_, receiving) => add_clause(
+            version,
+            &receiving.using,
+            &mut receiving.clauses,
+            clause,
+        ),
+        _ => refuse(clause),
     }
 }
 
@@ -374,7 +389,7 @@ fn take_form(alloc: Global, draft: &mut Draft, n: u64, form: Form) -> Result<(),
         Form::Label(name) => place_label(alloc, &mut draft.section, name),
         Form::Do(instr) => place_instr(&mut draft.section, instr),
         Form::Receive { using } => place_receive(alloc, &mut draft.section, using),
-        Form::On(pattern, target) => place_clause(&mut draft.section, pattern, target),
+        Form::On(clause) => place_clause(draft.version, &mut draft.section, clause),
         Form::After(next) => place_after(&mut draft.section, next),
         Form::End => place_end(&mut draft.section),
     }
@@ -435,7 +450,7 @@ pub fn finish(draft: Draft, n: u64) -> Result<DraftScript, ScriptError>
     ended?;
     match closed {
         Ok(()) => Ok(DraftScript {
-            version: Version::One,
+            version: draft.version,
             turns: draft.turns.unwrap_or(DEFAULT_TURNS),
             procs,
         }),

@@ -18,6 +18,7 @@ ghost use Rattle.sig_reader.specs.Forms.{
   marked_by,
   using_at,
   marker_of,
+  behind_pattern,
   on_of,
   instr_of,
   form_of,
@@ -27,15 +28,16 @@ ghost use Rattle.sig_reader.specs.Forms.{
 };
 
 use crate::draft::{Draft, Section};
+use crate::guards::take_guard;
 use crate::keyword::{Keyword, read_keyword};
 use sig_kinds::AliasMode;
-use sig_patterns::{Expr, Pattern, Var};
+use sig_patterns::{Clause, Expr, Guard, Var};
 use sig_program::{After, Instr, Verb};
 use sig_terms::Name;
 use sig_terms::bytes::equal_bytes;
 use sig_tokens::{
-    FaultKind, Known, Line, Stop, TokenKind, Tokens, name_of, read_count, read_tokens, take_phrase,
-    take_target, take_variable, take_word,
+    FaultKind, Known, Line, Sign, Stop, TokenKind, Tokens, name_of, read_count, read_tokens,
+    take_phrase, take_target, take_variable, take_word,
 };
 use std::alloc::Global;
 use std::mem::drop;
@@ -53,8 +55,8 @@ pub enum Form {
     Do(Instr),
     /// A receive begins, with the variable of its marker where it has one.
     Receive { using: Option<Var> },
-    /// A clause of a receive: its pattern, and the label at which it goes on.
-    On(Pattern, Option<u32>),
+    /// A clause of a receive.
+    On(Clause),
     /// What a receive does that finds no message.
     After(After),
     /// A receive ends.
@@ -101,7 +103,7 @@ fn take_arrow(known: &Known, here: usize, line: &Line) -> Result<Option<u32>, St
     match line.split_first() {
         None => Ok(None),
         Some((token, rest)) => {
-            if token.kind.is_arrow() {
+            if token.kind.is_sign(Sign::Arrow) {
                 some_target(known, here, &rest)
             } else {
                 Err(Stop::Fault(FaultKind::Syntax))
@@ -304,12 +306,36 @@ fn read_marker(alloc: Global, line: &Line) -> Result<Option<Var>, Stop>
     }
 }
 
+/// What stands behind the pattern of a clause: a guard or none, and a label of the process with this
+/// place among the processes or none.
+fn take_clause_end(
+    alloc: Global,
+    known: &Known,
+    here: usize,
+    line: Line,
+) -> Result<(Option<Guard>, Option<u32>), Stop>
+    ensures { Gives (λ x. (x.0, x.1)) result (behind_pattern known.now here line.entry.text line.entry.tokens) }
+{
+    let (guard, rest) = take_guard(alloc, line)?;
+    match take_arrow(known, here, &rest) {
+        Ok(target) => Ok((guard, target)),
+        Err(stop) => {
+            drop(guard);
+            Err(stop)
+        }
+    }
+}
+
 fn read_on(alloc: Global, known: &Known, here: usize, line: &Line) -> Result<Form, Stop>
     ensures { Gives (λ f. f) result (on_of known.now here line.now.text line.now.tokens) }
 {
     let (pattern, rest) = take_phrase(alloc, known, line)?;
-    match take_arrow(known, here, &rest) {
-        Ok(target) => Ok(Form::On(pattern, target)),
+    match take_clause_end(alloc, known, here, rest) {
+        Ok((guard, target)) => Ok(Form::On(Clause {
+            pattern,
+            guard,
+            target,
+        })),
         Err(stop) => {
             drop(pattern);
             Err(stop)
@@ -498,6 +524,6 @@ pub fn read_line(
 ) -> Result<Option<Form>, Stop>
     ensures { Gives (λ f. f) result (said known.now draft.now text.now) }
 {
-    read_tokens(alloc, tokens, text)?;
+    read_tokens(alloc, draft.version, tokens, text)?;
     read_said(alloc, known, draft, &Line::new(text, tokens.as_slice()))
 }

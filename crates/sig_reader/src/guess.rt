@@ -7,6 +7,7 @@ ghost use Rattle.sig_reader.specs.Fitting.{IsFit};
 use crate::draft::{Draft, discard, finish, take_line};
 use crate::reader::ScriptError;
 use sig_lists::Sequence;
+use sig_program::Version;
 use sig_tokens::{Known, Stop, Tokens, first_line, is_blank_byte};
 use std::alloc::{AllocError, Global};
 
@@ -40,7 +41,7 @@ fn note_line(
 /// Notes the names in the text. The number is that of the line behind it.
 fn note_lines(alloc: Global, draft: &mut Draft, bytes: &[u8]) -> Result<u64, Stop>
     requires short { length bytes.now < 2 ^ 30 }
-    requires first { draft.old ≡ blank }
+    requires first { draft.old ≡ blank draft.old.version }
     ensures few { IfOk result (λ n. n < 2 ^ 31) }
     ensures fit { IfOk result (λ n. IsFit n draft.new) }
 {
@@ -83,10 +84,10 @@ fn no_names(stop: Stop) -> Result<Known, AllocError> {
 /// passes over the lines that can name none, and knows no names where one of the others is refused.
 ///
 /// Asks that there are fewer than 2^30 bytes.
-pub fn guess_names(alloc: Global, bytes: &[u8]) -> Result<Known, AllocError>
+pub fn guess_names(alloc: Global, version: Version, bytes: &[u8]) -> Result<Known, AllocError>
     requires { length bytes.now < 2 ^ 30 }
 {
-    let mut draft = Draft::new(alloc);
+    let mut draft = Draft::new(alloc, version);
     match note_lines(alloc, &mut draft, bytes) {
         Ok(n) => names_of(draft, n),
         Err(stop) => {

@@ -3,9 +3,11 @@
 
 mod draft;
 mod form;
+mod guards;
 mod guess;
 mod keyword;
 mod reader;
 mod same_names;
 
+pub use guards::MOST_TESTS;
 pub use reader::{MOST_BYTES, ScriptError, read_script};

@@ -12,6 +12,7 @@ ghost use Rattle.sig_reader.specs.Grammar.{
   script_of,
 };
 ghost use Rattle.sig_reader.specs.Drafts.{blank};
+ghost use Rattle.sig_program.specs.declared.version.Version.TheVariants.{One};
 ghost use Rattle.sig_reader.specs.Fitting.{IsFit};
 ghost use Rattle.sig_program.specs.Scripts.{IsWithin, IsScriptWithin};
 ghost use Rattle.sig_reader.specs.Reading.{IsReading, IsWalked};
@@ -25,7 +26,7 @@ use sig_program::{Proc, Procs, Script, Version};
 use sig_terms::bytes::equal_bytes;
 use sig_tokens::{
     DraftProcs, DraftScript, FaultKind, Known, Line, Stop, TokenKind, first_line, read_tokens,
-    spells_one,
+    spells_one, spells_two,
 };
 use std::alloc::{AllocError, Global};
 use std::error::Error;
@@ -72,8 +73,8 @@ fn walk_lines(
     bytes: &[u8],
 ) -> Result<u64, ScriptError>
     requires short { length bytes.now < 2 ^ 30 }
-    requires first { draft.old ≡ blank }
-    ensures walked { IsWalked (walk known.now (lines_of bytes.now)) draft.new result }
+    requires first { draft.old ≡ blank draft.old.version }
+    ensures walked { IsWalked (walk draft.old.version known.now (lines_of bytes.now)) draft.new result }
     ensures fit { IfOk result (λ n. IsFit n draft.new) }
 {
     let mut tokens = Sequence::new(alloc);
@@ -93,11 +94,16 @@ fn walk_lines(
 }
 
 /// The script of the lines after the first.
-fn read_lines(alloc: Global, known: &Known, bytes: &[u8]) -> Result<DraftScript, ScriptError>
+fn read_lines(
+    alloc: Global,
+    version: Version,
+    known: &Known,
+    bytes: &[u8],
+) -> Result<DraftScript, ScriptError>
     requires short { length bytes.now < 2 ^ 30 }
-    ensures { IsReading (walk known.now (lines_of bytes.now)) result }
+    ensures { IsReading (walk version known.now (lines_of bytes.now)) result }
 {
-    let mut draft = Draft::new(alloc);
+    let mut draft = Draft::new(alloc, version);
     match walk_lines(alloc, known, &mut draft, bytes) {
         Ok(n) => finish(draft, n),
         Err(e) => {
@@ -113,6 +119,7 @@ fn version_of(kind: TokenKind, word: &[u8]) -> Option<Version>
 {
     match kind {
         TokenKind::Integer if spells_one(word) => Some(Version::One),
+        TokenKind::Integer if spells_two(word) => Some(Version::Two),
         _ => None,
     }
 }
@@ -133,10 +140,10 @@ fn read_version(line: &Line) -> Option<Version>
 
 /// The version that the line tells. `None` exactly where it isn't the header.
 fn read_header(alloc: Global, text: &[u8]) -> Result<Option<Version>, AllocError>
-    ensures { IfOk result (λ version. version ≡ header_of (tokens_of text.now) text.now) }
+    ensures { IfOk result (λ version. version ≡ header_of (tokens_of One text.now) text.now) }
 {
     let mut tokens = Sequence::new(alloc);
-    match read_tokens(alloc, &mut tokens, text) {
+    match read_tokens(alloc, Version::One, &mut tokens, text) {
         Ok(()) => Ok(read_version(&Line::new(text, tokens.as_slice()))),
         Err(Stop::Fault(_)) => Ok(None),
         Err(Stop::Memory) => Err(AllocError),
@@ -185,21 +192,26 @@ fn seal(alloc: Global, draft: DraftScript) -> Result<Script, AllocError>
 }
 
 /// Both walks over the lines after the first.
-fn read_twice(alloc: Global, bytes: &[u8]) -> Result<Script, ScriptError>
+fn read_twice(alloc: Global, version: Version, bytes: &[u8]) -> Result<Script, ScriptError>
     requires { length bytes.now < 2 ^ 30 }
-    ensures { IsReading (walk_twice (lines_of bytes.now)) result }
+    ensures { IsReading (walk_twice version (lines_of bytes.now)) result }
 {
-    let first = read_lines(alloc, &Known::Any, bytes)?;
-    let second = read_lines(alloc, &Known::Among(first), bytes)?;
+    let first = read_lines(alloc, version, &Known::Any, bytes)?;
+    let second = read_lines(alloc, version, &Known::Among(first), bytes)?;
     Ok(seal(alloc, second)?)
 }
 
 /// The script of one walk, where the names that it was given are those that it has found.
-fn read_once(alloc: Global, known: &Known, bytes: &[u8]) -> Result<Option<Script>, AllocError>
+fn read_once(
+    alloc: Global,
+    version: Version,
+    known: &Known,
+    bytes: &[u8],
+) -> Result<Option<Script>, AllocError>
     requires short { length bytes.now < 2 ^ 30 }
-    ensures { IfOk result (λ script. IfSome script (λ s. walk_twice (lines_of bytes.now) ≡ Ok s)) }
+    ensures { IfOk result (λ script. IfSome script (λ s. walk_twice version (lines_of bytes.now) ≡ Ok s)) }
 {
-    match read_lines(alloc, known, bytes) {
+    match read_lines(alloc, version, known, bytes) {
         Ok(script) => {
             if are_its_names(known, &script) {
                 Ok(Some(seal(alloc, script)?))
@@ -213,36 +225,46 @@ fn read_once(alloc: Global, known: &Known, bytes: &[u8]) -> Result<Option<Script
 }
 
 /// The script by one walk where these are its names, else by two.
-fn read_named(alloc: Global, names: &Known, bytes: &[u8]) -> Result<Script, ScriptError>
+fn read_named(
+    alloc: Global,
+    version: Version,
+    names: &Known,
+    bytes: &[u8],
+) -> Result<Script, ScriptError>
     requires short { length bytes.now < 2 ^ 30 }
-    ensures { IsReading (walk_twice (lines_of bytes.now)) result }
+    ensures { IsReading (walk_twice version (lines_of bytes.now)) result }
 {
-    match read_once(alloc, names, bytes)? {
+    match read_once(alloc, version, names, bytes)? {
         Some(script) => Ok(script),
-        None => read_twice(alloc, bytes),
+        None => read_twice(alloc, version, bytes),
     }
 }
 
 /// The script, whose names were guessed or not.
-fn read_guessed(alloc: Global, names: &Known, bytes: &[u8]) -> Result<Script, ScriptError>
+fn read_guessed(
+    alloc: Global,
+    version: Version,
+    names: &Known,
+    bytes: &[u8],
+) -> Result<Script, ScriptError>
     requires short { length bytes.now < 2 ^ 30 }
-    ensures { IsReading (walk_twice (lines_of bytes.now)) result }
+    ensures { IsReading (walk_twice version (lines_of bytes.now)) result }
 {
     match names {
-        Known::Any => read_twice(alloc, bytes),
-        Known::Among(_) => read_named(alloc, names, bytes),
+        Known::Any => read_twice(alloc, version, bytes),
+        Known::Among(_) => read_named(alloc, version, names, bytes),
     }
 }
 
 /// The script of the lines after the first. Most are read by one walk, since their names are
 /// guessed before; a text whose names were guessed wrong, or with a line that is refused, is walked
 /// twice.
-fn read_body(alloc: Global, bytes: &[u8]) -> Result<Script, ScriptError>
+fn read_body(alloc: Global, version: Version, bytes: &[u8]) -> Result<Script, ScriptError>
     requires { length bytes.now < 2 ^ 30 }
-    ensures { IsReading (walk_twice (lines_of bytes.now)) result }
+    ensures { IsReading (walk_twice version (lines_of bytes.now)) result }
 {
-    let names = guess_names(alloc, bytes)?;
-    read_guessed(alloc, &names, bytes)
+    let names = guess_names(alloc, version, bytes)?;
+    read_guessed(alloc, version, &names, bytes)
 }
 
 /// The script of the text, or the first line that is refused.
@@ -259,7 +281,7 @@ fn read_text(alloc: Global, bytes: &[u8]) -> Result<Script, ScriptError>
     }
     let first = first_line(bytes);
     match read_header(alloc, first)? {
-        Some(_version) => read_body(alloc, behind_line(bytes, first)),
+        Some(version) => read_body(alloc, version, behind_line(bytes, first)),
         None => Err(header),
     }
 }

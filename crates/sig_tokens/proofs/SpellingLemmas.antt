@@ -10,6 +10,7 @@ use Rattle.sig_tokens.specs.declared.token.TokenKind.TheVariants.{Name, Variable
 use Rattle.sig_tokens.specs.declared.token.Token.{Token}
 use Rattle.sig_tokens.specs.Tokens.{text, front_run, front_token, is_token_in_range, IsSpelled, IsToken, AreTokens, AreWellSpelled}
 use Rattle.sig_terms.specs.declared.bytes.TheConstants.{MOST_WORD_BYTES}
+use Rattle.sig_program.specs.declared.version.Version.{Version}
 use Rattle.sig_tokens.proofs.FrontTokens.{AtFront, OfEach, at_front}
 
 -- the bytes at the front that pass a test pass it
@@ -111,10 +112,10 @@ tokens-push line [] t h e = (e, tt)
 tokens-push line (u ∷ us) t h e = (h.0, tokens-push line us t h.1 e)
 
 -- the token at the front of the rest of a line
-pub token-known : (line : List ℕ) (i : ℕ) (kind : TokenKind) (len : ℕ) (rest : List ℕ) → rest ≡ drop i line → front_token rest ≡ Some (kind, len) → i + len ≤ length line →
+pub token-known : (v : Version) (line : List ℕ) (i : ℕ) (kind : TokenKind) (len : ℕ) (rest : List ℕ) → rest ≡ drop i line → front_token v rest ≡ Some (kind, len) → i + len ≤ length line →
     IsToken line (record { kind = kind; start = i; end = i + len })
-token-known line i kind len rest is some within =
-    let good : IsSpelled kind (take len rest) = subst (AtFront IsSpelled rest) some (at_front IsSpelled each-spelled rest) in
+token-known v line i kind len rest is some within =
+    let good : IsSpelled kind (take len rest) = subst (AtFront IsSpelled rest) some (at_front IsSpelled each-spelled v rest) in
     let same : i + len - i ≡ len = omega arith in
     let above : i ≤ i + len = omega arith in
     (above, within, subst (IsSpelled kind) (ap (take len) is ∙ ap (λ (n : ℕ). take n (drop i line)) (sym same)) good)

@@ -19,10 +19,16 @@ abbrev pub is_in_range : List ℕ → Bool
 is_in_range [] = false
 is_in_range (b ∷ bs) = if b == 45 then nat_le (number bs) (2 ^ 63) else nat_le (number (b ∷ bs)) (2 ^ 63 - 1)
 
--- digits of the value 1
+-- digits of this value
+abbrev pub is_value : ℕ → List ℕ → Bool
+is_value n [] = false
+is_value n (b ∷ bs) = not (b == 45) && number (b ∷ bs) == n
+
 abbrev pub is_one : List ℕ → Bool
-is_one [] = false
-is_one (b ∷ bs) = not (b == 45) && number (b ∷ bs) == 1
+is_one digits = is_value 1 digits
+
+abbrev pub is_two : List ℕ → Bool
+is_two digits = is_value 2 digits
 
 -- n below 0
 abbrev pub negative : ℕ → ℤ

@@ -12,12 +12,14 @@ use Rattle.sig_tokens.specs.declared.token.Sign.TheVariants as sign
 use Rattle.sig_tokens.specs.declared.token.Token.{Token}
 use Rattle.sig_tokens.specs.declared.token.Cut.{Cut}
 use Rattle.sig_terms.specs.declared.bytes.TheConstants.{MOST_WORD_BYTES}
+use Rattle.sig_program.specs.declared.version.Version.{Version}
+use Rattle.sig_program.specs.declared.version.Version.TheVariants.{One, Two}
 
 -- a space, a tab and a carriage return
 abbrev pub is_blank : ℕ → Bool
 is_blank b = b == 32 || b == 9 || b == 13
 
--- `{` `}` `[` `]` `,` `|` `^` `=`
+-- `{` `}` `[` `]` `,` `|` `^`
 abbrev pub sign_of : ℕ → Option signs.Sign
 sign_of b =
     if b == 123 then Some sign.OpenBrace
@@ -27,13 +29,7 @@ sign_of b =
     else if b == 44 then Some sign.Comma
     else if b == 124 then Some sign.Bar
     else if b == 94 then Some sign.Caret
-    else if b == 61 then Some sign.Equals
     else None
-
--- a sign of one byte
-abbrev pub sign_at : Option signs.Sign → Option (TokenKind × ℕ)
-sign_at None = None
-sign_at (Some s) = Some (Sign s, 1)
 
 -- how many bytes at the front pass the test
 abbrev pub front_run : (ℕ → Bool) → List ℕ → ℕ
@@ -67,10 +63,53 @@ quote_at n (b ∷ bs) = if b == 39 then short_word Quoted 2 n else None
 abbrev pub quoted_at : List ℕ → Option (TokenKind × ℕ)
 quoted_at bs = let n = front_run is_atom_byte bs in quote_at n (drop n bs)
 
+-- behind `=`: `<` or `=` makes a comparison sign of both
+abbrev pub equals_at : List ℕ → Option (TokenKind × ℕ)
+equals_at [] = Some (Sign sign.Equals, 1)
+equals_at (b ∷ bs) =
+    if b == 60 then Some (Sign sign.AtMost, 2)
+    else if b == 61 then Some (Sign sign.EqualTo, 2)
+    else Some (Sign sign.Equals, 1)
+
+-- behind `>`: `=` makes one sign of both
+abbrev pub greater_at : List ℕ → Option (TokenKind × ℕ)
+greater_at [] = Some (Sign sign.Greater, 1)
+greater_at (b ∷ bs) = if b == 61 then Some (Sign sign.AtLeast, 2) else Some (Sign sign.Greater, 1)
+
+-- behind `/`: `=`
+abbrev pub slash_at : List ℕ → Option (TokenKind × ℕ)
+slash_at [] = None
+slash_at (b ∷ bs) = if b == 61 then Some (Sign sign.UnequalTo, 2) else None
+
+-- `=`, the comparison signs `<` `>` `=<` `>=` `==` `/=` (Erlang Reference Manual, Expressions, Term Comparisons), `(` and `)`
+abbrev pub guard_sign_at : ℕ → List ℕ → Option (TokenKind × ℕ)
+guard_sign_at b bs =
+    if b == 61 then equals_at bs
+    else if b == 60 then Some (Sign sign.Less, 1)
+    else if b == 62 then greater_at bs
+    else if b == 47 then slash_at bs
+    else if b == 40 then Some (Sign sign.OpenParen, 1)
+    else if b == 41 then Some (Sign sign.CloseParen, 1)
+    else None
+
+-- of these version 1 has `=` alone
+abbrev pub sign_by : Version → ℕ → List ℕ → Option (TokenKind × ℕ)
+sign_by One b bs = if b == 61 then Some (Sign sign.Equals, 1) else None
+sign_by Two b bs = guard_sign_at b bs
+
+-- a sign of one byte, or else what stands there
+abbrev pub sign_or : Option signs.Sign → Option (TokenKind × ℕ) → Option (TokenKind × ℕ)
+sign_or (Some s) other = Some (Sign s, 1)
+sign_or None other = other
+
+-- a sign that begins with this byte
+abbrev pub sign_front : Version → ℕ → List ℕ → Option (TokenKind × ℕ)
+sign_front v b bs = sign_or (sign_of b) (sign_by v b bs)
+
 -- the token at the front of the bytes, as long as possible: its kind and how many bytes it has
-abbrev pub front_token : List ℕ → Option (TokenKind × ℕ)
-front_token [] = None
-front_token (b ∷ bs) =
+abbrev pub front_token : Version → List ℕ → Option (TokenKind × ℕ)
+front_token v [] = None
+front_token v (b ∷ bs) =
     if is_lower b then short_word Name 0 (1 + front_run is_name_byte bs)
     else if is_upper b then short_word Variable 0 (1 + front_run is_variable_byte bs)
     else if is_digit b then Some (Integer, 1 + front_run is_digit bs)
@@ -78,7 +117,7 @@ front_token (b ∷ bs) =
     else if b == 45 then minus_at bs
     else if b == 95 then underscore_at bs
     else if b == 39 then quoted_at bs
-    else sign_at (sign_of b)
+    else sign_front v b bs
 
 -- a token, and the tokens after it; a place at which none stands ends the tokens
 abbrev pub with_token : Option (TokenKind × ℕ) → ℕ → (ℕ → Cut) → Cut
@@ -88,13 +127,13 @@ with_token (Some t) at after =
     record { tokens = record { kind = t.0; start = at; end = at + t.1 } ∷ cut.tokens; stop = cut.stop }
 
 -- the tokens from this place of a line on, where so many bytes belong to the token before; `%` begins a comment
-unfoldable pub cut_of : ℕ → ℕ → List ℕ → Cut
-cut_of at skip [] = record { tokens = []; stop = None }
-cut_of at (suc skip) (b ∷ bs) = cut_of (at + 1) skip bs
-cut_of at zero (b ∷ bs) =
-    if is_blank b then cut_of (at + 1) 0 bs
+unfoldable pub cut_of : Version → ℕ → ℕ → List ℕ → Cut
+cut_of v at skip [] = record { tokens = []; stop = None }
+cut_of v at (suc skip) (b ∷ bs) = cut_of v (at + 1) skip bs
+cut_of v at zero (b ∷ bs) =
+    if is_blank b then cut_of v (at + 1) 0 bs
     else if b == 37 then record { tokens = []; stop = None }
-    else with_token (front_token (b ∷ bs)) at (λ skip. cut_of (at + 1) skip bs)
+    else with_token (front_token v (b ∷ bs)) at (λ skip. cut_of v (at + 1) skip bs)
 
 -- the bytes of a token
 abbrev pub text : List ℕ → Token → List ℕ
@@ -150,9 +189,9 @@ abbrev pub checked : List ℕ → Cut → Result (List Token) FaultKind
 checked line cut =
     if list_all (λ t. is_token_in_range (text line t) t.kind) cut.tokens then (if is_some cut.stop then Err Syntax else Ok cut.tokens) else Err IntRange
 
--- the tokens of a line, or what is wrong with one of them
-abbrev pub tokens_of : List ℕ → Result (List Token) FaultKind
-tokens_of line = checked line (cut_of 0 0 line)
+-- the tokens of a line of a script of this version, or what is wrong with one of them
+abbrev pub tokens_of : Version → List ℕ → Result (List Token) FaultKind
+tokens_of v line = checked line (cut_of v 0 0 line)
 
 -- a name token
 abbrev pub IsNameToken : List ℕ → Type 0

@@ -20,6 +20,6 @@ pub use known::Known;
 pub use label_table::LabelTable;
 pub use line::{Line, first_line, read_tokens};
 pub use names::{name_of, take_target, take_variable, take_word};
-pub use number::{read_count, spells_one};
+pub use number::{read_count, read_int, spells_one, spells_two};
 pub use phrases::{Phrase, atom_of, take_phrase};
 pub use token::{Sign, Token, TokenKind, Tokens, is_blank_byte};

@@ -17,6 +17,7 @@ use crate::fault::{FaultKind, Stop};
 use crate::number::fits_in_range;
 use crate::token::{Cut, Token, TokenKind, Tokens, is_blank_byte, token_at};
 use sig_lists::Sequence;
+use sig_program::Version;
 use std::alloc::{AllocError, Global};
 use std::marker::Model;
 use std::mem::replace;
@@ -104,9 +105,9 @@ pub fn first_line(bytes: &[u8]) -> &[u8]
 }
 
 /// The tokens of a line up to the first place at which none stands, in the room of an empty list.
-fn cut_line(room: Tokens, line: &[u8]) -> Result<Cut, AllocError>
+fn cut_line(version: Version, room: Tokens, line: &[u8]) -> Result<Cut, AllocError>
     requires { room ≡ [] }
-    ensures cut { IfOk result (λ cut. cut ≡ cut_of 0 0 line.now) }
+    ensures cut { IfOk result (λ cut. cut ≡ cut_of version 0 0 line.now) }
     ensures known { IfOk result (λ cut. AreTokens line.now cut.tokens) }
 {
     let mut tokens = room;
@@ -120,7 +121,7 @@ fn cut_line(room: Tokens, line: &[u8]) -> Result<Cut, AllocError>
             at += 1;
             continue;
         }
-        let Some((kind, len)) = token_at(&line[at..]) else {
+        let Some((kind, len)) = token_at(version, &line[at..]) else {
             return Ok(Cut {
                 tokens,
                 stop: Some(at),
@@ -167,15 +168,20 @@ fn all_fit(line: &[u8], tokens: &[Token]) -> bool
     true
 }
 
-/// The tokens of a line, or what is wrong with them. They replace those in the list, whose room is
-/// used again.
-pub fn read_tokens(alloc: Global, into: &mut Tokens, line: &[u8]) -> Result<(), Stop>
-    ensures tokens { Gives (λ u. into.new) result (tokens_of line.now) }
+/// The tokens of a line of a script of this version, or what is wrong with them. They replace those
+/// in the list, whose room is used again.
+pub fn read_tokens(
+    alloc: Global,
+    version: Version,
+    into: &mut Tokens,
+    line: &[u8],
+) -> Result<(), Stop>
+    ensures tokens { Gives (λ u. into.new) result (tokens_of version line.now) }
     ensures spelled { OnOk result (AreWellSpelled line.now into.new) }
 {
     let mut room = replace(into, Sequence::new(alloc)).into_vec();
     room.clear();
-    let cut = cut_line(Sequence::from_vec(room), line)?;
+    let cut = cut_line(version, Sequence::from_vec(room), line)?;
     if !all_fit(line, cut.tokens.as_slice()) {
         return Err(Stop::Fault(FaultKind::IntRange));
     }

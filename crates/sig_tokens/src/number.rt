@@ -1,5 +1,5 @@
 ghost use Rattle.std.specs.Prelude.{◌≡◌, ◌≤◌, ◌^◌, true};
-ghost use Rattle.sig_tokens.specs.Numbers.{number, up_to, is_in_range, is_one, negative, int_of, count_of};
+ghost use Rattle.sig_tokens.specs.Numbers.{number, up_to, is_in_range, is_value, is_one, is_two, negative, int_of, count_of};
 
 /// The number that the digits write, where it isn't above the bound.
 fn number_up_to(most: u64, digits: &[u8]) -> Option<u64>
@@ -26,15 +26,29 @@ pub fn fits_in_range(text: &[u8]) -> bool
     }
 }
 
-/// Whether the integer is 1.
-pub fn spells_one(text: &[u8]) -> bool
-    ensures { result ≡ is_one text.now }
+/// Whether digits without a sign write the number.
+fn spells(n: u64, text: &[u8]) -> bool
+    ensures { result ≡ is_value n text.now }
 {
     match text {
         [] => false,
         [b'-', ..] => false,
-        _ => number_up_to(1, text) == Some(1),
+        _ => number_up_to(n, text) == Some(n),
     }
+}
+
+/// Whether the integer is 1.
+pub fn spells_one(text: &[u8]) -> bool
+    ensures { result ≡ is_one text.now }
+{
+    spells(1, text)
+}
+
+/// Whether the integer is 2.
+pub fn spells_two(text: &[u8]) -> bool
+    ensures { result ≡ is_two text.now }
+{
+    spells(2, text)
 }
 
 /// The integer so much below 0.

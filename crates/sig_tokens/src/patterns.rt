@@ -48,7 +48,7 @@ impl Phrase for Pattern {
     }
 
     fn begins(kind: TokenKind) -> bool {
-        kind.is_caret() || kind.is_underscore()
+        kind.is_sign(Sign::Caret) || kind.is_sign(Sign::Underscore)
     }
 
     fn signed<'l>(
@@ -56,10 +56,10 @@ impl Phrase for Pattern {
         kind: TokenKind,
         rest: Line<'l>,
     ) -> Result<(Pattern, Line<'l>), Stop> {
-        if kind.is_caret() {
+        if kind.is_sign(Sign::Caret) {
             let (var, behind) = take_variable(alloc, &rest)?;
             Ok((Pattern::Pin(var), behind))
-        } else if kind.is_underscore() {
+        } else if kind.is_sign(Sign::Underscore) {
             Ok((Pattern::Any, rest))
         } else {
             Err(Stop::Fault(FaultKind::Syntax))

@@ -76,7 +76,10 @@ pub trait Phrase: Drop + Sized {
 fn begins<T: Phrase>(kind: TokenKind) -> bool
     ensures { result ≡ begins_phrase T.spelling kind }
 {
-    kind.is_open_brace() || kind.is_open_bracket() || kind.is_word() || T::begins(kind)
+    kind.is_sign(Sign::OpenBrace)
+        || kind.is_sign(Sign::OpenBracket)
+        || kind.is_word()
+        || T::begins(kind)
 }
 
 /// What is wrong with the first token where no node or no depth is left.
@@ -133,7 +136,7 @@ fn is_before_tail<T: Phrase>(close: Sign, kind: TokenKind) -> bool
     ensures { result ≡ is_before_tail T.spelling close kind }
 {
     match close {
-        Sign::CloseBracket => T::has_tails() && kind.is_bar(),
+        Sign::CloseBracket => T::has_tails() && kind.is_sign(Sign::Bar),
         _ => false,
     }
 }
@@ -203,7 +206,7 @@ fn some_elements<'l, T: Phrase>(
         items.add(item)?;
         left = fewer;
         match behind.split_first() {
-            Some((token, more)) if token.kind.is_comma() => rest = more,
+            Some((token, more)) if token.kind.is_sign(Sign::Comma) => rest = more,
             _ => return end(alloc, known, close, items, depth, left, &behind),
         }
     }
@@ -249,9 +252,9 @@ fn behind_token<'l, T: Phrase>(
     ensures value { Gives (λ x. (x.0, x.1, x.2.tokens)) result (phrase_behind T.spelling known.now depth token nodes rest.entry) }
     ensures line { IfOk result (λ x. x.2.text ≡ rest.entry.text) }
 {
-    if token.kind.is_open_brace() {
+    if token.kind.is_sign(Sign::OpenBrace) {
         behind_bracket(alloc, known, Sign::CloseBrace, depth, nodes, rest)
-    } else if token.kind.is_open_bracket() {
+    } else if token.kind.is_sign(Sign::OpenBracket) {
         behind_bracket(alloc, known, Sign::CloseBracket, depth, nodes, rest)
     } else {
         let (phrase, behind) = take_single(alloc, known, token, rest)?;

@@ -11,7 +11,12 @@ ghost use Rattle.sig_terms.specs.Words.{is_digit, is_name_byte, is_variable_byte
 ghost use Rattle.sig_tokens.specs.Tokens.{
   is_blank,
   sign_of,
-  sign_at,
+  equals_at,
+  greater_at,
+  slash_at,
+  guard_sign_at,
+  sign_by,
+  sign_front,
   front_run,
   short_word,
   process_at,
@@ -24,13 +29,15 @@ ghost use Rattle.sig_tokens.specs.Tokens.{
 ghost use Rattle.sig_tokens.specs.Signs as signs;
 
 use sig_lists::Sequence;
+use sig_patterns::Op;
+use sig_program::Version;
 use sig_terms::bytes::{
     MOST_WORD_BYTES, follows_in_name, follows_in_variable, is_digit_byte, is_lower_byte,
     is_upper_byte, stands_in_atom,
 };
 
-/// A token that stands for itself.
-#[derive(Clone, Copy)]
+/// A token that stands for itself. Comparison signs and parentheses are tokens in version 2 alone.
+#[derive(Clone, Copy, PartialEq, Eq)]
 pub enum Sign {
     /// `{`
     OpenBrace,
@@ -52,6 +59,22 @@ pub enum Sign {
     Arrow,
     /// `_`
     Underscore,
+    /// `<`
+    Less,
+    /// `>`
+    Greater,
+    /// `=<`
+    AtMost,
+    /// `>=`
+    AtLeast,
+    /// `==`
+    EqualTo,
+    /// `/=`
+    UnequalTo,
+    /// `(`
+    OpenParen,
+    /// `)`
+    CloseParen,
 }
 
 /// What a token is.
@@ -79,53 +102,14 @@ impl TokenKind {
         !matches!(self, TokenKind::Sign(_))
     }
 
-    /// Whether it is `{`.
-    pub fn is_open_brace(self) -> bool
-        ensures { result ≡ signs.is_open_brace self }
+    /// Whether it is this sign.
+    pub fn is_sign(self, sign: Sign) -> bool
+        ensures { result ≡ signs.is_sign sign self }
     {
-        matches!(self, TokenKind::Sign(Sign::OpenBrace))
-    }
-
-    /// Whether it is `[`.
-    pub fn is_open_bracket(self) -> bool
-        ensures { result ≡ signs.is_open_bracket self }
-    {
-        matches!(self, TokenKind::Sign(Sign::OpenBracket))
-    }
-
-    /// Whether it is `,`.
-    pub fn is_comma(self) -> bool
-        ensures { result ≡ signs.is_comma self }
-    {
-        matches!(self, TokenKind::Sign(Sign::Comma))
-    }
-
-    /// Whether it is `|`.
-    pub fn is_bar(self) -> bool
-        ensures { result ≡ signs.is_bar self }
-    {
-        matches!(self, TokenKind::Sign(Sign::Bar))
-    }
-
-    /// Whether it is `^`.
-    pub fn is_caret(self) -> bool
-        ensures { result ≡ signs.is_caret self }
-    {
-        matches!(self, TokenKind::Sign(Sign::Caret))
-    }
-
-    /// Whether it is `->`.
-    pub fn is_arrow(self) -> bool
-        ensures { result ≡ signs.is_arrow self }
-    {
-        matches!(self, TokenKind::Sign(Sign::Arrow))
-    }
-
-    /// Whether it is `_`.
-    pub fn is_underscore(self) -> bool
-        ensures { result ≡ signs.is_underscore self }
-    {
-        matches!(self, TokenKind::Sign(Sign::Underscore))
+        match self {
+            TokenKind::Sign(own) => own == sign,
+            _ => false,
+        }
     }
 
     /// Whether it is the sign that ends a tuple or a list.
@@ -136,6 +120,21 @@ impl TokenKind {
             (Sign::CloseBrace, TokenKind::Sign(Sign::CloseBrace)) => true,
             (Sign::CloseBracket, TokenKind::Sign(Sign::CloseBracket)) => true,
             _ => false,
+        }
+    }
+
+    /// The comparison that it spells. `None` where it is no comparison sign.
+    pub fn op(self) -> Option<Op>
+        ensures { result ≡ signs.op_of self }
+    {
+        match self {
+            TokenKind::Sign(Sign::Less) => Some(Op::Less),
+            TokenKind::Sign(Sign::Greater) => Some(Op::Greater),
+            TokenKind::Sign(Sign::AtMost) => Some(Op::AtMost),
+            TokenKind::Sign(Sign::AtLeast) => Some(Op::AtLeast),
+            TokenKind::Sign(Sign::EqualTo) => Some(Op::Equal),
+            TokenKind::Sign(Sign::UnequalTo) => Some(Op::Unequal),
+            _ => None,
         }
     }
 }
@@ -185,19 +184,86 @@ fn sign_of_byte(b: u8) -> Option<Sign>
         Some(Sign::Bar)
     } else if b == b'^' {
         Some(Sign::Caret)
-    } else if b == b'=' {
-        Some(Sign::Equals)
     } else {
         None
     }
 }
 
-fn sign_token(b: u8) -> Option<(TokenKind, usize)>
-    ensures token { result ≡ sign_at (sign_of b) }
-    ensures len { IfSome result (λ t. t.1 ≡ 1) }
+/// What stands behind `=`.
+fn equals_token(rest: &[u8]) -> Option<(TokenKind, usize)>
+    ensures token { result ≡ equals_at rest.now }
+    ensures within { IfSome result (λ t. (0 < t.1) × (t.1 ≤ length rest.now + 1)) }
 {
-    let sign = sign_of_byte(b)?;
-    Some((TokenKind::Sign(sign), 1))
+    match rest {
+        [b'<', ..] => Some((TokenKind::Sign(Sign::AtMost), 2)),
+        [b'=', ..] => Some((TokenKind::Sign(Sign::EqualTo), 2)),
+        _ => Some((TokenKind::Sign(Sign::Equals), 1)),
+    }
+}
+
+/// What stands behind `>`.
+fn greater_token(rest: &[u8]) -> Option<(TokenKind, usize)>
+    ensures token { result ≡ greater_at rest.now }
+    ensures within { IfSome result (λ t. (0 < t.1) × (t.1 ≤ length rest.now + 1)) }
+{
+    match rest {
+        [b'=', ..] => Some((TokenKind::Sign(Sign::AtLeast), 2)),
+        _ => Some((TokenKind::Sign(Sign::Greater), 1)),
+    }
+}
+
+/// What stands behind `/`.
+fn slash_token(rest: &[u8]) -> Option<(TokenKind, usize)>
+    ensures token { result ≡ slash_at rest.now }
+    ensures within { IfSome result (λ t. (0 < t.1) × (t.1 ≤ length rest.now + 1)) }
+{
+    match rest {
+        [b'=', ..] => Some((TokenKind::Sign(Sign::UnequalTo), 2)),
+        _ => None,
+    }
+}
+
+fn guard_sign_token(b: u8, rest: &[u8]) -> Option<(TokenKind, usize)>
+    ensures token { result ≡ guard_sign_at b rest.now }
+    ensures within { IfSome result (λ t. (0 < t.1) × (t.1 ≤ length rest.now + 1)) }
+{
+    if b == b'=' {
+        equals_token(rest)
+    } else if b == b'<' {
+        Some((TokenKind::Sign(Sign::Less), 1))
+    } else if b == b'>' {
+        greater_token(rest)
+    } else if b == b'/' {
+        slash_token(rest)
+    } else if b == b'(' {
+        Some((TokenKind::Sign(Sign::OpenParen), 1))
+    } else if b == b')' {
+        Some((TokenKind::Sign(Sign::CloseParen), 1))
+    } else {
+        None
+    }
+}
+
+/// The signs of which version 1 has `=` alone.
+fn sign_token_by(version: Version, b: u8, rest: &[u8]) -> Option<(TokenKind, usize)>
+    ensures token { result ≡ sign_by version b rest.now }
+    ensures within { IfSome result (λ t. (0 < t.1) × (t.1 ≤ length rest.now + 1)) }
+{
+    match version {
+        Version::One if b == b'=' => Some((TokenKind::Sign(Sign::Equals), 1)),
+        Version::One => None,
+        Version::Two => guard_sign_token(b, rest),
+    }
+}
+
+fn sign_token(version: Version, b: u8, rest: &[u8]) -> Option<(TokenKind, usize)>
+    ensures token { result ≡ sign_front version b rest.now }
+    ensures within { IfSome result (λ t. (0 < t.1) × (t.1 ≤ length rest.now + 1)) }
+{
+    match sign_of_byte(b) {
+        Some(sign) => Some((TokenKind::Sign(sign), 1)),
+        None => sign_token_by(version, b, rest),
+    }
 }
 
 fn run_of_name(bytes: &[u8]) -> usize
@@ -293,9 +359,9 @@ fn quoted_token(rest: &[u8]) -> Option<(TokenKind, usize)>
     }
 }
 
-/// The token at the front of the bytes, as long as possible: its kind and length.
-pub fn token_at(rest: &[u8]) -> Option<(TokenKind, usize)>
-    ensures token { result ≡ front_token rest.now }
+/// The token of this version at the front of the bytes, as long as possible: its kind and length.
+pub fn token_at(version: Version, rest: &[u8]) -> Option<(TokenKind, usize)>
+    ensures token { result ≡ front_token version rest.now }
     ensures within { IfSome result (λ t. (0 < t.1) × (t.1 ≤ length rest.now)) }
 {
     let (first, tail) = rest.split_first()?;
@@ -315,7 +381,7 @@ pub fn token_at(rest: &[u8]) -> Option<(TokenKind, usize)>
     } else if b == b'\'' {
         quoted_token(tail)
     } else {
-        sign_token(b)
+        sign_token(version, b, tail)
     }
 }
 

@@ -33,6 +33,6 @@ pub loop-at-init : goal.loop-at-init
 loop-at-init c = record {
   within = omega arith;
   number = omega arith;
-  fit = rw c.requires.first (fit_blank 2);
+  fit = rw c.requires.first (fit_blank 2 c.args.draft.now.version);
   whole = rw c.requires.first refl;
 }

@@ -10,7 +10,7 @@ invariant-loop-at l = record {
   within : l.at ≤ length l.bytes + 1;
   number : l.n ≤ l.at + 2;
   fit : IsFit l.n l.draft;
-  whole : body l.known l.n l.draft (lines_of (drop l.at l.bytes)) ≡ walk l.known (lines_of l.bytes);
+  whole : body l.known l.n l.draft (lines_of (drop l.at l.bytes)) ≡ walk l.fn.draft.version l.known (lines_of l.bytes);
 }
 
 abbrev pub decreases-loop-at : goal.decreases-loop-at

@@ -7,7 +7,7 @@ use Rattle.sig_tokens.proofs.line.cut_line.Given as goal
 abbrev pub invariant-loop-at : goal.invariant-loop-at
 invariant-loop-at l = record {
   within : l.at ≤ length l.line;
-  tokens : joined l.tokens (cut_of l.at 0 (drop l.at l.line)) ≡ cut_of 0 0 l.line;
+  tokens : joined l.tokens (cut_of l.version l.at 0 (drop l.at l.line)) ≡ cut_of l.version 0 0 l.line;
   known : AreTokens l.line l.tokens;
 }
 

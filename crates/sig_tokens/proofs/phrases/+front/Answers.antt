@@ -1,7 +1,7 @@
 use Rattle.std.proofs.Common.{arith, ◌∙◌, ap, refl, ◌≡◌, ◌<◌, ◌≤◌, ◌++◌, ◌∷◌, [], length, Ok, sym}
 use Rattle.sig_tokens.specs.Phrases.{elements, ending, phrase_at}
 use Rattle.sig_tokens.proofs.PhraseLemmas.{element_stops, last_element, no_room, no_depth, no_nodes, no_tokens, bracketed_none, bracketed_closed, bracketed_some, goes_on, phrase_step, HasNoComma, other_first, none_first}
-use Rattle.sig_tokens.proofs.phrases.+front.Goals.{front-then-depth-eq0-via-then-depth-eq0, front-then-depth-eq0-via-else-depth-eq0+then-nodes-eq0, some_elements-in_default-via-in-Some+else-is_comma, some_elements-in_default-via-in_default}
+use Rattle.sig_tokens.proofs.phrases.+front.Goals.{front-then-depth-eq0-via-then-depth-eq0, front-then-depth-eq0-via-else-depth-eq0+then-nodes-eq0, some_elements-in_default-via-in-Some+else-is_sign, some_elements-in_default-via-in_default}
 use Rattle.sig_tokens.proofs.phrases.+front.Goals as goal
 
 pub behind_bracket-returns-in-None-clause-value : goal.behind_bracket-returns-in-None-clause-value
@@ -57,7 +57,7 @@ some_elements-returns-in_default-clause-value g t c =
     let here : read c.loop.left c.loop.rest.tokens ≡ Ok (c.in_ok-item.item, c.in_ok-item.fewer, c.in_ok-item.behind.tokens) = rw c.loop.invariant.line at c.in_ok-item.ensures.value in
     let no_comma : HasNoComma c.in_ok-item.behind.tokens =
     elim c.in_default.branch [
-      | some_elements-in_default-via-in-Some+else-is_comma w ↦ other_first c.in_ok-item.behind.tokens w.in-Some.more.tokens w.in-Some.token w.in-Some.ensures.0 (sym w.if-is_comma.ensures)
+      | some_elements-in_default-via-in-Some+else-is_sign w ↦ other_first c.in_ok-item.behind.tokens w.in-Some.more.tokens w.in-Some.token w.in-Some.ensures.0 (sym w.if-is_sign.ensures)
       | some_elements-in_default-via-in_default w ↦ none_first c.in_ok-item.behind.tokens w.in_default.ensures
     ] in
     rw (
@@ -79,7 +79,7 @@ some_elements-loop-preserved g t c =
     record {
       line = c.in-Some.ensures.1 ∙ c.in_ok-item.ensures.line ∙ c.loop.invariant.line;
       items = rw added (goes_on read finish (length c.args.line.tokens) c.loop.counter c.loop.left c.loop.items c.loop.rest.tokens
-          c.in_ok-item.item c.in_ok-item.fewer c.in_ok-item.behind.tokens c.in-Some.more.tokens c.in-Some.token whole lt c.in-Some.ensures.0 (sym c.if-is_comma.ensures) here c.loop.invariant.items);
+          c.in_ok-item.item c.in_ok-item.fewer c.in_ok-item.behind.tokens c.in-Some.more.tokens c.in-Some.token whole lt c.in-Some.ensures.0 (sym c.if-is_sign.ensures) here c.loop.invariant.items);
     }
 
 pub some_elements-returns-clause-value : goal.some_elements-returns-clause-value
