@@ -241,7 +241,7 @@ impl Progress {
         }
     }
 
-    /// A change by which these signals are outgoing_of, and a variable gets the reference.
+    /// A change by which these signals are sent, and a variable gets the reference.
     fn made(&self, change: Change, reference: Ref, posts: Posts) -> Plan
         ensures { (s : ProcessState) → body_of s result
             ≡ record { state = changed s change; outcome = Outcome.Set (Term.Ref reference); posts = map post_of (outgoing_of posts) } }
