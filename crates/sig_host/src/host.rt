@@ -151,7 +151,8 @@ fn run_texts<R: Threads + Wait + Sync, G: Gate>(
 
 /// Writes the record. The summary is told once it is written.
 fn write_record<O: Sink>(texts: Texts, out: &mut O) -> Ending
-    ensures run { (workers : ℕ) → (script : Program) → (asked : Bool) → AreTexts workers script asked texts → IsScriptRun workers script asked
+    ensures run { (workers : ℕ) → (script : Program) → (asked : Bool) → AreTexts workers script asked texts
+        → IsScriptRun workers script asked
         (writing (O.held out.old) (O.held out.new) (O.faults out.old) (O.faults out.new))
         result.status (text_in result.summary) }
 {
@@ -196,7 +197,8 @@ fn run_generated<R: Threads + Wait + Sync, O: Sink, G: Gate>(
     requires range { IsInRange settings }
     requires least { 1 ≤ calls }
     requires most { calls ≤ MOST_CALLS }
-    ensures { IsScriptRun settings.workers (generated calls) true (writing (O.held out.old) (O.held out.new) (O.faults out.old) (O.faults out.new))
+    ensures { IsScriptRun settings.workers (generated calls) true
+        (writing (O.held out.old) (O.held out.new) (O.faults out.old) (O.faults out.new))
         result.status (text_in result.summary) }
 {
     match generate(alloc, calls) {

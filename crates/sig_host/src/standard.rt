@@ -1,8 +1,10 @@
 ghost use Rattle.std.specs.Prelude.{◌≤◌};
 
+use crate::ending::Ending;
 use crate::host::run;
 use crate::status::Status;
-use sig_base::{OpenGate, StdSink, StdSource};
+use crate::telling::tell;
+use sig_base::{OpenGate, Sink, StdSink, StdSource};
 use std::alloc::Global;
 use std::io::{Read, Write};
 use std::process::ExitCode;
@@ -10,10 +12,6 @@ use std::rt::Env;
 use std::sync::Wait;
 use std::thread::Threads;
 use std::{env, io};
-
-/// How the program is called.
-const USAGE: &str =
-    "usage: sigrun [--workers N] [--quota N] [--buffers never|always|churn:N|auto] [--generate N]";
 
 /// The arguments after the program's name.
 fn arguments<R: Env + Alloc<A = Global>>(rt: &R) -> io::Result<Vec<String>> {
@@ -27,12 +25,12 @@ fn arguments<R: Env + Alloc<A = Global>>(rt: &R) -> io::Result<Vec<String>> {
 }
 
 /// The status where the arguments can't be had, told on standard error. Nothing was run.
-fn refuse<W: Write>(stderr: &mut W, fault: io::Error) -> Status {
-    let (status, text) = match fault.kind() {
-        io::ErrorKind::OutOfMemory => (Status::Memory, "sigrun: out of memory"),
-        _ => (Status::Usage, USAGE),
+fn refuse<E: Sink>(err: &mut E, fault: io::Error) -> Status {
+    let status = match fault.kind() {
+        io::ErrorKind::OutOfMemory => Status::Memory,
+        _ => Status::Usage,
     };
-    let _ = writeln!(stderr, "{text}");
+    tell(err, &Ending::short(status));
     status
 }
 
@@ -40,7 +38,7 @@ fn refuse<W: Write>(stderr: &mut W, fault: io::Error) -> Status {
 /// that holds nobody. Where the arguments can't be had, for want of memory or since one is no text, it
 /// tells so as `run` does of a want of memory or of arguments that the command doesn't take. The exit
 /// code is the number of the status, 0 to 5.
-pub fn program<R, I, O, E>(rt: &R, stdin: I, stdout: O, mut stderr: E) -> ExitCode
+pub fn program<R, I, O, E>(rt: &R, stdin: I, stdout: O, stderr: E) -> ExitCode
 where
     R: Threads + Wait + Sync + Env + Alloc<A = Global>,
     I: Read + Drop,
@@ -48,6 +46,7 @@ where
     E: Write + Drop,
     ensures { result.status ≤ 5 }
 {
+    let mut err = StdSink::new(stderr);
     let status = match arguments(rt) {
         Ok(arguments) => run(
             rt,
@@ -55,10 +54,10 @@ where
             arguments.as_slice(),
             &mut StdSource::new(stdin),
             &mut StdSink::new(stdout),
-            &mut StdSink::new(stderr),
+            &mut err,
             &OpenGate,
         ),
-        Err(fault) => refuse(&mut stderr, fault),
+        Err(fault) => refuse(&mut err, fault),
     };
     ExitCode::from(status.number())
 }

@@ -37,7 +37,8 @@ pub fn add_peer(peers: &mut Vec<u32>, peer: u32) -> Result<bool, AllocError>
     requires { IsInOrder (marked peers.old.items) }
     ensures order { IsInOrder (marked peers.new.items) }
     ensures added { IfOk result (λ added. added ≡ not (map.contains_key (peers_of peers.old.items) peer)) }
-    ensures ok { IfOk result (λ added. peers_of peers.new.items ≡ (if added then map.insert (peers_of peers.old.items) peer tt else peers_of peers.old.items)) }
+    ensures ok { IfOk result (λ added. peers_of peers.new.items
+        ≡ (if added then map.insert (peers_of peers.old.items) peer tt else peers_of peers.old.items)) }
     ensures err { OnErr result ((peers.new.items ≡ peers.old.items) × (vec_capacity peers.old ≤ vec_len peers.old)) }
 {
     let Err(place) = place_of_peer(peers, peer) else {

@@ -58,7 +58,7 @@ module _ (pid : ℕ) (x : Execution) (old bound_one gone after : Progress) where
   abbrev stamp : ℕ
   stamp = old.counts.stamp + 1
 
-  -- the signals are outgoing_of, and the changes made
+  -- the signals are sent, and the changes made
   pub record HasGoneOn : Type 0 where
     pub state : state_of gone ≡ gone_on (changed (after_obeying (state_of bound_one) x.plan.obeyed) x.plan.change) stamp bound_one.counts.next_numbers.items posts
     pub executed : gone.counts.executed ≡ bound_one.counts.executed

@@ -6,7 +6,8 @@ ghost use Rattle.sig_inner.specs.InnerQueue.{appended, emptied};
 ghost use Rattle.sig_kinds.specs.WatchRules.{on_alias_message, on_down};
 ghost use Rattle.sig_model.specs.ProcessState.{ended_tables};
 ghost use Rattle.sig_process.specs.Committing.{KeepsRest, queue_after};
-ghost use Rattle.sig_process.specs.Plans.{bound_by, serial_by, inbox_by, growing, links_growing, watch_growing, links_by, watch_by, changed, after_obeying};
+ghost use Rattle.sig_process.specs.Plans.{bound_by, serial_by, inbox_by, growing, links_growing};
+ghost use Rattle.sig_process.specs.Plans.{watch_growing, links_by, watch_by, changed, after_obeying};
 ghost use Rattle.sig_process.specs.Progressing.{state_of, tables_of, HaveRoom};
 
 use crate::plan::{Binding, InboxChange};
@@ -301,7 +302,8 @@ impl Progress {
     /// Makes the last change of an execution in the messages and the markers.
     #[tactic(auto, using(crate::proofs::CommitLemmas::bound_so, crate::proofs::CommitLemmas::cleared_so))]
     pub(crate) fn change_inbox(&mut self, change: InboxChange)
-        ensures inbox { self.new.tables.inner.queue.inbox ≡ inbox_by self.old.tables.inner.queue.owner self.old.tables.inner.queue.inbox change }
+        ensures inbox { self.new.tables.inner.queue.inbox
+            ≡ inbox_by self.old.tables.inner.queue.owner self.old.tables.inner.queue.inbox change }
         ensures owner { self.new.tables.inner.queue.owner ≡ self.old.tables.inner.queue.owner }
         ensures rest { self.new ≡ record self.old { tables = record self.old.tables { inner = self.new.tables.inner } } }
     {

@@ -1,10 +1,12 @@
 //! An event that was planned happens.
 
-ghost use Rattle.std.specs.Prelude.{◌≡◌, ◌+◌, ◌<◌, ◌≤◌, ◌^◌, ◌++◌, ◌∷◌, [], length, map, max, false, IfSome, IsSome, IsSomeAnd, MatchResult, OnOk, OnErr, Some, vec_len, vec_capacity};
+ghost use Rattle.std.specs.Prelude.{◌≡◌, ◌+◌, ◌<◌, ◌≤◌, ◌^◌, ◌++◌, ◌∷◌, [], length, map, max, false, IfSome};
+ghost use Rattle.std.specs.Prelude.{IsSome, IsSomeAnd, MatchResult, OnOk, OnErr, Some, vec_len, vec_capacity};
 ghost use Rattle.sig_inner.specs.Receiving.{is_saved};
 ghost use Rattle.sig_model.specs.Finishing.{numbered, finished_exec, finished_handle};
 ghost use Rattle.sig_model.specs.Running.{to_itself, to_others, next_of};
-ghost use Rattle.sig_process.specs.Committing.{HasRoom, IsCommittable, HasBegun, HasBound, HasHandled, HasTaken, gone_on, env_found, queue_after, behind_first, others_behind};
+ghost use Rattle.sig_process.specs.Committing.{HasRoom, IsCommittable, HasBegun, HasBound, HasHandled, HasTaken};
+ghost use Rattle.sig_process.specs.Committing.{gone_on, env_found, queue_after, behind_first, others_behind};
 ghost use Rattle.sig_process.specs.Plans.{growing, inbox_by, changed, after_obeying, outgoing_of, post_of, body_of, executed_body};
 ghost use Rattle.sig_process.specs.Progressing.{state_of, IsSameButRoom, HasAdvanced};
 
@@ -50,16 +52,19 @@ impl Progress {
     fn go_on(&mut self, pid: Pid, stamp: u64, obeyed: Option<Pid>, change: Change, posts: Posts)
         requires room { HasRoom (length (outgoing_of posts)) (growing change) self.old }
         requires committable { IsCommittable (outgoing_of posts) self.old }
-        ensures state { state_of self.new ≡ gone_on (changed (after_obeying (state_of self.old) obeyed) change) stamp self.old.counts.next_numbers.items (map post_of (outgoing_of posts)) }
+        ensures state { state_of self.new ≡ gone_on (changed (after_obeying (state_of self.old) obeyed) change) stamp
+            self.old.counts.next_numbers.items (map post_of (outgoing_of posts)) }
         ensures env { self.new.tables.env ≡ self.old.tables.env }
         ensures counts { self.new.counts ≡ record self.old.counts { stamp = stamp; next_numbers = self.new.counts.next_numbers } }
         ensures queue { self.new.tables.inner.queue ≡ queue_after self.old.tables.inner.queue change }
         ensures owner { self.new.tables.inner.queue.owner ≡ self.old.tables.inner.queue.owner }
         ensures events { self.new.events ≡ self.old.events }
         ensures handled { self.new.handled ≡ self.old.handled }
-        ensures own { self.new.own.items ≡ self.old.own.items ++ to_itself pid.0 (numbered pid.0 stamp self.old.counts.next_numbers.items (map post_of (outgoing_of posts))) }
+        ensures own { self.new.own.items ≡ self.old.own.items
+            ++ to_itself pid.0 (numbered pid.0 stamp self.old.counts.next_numbers.items (map post_of (outgoing_of posts))) }
         ensures taken_in { self.new.taken_in ≡ self.old.taken_in }
-        ensures outbox { self.new.outbox.items ≡ self.old.outbox.items ++ to_others pid.0 (numbered pid.0 stamp self.old.counts.next_numbers.items (map post_of (outgoing_of posts))) }
+        ensures outbox { self.new.outbox.items ≡ self.old.outbox.items
+            ++ to_others pid.0 (numbered pid.0 stamp self.old.counts.next_numbers.items (map post_of (outgoing_of posts))) }
     {
         // The link of an exit signal ends first: a process that ends doesn't tell the peer that told it.
         self.obey(obeyed);
@@ -124,7 +129,8 @@ impl Progress {
         requires stamp { self.old.counts.stamp < LAST_STAMP }
         requires serials { self.old.counts.next_serial < 2 ^ 63 }
         ensures { MatchResult result
-            (λ _. HasBound posts grows binding (record self.old { events = events.old.items }) (record self.new { events = events.new.items }) outcome)
+            (λ _. HasBound posts grows binding (record self.old { events = events.old.items })
+                (record self.new { events = events.new.items }) outcome)
             (λ _. IsSameButRoom self.old self.new × (events.new.items ≡ events.old.items)) }
     {
         if let Err(fault) = self.make_all_room(events, posts, grows) {
@@ -149,7 +155,8 @@ impl Progress {
     /// Makes the last change of an execution, which goes on at this place. Nothing is left of a scan.
     fn end_exec(&mut self, inbox: InboxChange, place: u32)
         requires { self.old.counts.executed + 1 < 2 ^ 32 }
-        ensures inbox { self.new.tables.inner.queue.inbox ≡ inbox_by self.old.tables.inner.queue.owner self.old.tables.inner.queue.inbox inbox }
+        ensures inbox { self.new.tables.inner.queue.inbox
+            ≡ inbox_by self.old.tables.inner.queue.owner self.old.tables.inner.queue.inbox inbox }
         ensures owner { self.new.tables.inner.queue.owner ≡ self.old.tables.inner.queue.owner }
         ensures unsaved { is_saved self.new.tables.inner.queue.last ≡ false }
         ensures rest { self.new ≡ record self.old {
@@ -170,7 +177,8 @@ impl Progress {
         requires serials { self.old.counts.next_serial < 2 ^ 63 }
         requires owner { self.old.tables.inner.queue.owner ≡ self.old.tables.watch.watch.owner }
         ensures event { MatchResult result
-            (λ _. HasAdvanced pid.0 self.old self.new (finished_exec pid.0 (state_of self.old) (executed_body (state_of self.old) execution)))
+            (λ _. HasAdvanced pid.0 self.old self.new
+                (finished_exec pid.0 (state_of self.old) (executed_body (state_of self.old) execution)))
             (λ _. IsSameButRoom self.old self.new) }
         ensures unsaved { OnOk result (is_saved self.new.tables.inner.queue.last ≡ false) }
     {
@@ -222,7 +230,8 @@ impl Progress {
     /// The next signal waits no more, and is the last of those that were handled.
     fn move_next(&mut self)
         requires room { 0 < self.old.handled.spare }
-        ensures handled { IfSome (next_of self.old.own.items self.old.taken_in.items) (λ x. self.new.handled.items ≡ self.old.handled.items ++ x ∷ []) }
+        ensures handled { IfSome (next_of self.old.own.items self.old.taken_in.items)
+            (λ x. self.new.handled.items ≡ self.old.handled.items ++ x ∷ []) }
         ensures own { self.new.own.items ≡ behind_first self.old.own.items }
         ensures taken_in { self.new.taken_in.items ≡ others_behind self.old.own.items self.old.taken_in.items }
         ensures own_room { self.old.own.spare ≤ self.new.own.spare }
@@ -296,7 +305,8 @@ impl Progress {
         requires turns { self.old.counts.executed + 1 < 2 ^ 32 }
         requires found { IsSome (env_found pattern.now self.old) }
         ensures { MatchResult result
-            (λ _. HasTaken place clause looked (record self.old { events = events.old.items }) (record self.new { events = events.new.items }) pattern.now)
+            (λ _. HasTaken place clause looked (record self.old { events = events.old.items })
+                (record self.new { events = events.new.items }) pattern.now)
             (λ _. (self.new ≡ self.old) × (events.new.items ≡ events.old.items)) }
     {
         events.reserve(1)?;

@@ -44,7 +44,8 @@ impl Progress {
         requires due { IsExecDue proc.now self.old }
         ensures gone { MatchResult result (HasGone pid.0 proc.now self.old self.new) (λ _. IsSameButRoomAndPlace self.old self.new) }
         ensures saved { IsSaved (slice_get proc.now.instrs (self.new.counts.place - 1)) self.new }
-        ensures ticks { steps.new ≤ steps.old + tests_of (state_of self.old) (passed self.old.tables.inner.queue.last) (slice_get proc.now.instrs (self.old.counts.place - 1)) }
+        ensures ticks { steps.new ≤ steps.old + tests_of (state_of self.old) (passed self.old.tables.inner.queue.last)
+            (slice_get proc.now.instrs (self.old.counts.place - 1)) }
     {
         match proc.instr(self.counts.place) {
             Some(Instr::Receive(receiving)) => self.receive(pid, proc, receiving, steps),

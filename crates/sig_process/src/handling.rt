@@ -19,7 +19,8 @@ impl Progress {
     fn plan_next(&self, pid: Pid) -> Result<Plan, AllocError>
         requires due { IsSomeAnd (next_of self.now.own.items self.now.taken_in.items) (λ x. x.stamp < LAST_STAMP) }
         requires planned { kept_message self.now ≡ None }
-        ensures { IfSome (next_of self.now.own.items self.now.taken_in.items) (λ x. IfOk result (λ plan. handling pid.0 (state_of self.now) x ≡ body_of (state_of self.now) plan)) }
+        ensures { IfSome (next_of self.now.own.items self.now.taken_in.items)
+            (λ x. IfOk result (λ plan. handling pid.0 (state_of self.now) x ≡ body_of (state_of self.now) plan)) }
     {
         match next_signal(&self.own, &self.taken_in) {
             None => unreachable!(),

@@ -27,7 +27,8 @@ impl Progress {
     fn has_looked(&self, proc: &Proc) -> bool
         requires place { 1 ≤ self.now.counts.place }
         requires saved { IsSaved (slice_get proc.now.instrs (self.now.counts.place - 1)) self.now }
-        ensures answer { result ≡ (nat_le (length self.now.tables.inner.queue.inbox.messages) (passed self.now.tables.inner.queue.last) && is_bare_receive (slice_get proc.now.instrs (self.now.counts.place - 1))) }
+        ensures answer { result ≡ (nat_le (length self.now.tables.inner.queue.inbox.messages) (passed self.now.tables.inner.queue.last)
+            && is_bare_receive (slice_get proc.now.instrs (self.now.counts.place - 1))) }
         ensures waits { result ≡ true → IsWaiting proc.now (state_of self.now) }
     {
         let inner = &self.tables.inner;

@@ -49,7 +49,8 @@ impl Progress {
         ensures handled_room { OnOk result (0 < self.new.handled.spare) }
         ensures queue { self.new.tables.inner.queue ≡ self.old.tables.inner.queue }
         ensures handled { self.new.handled.items ≡ self.old.handled.items }
-        ensures rest { self.new ≡ record self.old { tables = record self.old.tables { inner = self.new.tables.inner }; handled = self.new.handled } }
+        ensures rest { self.new ≡ record self.old {
+            tables = record self.old.tables { inner = self.new.tables.inner }; handled = self.new.handled } }
     {
         self.handled.room()?;
         self.tables.inner.room()
@@ -62,7 +63,8 @@ impl Progress {
         requires inner { 0 < self.old.tables.inner.spare }
         requires arrivals { self.old.tables.inner.queue.inbox.next_arrival < 2 ^ 63 }
         requires message { IsSome (kept_message self.old) }
-        ensures { IfSome (kept_message self.old) (λ t. IfSome (next_of self.old.own.items self.old.taken_in.items) (λ x. HasMoved self.old self.new x t)) }
+        ensures { IfSome (kept_message self.old) (λ t. IfSome (next_of self.old.own.items self.old.taken_in.items)
+            (λ x. HasMoved self.old self.new x t)) }
     {
         match pop_next(&mut self.own, &mut self.taken_in) {
             None => unreachable!(),

@@ -1,7 +1,10 @@
-ghost use Rattle.std.specs.Prelude.{◌≡◌, ◌+◌, ◌-◌, ◌≤◌, [], ◌∷◌, length, map, ◌==◌, if◌then◌else◌, slice_get, option_copied, Some, false, IfOk};
+ghost use Rattle.std.specs.Prelude.{◌≡◌, ◌+◌, ◌-◌, ◌≤◌, [], ◌∷◌, length, map, ◌==◌};
+ghost use Rattle.std.specs.Prelude.{if◌then◌else◌, slice_get, option_copied, Some, false, IfOk};
 ghost use Rattle.sig_model.specs.ProcessState.{ProcessState};
 ghost use Rattle.sig_model.specs.Bodies.{Body, place_after, going_on, at_next};
-ghost use Rattle.sig_model.specs.Executing.{sending, setting, linking, unlinking, sending_exit, trapping, new_ref, making_ref, monitoring, aliasing, demonitor_posts, demonitoring, unaliasing, reserving, marked_by, binding, clearing, with_pid, with_target, from_mark, exec_body};
+ghost use Rattle.sig_model.specs.Executing.{sending, setting, linking, unlinking, sending_exit, trapping, new_ref, making_ref};
+ghost use Rattle.sig_model.specs.Executing.{monitoring, aliasing, demonitor_posts, demonitoring, unaliasing, reserving};
+ghost use Rattle.sig_model.specs.Executing.{marked_by, binding, clearing, with_pid, with_target, from_mark, exec_body};
 ghost use Rattle.sig_program.specs.Parts.{exprs_of};
 ghost use Rattle.sig_process.specs.Planning.{IsPlanned, IsRow, is_receive};
 ghost use Rattle.sig_process.specs.Plans.{changed, outgoing_of, post_of, body_of, executed_body};
@@ -50,7 +53,8 @@ fn in_memory(planned: Result<Execution, AllocError>) -> Result<Execution, ValueF
 impl Plan {
     /// A change by which these signals are sent.
     pub(crate) fn sending(change: Change, outcome: Outcome, posts: Posts) -> Plan
-        ensures { (s : ProcessState) → body_of s result ≡ record { state = changed s change; outcome = outcome; posts = map post_of (outgoing_of posts) } }
+        ensures { (s : ProcessState) → body_of s result
+            ≡ record { state = changed s change; outcome = outcome; posts = map post_of (outgoing_of posts) } }
     {
         Plan {
             obeyed: None,
@@ -87,7 +91,8 @@ impl Progress {
     /// The plan of an instruction that goes on at the label of the target, or at the next place.
     pub(crate) fn going(&self, proc: &Proc, target: Option<u32>, plan: Plan) -> Execution
         requires { self.now.counts.place ≤ length proc.now.instrs }
-        ensures { result ≡ record { binding = Binding.Nothing; inbox = InboxChange.Nothing; place = place_after proc.now.labels target self.now.counts.place; plan = plan } }
+        ensures { result ≡ record { binding = Binding.Nothing; inbox = InboxChange.Nothing;
+            place = place_after proc.now.labels target self.now.counts.place; plan = plan } }
     {
         Execution {
             binding: Binding::Nothing,
@@ -100,7 +105,8 @@ impl Progress {
     /// The execution that changes nothing and sends one signal.
     fn posting(&self, proc: &Proc, to: Pid, kind: Kind, outcome: Outcome) -> Execution
         requires { self.now.counts.place ≤ length proc.now.instrs }
-        ensures { executed_body (state_of self.now) result ≡ record { state = at_next (state_of self.now); outcome = outcome; posts = record { to = to.0; kind = kind } ∷ [] } }
+        ensures { executed_body (state_of self.now) result
+            ≡ record { state = at_next (state_of self.now); outcome = outcome; posts = record { to = to.0; kind = kind } ∷ [] } }
     {
         let plan = Plan::sending(Change::Nothing, outcome, one_post(to, kind));
         self.going(proc, None, plan)
@@ -218,7 +224,8 @@ impl Progress {
     /// The process goes on at a label.
     fn plan_goto(&self, proc: &Proc, label: u32) -> Execution
         requires { self.now.counts.place ≤ length proc.now.instrs }
-        ensures { going_on (state_of self.now) (place_after proc.now.labels (Some label) self.now.counts.place) Outcome.Done ≡ executed_body (state_of self.now) result }
+        ensures { going_on (state_of self.now) (place_after proc.now.labels (Some label) self.now.counts.place) Outcome.Done
+            ≡ executed_body (state_of self.now) result }
     {
         let plan = self.silent(Change::Nothing, Outcome::Done);
         self.going(proc, Some(label), plan)
@@ -234,9 +241,10 @@ impl Progress {
         }
     }
 
-    /// A change by which these signals are outgoing_of, and a variable gets the reference.
+    /// A change by which these signals are sent, and a variable gets the reference.
     fn made(&self, change: Change, reference: Ref, posts: Posts) -> Plan
-        ensures { (s : ProcessState) → body_of s result ≡ record { state = changed s change; outcome = Outcome.Set (Term.Ref reference); posts = map post_of (outgoing_of posts) } }
+        ensures { (s : ProcessState) → body_of s result
+            ≡ record { state = changed s change; outcome = Outcome.Set (Term.Ref reference); posts = map post_of (outgoing_of posts) } }
     {
         let value = Term::Ref(reference);
         Plan::sending(change, Outcome::Set { value }, posts)
@@ -251,7 +259,8 @@ impl Progress {
         plan: Plan,
     ) -> Result<Execution, AllocError>
         requires { self.now.counts.place ≤ length proc.now.instrs }
-        ensures { IfOk result (λ x. x ≡ record { binding = Binding.Made var.now reference; inbox = InboxChange.Nothing; place = self.now.counts.place + 1; plan = plan }) }
+        ensures { IfOk result (λ x. x ≡ record { binding = Binding.Made var.now reference; inbox = InboxChange.Nothing;
+            place = self.now.counts.place + 1; plan = plan }) }
     {
         match var.copy(self.alloc) {
             Ok(var) => Ok(Execution {
@@ -279,7 +288,8 @@ impl Progress {
 
     /// The signal of a monitor, which is sent but to oneself.
     fn monitor_posts(&self, target: Pid, reference: Ref) -> Posts
-        ensures { map post_of (outgoing_of result) ≡ (if target.0 == self.now.tables.watch.watch.owner then [] else record { to = target.0; kind = Kind.Monitor reference } ∷ []) }
+        ensures { map post_of (outgoing_of result)
+            ≡ (if target.0 == self.now.tables.watch.watch.owner then [] else record { to = target.0; kind = Kind.Monitor reference } ∷ []) }
     {
         if target == self.tables.watch.owner() {
             Posts::Nothing
@@ -372,7 +382,8 @@ impl Progress {
     /// The answer of an instruction that changes nothing but messages and markers.
     fn answering(&self, proc: &Proc, yes: bool, inbox: InboxChange) -> Execution
         requires { self.now.counts.place ≤ length proc.now.instrs }
-        ensures execution { result ≡ record { binding = Binding.Nothing; inbox = inbox; place = self.now.counts.place + 1; plan = result.plan } }
+        ensures execution { result ≡ record { binding = Binding.Nothing; inbox = inbox; place = self.now.counts.place + 1;
+            plan = result.plan } }
         ensures body { (s : ProcessState) → body_of s result.plan ≡ record { state = s; outcome = Outcome.Answered yes; posts = [] } }
     {
         let plan = self.silent(Change::Nothing, Outcome::Answered { yes });
@@ -557,7 +568,8 @@ impl Progress {
     /// An exit signal to the process that the value names.
     fn exit_with(&self, proc: &Proc, target: Term, reason: Term) -> Result<Execution, ValueFault>
         requires { self.now.counts.place ≤ length proc.now.instrs }
-        ensures { IsPlanned (state_of self.now) (Some (with_pid (state_of self.now) target (sending_exit (state_of self.now) reason))) result }
+        ensures { IsPlanned (state_of self.now) (Some (with_pid (state_of self.now) target (sending_exit (state_of self.now) reason)))
+            result }
     {
         let pid = self.pid_of(&target);
         drop(target);
@@ -642,7 +654,8 @@ impl Progress {
         requires instr { option_copied instr ≡ slice_get proc.now.instrs (self.now.counts.place - 1) }
         requires other { is_receive (option_copied instr) ≡ false }
         requires owner { self.now.tables.inner.queue.owner ≡ self.now.tables.watch.watch.owner }
-        ensures { IfOk result (λ x. exec_body from_mark proc.now (state_of self.now) (option_copied instr.entry) ≡ Some (executed_body (state_of self.now) x)) }
+        ensures { IfOk result (λ x. exec_body from_mark proc.now (state_of self.now) (option_copied instr.entry)
+            ≡ Some (executed_body (state_of self.now) x)) }
     {
         let Some(instr) = instr else {
             return self.exiting_with(b"normal");

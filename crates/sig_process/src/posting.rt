@@ -86,7 +86,8 @@ fn send_each(
     requires outbox { length posts.items ≤ outbox.old.spare }
     ensures numbers { numbers.new.items ≡ numbers_after numbers.old.items (map post_of posts.items) }
     ensures own { own.new.items ≡ own.old.items ++ to_itself pid.0 (numbered pid.0 stamp numbers.old.items (map post_of posts.items)) }
-    ensures outbox { outbox.new.items ≡ outbox.old.items ++ to_others pid.0 (numbered pid.0 stamp numbers.old.items (map post_of posts.items)) }
+    ensures outbox { outbox.new.items ≡ outbox.old.items
+        ++ to_others pid.0 (numbered pid.0 stamp numbers.old.items (map post_of posts.items)) }
 {
     for post in posts {
         send_one(pid, stamp, post, numbers, own, outbox);
@@ -107,8 +108,10 @@ pub(crate) fn send_all(
     requires own { length (outgoing_of posts) ≤ own.old.spare }
     requires outbox { length (outgoing_of posts) ≤ outbox.old.spare }
     ensures numbers { numbers.new.items ≡ numbers_after numbers.old.items (map post_of (outgoing_of posts)) }
-    ensures own { own.new.items ≡ own.old.items ++ to_itself pid.0 (numbered pid.0 stamp numbers.old.items (map post_of (outgoing_of posts))) }
-    ensures outbox { outbox.new.items ≡ outbox.old.items ++ to_others pid.0 (numbered pid.0 stamp numbers.old.items (map post_of (outgoing_of posts))) }
+    ensures own { own.new.items ≡ own.old.items
+        ++ to_itself pid.0 (numbered pid.0 stamp numbers.old.items (map post_of (outgoing_of posts))) }
+    ensures outbox { outbox.new.items ≡ outbox.old.items
+        ++ to_others pid.0 (numbered pid.0 stamp numbers.old.items (map post_of (outgoing_of posts))) }
 {
     match posts {
         Posts::Nothing => {}

@@ -62,7 +62,8 @@ impl Model for Process {
 
 /// A process that has done nothing, with these tables and first numbers.
 fn before_all(alloc: Global, tables: Tables, next_numbers: Vec<u64>) -> Progress
-    ensures running { (pid count turns : ℕ) (proc : Declared) → tables_of tables ≡ opening_tables pid → next_numbers.items ≡ replicate count 1 → running_of pid count turns proc result ≡ opened pid count turns proc }
+    ensures running { (pid count turns : ℕ) (proc : Declared) → tables_of tables ≡ opening_tables pid
+        → next_numbers.items ≡ replicate count 1 → running_of pid count turns proc result ≡ opened pid count turns proc }
     ensures tables { result.tables ≡ tables }
 {
     let counts = Counts {
@@ -87,7 +88,8 @@ fn before_all(alloc: Global, tables: Tables, next_numbers: Vec<u64>) -> Progress
 
 /// What a process begins with: place 1, and all else empty.
 fn beginning(alloc: Global, pid: Pid, count: u32) -> Result<Progress, AllocError>
-    ensures running { IfOk result (λ p. (turns : ℕ) (proc : Declared) → running_of pid.0 count turns proc p ≡ opened pid.0 count turns proc) }
+    ensures running { IfOk result (λ p. (turns : ℕ) (proc : Declared)
+        → running_of pid.0 count turns proc p ≡ opened pid.0 count turns proc) }
     ensures queue { IfOk result (λ p. p.tables.inner.queue ≡ no_queue pid.0) }
 {
     let numbers = vec![in alloc; 1; count as usize]?;

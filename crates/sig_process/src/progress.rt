@@ -155,7 +155,8 @@ impl Progress {
     /// An exit signal to the peer of each active link, by ascending pid. The link of an exit signal
     /// that is obeyed is active no more.
     fn exits(&self, obeyed: Option<Pid>, reason: &Term) -> Result<Vec<Outgoing>, AllocError>
-        ensures { IfOk result (λ posts. map post_of posts.items ≡ exits_to (active_after (after_obeying (state_of self.now) obeyed).tables.links None) reason.now) }
+        ensures { IfOk result (λ posts. map post_of posts.items
+            ≡ exits_to (active_after (after_obeying (state_of self.now) obeyed).tables.links None) reason.now) }
     {
         let mut exits = Vec::new(self.alloc);
         let mut after = None;
@@ -173,7 +174,8 @@ impl Progress {
     /// monitors' arrival.
     #[tactic(auto, using(crate::proofs::ExitLemmas::told_of_each))]
     fn downs(&self, before: Vec<Outgoing>, reason: &Term) -> Result<Vec<Outgoing>, AllocError>
-        ensures { IfOk result (λ posts. map post_of posts.items ≡ map post_of before.items ++ downs_to self.now.tables.watch.watch.borne reason.now) }
+        ensures { IfOk result (λ posts. map post_of posts.items
+            ≡ map post_of before.items ++ downs_to self.now.tables.watch.watch.borne reason.now) }
     {
         let borne = self.tables.watch.all_borne(self.alloc)?;
         tell_all::<Watch>(self.alloc, before, borne, reason)
@@ -186,7 +188,8 @@ impl Progress {
         obeyed: Option<Pid>,
         reason: &Term,
     ) -> Result<Vec<Outgoing>, AllocError>
-        ensures { IfOk result (λ posts. map post_of posts.items ≡ told_at_end (after_obeying (state_of self.now) obeyed).tables reason.now) }
+        ensures { IfOk result (λ posts. map post_of posts.items
+            ≡ told_at_end (after_obeying (state_of self.now) obeyed).tables reason.now) }
     {
         let exits = self.exits(obeyed, reason)?;
         self.downs(exits, reason)

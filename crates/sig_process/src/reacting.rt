@@ -5,7 +5,8 @@ ghost use Rattle.sig_kinds.specs.declared.alias_answer.AliasAnswer.TheVariants a
 ghost use Rattle.sig_model.specs.ProcessState.{rewatched};
 ghost use Rattle.sig_model.specs.Bodies.{appending, dropping};
 ghost use Rattle.sig_model.specs.ExitRule.{exit_message, exit_rule, plain_exit, linked_exit};
-ghost use Rattle.sig_model.specs.Handling.{linking_up, unlinking_from, acknowledging, through_alias, watching, unwatching, down_message, told_down, live_body, answering_noproc, ended_body, handling};
+ghost use Rattle.sig_model.specs.Handling.{linking_up, unlinking_from, acknowledging, through_alias, watching, unwatching};
+ghost use Rattle.sig_model.specs.Handling.{down_message, told_down, live_body, answering_noproc, ended_body, handling};
 ghost use Rattle.sig_process.specs.KeptMessage.{message_of};
 ghost use Rattle.sig_process.specs.Plans.{after_obeying, body_of};
 ghost use Rattle.sig_process.specs.Planning.{noproc_answer};
@@ -95,7 +96,8 @@ impl Progress {
 
     /// An unlink signal ends the link, and gets its id back.
     fn plan_unlink_by(&self, sender: Pid, id: u64) -> Plan
-        ensures { unlinking_from (state_of self.now) sender.0 id (on_unlink self.now.tables.links.links sender.0) ≡ body_of (state_of self.now) result }
+        ensures { unlinking_from (state_of self.now) sender.0 id (on_unlink self.now.tables.links.links sender.0)
+            ≡ body_of (state_of self.now) result }
     {
         let posts = one_post(sender, Kind::UnlinkAck { id });
         let change = Change::Links(LinkChange::UnlinkBy { peer: sender });
@@ -125,7 +127,8 @@ impl Progress {
         sender: Pid,
         reason: &Term,
     ) -> Result<Plan, AllocError>
-        ensures { IfOk result (λ plan. exit_rule pid.0 (after_obeying (state_of self.now) obeyed) sender.0 reason.now ≡ body_of (state_of self.now) plan) }
+        ensures { IfOk result (λ plan. exit_rule pid.0 (after_obeying (state_of self.now) obeyed) sender.0 reason.now
+            ≡ body_of (state_of self.now) plan) }
     {
         if self.traps {
             let message = exit_message(self.alloc, sender, reason)?;
@@ -179,7 +182,8 @@ impl Progress {
         term: &Term,
     ) -> Result<Plan, AllocError>
         requires { mode_of self.now.tables.watch.watch reference ≡ Some mode }
-        ensures { IfOk result (λ plan. through_alias (state_of self.now) reference term.now (by_mode self.now.tables.watch.watch reference (Some mode)) ≡ body_of (state_of self.now) plan) }
+        ensures { IfOk result (λ plan. through_alias (state_of self.now) reference term.now
+            (by_mode self.now.tables.watch.watch reference (Some mode)) ≡ body_of (state_of self.now) plan) }
     {
         let message = term.copy(self.alloc)?;
         let (message, kept) = with_copy(self.alloc, message)?;
@@ -192,7 +196,8 @@ impl Progress {
 
     /// A message through an alias: kept where the alias is active.
     fn plan_through_alias(&self, reference: Ref, term: &Term) -> Result<Plan, AllocError>
-        ensures { IfOk result (λ plan. through_alias (state_of self.now) reference term.now (on_alias_message self.now.tables.watch.watch reference) ≡ body_of (state_of self.now) plan) }
+        ensures { IfOk result (λ plan. through_alias (state_of self.now) reference term.now
+            (on_alias_message self.now.tables.watch.watch reference) ≡ body_of (state_of self.now) plan) }
     {
         match self.tables.watch.alias_mode(reference) {
             None => Ok(self.dropping(None)),
@@ -202,7 +207,8 @@ impl Progress {
 
     /// A monitor signal: the process bears the monitor.
     fn plan_watched(&self, sender: Pid, reference: Ref) -> Plan
-        ensures { watching (state_of self.now) (on_monitor self.now.tables.watch.watch reference sender.0) ≡ body_of (state_of self.now) result }
+        ensures { watching (state_of self.now) (on_monitor self.now.tables.watch.watch reference sender.0)
+            ≡ body_of (state_of self.now) result }
     {
         let change = WatchChange::Watched {
             reference,
@@ -225,7 +231,8 @@ impl Progress {
 
     /// A down signal of a monitor that is held: a message.
     fn plan_held_down(&self, sender: Pid, reference: Ref, reason: &Term) -> Result<Plan, AllocError>
-        ensures { IfOk result (λ plan. appending (rewatched (state_of self.now) (on_down self.now.tables.watch.watch reference).1) (down_message reference sender.0 reason.now) ≡ body_of (state_of self.now) plan) }
+        ensures { IfOk result (λ plan. appending (rewatched (state_of self.now) (on_down self.now.tables.watch.watch reference).1)
+            (down_message reference sender.0 reason.now) ≡ body_of (state_of self.now) plan) }
     {
         let message = down_message(self.alloc, reference, sender, reason)?;
         let (message, told) = with_copy(self.alloc, message)?;
@@ -235,7 +242,8 @@ impl Progress {
 
     /// A down signal: a message, where the monitor is held.
     fn plan_told_down(&self, sender: Pid, reference: Ref, reason: &Term) -> Result<Plan, AllocError>
-        ensures { IfOk result (λ plan. told_down (state_of self.now) reference sender.0 reason.now (on_down self.now.tables.watch.watch reference) ≡ body_of (state_of self.now) plan) }
+        ensures { IfOk result (λ plan. told_down (state_of self.now) reference sender.0 reason.now
+            (on_down self.now.tables.watch.watch reference) ≡ body_of (state_of self.now) plan) }
     {
         if self.tables.watch.target(reference).is_none() {
             return Ok(self.dropping(None));
@@ -271,7 +279,8 @@ impl Progress {
 
     /// A link signal, or the monitor signal of this reference, to a process that has ended.
     fn plan_noproc(&self, sender: Pid, monitor: Option<Ref>) -> Result<Plan, AllocError>
-        ensures { IfOk result (λ plan. answering_noproc (state_of self.now) sender.0 (noproc_answer monitor) ≡ body_of (state_of self.now) plan) }
+        ensures { IfOk result (λ plan. answering_noproc (state_of self.now) sender.0 (noproc_answer monitor)
+            ≡ body_of (state_of self.now) plan) }
     {
         let reason = Term::plain_atom(self.alloc, b"noproc")?;
         let kind = match monitor {

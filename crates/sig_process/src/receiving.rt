@@ -37,11 +37,17 @@ fn scan_messages<L: Ledger>(
     requires few { length clauses.now < 2 ^ 32 }
     requires asked { IsAsked inner.old.queue «using» clauses.now env.now }
     requires passed { HasPassed inner.old.queue (start_of inner.old.queue.inbox «using») clauses.now env.now }
-    ensures answer { result ≡ answer_to inner.old.queue (start_of inner.old.queue.inbox «using») (scanned inner.old.queue (start_of inner.old.queue.inbox «using») clauses.now env.now) }
-    ensures left { inner.new.queue ≡ after_scan inner.old.queue (start_of inner.old.queue.inbox «using») (scanned inner.old.queue (start_of inner.old.queue.inbox «using») clauses.now env.now) }
-    ensures within { IsScanWithin (length clauses.now) (length inner.old.queue.inbox.messages - start_of inner.old.queue.inbox «using») result }
+    ensures answer { result ≡ answer_to inner.old.queue (start_of inner.old.queue.inbox «using»)
+        (scanned inner.old.queue (start_of inner.old.queue.inbox «using») clauses.now env.now) }
+    ensures left { inner.new.queue ≡ after_scan inner.old.queue (start_of inner.old.queue.inbox «using»)
+        (scanned inner.old.queue (start_of inner.old.queue.inbox «using») clauses.now env.now) }
+    ensures within { IsScanWithin (length clauses.now) (length inner.old.queue.inbox.messages - start_of inner.old.queue.inbox «using»)
+        result }
     ensures passed { HasPassed inner.new.queue (start_of inner.new.queue.inbox «using») clauses.now env.now }
-    ensures ticks { steps.new ≤ steps.old + length clauses.now * (looked_in inner.old.queue (start_of inner.old.queue.inbox «using») (scanned inner.old.queue (start_of inner.old.queue.inbox «using») clauses.now env.now) - (passed inner.old.queue.last - start_of inner.old.queue.inbox «using»)) }
+    ensures ticks { steps.new ≤ steps.old + length clauses.now
+        * (looked_in inner.old.queue (start_of inner.old.queue.inbox «using»)
+        (scanned inner.old.queue (start_of inner.old.queue.inbox «using») clauses.now env.now)
+        - (passed inner.old.queue.last - start_of inner.old.queue.inbox «using»)) }
 {
     if inner.is_saved() {
         inner.resume(clauses, env, using, steps)
@@ -66,7 +72,8 @@ impl Progress {
         requires inside { self.old.counts.place ≤ length proc.now.instrs }
         requires found { (start : ℕ) × (h : Hit) × IsHit clauses.now self.old clause looked start h }
         ensures taken { (start : ℕ) (h : Hit) → IsHit clauses.now self.old clause looked start h →
-            OnOk result (HasAdvanced pid.0 self.old self.new (finished_exec pid.0 (state_of self.old) (taking proc.now (state_of self.old) start (start + h.at) h))) }
+            OnOk result (HasAdvanced pid.0 self.old self.new
+                (finished_exec pid.0 (state_of self.old) (taking proc.now (state_of self.old) start (start + h.at) h))) }
         ensures err { OnErr result (self.new ≡ self.old) }
         ensures unsaved { OnOk result (is_saved self.new.tables.inner.queue.last ≡ false) }
     {

@@ -86,7 +86,8 @@ impl Progress {
 
     /// The reference that the value of the expression is.
     pub(crate) fn reference_of(&self, expression: &Expr) -> Result<Ref, ValueFault>
-        ensures { IsUsed (state_of self.now) (λ go. with_value (state_of self.now) expression.now (λ t. with_ref (state_of self.now) t go)) result }
+        ensures { IsUsed (state_of self.now) (λ go. with_value (state_of self.now) expression.now (λ t. with_ref (state_of self.now) t go))
+            result }
     {
         let value = self.value_of(expression)?;
         let reference = self.ref_of(&value);
@@ -96,7 +97,8 @@ impl Progress {
 
     /// The process that the value of the expression names.
     pub(crate) fn target_of(&self, expression: &Expr) -> Result<Pid, ValueFault>
-        ensures { IsUsed (state_of self.now) (λ go. with_value (state_of self.now) expression.now (λ t. with_pid (state_of self.now) t go)) result }
+        ensures { IsUsed (state_of self.now) (λ go. with_value (state_of self.now) expression.now (λ t. with_pid (state_of self.now) t go))
+            result }
     {
         let value = self.value_of(expression)?;
         let pid = self.pid_of(&value);

@@ -6,7 +6,8 @@ ghost use Rattle.std.specs.Option.{option_map};
 ghost use Rattle.std.specs.List.{prefix_len};
 ghost use Rattle.sig_terms.specs.Words.{is_name_byte, is_atom_byte};
 ghost use Rattle.sig_terms.specs.Tokens.{negative_at, int_at, after_text, atom_of};
-ghost use Rattle.sig_terms.specs.Fronts.{Gives, int_term_at, name_term_at, quoted_term_at, pid_term_at, serial_term_at, reference_term_at, marked_at, leaf_at};
+ghost use Rattle.sig_terms.specs.Fronts.{Gives, int_term_at, name_term_at, quoted_term_at, pid_term_at};
+ghost use Rattle.sig_terms.specs.Fronts.{serial_term_at, reference_term_at, marked_at, leaf_at};
 
 use crate::atom::Atom;
 use crate::bytes::{

@@ -95,11 +95,13 @@ pub(crate) fn close_all(
 ) -> Result<Receipts, AllocError>
     requires many { (vec_len seats ≡ vec_len queues) × (vec_len procs.old ≡ vec_len queues) }
     requires can { (p : ℕ) (q : Queue) (v : Seated) (r : Running) →
-        slice_get queues.items p ≡ Some q → slice_get seats.items p ≡ Some v → slice_get (runnings_of procs.old.items) p ≡ Some r → CanClose q v r }
+        slice_get queues.items p ≡ Some q → slice_get seats.items p ≡ Some v → slice_get (runnings_of procs.old.items) p ≡ Some r
+        → CanClose q v r }
     ensures count { IfOk result (λ receipts. length receipts ≡ vec_len queues) }
     ensures procs { OnOk result (vec_len procs.new ≡ vec_len procs.old) }
     ensures closed { IfOk result (λ receipts. (p : ℕ) (a : Account) (t : Running) →
-        slice_get receipts p ≡ Some a → slice_get (runnings_of procs.new.items) p ≡ Some t → IsClosedAt queues.items seats.items (runnings_of procs.old.items) p a t) }
+        slice_get receipts p ≡ Some a → slice_get (runnings_of procs.new.items) p ≡ Some t
+        → IsClosedAt queues.items seats.items (runnings_of procs.old.items) p a t) }
     ensures kept { OnOk result (KeepEvents procs.old.items procs.new.items) }
 {
     let mut queues = VecDeque::from_vec(queues);

@@ -100,7 +100,8 @@ fn visit_at<L: Ledger>(
     requires placed { IsPlaced (runnings_of procs.old.items) }
     requires empty { sent.old.items ≡ [] }
     ensures visit { OnOk result (IfSome (slice_get (runnings_of procs.old.items) at) (λ r.
-        (runnings_of procs.new.items ≡ slice_set (runnings_of procs.old.items) at (record (visited r) { outbox = [] })) × (sent.new.items ≡ (visited r).outbox))) }
+        (runnings_of procs.new.items ≡ slice_set (runnings_of procs.old.items) at (record (visited r) { outbox = [] }))
+        × (sent.new.items ≡ (visited r).outbox))) }
     ensures placed { OnOk result (IsPlaced (runnings_of procs.new.items)) }
     ensures arriving { OnOk result (All (λ x. IsArriving x.to.0 (length procs.old.items) x) sent.new.items) }
     ensures len { vec_len procs.new ≡ vec_len procs.old }

@@ -11,7 +11,8 @@ use std::alloc::{AllocError, Global};
 
 /// `01` where `1` has to stand.
 const PADDED_PID: &[u8] =
-    b"sigrecord 1\nprocess 0 a\n1 exec 1 sent <01> hi\n2 exec 2 ended normal\nstate ended normal\nprocess 1 b\n2 from 0 1 kept hi\n3 exec 1 took 1 1 hi\n4 exec 2 ended normal\nstate ended normal\n";
+    b"sigrecord 1\nprocess 0 a\n1 exec 1 sent <01> hi\n2 exec 2 ended normal\nstate ended normal\n\
+      process 1 b\n2 from 0 1 kept hi\n3 exec 1 took 1 1 hi\n4 exec 2 ended normal\nstate ended normal\n";
 
 /// A process's name begins with a small letter.
 const LARGE_NAME: &[u8] = b"sigrecord 1\nprocess 0 A\nstate waiting\n";

@@ -23,7 +23,8 @@ pub(crate) const ONE_MESSAGE: &[u8] =
     b"sigscript 1\nprocess a\nsend @b hi\nprocess b\nreceive\non X\nend\n";
 
 pub(crate) const ONE_MESSAGE_RECORD: &[u8] =
-    b"sigrecord 1\nprocess 0 a\n1 exec 1 sent <1> hi\n2 exec 2 ended normal\nstate ended normal\nprocess 1 b\n2 from 0 1 kept hi\n3 exec 1 took 1 1 hi\n4 exec 2 ended normal\nstate ended normal\n";
+    b"sigrecord 1\nprocess 0 a\n1 exec 1 sent <1> hi\n2 exec 2 ended normal\nstate ended normal\n\
+      process 1 b\n2 from 0 1 kept hi\n3 exec 1 took 1 1 hi\n4 exec 2 ended normal\nstate ended normal\n";
 
 const NO_HEADER: Status = Status::BadScript {
     line: 1,
@@ -57,14 +58,16 @@ const READ: [(&[u8], usize, Status, &[u8], &[u8]); 8] = [
         b"sigscript 01 % a comment\n\t process a\r\nsend @a x\nsend @b y\nprocess b % 'x\nreceive\non z\nend",
         7,
         Status::Done,
-        b"sigrecord 1\nprocess 0 a\n1 exec 1 sent <0> x\n2 from 0 1 kept x\n3 exec 2 sent <1> y\n4 exec 3 ended normal\nstate ended normal\nprocess 1 b\n4 from 0 1 kept y\nleft 1 y\nstate waiting\n",
+        b"sigrecord 1\nprocess 0 a\n1 exec 1 sent <0> x\n2 from 0 1 kept x\n3 exec 2 sent <1> y\n4 exec 3 ended normal\nstate ended normal\n\
+          process 1 b\n4 from 0 1 kept y\nleft 1 y\nstate waiting\n",
         b"",
     ),
     (
         b"sigscript 1\nprocess a\nprocess b\nsend @a x\n",
         7,
         Status::Done,
-        b"sigrecord 1\nprocess 0 a\n1 exec 1 ended normal\n2 from 1 1 dropped\nstate ended normal\nprocess 1 b\n1 exec 1 sent <0> x\n2 exec 2 ended normal\nstate ended normal\n",
+        b"sigrecord 1\nprocess 0 a\n1 exec 1 ended normal\n2 from 1 1 dropped\nstate ended normal\n\
+          process 1 b\n1 exec 1 sent <0> x\n2 exec 2 ended normal\nstate ended normal\n",
         b"",
     ),
 ];

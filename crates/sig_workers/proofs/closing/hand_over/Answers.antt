@@ -1,4 +1,4 @@
-use Rattle.std.proofs.Common.{sym, ap, ◌∙◌, subst, All}
+use Rattle.std.proofs.Common.{sym, subst, All}
 use Rattle.sig_model.specs.Accounts.{Continues}
 use Rattle.sig_model.specs.Keeping.{IsArriving}
 use Rattle.sig_workers.proofs.closing.hand_over.Goals as goal

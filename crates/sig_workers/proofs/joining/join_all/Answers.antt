@@ -4,7 +4,6 @@ use Rattle.sig_workers.specs.declared.part.Worked.{Worked}
 use Rattle.std.specs.declared.alloc.AllocError.{AllocError}
 use Rattle.std.proofs.Common.{◌≡◌, ◌<◌, ◌||◌, ◌∙◌, List, length, refl, sym, subst, arith, zero-add, Result, Ok}
 use Rattle.std.proofs.lemmas.Bool.{eqb-true}
-use Rattle.std.proofs.lemmas.Grind.{common_steps}
 use Rattle.sig_workers.proofs.RowLemmas.{row_first, first_whole, row_ended, joined_whole, joined_row}
 use Rattle.sig_workers.proofs.joining.join_all.Goals as goal
 
