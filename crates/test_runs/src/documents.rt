@@ -1,7 +1,7 @@
 //! The examples of README.md and docs/, through the top call. tools/examples compares them with the documents.
 
 /// Each script that a document shows, and the record that it shows for it, as they stand there.
-pub(crate) static EXAMPLES: [(&[u8], &[u8]); 15] = [
+pub(crate) static EXAMPLES: [(&[u8], &[u8]); 16] = [
     (
         br"sigscript 1
 process worker
@@ -625,10 +625,37 @@ process 2 c
 state ended normal
 ",
     ),
+    (
+        br"sigscript 2
+process a
+send @a 5
+send @a x
+send @a 12
+receive
+on N when N > 9 or is_atom(N)
+end
+receive
+on N when N >= 5 and N =< 5
+end
+",
+        br"sigrecord 1
+process 0 a
+1 exec 1 sent <0> 5
+2 from 0 1 kept 5
+3 exec 2 sent <0> x
+4 from 0 2 kept x
+5 exec 3 sent <0> 12
+6 from 0 3 kept 12
+7 exec 4 took 1 2 x
+8 exec 5 took 1 1 5
+9 exec 6 ended normal
+state ended normal
+",
+    ),
 ];
 
 /// Each refused text that LANGUAGE.md shows, and what is told of it.
-pub(crate) static REFUSALS: [(&[u8], &[u8]); 16] = [
+pub(crate) static REFUSALS: [(&[u8], &[u8]); 17] = [
     (b"sigscript 3\n", b"sigrun: line 1: header\n"),
     (
         b"sigscript 1\nprocess a\nreceive\non _x\n",
@@ -645,6 +672,10 @@ pub(crate) static REFUSALS: [(&[u8], &[u8]); 16] = [
     (
         b"sigscript 1\nprocess a\ntrap yes\n",
         b"sigrun: line 3: syntax\n",
+    ),
+    (
+        b"sigscript 1\nprocess a\nreceive\non N when N > 9\n",
+        b"sigrun: line 4: syntax\n",
     ),
     (
         b"sigscript 1\nprocess a\nturns 5\n",
