@@ -149,7 +149,8 @@ fn send_and_receive<R: Threads + Wait + Sync>(
         rt,
         move || -> (QSeat, usize)
             requires { (sender.queue ≡ queue.now.id) × Sender queue.now.setup line × Sends queue.now.setup line.from [] sender.knows }
-            ensures { (result.0.queue ≡ queue.entry.now.id) × Sends queue.entry.now.setup line.from (take result.1 serials.entry.now) result.0.knows }
+            ensures { (result.0.queue ≡ queue.entry.now.id)
+                × Sends queue.entry.now.setup line.from (take result.1 serials.entry.now) result.0.knows }
         { send(queue, sender, line, serials) },
         move || -> (QSeat, Signals)
             requires { (receiver.queue ≡ queue.now.id) × Receives taken.items receiver.knows }

@@ -4,15 +4,16 @@ ghost use Rattle.sig_layout.specs.Policies.{begins_on, first_journal as first_en
 ghost use Rattle.sig_layout.specs.Openings.{IsSetup};
 ghost use Rattle.sig_layout.specs.Views.{first_seat, mode_word};
 ghost use Rattle.sig_queue.specs.Tables.{first_words as words_at_first, first_outer, all_buffers};
+ghost use Rattle.sig_queue.specs.SeatWords.{key_of, table_of};
 ghost use Rattle.sig_queue.specs.Ends.{setup_of};
 
 use crate::kept::Kept;
 use crate::outer_box::OuterBox;
 use crate::qseat::QSeat;
-use crate::rule::{QueueTable, SeatAt};
+use crate::rule::SeatAt;
 use crate::sig_queue::SigQueue;
 use crate::slot::Slot;
-use atomic_table::Table;
+use crate::words::Words;
 use sig_layout::{
     BUFFERS, Batch, Entry, Journal, MODE, Opening, Outer, Pieces, Policy, SLOTS, Senders, Setup,
     WORDS,
@@ -97,11 +98,11 @@ fn first_table(
     policy: Policy,
     senders: Senders,
     opening: &Opening,
-) -> Result<(QueueTable, SeatAt), AllocError>
+) -> Result<(Words, SeatAt), AllocError>
     requires { IsSetup (setup_of policy senders opening.now) }
-    ensures table { IfOk result (λ r. (r.0.shared.table_id.words ≡ WORDS) × (r.0.shared.table_id.slots ≡ SLOTS)
-        × (r.0.shared.key ≡ setup_of policy senders opening.now)) }
-    ensures seat { IfOk result (λ r. (r.1.table_id ≡ r.0.shared.table_id) × (r.1.me ≡ (first_seat senders, []))) }
+    ensures table { IfOk result (λ r. ((table_of r.0).words ≡ WORDS) × ((table_of r.0).slots ≡ SLOTS)
+        × (key_of r.0 ≡ setup_of policy senders opening.now)) }
+    ensures seat { IfOk result (λ r. (r.1.table_id ≡ table_of r.0) × (r.1.me ≡ (first_seat senders, []))) }
 {
     let setup = Setup {
         policy,
@@ -110,10 +111,8 @@ fn first_table(
     };
     let slots = first_slots(alloc, policy)?;
     let words = first_words(policy);
-    match Table::new(alloc, &words, slots, &setup) {
-        Ok(made) => Ok(made),
-        Err(_) => Err(AllocError),
-    }
+    let made = Words::new(alloc, &words, slots, &setup)?;
+    Ok(made)
 }
 
 impl SigQueue {
@@ -134,9 +133,9 @@ impl SigQueue {
         ensures first { IfOk result (λ r. r.1.knows ≡ first_seat senders) }
     {
         let lists = room_for_lists(alloc)?;
-        let (table, place) = first_table(alloc, policy, senders, opening)?;
+        let (words, place) = first_table(alloc, policy, senders, opening)?;
         let queue = SigQueue {
-            table,
+            words,
             policy,
             alloc,
             lists,
