@@ -6,7 +6,7 @@ ghost use Rattle.sig_queue.specs.Ends.{setup_of};
 ghost use Rattle.example_relay.specs.Relays.{messages, Sends, Receives, Sender};
 
 use crate::offering::put_message;
-use sig_kinds::Signals;
+use sig_kinds::{QueueData, Signals};
 use sig_layout::{Opening, Policy, Senders};
 use sig_queue::{Closed, Fetch, QSeat, SigQueue};
 use sig_terms::Pid;
@@ -174,12 +174,13 @@ pub fn relay<R: Threads + Wait + Sync>(
     serials: &[u64],
     enough: usize,
 ) -> Result<Relayed, AllocError>
-    requires setup { IsSetup (setup_of policy senders opening.now) }
+    requires setup { IsSetup (setup_of policy QueueData.OffHeap senders opening.now) }
     requires sender { has senders from.0 ≡ true }
     requires receiver { opening.now.receiver.0 < opening.now.count }
-    ensures { IfOk result (λ r. of sender from.0 (r.taken.items ++ r.closed.rest) ≡ messages from opening.now.receiver (first_of (setup_of policy senders opening.now) from.0) (take r.sent serials.now)) }
+    ensures { IfOk result (λ r. of sender from.0 (r.taken.items ++ r.closed.rest) ≡ messages from opening.now.receiver
+        (first_of (setup_of policy QueueData.OffHeap senders opening.now) from.0) (take r.sent serials.now)) }
 {
-    let (queue, mut seat) = SigQueue::open(alloc, policy, senders, opening)?;
+    let (queue, mut seat) = SigQueue::open(alloc, policy, QueueData::OffHeap, senders, opening)?;
     let first = opening.first.as_slice()[from.0 as usize];
     let line = Line {
         from,

@@ -66,8 +66,9 @@ fn offer_at(
 impl SigQueue {
     /// Offers a signal: to the sender's buffer where the mode is on, and else to the outer list. It
     /// tries the outer turn once, or that of the buffer, or first this one and then the outer one,
-    /// looks at the mode at most twice, and takes no lock. Under `Never` it is put into no buffer,
-    /// and under `Always` never into the outer list.
+    /// looks at the mode at most twice, and takes no lock. Where the queue goes by `Never`, as each
+    /// does whose receiver keeps its message queue on the heap, it is put into no buffer, and where by
+    /// `Always`, never into the outer list.
     ///
     /// Asks that the seat is of this queue and has the signal's sender, which is one of the
     /// queue's; and that the signal goes to the queue's receiver, has the next number of its sender

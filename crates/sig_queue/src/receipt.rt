@@ -87,9 +87,9 @@ impl Receipt {
 
     /// What the later receipt has comes behind what this one has.
     ///
-    /// Asks that the later one is of the same receiver, senders and policy, and that the numbers of
-    /// each sender go on in it: the sender's first number there is its first number here and as
-    /// many more as it has put here.
+    /// Asks that the later one is of the same receiver, senders and policy, that the receiver keeps
+    /// its message queue in the same place, and that the numbers of each sender go on in it: the
+    /// sender's first number there is its first number here and as many more as it has put here.
     pub fn follow(&mut self, later: Receipt)
         requires { MayFollow self.old later }
         ensures { self.new ≡ followed self.old later }

@@ -9,7 +9,7 @@ use std::marker::Model;
 /// with its threads.
 ///
 /// ```text
-/// let (queue, mut receiver) = SigQueue::open(alloc, Policy::Auto, senders, &opening)?;
+/// let (queue, mut receiver) = SigQueue::open(alloc, Policy::Auto, QueueData::OffHeap, senders, &opening)?;
 /// let mut sender = queue.split(&mut receiver, senders, false);
 ///
 /// // one thread
@@ -34,7 +34,7 @@ use std::marker::Model;
 pub struct SigQueue {
     /// The words, and the lists in slots.
     pub(crate) words: Words,
-    /// When buffers are installed and removed.
+    /// When buffers are installed and removed: the policy by which the queue goes.
     pub(crate) policy: Policy,
     /// Where a removal gets the memory for new lists.
     pub(crate) alloc: Global,
