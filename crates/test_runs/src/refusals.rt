@@ -298,7 +298,7 @@ pub(crate) static OTHERS: [(&[u8], &[u8]); 9] = [
 pub(crate) static OTHER_FIRST_LINES: [(&[u8], &[u8]); 9] = [
     (b"", b"1: header"),
     (b"\nsigscript 1", b"1: header"),
-    (b"sigscript 2", b"1: header"),
+    (b"sigscript 3", b"1: header"),
     (b"sigscript -1", b"1: header"),
     (b"sigscript", b"1: header"),
     (b"sigscript 1 1", b"1: header"),

@@ -16,7 +16,7 @@ enum Piece {
 }
 
 /// The texts of scripts, piece by piece.
-static PRINTED: [&[Piece]; 6] = [
+static PRINTED: [&[Piece]; 7] = [
     &[
         Piece::Same(b"sigscript 1\n"),
         Piece::Spelled(b"", b"turns 1000\n"),
@@ -38,6 +38,10 @@ end
         b" sigscript 001 % a comment\r\n\n turns 0020000\t\nprocess b\nlabel l % twice\nlabel m\nprocess a",
         b"sigscript 1\nturns 20000\nprocess b\nlabel l\nlabel m\nprocess a\n",
     )],
+    &[
+        Piece::Spelled(b"\tsigscript 02 % a comment\n", b"sigscript 2\nturns 1000\n"),
+        Piece::Same(b"process a\n"),
+    ],
     // Each expression.
     &[
         Piece::Same(b"sigscript 1\n"),
