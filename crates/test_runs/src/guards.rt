@@ -118,37 +118,3 @@ pub(crate) static SIGN_FAULTS: [(&[u8], &[u8]); 9] = [
     (b"process a\nset X ( 9223372036854775808", b"3: syntax"),
     (b"process a\nset X ) 9223372036854775808", b"3: syntax"),
 ];
-
-const GUARD: &[u8] = b"sigscript 2\nprocess a\nreceive\non N when N > 0";
-
-/// Guards with as many tests as there may be, and with more: texts in pieces, each so many times, and
-/// the line and the kind where they are refused.
-pub(crate) static LONG_GUARDS: [(&[(&[u8], usize)], &[u8]); 7] = [
-    (&[(GUARD, 1), (b" and 1 < N", 63), (b"\nend", 1)], b""),
-    (&[(GUARD, 1), (b" or is_pid(N)", 63), (b"\nend", 1)], b""),
-    (
-        &[(GUARD, 1), (b" and N > 0", 64), (b"\nend", 1)],
-        b"4: term_too_large",
-    ),
-    (
-        &[(GUARD, 1), (b" or 1 < N", 64), (b"\nend", 1)],
-        b"4: term_too_large",
-    ),
-    (
-        &[
-            (GUARD, 1),
-            (b" or N > 0 and is_pid(N)", 31),
-            (b" and N > 0", 1),
-            (b" or is_pid(", 1),
-        ],
-        b"4: term_too_large",
-    ),
-    (
-        &[(GUARD, 1), (b" and N > 0", 63), (b" and x", 1)],
-        b"4: syntax",
-    ),
-    (
-        &[(GUARD, 1), (b" and N > 0", 63), (b" and", 1)],
-        b"4: syntax",
-    ),
-];

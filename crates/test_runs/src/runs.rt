@@ -2,7 +2,7 @@
 
 use crate::documents::{EXAMPLES, REFUSALS};
 use crate::exits::{EXIT_SIGNALS, EXITS};
-use crate::guards::{GUARD_FAULTS, GUARDS, LONG_GUARDS, SIGN_FAULTS};
+use crate::guards::{GUARD_FAULTS, GUARDS, SIGN_FAULTS};
 use crate::large::{GROWTHS, ROUNDS};
 use crate::links::{LINK_CALLS, LINKED_EXITS, QUEUED, UNLINKS};
 use crate::markers::MARKERS;
@@ -458,7 +458,7 @@ fn texts_are_refused_at_their_line(rt: HostRuntime) {
         let unrefused = around.first_other(&rt, rt.alloc(), rows);
         assert!(rt; matches!(unrefused, Ok(None)), "{unrefused:?}");
     }
-    for (pieces, place) in LONG.iter().chain(&LONG_GUARDS) {
+    for (pieces, place) in &LONG {
         let limited = REFUSED_TEXTS.holds(&rt, rt.alloc(), pieces, place);
         assert!(rt; limited == Ok(true), "{pieces:?}");
     }
