@@ -16,6 +16,7 @@ pub mod CutTexts
 pub mod PhraseReads
 pub mod PhraseTexts
 pub mod FormReads
+pub mod GuardTexts
 pub mod FormTexts
 pub mod CleanLines
 pub mod PrintLemmas
