@@ -19,39 +19,32 @@ pub one_value : {A : Type 0} (x y : A) (said : Result A FaultKind) → said ≡ 
 one_value x y (Ok z) e f = cc
 one_value x y (Err k) e f = absurd cc
 
+-- no test more may stand
+pub no_test_left : (line : List ℕ) (room : ℕ) (done : List (List Test)) (tests : List Test) (ts : List Token) → room ≡ 0 → alternatives_from line room done tests ts ≡ Err (test_refusal line ts)
+unfolding alternatives_from
+no_test_left line zero done tests ts h = refl
+no_test_left line (suc room) done tests ts h = absurd (omega (arith, h))
+
+-- a test, and what is behind it
+test_step : (line : List ℕ) (room : ℕ) (done : List (List Test)) (tests : List Test) (ts : List Token) → (room ≡ 0 → ⊥) →
+    alternatives_from line room done tests ts ≡ (test_at line ts >>= λ x. joined (alternatives_from line (room - 1)) done (tests ++ x.0 ∷ []) x.1 (join_at line x.1))
+unfolding alternatives_from
+test_step line zero done tests ts some = absurd (some refl)
+test_step line (suc room) done tests ts some = rw (less room) refl
+
 module _ (line : List ℕ) (room : ℕ) (done : List (List Test)) (tests : List Test) (ts : List Token) where
-  -- no test more may stand
-  pub no_test_left : room ≡ 0 → alternatives_from line room done tests ts ≡ Err (test_refusal line ts)
-  no_test_left h = none room h
-    where
-      none : (n : ℕ) → n ≡ 0 → alternatives_from line n done tests ts ≡ Err (test_refusal line ts)
-      unfolding alternatives_from
-      none zero e = refl
-      none (suc n) e = absurd (omega (arith, e))
-
-  -- a test, and what is behind it
-  test_step : (room ≡ 0 → ⊥) →
-      alternatives_from line room done tests ts ≡ (test_at line ts >>= λ x. joined (alternatives_from line (room - 1)) done (tests ++ x.0 ∷ []) x.1 (join_at line x.1))
-  test_step h = step room h
-    where
-      step : (n : ℕ) → (n ≡ 0 → ⊥) →
-          alternatives_from line n done tests ts ≡ (test_at line ts >>= λ x. joined (alternatives_from line (n - 1)) done (tests ++ x.0 ∷ []) x.1 (join_at line x.1))
-      unfolding alternatives_from
-      step zero some = absurd (some refl)
-      step (suc n) some = rw (less n) refl
-
   -- a test is refused
   pub test_stops : {X : Type 0} (view : X → List (List Test) × List Token) (r : Result X Stop) (e : Stop) → (room ≡ 0 → ⊥) → IsErrAnd r (λ x. x ≡ e) → Stops e (test_at line ts) →
       Gives view r (alternatives_from line room done tests ts)
   test_stops view r e some h s =
-      rw (test_step some)
+      rw (test_step line room done tests ts some)
       (stops_with view r e _ h (stopped e (test_at line ts) (λ x. joined (alternatives_from line (room - 1)) done (tests ++ x.0 ∷ []) x.1 (join_at line x.1)) s))
 
   -- from here on this test stands there, and these tokens behind it
   module _ (some : room ≡ 0 → ⊥) (t : Test) (behind : List Token) (here : test_at line ts ≡ Ok (t, behind)) (more : List Test) (made : more ≡ tests ++ t ∷ []) where
     this_test : (o : Option (Join × List Token)) → o ≡ join_at line behind → alternatives_from line room done tests ts ≡ joined (alternatives_from line (room - 1)) done more behind o
     this_test o found =
-        test_step some
+        test_step line room done tests ts some
         ∙ ap (λ (r : Result (Test × List Token) FaultKind). r >>= λ x. joined (alternatives_from line (room - 1)) done (tests ++ x.0 ∷ []) x.1 (join_at line x.1)) here
         ∙ ap (λ (p : Option (Join × List Token)). joined (alternatives_from line (room - 1)) done (tests ++ t ∷ []) behind p) (sym found)
         ∙ ap (λ (us : List Test). joined (alternatives_from line (room - 1)) done us behind o) (sym made)
