@@ -2,6 +2,7 @@
 use Rattle.std.proofs.Common.{◌≡◌, ℕ, zero, suc, ◌+◌, ◌≤◌, List, [], ◌∷◌, ◌++◌, length, map, sum, All, IfSome, Option, Some, None, Ok, Err, ok_or, arith, ap, ◌∙◌, le_refl, length-append}
 use Rattle.std.specs.Option.{option_map}
 use Rattle.std.proofs.lemmas.List.Elements.{All-nil, All-push}
+use Rattle.std.proofs.lemmas.List.Sums.{sum_by-cons}
 use Rattle.sig_patterns.specs.declared.guard.Op.{Op}
 use Rattle.sig_patterns.specs.declared.guard.Operand.{Operand}
 use Rattle.sig_patterns.specs.declared.guard.Test.{Test}
@@ -31,10 +32,15 @@ abbrev counted : List (List Test) → ℕ
 counted alternatives = sum (map (λ (tests : List Test). length tests) alternatives)
 
 counted-push : (done : List (List Test)) (tests : List Test) → counted (done ++ tests ∷ []) ≡ counted done + length tests
-counted-push [] tests = omega arith
+counted-push [] tests = omega (arith, sum_by-cons (λ k. k) (length tests) [])
 counted-push (first ∷ done) tests =
-    let rest : counted (done ++ tests ∷ []) ≡ counted done + length tests = counted-push done tests in
-    omega (arith, rest)
+    let count : List Test → ℕ = λ ts. length ts in
+    omega (
+      arith,
+      counted-push done tests,
+      sum_by-cons (λ k. k) (length first) (map count (done ++ tests ∷ [])),
+      sum_by-cons (λ k. k) (length first) (map count done),
+    )
 
 side_of-read : (kind : TokenKind) (word : List ℕ) → IsWord kind word → Holds IsReadableSide (side_of kind word)
 side_of-read Integer word w = w
