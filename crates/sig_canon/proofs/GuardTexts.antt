@@ -174,6 +174,10 @@ compared line o s rest at end stops place =
     let front = word_tokens Two (side_text o) rest at end s.word stops place in
     ap (test_at line) front ∙ s.compares line (token_at s.kind at (side_text o) ∷ tokens_at Two end rest) ∙ ap (compare_at line) (sym front)
 
+-- the comparison that the last side makes, and the tokens behind it
+abbrev made_of : Operand → Op → Operand × List Token → Test × List Token
+made_of left o z = (test.Compare left o z.0, z.1)
+
 module _ {Y : Type 0} (more : OfMore Test Y) (rest : List (List ℕ)) (y : Y) where
   -- the last side, the sign and the first side of a comparison, each with what is read behind it
   right_rest : (left right : Operand) (o : Op) → IsSide right → IsRest Two (more (test.Compare left o right)) (texts rest) y →
@@ -191,12 +195,12 @@ module _ {Y : Type 0} (more : OfMore Test Y) (rest : List (List ℕ)) (y : Y) wh
       ap (λ (t : Result (Op × List Token) FaultKind). t >>= λ x. side_at line x.1 >>= λ z. more (test.Compare left x.0 z.0) line z.1) (op_found o (texts (side_text right ∷ rest)) at end e refl) ∙ found)
 
   behind_op : (left : Operand) (o : Op) (line : List ℕ) (r : Result (Operand × List Token) FaultKind) →
-      (on_ok (λ z. (test.Compare left o z.0, z.1)) r >>= λ x. more x.0 line x.1) ≡ (r >>= λ z. more (test.Compare left o z.0) line z.1)
+      (on_ok (made_of left o) r >>= λ x. more x.0 line x.1) ≡ (r >>= λ z. more (test.Compare left o z.0) line z.1)
   behind_op left o line (Ok z) = refl
   behind_op left o line (Err e) = refl
 
   behind_left : (left : Operand) (line : List ℕ) (r : Result (Op × List Token) FaultKind) →
-      ((r >>= λ x. on_ok (λ z. (test.Compare left x.0 z.0, z.1)) (side_at line x.1)) >>= λ x. more x.0 line x.1) ≡ (r >>= λ x. side_at line x.1 >>= λ z. more (test.Compare left x.0 z.0) line z.1)
+      ((r >>= λ x. on_ok (made_of left x.0) (side_at line x.1)) >>= λ x. more x.0 line x.1) ≡ (r >>= λ x. side_at line x.1 >>= λ z. more (test.Compare left x.0 z.0) line z.1)
   behind_left left line (Ok x) = behind_op left x.0 line (side_at line x.1)
   behind_left left line (Err e) = refl
 
@@ -333,7 +337,10 @@ module _ (known : Known) (here : ℕ) where
   abbrev guarded : OfMore (List (List Test)) Behind
   guarded alternatives line ts = on_ok (λ target. (Some (record { alternatives = alternatives }), target)) (arrow_of known here line ts)
 
-  guard_made : (line : List ℕ) (r : ReadGuard) → (on_ok (λ (x : List (List Test) × List Token). (Some (record { alternatives = x.0 }), x.1)) r >>= λ x. on_ok (λ target. (x.0, target)) (arrow_of known here line x.1)) ≡ (r >>= λ x. guarded x.0 line x.1)
+  abbrev guard_of : List (List Test) × List Token → Option Guard × List Token
+  guard_of x = (Some (record { alternatives = x.0 }), x.1)
+
+  guard_made : (line : List ℕ) (r : ReadGuard) → (on_ok guard_of r >>= λ x. on_ok (λ target. (x.0, target)) (arrow_of known here line x.1)) ≡ (r >>= λ x. guarded x.0 line x.1)
   guard_made line (Ok x) = refl
   guard_made line (Err e) = refl
 
