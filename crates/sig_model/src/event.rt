@@ -103,18 +103,41 @@ impl Same for Did {
     }
 }
 
+impl Outcome {
+    /// Whether this message was sent to this target.
+    fn is_sent(&self, to: &Term, message: &Term) -> bool
+        ensures { IsTrue result ↔ (Outcome.Sent to.now message.now ≡ self.now) }
+    {
+        match self {
+            Outcome::Sent {
+                to: another,
+                message: its,
+            } => to.same(another) && message.same(its),
+            _ => false,
+        }
+    }
+
+    /// Whether a receive took this message with this clause, after it looked at so many.
+    fn is_taken(&self, clause: u32, looked: u64, message: &Term) -> bool
+        ensures { IsTrue result ↔ (Outcome.Took clause looked message.now ≡ self.now) }
+    {
+        match self {
+            Outcome::Took {
+                clause: another,
+                looked: count,
+                message: its,
+            } => clause == *another && looked == *count && message.same(its),
+            _ => false,
+        }
+    }
+}
+
 impl Same for Outcome {
     fn same(&self, other: &Outcome) -> bool
         ensures { IsTrue result ↔ (self.now ≡ other.now) }
     {
         match self {
-            Outcome::Sent { to, message } => match other {
-                Outcome::Sent {
-                    to: another,
-                    message: its,
-                } => to.same(another) && message.same(its),
-                _ => false,
-            },
+            Outcome::Sent { to, message } => other.is_sent(to, message),
             Outcome::Set { value } => match other {
                 Outcome::Set { value: another } => value.same(another),
                 _ => false,
@@ -128,14 +151,7 @@ impl Same for Outcome {
                 clause,
                 looked,
                 message,
-            } => match other {
-                Outcome::Took {
-                    clause: another,
-                    looked: count,
-                    message: its,
-                } => clause == another && looked == count && message.same(its),
-                _ => false,
-            },
+            } => other.is_taken(*clause, *looked, message),
             Outcome::After { looked } => match other {
                 Outcome::After { looked: another } => looked == another,
                 _ => false,

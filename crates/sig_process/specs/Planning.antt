@@ -20,11 +20,6 @@ IsRefused s body TooLarge = body ≡ Some (ending s system_limit)
 IsRefused s body BadArg = body ≡ Some (ending s badarg)
 IsRefused s body Memory = Unit {0}
 
--- A value that an instruction needs, or its fault. `row go` is what the instruction does, where `go` is what it does with the value.
-abbrev pub IsUsed : {A : Type 0} → ProcessState → ((A → Body) → Body) → Result A ValueFault → Type 0
-IsUsed {A} s row (Ok value) = (go : A → Body) → row go ≡ go value
-IsUsed {A} s row (Err fault) = (go : A → Body) → IsRefused s (Some (row go)) fault
-
 -- the execution does what the body says, or the fault of a value tells of the body
 abbrev pub IsPlanned : ProcessState → Option Body → Result Execution ValueFault → Type 0
 IsPlanned s body (Ok x) = body ≡ Some (executed_body s x)

@@ -1,7 +1,7 @@
 ghost use Rattle.std.specs.Prelude.{◌≡◌, ◌+◌, ◌-◌, ◌≤◌, [], ◌∷◌, length, map, ◌==◌};
 ghost use Rattle.std.specs.Prelude.{if◌then◌else◌, slice_get, option_copied, Some, false, IfOk};
 ghost use Rattle.sig_model.specs.ProcessState.{ProcessState};
-ghost use Rattle.sig_model.specs.Bodies.{Body, place_after, going_on, at_next};
+ghost use Rattle.sig_model.specs.Bodies.{place_after, going_on, at_next};
 ghost use Rattle.sig_model.specs.Executing.{sending, setting, linking, unlinking, sending_exit, trapping, new_ref, making_ref};
 ghost use Rattle.sig_model.specs.Executing.{monitoring, aliasing, demonitor_posts, demonitoring, unaliasing, reserving};
 ghost use Rattle.sig_model.specs.Executing.{marked_by, binding, clearing, with_pid, with_target, from_mark, exec_body};
@@ -37,16 +37,6 @@ pub(crate) fn demonitor_posts(reference: Ref, told: Option<Pid>) -> Posts
     match told {
         None => Posts::Nothing,
         Some(target) => one_post(target, Kind::Demonitor { reference }),
-    }
-}
-
-/// The execution that was planned, or its want of memory as the fault of a value.
-fn in_memory(planned: Result<Execution, AllocError>) -> Result<Execution, ValueFault>
-    ensures { (s : ProcessState) (body : Body) → IfOk planned (λ x. body ≡ executed_body s x) → IsPlanned s (Some body) result }
-{
-    match planned {
-        Ok(execution) => Ok(execution),
-        Err(AllocError) => Err(ValueFault::Memory),
     }
 }
 
@@ -459,7 +449,10 @@ impl Progress {
         let address = self.address_of(&to);
         drop(to);
         match address {
-            Ok(address) => in_memory(self.plan_send(proc, address, message)),
+            Ok(address) => match self.plan_send(proc, address, message) {
+                Ok(plan) => Ok(plan),
+                Err(AllocError) => Err(ValueFault::Memory),
+            },
             Err(fault) => {
                 drop(message);
                 Err(fault)
@@ -484,7 +477,10 @@ impl Progress {
         ensures { IsRow proc.now (state_of self.now) (Instr.Set var.now value.now) result }
     {
         match self.value_of(value) {
-            Ok(value) => in_memory(self.plan_set(proc, var, value)),
+            Ok(value) => match self.plan_set(proc, var, value) {
+                Ok(plan) => Ok(plan),
+                Err(AllocError) => Err(ValueFault::Memory),
+            },
             Err(fault) => Err(fault),
         }
     }
@@ -523,7 +519,10 @@ impl Progress {
         ensures { IsRow proc.now (state_of self.now) (Instr.Monitor var.now target.now mode) result }
     {
         match self.target_of(target) {
-            Ok(target) => in_memory(self.plan_monitor(proc, var, target, mode)),
+            Ok(target) => match self.plan_monitor(proc, var, target, mode) {
+                Ok(plan) => Ok(plan),
+                Err(AllocError) => Err(ValueFault::Memory),
+            },
             Err(fault) => Err(fault),
         }
     }
@@ -560,7 +559,10 @@ impl Progress {
         ensures { IsRow proc.now (state_of self.now) (Instr.Exit reason.now) result }
     {
         match self.value_of(reason) {
-            Ok(reason) => in_memory(self.exiting(reason)),
+            Ok(reason) => match self.exiting(reason) {
+                Ok(plan) => Ok(plan),
+                Err(AllocError) => Err(ValueFault::Memory),
+            },
             Err(fault) => Err(fault),
         }
     }
@@ -608,14 +610,23 @@ impl Progress {
         ensures { IsRow proc.now (state_of self.now) instr.now result }
     {
         match instr {
-            Instr::MakeRef { var } => in_memory(self.plan_make_ref(proc, var)),
-            Instr::Alias { var, reply } => in_memory(self.plan_alias(proc, var, *reply)),
+            Instr::MakeRef { var } => match self.plan_make_ref(proc, var) {
+                Ok(plan) => Ok(plan),
+                Err(AllocError) => Err(ValueFault::Memory),
+            },
+            Instr::Alias { var, reply } => match self.plan_alias(proc, var, *reply) {
+                Ok(plan) => Ok(plan),
+                Err(AllocError) => Err(ValueFault::Memory),
+            },
             Instr::Reserve => Ok(self.plan_reserve(proc)),
             Instr::Bind { var } => Ok(self.plan_bind(proc, var)),
             Instr::Clear { var } => Ok(self.plan_clear(proc, var)),
             Instr::Trap { on } => Ok(self.plan_trap(proc, *on)),
             Instr::Goto { label } => Ok(self.plan_goto(proc, *label)),
-            Instr::Stop => in_memory(self.exiting_with(b"normal")),
+            Instr::Stop => match self.exiting_with(b"normal") {
+                Ok(plan) => Ok(plan),
+                Err(AllocError) => Err(ValueFault::Memory),
+            },
             _ => unreachable!(),
         }
     }

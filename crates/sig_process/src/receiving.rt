@@ -1,5 +1,5 @@
 ghost use Rattle.std.specs.Prelude.{ℕ, ◌≡◌, ◌-◌, ◌+◌, ◌*◌, ◌<◌, ◌≤◌, ◌^◌, length, slice_get, Some, None, false, MatchResult, OnOk, OnErr};
-ghost use Rattle.sig_inner.specs.Receiving.{scanned, looked_in, answer_to, after_scan, is_saved, passed, HasPassed, IsScanWithin, IsAsked};
+ghost use Rattle.sig_inner.specs.Receiving.{answer_with, after_receive, looked_with, is_saved, passed, HasPassed, IsScanWithin, IsAsked};
 ghost use Rattle.sig_patterns.specs.Inbox.{start_of};
 ghost use Rattle.sig_patterns.specs.Scanning.{Hit};
 ghost use Rattle.sig_program.specs.Scripts.{AreMarked};
@@ -37,16 +37,13 @@ fn scan_messages<L: Ledger>(
     requires few { length clauses.now < 2 ^ 32 }
     requires asked { IsAsked inner.old.queue «using» clauses.now env.now }
     requires passed { HasPassed inner.old.queue (start_of inner.old.queue.inbox «using») clauses.now env.now }
-    ensures answer { result ≡ answer_to inner.old.queue (start_of inner.old.queue.inbox «using»)
-        (scanned inner.old.queue (start_of inner.old.queue.inbox «using») clauses.now env.now) }
-    ensures left { inner.new.queue ≡ after_scan inner.old.queue (start_of inner.old.queue.inbox «using»)
-        (scanned inner.old.queue (start_of inner.old.queue.inbox «using») clauses.now env.now) }
+    ensures answer { result ≡ answer_with inner.old.queue «using» clauses.now env.now }
+    ensures left { inner.new.queue ≡ after_receive inner.old.queue «using» clauses.now env.now }
     ensures within { IsScanWithin (length clauses.now) (length inner.old.queue.inbox.messages - start_of inner.old.queue.inbox «using»)
         result }
     ensures passed { HasPassed inner.new.queue (start_of inner.new.queue.inbox «using») clauses.now env.now }
     ensures ticks { steps.new ≤ steps.old + length clauses.now
-        * (looked_in inner.old.queue (start_of inner.old.queue.inbox «using»)
-        (scanned inner.old.queue (start_of inner.old.queue.inbox «using») clauses.now env.now)
+        * (looked_with inner.old.queue «using» clauses.now env.now
         - (passed inner.old.queue.last - start_of inner.old.queue.inbox «using»)) }
 {
     if inner.is_saved() {

@@ -1,7 +1,6 @@
-ghost use Rattle.std.specs.Prelude.{◌≡◌};
-ghost use Rattle.sig_model.specs.Executing.{with_value, with_pid, with_ref, with_target, ref_of_var, using_ref};
-ghost use Rattle.sig_process.specs.Planning.{IsUsed};
-ghost use Rattle.sig_process.specs.Progressing.{state_of};
+ghost use Rattle.std.specs.Prelude.{◌≡◌, Some};
+ghost use Rattle.sig_model.specs.Executing.{built, ref_of_var, using_ref};
+ghost use Rattle.sig_process.specs.Values.{value_in, pid_in, reference_in, target_in, values_in, IsUsed};
 ghost use Rattle.sig_process.specs.declared.values.ValueFault.TheVariants.{Memory};
 
 use crate::progress::Progress;
@@ -33,7 +32,7 @@ impl From<AllocError> for ValueFault {
 impl Progress {
     /// The value of the expression.
     pub(crate) fn value_of(&self, expression: &Expr) -> Result<Term, ValueFault>
-        ensures { IsUsed (state_of self.now) (with_value (state_of self.now) expression.now) result }
+        ensures { IsUsed (value_in (built self.now.tables.env expression.now)) result }
     {
         match build(self.alloc, expression, &self.tables.env) {
             Ok(value) => Ok(value),
@@ -44,7 +43,7 @@ impl Progress {
 
     /// The process that the value names.
     pub(crate) fn pid_of(&self, value: &Term) -> Result<Pid, ValueFault>
-        ensures { IsUsed (state_of self.now) (with_pid (state_of self.now) value.now) result }
+        ensures { IsUsed (pid_in (Some value.now)) result }
     {
         match value {
             Term::Pid(pid) => Ok(*pid),
@@ -58,7 +57,7 @@ impl Progress {
 
     /// The reference that the value is.
     fn ref_of(&self, value: &Term) -> Result<Ref, ValueFault>
-        ensures { IsUsed (state_of self.now) (with_ref (state_of self.now) value.now) result }
+        ensures { IsUsed (reference_in (Some value.now)) result }
     {
         match value {
             Term::Ref(reference) => Ok(*reference),
@@ -72,7 +71,7 @@ impl Progress {
 
     /// The process or the alias that the value names.
     pub(crate) fn address_of(&self, value: &Term) -> Result<Target, ValueFault>
-        ensures { IsUsed (state_of self.now) (with_target (state_of self.now) value.now) result }
+        ensures { IsUsed (target_in (Some value.now)) result }
     {
         match value {
             Term::Pid(pid) => Ok(Target::Process(*pid)),
@@ -86,24 +85,30 @@ impl Progress {
 
     /// The reference that the value of the expression is.
     pub(crate) fn reference_of(&self, expression: &Expr) -> Result<Ref, ValueFault>
-        ensures { IsUsed (state_of self.now) (λ go. with_value (state_of self.now) expression.now (λ t. with_ref (state_of self.now) t go))
-            result }
+        ensures { IsUsed (reference_in (built self.now.tables.env expression.now)) result }
     {
-        let value = self.value_of(expression)?;
-        let reference = self.ref_of(&value);
-        drop(value);
-        reference
+        match self.value_of(expression) {
+            Ok(value) => {
+                let reference = self.ref_of(&value);
+                drop(value);
+                reference
+            }
+            Err(fault) => Err(fault),
+        }
     }
 
     /// The process that the value of the expression names.
     pub(crate) fn target_of(&self, expression: &Expr) -> Result<Pid, ValueFault>
-        ensures { IsUsed (state_of self.now) (λ go. with_value (state_of self.now) expression.now (λ t. with_pid (state_of self.now) t go))
-            result }
+        ensures { IsUsed (pid_in (built self.now.tables.env expression.now)) result }
     {
-        let value = self.value_of(expression)?;
-        let pid = self.pid_of(&value);
-        drop(value);
-        pid
+        match self.value_of(expression) {
+            Ok(value) => {
+                let pid = self.pid_of(&value);
+                drop(value);
+                pid
+            }
+            Err(fault) => Err(fault),
+        }
     }
 
     /// The reference that the variable's value is. `None` where it is none.
@@ -128,17 +133,17 @@ impl Progress {
 
     /// The values of both expressions.
     pub(crate) fn values_of(&self, first: &Expr, second: &Expr) -> Result<(Term, Term), ValueFault>
-        ensures { IsUsed (state_of self.now)
-            (λ go. with_value (state_of self.now) first.now (λ v. with_value (state_of self.now) second.now (λ w. go (v, w))))
-            result }
+        ensures { IsUsed (values_in (built self.now.tables.env first.now) (built self.now.tables.env second.now)) result }
     {
-        let first = self.value_of(first)?;
-        match self.value_of(second) {
-            Ok(second) => Ok((first, second)),
-            Err(fault) => {
-                drop(first);
-                Err(fault)
-            }
+        match self.value_of(first) {
+            Ok(first) => match self.value_of(second) {
+                Ok(second) => Ok((first, second)),
+                Err(fault) => {
+                    drop(first);
+                    Err(fault)
+                }
+            },
+            Err(fault) => Err(fault),
         }
     }
 }

@@ -141,7 +141,6 @@ module _ (script : Program) (policy : Policy) (crew : List Running) (queues : Li
     fresh_ready = record {
       pid_is = placed.0;
       keeping = law.keeping pid r at;
-      numbered = law.numbered pid r at;
       many = f.many;
       count = placed.1 ∙ sym same;
       few = omega (arith, same, few);
@@ -152,12 +151,14 @@ module _ (script : Program) (policy : Policy) (crew : List Running) (queues : Li
     fresh_gone : HasGone pid r r seats
     fresh_gone = record {
       clear = empty;
-      count = refl;
-      turns = refl;
-      proc = refl;
-      events = ([], sym (append-nil r.events));
-      stamp = omega arith;
-      later = λ lt. absurd (let z : ⊥ = omega (arith, lt) in z);
+      on = record {
+        count = refl;
+        turns = refl;
+        proc = refl;
+        events = ([], sym (append-nil r.events));
+        stamp = omega arith;
+        later = λ lt. absurd (let z : ⊥ = omega (arith, lt) in z);
+      };
       came = λ s ne. sym (ap (λ z. came s r ++ coming_from s z) (no_taken queues first count seats f pid) ∙ append-nil (came s r));
       went = λ p ne.
           sym (ap (λ z. (went p r ++ z) ++ bound_for p r.outbox) (no_put queues first count seats f pid p) ∙ ap (λ z. (went p r ++ []) ++ bound_for p z) empty

@@ -17,11 +17,14 @@ use Rattle.sig_layout.specs.Sets.{has}
 use Rattle.sig_layout.specs.Sent.{signals}
 use Rattle.sig_model.specs.Accounts.{sent_by, came, went, bound_for, coming_from}
 use Rattle.sig_workers.specs.SeatAccounts.{put_in, put_by, taken_in, taken_at}
-use Rattle.sig_workers.specs.Gone.{HasGone, HasSent, PutsFor, Continued, TakesFor, IsReady, IsSameSeat, KeepOthers, Goes}
+use Rattle.sig_workers.specs.Gone.{HasGoneOn, HasGone, HasSent, PutsFor, Continued, TakesFor, IsReady, IsSameSeat, KeepOthers, Goes}
 use Rattle.sig_layout.specs.Openings.{first_of}
 use Rattle.sig_layout.proofs.Sending.{signals-append}
-use Rattle.sig_model.proofs.NumberLemmas.{lists_numbered}
 use Rattle.sig_workers.proofs.OneEvent.{IsOneEvent}
+
+-- other signals wait for it, and leave it
+lists_on : (b r : Running) (taken out : List Signal) → HasGoneOn b r → HasGoneOn b (record r { taken_in = taken; outbox = out })
+lists_on b r taken out g = record { count = g.count; turns = g.turns; proc = g.proc; events = g.events; stamp = g.stamp; later = g.later }
 
 keep_refl : (pid : ℕ) (seats : List Seated) → KeepOthers pid seats seats
 keep_refl pid seats = record {
@@ -74,7 +77,6 @@ module _ (queues : List Queue) (pid : ℕ) (r : Running) (seats : List Seated) (
     event_ready = record {
       pid_is = e.pid ∙ h.pid_is;
       keeping = e.keeping;
-      numbered = e.numbered h.numbered;
       many = h.many;
       count = e.count ∙ h.count;
       few = h.few;
@@ -111,17 +113,19 @@ module _ (queues : List Queue) (pid : ℕ) (r : Running) (seats : List Seated) (
     event_gone : (b : Running) → HasGone pid b r seats → HasGone pid b t seats
     event_gone b g = record {
       clear = g.clear;
-      count = e.count ∙ g.count;
-      turns = e.turns ∙ g.turns;
-      proc = e.proc ∙ g.proc;
-      events = (g.events.0 ++ e.event ∷ [], e.events ∙ ap (λ z. z ++ e.event ∷ []) g.events.1 ∙ append_assoc b.events g.events.0 (e.event ∷ []));
-      stamp = omega (arith, e.stamp, g.stamp);
-      later = λ _. omega (arith, e.stamp, g.stamp);
+      on = record {
+        count = e.count ∙ g.on.count;
+        turns = e.turns ∙ g.on.turns;
+        proc = e.proc ∙ g.on.proc;
+        events = (g.on.events.0 ++ e.event ∷ [], e.events ∙ ap (λ z. z ++ e.event ∷ []) g.on.events.1 ∙ append_assoc b.events g.on.events.0 (e.event ∷ []));
+        stamp = omega (arith, e.stamp, g.on.stamp);
+        later = λ _. omega (arith, e.stamp, g.on.stamp);
+      };
       came = λ s ne. e.came s (at_pid s ne) ∙ g.came s ne;
       went = λ p ne.
           e.went p ∙ ap (λ z. z ++ bound_for p e.sends) (g.went p ne) ∙ append_assoc (went p b ++ put_by pid p seats) (bound_for p r.outbox) (bound_for p e.sends)
           ∙ ap (λ z. (went p b ++ put_by pid p seats) ++ z) (sym (e.outbox p (at_pid p ne)));
-      still = λ same. absurd (let lt : length b.events < length t.events = longer b.events r.events t.events g.events.0 e.event g.events.1 e.events in let f : ⊥ = omega (arith, lt, same) in f);
+      still = λ same. absurd (let lt : length b.events < length t.events = longer b.events r.events t.events g.on.events.0 e.event g.on.events.1 e.events in let f : ⊥ = omega (arith, lt, same) in f);
     }
 
     pub goes_event : Goes queues pid r seats t seats
@@ -259,7 +263,6 @@ module _ (queues : List Queue) (pid : ℕ) (r : Running) (seats : List Seated) (
     take_ready keeps = record {
       pid_is = h.pid_is;
       keeping = keeps;
-      numbered = lists_numbered r (r.taken_in ++ xs) r.outbox h.numbered;
       many = length-set seats pid w ∙ h.many;
       count = h.count;
       few = h.few;
@@ -270,12 +273,7 @@ module _ (queues : List Queue) (pid : ℕ) (r : Running) (seats : List Seated) (
     take_gone : (b : Running) → HasGone pid b r seats → HasGone pid b t then_seats
     take_gone b g = record {
       clear = g.clear;
-      count = g.count;
-      turns = g.turns;
-      proc = g.proc;
-      events = g.events;
-      stamp = g.stamp;
-      later = g.later;
+      on = lists_on b r (r.taken_in ++ xs) r.outbox g.on;
       came = λ s ne.
           came_more s
           ∙ ap (λ z. z ++ coming_from s xs) (g.came s ne)
@@ -354,7 +352,6 @@ module _ (queues : List Queue) (pid : ℕ) (t : Running) (x : Signal) (seats : L
     put_ready keeps = record {
       pid_is = h.pid_is;
       keeping = keeps;
-      numbered = lists_numbered r r.taken_in t.outbox h.numbered;
       many = length-set seats p w ∙ h.many;
       count = h.count;
       few = h.few;
@@ -377,12 +374,7 @@ module _ (queues : List Queue) (pid : ℕ) (t : Running) (x : Signal) (seats : L
     put_gone : (b : Running) → HasGone pid b r seats → HasGone pid b t put_seats
     put_gone b g = record {
       clear = g.clear;
-      count = g.count;
-      turns = g.turns;
-      proc = g.proc;
-      events = g.events;
-      stamp = g.stamp;
-      later = g.later;
+      on = lists_on b r r.taken_in t.outbox g.on;
       came = λ s ne. g.came s ne ∙ ap (λ z. came s b ++ coming_from s z) (sym (same_takes queues pid r seats h p v w there same taken pid));
       went = λ q ne.
           went_kept q ∙ g.went q ne ∙ append_assoc (went q b) (put_by pid q seats) (bound_for q (x ∷ t.outbox))

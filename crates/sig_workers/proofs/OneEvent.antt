@@ -17,11 +17,10 @@ use Rattle.sig_model.specs.declared.event.Event.{Event}
 use Rattle.sig_model.specs.Machine.{rules_with}
 use Rattle.sig_model.specs.Running.{Running, exec_next, handle_next}
 use Rattle.sig_model.specs.Keeping.{IsKeeping, opening_local, local_of}
-use Rattle.sig_model.specs.Accounts.{sent_by, came, went, bound_for, coming_from, IsNumbered}
+use Rattle.sig_model.specs.Accounts.{sent_by, came, went, bound_for, coming_from}
 use Rattle.sig_model.proofs.StampLemmas.{stamps_kept}
 use Rattle.sig_model.proofs.EventLemmas.{IsEvent, IsStep, step_event, member_of}
 use Rattle.sig_model.proofs.KeepLemmas.{part, rules, is_kept, step_keeps}
-use Rattle.sig_model.proofs.NumberLemmas.{step_numbered}
 
 pub record IsOneEvent (r t : Running) : Type 0 where
   pub pid : t.pid ≡ r.pid
@@ -29,7 +28,6 @@ pub record IsOneEvent (r t : Running) : Type 0 where
   pub turns : t.turns ≡ r.turns
   pub proc : t.proc ≡ r.proc
   pub keeping : IsKeeping t
-  pub numbered : IsNumbered r → IsNumbered t
   pub event : Event
   pub events : t.events ≡ r.events ++ event ∷ []
   pub stamp : r.state.counts.stamp < t.state.counts.stamp
@@ -113,7 +111,6 @@ module _ (r t : Running) (k : IsKeeping r) (e : IsEvent r.turns (part r) r.pid r
     turns = ap (λ (z : Running). z.turns) e.is;
     proc = ap (λ (z : Running). z.proc) e.is;
     keeping = step_keeps r t k step;
-    numbered = λ n. step_numbered r t k step;
     event = e.effect.event;
     events = ap (λ (z : Running). z.events) e.is;
     stamp = stamp_more;

@@ -54,7 +54,6 @@ module _ (queues : List Queue) (q : ℕ) (seats later : List Seated) (k : LooksS
   ready_kept h = record {
     pid_is = h.pid_is;
     keeping = h.keeping;
-    numbered = h.numbered;
     many = k.many ∙ h.many;
     count = h.count;
     few = h.few;
@@ -91,12 +90,7 @@ module _ (queues : List Queue) (q : ℕ) (seats later : List Seated) (k : LooksS
   gone_kept : (b : Running) → HasGone q b r seats → HasGone q b r later
   gone_kept b g = record {
     clear = g.clear;
-    count = g.count;
-    turns = g.turns;
-    proc = g.proc;
-    events = g.events;
-    stamp = g.stamp;
-    later = g.later;
+    on = g.on;
     came = λ s ne. g.came s ne ∙ ap (λ z. came s b ++ coming_from s z) (sym k.takes);
     went = λ p ne. g.went p ne ∙ ap (λ z. (went p b ++ z) ++ bound_for p r.outbox) (sym (k.puts p));
     still = λ e. g.still e ∙ ap (λ z. record b { taken_in = b.taken_in ++ z }) (sym k.takes);

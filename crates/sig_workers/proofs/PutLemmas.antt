@@ -13,6 +13,7 @@ use Rattle.sig_model.specs.Running.{Running}
 use Rattle.sig_model.specs.Keeping.{IsKeeping, IsLeaving}
 use Rattle.sig_model.specs.Accounts.{bound_for}
 use Rattle.sig_model.proofs.KeepLemmas.{outbox_keeps}
+use Rattle.sig_model.proofs.NumberLemmas.{keeping_numbered}
 use Rattle.sig_layout.specs.declared.via.Via.{Via}
 use Rattle.sig_layout.specs.Sets.{has}
 use Rattle.sig_layout.specs.Sent.{putter, of}
@@ -48,7 +49,7 @@ module _ (queues : List Queue) (pid : ℕ) (r t : Running) (x : Signal) (seats :
   may_put v there =
       let f : PutsFor queues pid x.to.0 r v = h.puts x.to.0 v apart there in
       let b : x.to.0 < r.count = below.to in
-      let counts : IsCounting 1 (f.sent.0 ++ x ∷ bound_for x.to.0 t.outbox) = subst (IsCounting 1) (f.sent.1 ∙ ap (λ z. f.sent.0 ++ z) mine_first) (h.numbered.counted x.to.0 b) in
+      let counts : IsCounting 1 (f.sent.0 ++ x ∷ bound_for x.to.0 t.outbox) = subst (IsCounting 1) (f.sent.1 ∙ ap (λ z. f.sent.0 ++ z) mine_first) ((keeping_numbered r h.keeping).counted x.to.0 b) in
       let number : x.number ≡ 1 + length f.sent.0 = counting-next 1 f.sent.0 (bound_for x.to.0 t.outbox) x counts in
       record {
         queue = f.queue;

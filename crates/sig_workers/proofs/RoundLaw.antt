@@ -11,11 +11,11 @@ use Rattle.sig_program.specs.Scripts.{Program}
 use Rattle.sig_model.specs.Running.{Running}
 use Rattle.sig_model.specs.OneWorker.{IsClear}
 use Rattle.sig_model.specs.Keeping.{IsKeeping}
-use Rattle.sig_model.specs.Accounts.{sent_by, came, went, bound_for, coming_from, IsNumbered}
+use Rattle.sig_model.specs.Accounts.{sent_by, came, went, bound_for, coming_from}
 use Rattle.sig_model.specs.SettledRun.{IsProcessOf}
 use Rattle.sig_model.specs.CrewLaw.{came_to, went_from, left_for, IsLawfulCrew}
 use Rattle.sig_model.proofs.ClearLemmas.{clear_at}
-use Rattle.sig_model.proofs.NumberLemmas.{lists_numbered}
+use Rattle.sig_model.proofs.NumberLemmas.{keeping_numbered}
 use Rattle.sig_queue.specs.Seats.{Queue, Seated}
 use Rattle.sig_workers.specs.SeatAccounts.{put_in, put_by, taken_at}
 use Rattle.sig_workers.specs.Parts.{HasPlace}
@@ -125,8 +125,8 @@ module _ (script : Program) (queues : List Queue) (base later : List Running) (s
       let w : IsProcessOf script p c.place.was = law.processes p c.place.was c.place.there in
       record {
         pid = ap (λ (z : Running). z.pid) c.given ∙ c.place.ready.pid_is;
-        turns = ap (λ (z : Running). z.turns) c.given ∙ c.place.gone.turns ∙ w.turns;
-        proc = w.proc ∙ ap (λ d. Some d) (sym (ap (λ (z : Running). z.proc) c.given ∙ c.place.gone.proc));
+        turns = ap (λ (z : Running). z.turns) c.given ∙ c.place.gone.on.turns ∙ w.turns;
+        proc = w.proc ∙ ap (λ d. Some d) (sym (ap (λ (z : Running). z.proc) c.given ∙ c.place.gone.on.proc));
       }
 
   -- the crew at the end of a round is lawful
@@ -135,12 +135,10 @@ module _ (script : Program) (queues : List Queue) (base later : List Running) (s
     many = same ∙ law.many;
     placed = λ p t at.
         let c : IsClosed queues base seats p t = ends p t at in
-        ((process_end p t at).pid, ap (λ (z : Running). z.count) c.given ∙ c.place.gone.count ∙ (law.placed p c.place.was c.place.there).1 ∙ sym same);
+        ((process_end p t at).pid, ap (λ (z : Running). z.count) c.given ∙ c.place.gone.on.count ∙ (law.placed p c.place.was c.place.there).1 ∙ sym same);
     processes = process_end;
     keeping = λ p t at. (ends p t at).keeping;
-    numbered = λ p t at.
-        let c : IsClosed queues base seats p t = ends p t at in
-        subst IsNumbered (sym c.given) (lists_numbered c.r (c.r.taken_in ++ c.rest) c.r.outbox c.place.ready.numbered);
+    numbered = λ p t at. keeping_numbered t (ends p t at).keeping;
     pairs = λ s t ne. pair_case s t (slice_get later s) (slice_get later t) ne refl refl;
   }
 
@@ -152,7 +150,7 @@ module _ (script : Program) (queues : List Queue) (base later : List Running) (s
       let here : slice_get later p ≡ Some t = slice_get-get_or later p r lt in
       let c : IsClosed queues base seats p t = ends p t here in
       let was : c.place.was ≡ r = same_Some c.place.was r (sym c.place.there ∙ at) in
-      (t, here, c.place.gone.events.0, ap (λ (z : Running). z.events) c.given ∙ c.place.gone.events.1 ∙ ap (λ (z : Running). z.events ++ c.place.gone.events.0) was)
+      (t, here, c.place.gone.on.events.0, ap (λ (z : Running). z.events) c.given ∙ c.place.gone.on.events.1 ∙ ap (λ (z : Running). z.events ++ c.place.gone.on.events.0) was)
 
   -- the stamps rise with the events
   pub round_stamp : (p : ℕ) (r t : Running) → slice_get base p ≡ Some r → slice_get later p ≡ Some t → (r.state.counts.stamp ≤ t.state.counts.stamp) × (length r.events < length t.events → r.state.counts.stamp < t.state.counts.stamp)
@@ -163,8 +161,8 @@ module _ (script : Program) (queues : List Queue) (base later : List Running) (s
       let b : length t.events ≡ length c.r.events = ap (λ (z : Running). length z.events) c.given in
       let d : c.place.was.state.counts.stamp ≡ r.state.counts.stamp = ap (λ (z : Running). z.state.counts.stamp) was in
       let e : length c.place.was.events ≡ length r.events = ap (λ (z : Running). length z.events) was in (
-        omega (arith, a, d, c.place.gone.stamp),
-        λ lt. (let m : c.place.was.state.counts.stamp < c.r.state.counts.stamp = c.place.gone.later (omega (arith, lt, b, e)) in omega (arith, a, d, m)),
+        omega (arith, a, d, c.place.gone.on.stamp),
+        λ lt. (let m : c.place.was.state.counts.stamp < c.r.state.counts.stamp = c.place.gone.on.later (omega (arith, lt, b, e)) in omega (arith, a, d, m)),
       )
 
   -- a round without an event leaves the crew

@@ -4,23 +4,27 @@ use Rattle.sig_kinds.specs.declared.signal.Signal.{Signal}
 use Rattle.sig_model.specs.declared.event.Event.{Event}
 use Rattle.sig_model.specs.Running.{Running}
 use Rattle.sig_model.specs.Keeping.{IsKeeping}
-use Rattle.sig_model.specs.Accounts.{came, went, bound_for, coming_from, IsNumbered}
+use Rattle.sig_model.specs.Accounts.{came, went, bound_for, coming_from}
 use Rattle.sig_layout.specs.Sets.{has}
 use Rattle.sig_layout.specs.Sent.{signals}
 use Rattle.sig_layout.specs.Openings.{first_of}
 use Rattle.sig_queue.specs.Seats.{Queue, Seated}
 use Rattle.sig_workers.specs.SeatAccounts.{put_by, taken_at}
 
--- The process pid was b when the round began, and is r now, with these seats: what came to it since then is what its seat took, and
--- what it sent since then is what its seats put, and then what lies in its outbox.
-pub record HasGone (pid : ℕ) (b r : Running) (seats : List Seated) : Type 0 where
-  pub clear : b.outbox ≡ []
+-- the process b is r now, perhaps with more events
+pub record HasGoneOn (b r : Running) : Type 0 where
   pub count : r.count ≡ b.count
   pub turns : r.turns ≡ b.turns
   pub proc : r.proc ≡ b.proc
   pub events : (more : List Event) × (r.events ≡ b.events ++ more)
   pub stamp : b.state.counts.stamp ≤ r.state.counts.stamp
   pub later : length b.events < length r.events → b.state.counts.stamp < r.state.counts.stamp
+
+-- The process pid was b when the round began, and is r now, with these seats: what came to it since then is what its seat took, and
+-- what it sent since then is what its seats put, and then what lies in its outbox.
+pub record HasGone (pid : ℕ) (b r : Running) (seats : List Seated) : Type 0 where
+  pub clear : b.outbox ≡ []
+  pub on : HasGoneOn b r
   pub came : (s : ℕ) → s ≢ pid → came s r ≡ came s b ++ coming_from s (taken_at pid seats)
   pub went : (p : ℕ) → p ≢ pid → went p r ≡ (went p b ++ put_by pid p seats) ++ bound_for p r.outbox
   -- without an event it has only taken in
@@ -61,7 +65,6 @@ pub record TakesFor (queues : List Queue) (pid : ℕ) (r : Running) (v : Seated)
 pub record IsReady (queues : List Queue) (pid : ℕ) (r : Running) (seats : List Seated) : Type 0 where
   pub pid_is : r.pid ≡ pid
   pub keeping : IsKeeping r
-  pub numbered : IsNumbered r
   pub many : length seats ≡ length queues
   pub count : r.count ≡ length queues
   pub few : length queues ≤ 256
