@@ -1,5 +1,5 @@
 -- Where the next line stands behind a form that begins no process and tells no turns; by the version behind a clause.
-use Rattle.std.specs.Prelude.{[], Option, Some, None, Result, Ok, Err}
+use Rattle.std.specs.Prelude.{Option, Some, Result, Ok, Err}
 use Rattle.sig_patterns.specs.declared.clause.Clause.{Clause}
 use Rattle.sig_patterns.specs.declared.var.Var.{Var}
 use Rattle.sig_tokens.specs.declared.fault.FaultKind.{FaultKind}
