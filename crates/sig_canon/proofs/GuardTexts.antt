@@ -28,11 +28,9 @@ use Rattle.sig_tokens.specs.declared.token.TokenKind.TheVariants.{Name, Variable
 use Rattle.sig_tokens.specs.declared.token.Token.{Token}
 use Rattle.sig_tokens.specs.declared.token.Cut.{Cut}
 use Rattle.sig_tokens.specs.Faults.{◌>>=◌, on_ok}
-use Rattle.sig_tokens.specs.Names.{name_at, variable_at}
 use Rattle.sig_tokens.specs.PatternTexts.{pattern_spelling}
 use Rattle.sig_tokens.specs.Signs.{op_of}
 use Rattle.sig_tokens.specs.Tokens.{IsNameToken, IsVariableToken}
-use Rattle.sig_reader.specs.declared.form.Form.{Form}
 use Rattle.sig_reader.specs.declared.form.Form.TheVariants as form
 use Rattle.sig_reader.specs.declared.guards.Join.{Join}
 use Rattle.sig_reader.specs.declared.guards.Join.TheVariants as join
@@ -45,7 +43,7 @@ use Rattle.sig_canon.specs.ScriptText.{after_blank, name_of_place, side_text, op
 use Rattle.sig_canon.specs.ReadableScript.{IsReadableSide, IsReadableTest, IsReadableAlternative, IsReadableGuard, IsReadableClause}
 use Rattle.sig_canon.proofs.WordTexts.{Anything, IsWord, name_word, variable_word, int_word, int_again, arrow, open_paren, close_paren, BeforeBlank, less_sign, greater_sign, at_most_sign, at_least_sign, equal_sign, unequal_sign}
 use Rattle.sig_canon.proofs.CutTexts.{tokens_at, token_at, token_text, word_tokens, IsCut, word_is_cut, cut_on, behind_text, blank_tokens, no_tokens}
-use Rattle.sig_canon.proofs.PhraseReads.{byte_on, ends_sooner}
+use Rattle.sig_canon.proofs.PhraseReads.{byte_on}
 use Rattle.sig_canon.proofs.PhraseTexts.{name_found, variable_found, pattern_read, phrase_found}
 use Rattle.sig_canon.proofs.FormReads.{IsRest, text_on, rest_on, rest_made, arrow_rest}
 use Rattle.sig_canon.proofs.KnownNames.{Reads}

@@ -1,5 +1,5 @@
 -- The walks over the lines of the canonical text give the script back.
-use Rattle.std.proofs.Common.{◌≡◌, ◌≢◌, ℕ, ◌<◌, ◌≤◌, codes, List, [], ◌∷◌, ◌++◌, length, map, All, Bool, true, false, if◌then◌else◌, nat_le, Option, Some, Result, Ok, refl, sym, ◌∙◌, ap, subst, arith, append_assoc, length-append}
+use Rattle.std.proofs.Common.{◌≡◌, ◌≢◌, ℕ, ◌<◌, ◌≤◌, codes, List, [], ◌∷◌, ◌++◌, length, map, All, Bool, true, false, nat_le, Option, Some, Result, Ok, refl, sym, ◌∙◌, ap, subst, arith, append_assoc, length-append}
 use Rattle.std.specs.List.{list_any, flat_map}
 use Rattle.std.specs.Str.{bytes_eq}
 use Rattle.std.specs.Option.{option_map_or}
@@ -8,7 +8,6 @@ use Rattle.std.proofs.lemmas.List.{append-nil, map-append, length-map}
 use Rattle.std.proofs.lemmas.List.Elements.{All-head, All-map}
 use Rattle.sig_program.specs.declared.label.Label.{Label}
 use Rattle.sig_program.specs.declared.instruction.Instr.{Instr}
-use Rattle.sig_tokens.specs.declared.fault.FaultKind.TheVariants.{Header}
 use Rattle.sig_reader.specs.declared.keyword.Keyword.TheVariants as keyword
 use Rattle.sig_tokens.specs.declared.known.Known.{Known}
 use Rattle.sig_tokens.specs.declared.known.Known.TheVariants.{Any, Among}

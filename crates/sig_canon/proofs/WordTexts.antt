@@ -305,29 +305,34 @@ count_word version n fits = let wide : nat_lt n (2 ^ 63) ≡ true = grind (arith
 abbrev pub sign_word : Version → TokenKind → ℕ → Type 0
 sign_word version kind b = IsWord version Anything kind (b ∷ [])
 
+-- a word of which each fact is computed, whatever follows
+computed : (version : Version) (kind : TokenKind) (first : ℕ) (others : List ℕ) → ((rest : List ℕ) → front_token version (first ∷ (others ++ rest)) ≡ Some (kind, length (first ∷ others))) →
+    is_blank first ≡ false → (first == 37) ≡ false → is_token_in_range (first ∷ others) kind ≡ true → list_all is_inline (first ∷ others) ≡ true → IsWord version Anything kind (first ∷ others)
+computed version kind first others front seen plain range clean = record { front = λ rest _. front rest; first = first; others = others; is = refl; seen = seen; plain = plain; range = range; clean = clean }
+
 pub open_brace : (version : Version) → sign_word version (Sign sign.OpenBrace) 123
-open_brace version = record { front = λ rest _. refl; first = 123; others = []; is = refl; seen = refl; plain = refl; range = refl; clean = refl }
+open_brace version = computed version (Sign sign.OpenBrace) 123 [] (λ rest. refl) refl refl refl refl
 
 pub close_brace : (version : Version) → sign_word version (Sign sign.CloseBrace) 125
-close_brace version = record { front = λ rest _. refl; first = 125; others = []; is = refl; seen = refl; plain = refl; range = refl; clean = refl }
+close_brace version = computed version (Sign sign.CloseBrace) 125 [] (λ rest. refl) refl refl refl refl
 
 pub open_bracket : (version : Version) → sign_word version (Sign sign.OpenBracket) 91
-open_bracket version = record { front = λ rest _. refl; first = 91; others = []; is = refl; seen = refl; plain = refl; range = refl; clean = refl }
+open_bracket version = computed version (Sign sign.OpenBracket) 91 [] (λ rest. refl) refl refl refl refl
 
 pub close_bracket : (version : Version) → sign_word version (Sign sign.CloseBracket) 93
-close_bracket version = record { front = λ rest _. refl; first = 93; others = []; is = refl; seen = refl; plain = refl; range = refl; clean = refl }
+close_bracket version = computed version (Sign sign.CloseBracket) 93 [] (λ rest. refl) refl refl refl refl
 
 pub comma : (version : Version) → sign_word version (Sign sign.Comma) 44
-comma version = record { front = λ rest _. refl; first = 44; others = []; is = refl; seen = refl; plain = refl; range = refl; clean = refl }
+comma version = computed version (Sign sign.Comma) 44 [] (λ rest. refl) refl refl refl refl
 
 pub bar : (version : Version) → sign_word version (Sign sign.Bar) 124
-bar version = record { front = λ rest _. refl; first = 124; others = []; is = refl; seen = refl; plain = refl; range = refl; clean = refl }
+bar version = computed version (Sign sign.Bar) 124 [] (λ rest. refl) refl refl refl refl
 
 pub caret : (version : Version) → sign_word version (Sign sign.Caret) 94
-caret version = record { front = λ rest _. refl; first = 94; others = []; is = refl; seen = refl; plain = refl; range = refl; clean = refl }
+caret version = computed version (Sign sign.Caret) 94 [] (λ rest. refl) refl refl refl refl
 
 pub arrow : (version : Version) → IsWord version Anything (Sign sign.Arrow) (codes "->")
-arrow version = record { front = λ rest _. refl; first = 45; others = 62 ∷ []; is = refl; seen = refl; plain = refl; range = refl; clean = refl }
+arrow version = computed version (Sign sign.Arrow) 45 (62 ∷ []) (λ rest. refl) refl refl refl refl
 
 underscore_front : (version : Version) (rest : List ℕ) → Stops rest → front_token version (95 ∷ rest) ≡ Some (Sign sign.Underscore, 1)
 underscore_front version [] stops = refl
@@ -339,25 +344,25 @@ underscore version = record { front = underscore_front version; first = 95; othe
 -- ---- signs of guards, which version 2 has
 
 pub open_paren : sign_word Two (Sign sign.OpenParen) 40
-open_paren = record { front = λ rest _. refl; first = 40; others = []; is = refl; seen = refl; plain = refl; range = refl; clean = refl }
+open_paren = computed Two (Sign sign.OpenParen) 40 [] (λ rest. refl) refl refl refl refl
 
 pub close_paren : sign_word Two (Sign sign.CloseParen) 41
-close_paren = record { front = λ rest _. refl; first = 41; others = []; is = refl; seen = refl; plain = refl; range = refl; clean = refl }
+close_paren = computed Two (Sign sign.CloseParen) 41 [] (λ rest. refl) refl refl refl refl
 
 pub less_sign : IsWord Two Anything (Sign sign.Less) (codes "<")
-less_sign = record { front = λ rest _. refl; first = 60; others = []; is = refl; seen = refl; plain = refl; range = refl; clean = refl }
+less_sign = computed Two (Sign sign.Less) 60 [] (λ rest. refl) refl refl refl refl
 
 pub at_most_sign : IsWord Two Anything (Sign sign.AtMost) (codes "=<")
-at_most_sign = record { front = λ rest _. refl; first = 61; others = 60 ∷ []; is = refl; seen = refl; plain = refl; range = refl; clean = refl }
+at_most_sign = computed Two (Sign sign.AtMost) 61 (60 ∷ []) (λ rest. refl) refl refl refl refl
 
 pub at_least_sign : IsWord Two Anything (Sign sign.AtLeast) (codes ">=")
-at_least_sign = record { front = λ rest _. refl; first = 62; others = 61 ∷ []; is = refl; seen = refl; plain = refl; range = refl; clean = refl }
+at_least_sign = computed Two (Sign sign.AtLeast) 62 (61 ∷ []) (λ rest. refl) refl refl refl refl
 
 pub equal_sign : IsWord Two Anything (Sign sign.EqualTo) (codes "==")
-equal_sign = record { front = λ rest _. refl; first = 61; others = 61 ∷ []; is = refl; seen = refl; plain = refl; range = refl; clean = refl }
+equal_sign = computed Two (Sign sign.EqualTo) 61 (61 ∷ []) (λ rest. refl) refl refl refl refl
 
 pub unequal_sign : IsWord Two Anything (Sign sign.UnequalTo) (codes "/=")
-unequal_sign = record { front = λ rest _. refl; first = 47; others = 61 ∷ []; is = refl; seen = refl; plain = refl; range = refl; clean = refl }
+unequal_sign = computed Two (Sign sign.UnequalTo) 47 (61 ∷ []) (λ rest. refl) refl refl refl refl
 
 -- nothing follows, or a blank
 abbrev pub BeforeBlank : List ℕ → Type 0

@@ -73,7 +73,8 @@ fn put_two(
     first: &Expr,
     second: &Expr,
 ) -> Result<(), AllocError>
-    ensures { IsPut into.old.items into.new.items (spaced word.now (expr_text (names_of procs.now) first.now ∷ expr_text (names_of procs.now) second.now ∷ [])) result }
+    ensures { IsPut into.old.items into.new.items
+        (spaced word.now (expr_text (names_of procs.now) first.now ∷ expr_text (names_of procs.now) second.now ∷ [])) result }
 {
     put_one(into, procs, word, first)?;
     put_operand(into, procs, second)
@@ -120,7 +121,8 @@ fn put_monitor(
     target: &Expr,
     mode: &Option<AliasMode>,
 ) -> Result<(), AllocError>
-    ensures { IsPut into.old.items into.new.items (spaced (codes "monitor") (var.now.0 ∷ expr_text (names_of procs.now) target.now ∷ mode_text mode.now [])) result }
+    ensures { IsPut into.old.items into.new.items
+        (spaced (codes "monitor") (var.now.0 ∷ expr_text (names_of procs.now) target.now ∷ mode_text mode.now [])) result }
 {
     put_var_and(into, procs, b"monitor", var, target)?;
     put_mode(into, mode)
@@ -132,7 +134,8 @@ fn put_demonitor(
     reference: &Expr,
     flush: bool,
 ) -> Result<(), AllocError>
-    ensures { IsPut into.old.items into.new.items (spaced (codes "demonitor") (expr_text (names_of procs.now) reference.now ∷ flag_text (codes "flush") flush [])) result }
+    ensures { IsPut into.old.items into.new.items
+        (spaced (codes "demonitor") (expr_text (names_of procs.now) reference.now ∷ flag_text (codes "flush") flush [])) result }
 {
     put_one(into, procs, b"demonitor", reference)?;
     put_flag(into, b"flush", flush)
@@ -156,7 +159,8 @@ fn put_trap(into: &mut Vec<u8>, on: bool) -> Result<(), AllocError>
 }
 
 fn put_goto(into: &mut Vec<u8>, labels: &[Label], label: u32) -> Result<(), AllocError>
-    ensures { IsPut into.old.items into.new.items (spaced (codes "goto") (name_of_place (map (λ (l : Label). l.name) labels.now) label ∷ [])) result }
+    ensures { IsPut into.old.items into.new.items
+        (spaced (codes "goto") (name_of_place (map (λ (l : Label). l.name) labels.now) label ∷ [])) result }
 {
     put(into, b"goto")?;
     put_word(into, label_name(labels, label))
@@ -164,7 +168,8 @@ fn put_goto(into: &mut Vec<u8>, labels: &[Label], label: u32) -> Result<(), Allo
 
 /// Appends ` -> ` and the label's name, where there is a target.
 fn put_target(into: &mut Vec<u8>, labels: &[Label], target: Option<u32>) -> Result<(), AllocError>
-    ensures { IsPut into.old.items into.new.items (concat (map after_blank (target_text (map (λ (l : Label). l.name) labels.now) target))) result }
+    ensures { IsPut into.old.items into.new.items
+        (concat (map after_blank (target_text (map (λ (l : Label). l.name) labels.now) target))) result }
 {
     match target {
         None => Ok(()),
@@ -192,7 +197,8 @@ fn put_clause(
     labels: &[Label],
     clause: &Clause,
 ) -> Result<(), AllocError>
-    ensures { IsPut into.old.items into.new.items (line_text (clause_line (names_of procs.now) (map (λ (l : Label). l.name) labels.now) clause.now)) result }
+    ensures { IsPut into.old.items into.new.items
+        (line_text (clause_line (names_of procs.now) (map (λ (l : Label). l.name) labels.now) clause.now)) result }
 {
     put(into, b"on ")?;
     put_pattern(into, procs, &clause.pattern)?;
@@ -207,7 +213,8 @@ fn put_clauses(
     labels: &[Label],
     clauses: &[Clause],
 ) -> Result<(), AllocError>
-    ensures { IsPut into.old.items into.new.items (flat_map line_text (map (clause_line (names_of procs.now) (map (λ (l : Label). l.name) labels.now)) clauses.now)) result }
+    ensures { IsPut into.old.items into.new.items
+        (flat_map line_text (map (clause_line (names_of procs.now) (map (λ (l : Label). l.name) labels.now)) clauses.now)) result }
 {
     for clause in clauses {
         put_clause(into, procs, labels, clause)?;
@@ -217,7 +224,8 @@ fn put_clauses(
 
 /// Appends the line of where a receive goes on that finds no message, where it has one.
 fn put_after(into: &mut Vec<u8>, labels: &[Label], after: &Option<After>) -> Result<(), AllocError>
-    ensures { IsPut into.old.items into.new.items (flat_map line_text (after_lines (map (λ (l : Label). l.name) labels.now) after.now)) result }
+    ensures { IsPut into.old.items into.new.items
+        (flat_map line_text (after_lines (map (λ (l : Label). l.name) labels.now) after.now)) result }
 {
     match after {
         None => Ok(()),
@@ -237,7 +245,8 @@ fn put_first_line(
     labels: &[Label],
     instr: &Instr,
 ) -> Result<(), AllocError>
-    ensures { IsPut into.old.items into.new.items (first_of (instr_lines (names_of procs.now) (map (λ (l : Label). l.name) labels.now) instr.now)) result }
+    ensures { IsPut into.old.items into.new.items
+        (first_of (instr_lines (names_of procs.now) (map (λ (l : Label). l.name) labels.now) instr.now)) result }
 {
     match instr {
         Instr::Send { to, message } => put_two(into, procs, b"send", to, message),
@@ -268,7 +277,9 @@ fn put_inside(
     labels: &[Label],
     receiving: &Receiving,
 ) -> Result<(), AllocError>
-    ensures { IsPut into.old.items into.new.items (flat_map line_text (inside_lines (names_of procs.now) (map (λ (l : Label). l.name) labels.now) receiving.now.clauses receiving.now.after)) result }
+    ensures { IsPut into.old.items into.new.items
+        (flat_map line_text (inside_lines (names_of procs.now) (map (λ (l : Label). l.name) labels.now)
+        receiving.now.clauses receiving.now.after)) result }
 {
     put_clauses(into, procs, labels, receiving.clauses.as_slice())?;
     put_after(into, labels, &receiving.after)?;
@@ -283,7 +294,8 @@ fn put_more_lines(
     labels: &[Label],
     instr: &Instr,
 ) -> Result<(), AllocError>
-    ensures { IsPut into.old.items into.new.items (flat_map line_text (rest_of (instr_lines (names_of procs.now) (map (λ (l : Label). l.name) labels.now) instr.now))) result }
+    ensures { IsPut into.old.items into.new.items
+        (flat_map line_text (rest_of (instr_lines (names_of procs.now) (map (λ (l : Label). l.name) labels.now) instr.now))) result }
 {
     match instr {
         Instr::Receive(receiving) => put_inside(into, procs, labels, receiving),
@@ -299,7 +311,8 @@ pub fn put_instr(
     labels: &[Label],
     instr: &Instr,
 ) -> Result<(), AllocError>
-    ensures { IsPut into.old.items into.new.items (flat_map line_text (instr_lines (names_of procs.now) (map (λ (l : Label). l.name) labels.now) instr.now)) result }
+    ensures { IsPut into.old.items into.new.items
+        (flat_map line_text (instr_lines (names_of procs.now) (map (λ (l : Label). l.name) labels.now) instr.now)) result }
 {
     put_first_line(into, procs, labels, instr)?;
     put(into, b"\n")?;

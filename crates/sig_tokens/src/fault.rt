@@ -15,7 +15,7 @@ pub enum FaultKind {
     /// An integer has more than 64 bits.
     IntRange,
     /// An expression or a pattern has more than `MOST_NODES` nodes, or its depth is past
-    /// `MOST_DEPTH`.
+    /// `MOST_DEPTH`; or a guard has more than 64 tests.
     TermTooLarge,
     /// A process has the name of an earlier one.
     DuplicateName,
