@@ -59,8 +59,8 @@ const READ: [(&[u8], usize, Status, &[u8], &[u8]); 8] = [
         b"sigscript 01 % a comment\n\t process a\r\nsend @a x\nsend @b y\nprocess b % 'x\nreceive\non z\nend",
         7,
         Status::Done,
-        b"sigrecord 1\nprocess 0 a\n1 exec 1 sent <0> x\n2 from 0 1 kept x\n3 exec 2 sent <1> y\n4 exec 3 ended normal\nstate ended normal\n\
-          process 1 b\n4 from 0 1 kept y\nleft 1 y\nstate waiting\n",
+        b"sigrecord 1\nprocess 0 a\n1 exec 1 sent <0> x\n2 from 0 1 kept x\n3 exec 2 sent <1> y\n4 exec 3 ended normal\n\
+          state ended normal\nprocess 1 b\n4 from 0 1 kept y\nleft 1 y\nstate waiting\n",
         b"",
     ),
     (
