@@ -32,7 +32,8 @@ const TWO: &[u8] = b"sigscript 1\nprocess a\n";
 const VALUE: &[u8] = b"sigscript 1\nprocess a\nset X ";
 
 /// 64 processes.
-const PROCESSES_64: &[u8] = b"process p1\nprocess p2\nprocess p3\nprocess p4\nprocess p5\nprocess p6\nprocess p7\nprocess p8\n\
+const PROCESSES_64: &[u8] =
+    b"process p1\nprocess p2\nprocess p3\nprocess p4\nprocess p5\nprocess p6\nprocess p7\nprocess p8\n\
       process p9\nprocess p10\nprocess p11\nprocess p12\nprocess p13\nprocess p14\nprocess p15\nprocess p16\n\
       process p17\nprocess p18\nprocess p19\nprocess p20\nprocess p21\nprocess p22\nprocess p23\nprocess p24\n\
       process p25\nprocess p26\nprocess p27\nprocess p28\nprocess p29\nprocess p30\nprocess p31\nprocess p32\n\
@@ -49,7 +50,10 @@ static TEXTS: [(&[(&[u8], usize)], Answer); 22] = [
         &[(VALUE, 1), (b"9223372036854775808\n", 1)],
         Answer::Refused(b"3: int_range"),
     ),
-    (&[(VALUE, 1), (b"-9223372036854775808\n", 1)], Answer::OneProcess),
+    (
+        &[(VALUE, 1), (b"-9223372036854775808\n", 1)],
+        Answer::OneProcess,
+    ),
     (
         &[(VALUE, 1), (b"9223372036854775808 'a\n", 1)],
         Answer::Refused(b"3: int_range"),
@@ -105,12 +109,18 @@ static TEXTS: [(&[(&[u8], usize)], Answer); 22] = [
         &[(TWO, 1), (b"label l\n", 2)],
         Answer::Refused(b"4: duplicate_label"),
     ),
-    (&[(TWO, 1), (b"send @z x\nend\n", 1)], Answer::Refused(b"4: syntax")),
+    (
+        &[(TWO, 1), (b"send @z x\nend\n", 1)],
+        Answer::Refused(b"4: syntax"),
+    ),
     (
         &[(TWO, 1), (b"send @z x\n", 1)],
         Answer::Refused(b"3: unknown_process"),
     ),
-    (&[(b"sigscript 1\n%", 1), (b"x", 1048563)], Answer::NoProcess),
+    (
+        &[(b"sigscript 1\n%", 1), (b"x", 1048563)],
+        Answer::NoProcess,
+    ),
     (
         &[(b"sigscript 1\n%", 1), (b"x", 1048564)],
         Answer::Refused(b"0: too_long"),
