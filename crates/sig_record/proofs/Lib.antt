@@ -28,3 +28,13 @@ pub mod EventSizes
 pub mod SizedCrews
 pub mod SizedReads
 pub mod Stored
+pub mod CleanTexts
+pub mod CleanLines
+pub mod FirstLines
+pub mod Forgetting
+pub mod LinesLaws
+pub mod ManyLines
+pub mod RecordStops
+pub mod RecordFaults
+pub mod OneFault
+pub mod FeedCounts

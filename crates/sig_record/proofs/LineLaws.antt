@@ -63,7 +63,7 @@ digit_first most (b ∷ bs) x e =
 event_parts : (a b c rest : List ℕ) → (a ++ codes " " ++ b ++ codes " " ++ c ++ codes "\n") ++ rest ≡ a ++ (codes " " ++ (b ++ (codes " " ++ (c ++ (codes "\n" ++ rest)))))
 event_parts a b c rest = simp append_assoc
 
-event_begins : (e : Event) (rest : List ℕ) → IsReadableEvent e → begins_by_digit (event_text e ++ rest) ≡ true
+pub event_begins : (e : Event) (rest : List ℕ) → IsReadableEvent e → begins_by_digit (event_text e ++ rest) ≡ true
 unfolding event_text
 event_begins e rest k =
     let behind : List ℕ = codes " " ++ (did_text e.did ++ (codes " " ++ (outcome_text e.outcome ++ (codes "\n" ++ rest)))) in
@@ -82,7 +82,7 @@ left_law =
     (λ x. record { arrival = x.0; message = x.1 }) (λ l. (l.arrival, l.message)) left_text IsReadableLeft (λ l k. refl) (λ x. simp append_assoc)
     (λ x k. ((k.0, k.1.term), kept_term x.1 k.1)) (λ l k. (k.0.0, readable_term l.message k.0.1 k.1))
 
-left_begins : (l : Left) (rest : List ℕ) → begins_by (codes "left ") (left_text l ++ rest) ≡ true
+pub left_begins : (l : Left) (rest : List ℕ) → begins_by (codes "left ") (left_text l ++ rest) ≡ true
 unfolding left_text
 left_begins l rest = refl
 
@@ -114,13 +114,16 @@ signal_law pid =
 abbrev pub QueuedBehind : ℕ → List Signal → Signal → Type 0
 QueuedBehind pid before s = GoesTo pid s × (may_follow before s ≡ true)
 
-queued_begins : (s : Signal) (rest : List ℕ) → begins_by (codes "queued ") (queued_text s ++ rest) ≡ true
+pub queued_begins : (s : Signal) (rest : List ℕ) → begins_by (codes "queued ") (queued_text s ++ rest) ≡ true
 unfolding queued_text
 queued_begins s rest = refl
 
+pub queued_behind_law : (pid : ℕ) (before : List Signal) → Law Anything queued_text (QueuedBehind pid before) (queued_front pid before)
+queued_behind_law pid before = passing_law (may_follow before) (signal_law pid)
+
 pub all_queued_law : (pid : ℕ) → Law (λ rest. begins_by (codes "queued ") rest ≡ false) (flat_map queued_text) (Fits (QueuedBehind pid) []) (all_queued_front pid)
 all_queued_law pid =
-    many_law (begins_by (codes "queued ")) (queued_front pid) queued_text (QueuedBehind pid) (λ before. passing_law (may_follow before) (signal_law pid)) refl (λ _ s rest k. queued_begins s rest)
+    many_law (begins_by (codes "queued ")) (queued_front pid) queued_text (QueuedBehind pid) (queued_behind_law pid) refl (λ _ s rest k. queued_begins s rest)
 
 -- of two neighbours the later isn't the lower
 abbrev NotLower : Signal → Signal → Type 0

@@ -21,7 +21,7 @@ record AreRead {X : Type 0} (text : X → List ℕ) (ok : List X → X → Type 
   fits : Fits ok items others
   is : bytes ≡ flat_map text others ++ x.1
 
-begins_not_empty : (begins : List ℕ → Bool) (bytes : List ℕ) → begins [] ≡ false → begins bytes ≡ true → 1 ≤ length bytes
+pub begins_not_empty : (begins : List ℕ → Bool) (bytes : List ℕ) → begins [] ≡ false → begins bytes ≡ true → 1 ≤ length bytes
 begins_not_empty begins [] none h = absurd cc
 begins_not_empty begins (b ∷ bs) none h = omega arith
 
@@ -66,6 +66,20 @@ module _ {X : Type 0} (begins : List ℕ → Bool) (read : List X → Reader X) 
         ∙ items_again room (items ++ x ∷ []) xs rest fits.1 (omega arith) stop
         ∙ ap (λ (ys : List X). Some (ys, rest)) (append_assoc items (x ∷ []) xs)
 
+    -- behind items, one that begins and can't be read
+    items_none : (room : ℕ) (items xs : List X) (rest : List ℕ) → Fits ok items xs → begins rest ≡ true → read (items ++ xs) rest ≡ None → items_on begins read room items (flat_map text xs ++ rest) ≡ None
+    unfolding items_on
+    items_none zero items [] rest fits h e = rw h refl
+    items_none zero items (x ∷ xs) rest fits h e = rw (ap begins (append_assoc (text x) (flat_map text xs) rest) ∙ begun items x (flat_map text xs ++ rest) fits.0) refl
+    items_none (suc room) items [] rest fits h e = rw (h, ap (λ (ys : List X). read ys rest) (sym (append-nil items)) ∙ e) refl
+    items_none (suc room) items (x ∷ xs) rest fits h e =
+        ap (items_on begins read (suc room) items) (append_assoc (text x) (flat_map text xs) rest)
+        ∙ goes_on room items x (flat_map text xs ++ rest) fits.0
+        ∙ items_none room (items ++ x ∷ []) xs rest fits.1 h (ap (λ (ys : List X). read ys rest) (append_assoc items (x ∷ []) xs) ∙ e)
+
+    pub many_none : (xs : List X) (rest : List ℕ) → Fits ok [] xs → begins rest ≡ true → read xs rest ≡ None → many begins read (flat_map text xs ++ rest) ≡ None
+    many_none xs rest fits h e = items_none (length (flat_map text xs ++ rest)) [] xs rest fits h e
+
     fewer_than_bytes : (items xs : List X) → Fits ok items xs → length xs ≤ length (flat_map text xs)
     fewer_than_bytes items [] fits = omega arith
     fewer_than_bytes items (x ∷ xs) fits =
@@ -90,3 +104,8 @@ fits_all P items (x ∷ xs) fits = All-cons P x xs fits.0 (fits_all P (items ++ 
 pub all_fits : {X : Type 0} (P : X → Type 0) (items xs : List X) → All P xs → Fits (λ _ x. P x) items xs
 all_fits P items [] all = tt
 all_fits P items (x ∷ xs) all = (All-head P x xs all, all_fits P (items ++ x ∷ []) xs (All-tail P x xs all))
+
+-- one item more
+pub fits_more : {X : Type 0} (ok : List X → X → Type 0) (items xs : List X) (x : X) → Fits ok items xs → ok (items ++ xs) x → Fits ok items (xs ++ x ∷ [])
+fits_more ok items [] x fits k = (subst (λ ys. ok ys x) (append-nil items) k, tt)
+fits_more ok items (y ∷ ys) x fits k = (fits.0, fits_more ok (items ++ y ∷ []) ys x fits.1 (subst (λ zs. ok zs x) (sym (append_assoc items (y ∷ []) ys)) k))

@@ -63,15 +63,15 @@ IsReadableReport r = IsStoredReport r × IsSizedReport r
 abbrev pub ReportAt : ℕ → Report → Type 0
 ReportAt pid r = IsReport pid r × IsReadableReport r
 
-abbrev parts_of : Report → ((((ℕ × List ℕ) × List Event) × List Left) × List Signal) × State
+abbrev pub parts_of : Report → ((((ℕ × List ℕ) × List Event) × List Left) × List Signal) × State
 parts_of r = (((((r.pid.0, r.name), r.events), r.left), r.queued), r.state)
 
-abbrev PartsAt : ℕ → ((((ℕ × List ℕ) × List Event) × List Left) × List Signal) × State → Type 0
+abbrev pub PartsAt : ℕ → ((((ℕ × List ℕ) × List Event) × List Left) × List Signal) × State → Type 0
 PartsAt pid x =
     ((((((IsNarrow x.0.0.0.0.0 × (is_process_name x.0.0.0.0.1 ≡ true)) × ((x.0.0.0.0.0 == pid) ≡ true)) × Fits (λ _ e. IsReadableEvent e) [] x.0.0.0.1) × Fits (λ _ l. IsReadableLeft l) [] x.0.0.1)
     × Fits (QueuedBehind pid) [] x.0.1) × IsReadableState x.1)
 
-readable_parts : (pid : ℕ) (x : ((((ℕ × List ℕ) × List Event) × List Left) × List Signal) × State) → PartsAt pid x → IsReadableReport (report_of_parts x)
+pub readable_parts : (pid : ℕ) (x : ((((ℕ × List ℕ) × List Event) × List Left) × List Signal) × State) → PartsAt pid x → IsReadableReport (report_of_parts x)
 readable_parts pid x k =
     let name = both_true (is_name x.0.0.0.0.1) (is_token x.0.0.0.0.1) k.0.0.0.0.0.1 in
     let events : All IsReadableEvent x.0.0.0.1 = fits_all IsReadableEvent [] x.0.0.0.1 k.0.0.0.1 in
@@ -94,6 +94,11 @@ readable_parts pid x k =
       },
     )
 
+pub parts_at : (pid : ℕ) (x : ((((ℕ × List ℕ) × List Event) × List Left) × List Signal) × State) → PartsAt pid x → ReportAt pid (report_of_parts x)
+parts_at pid x k =
+    let same : x.0.0.0.0.0 ≡ pid = (Decides-eqb x.0.0.0.0.0 pid).0 k.0.0.0.0.1 in
+    (record { process = same; to = signals_to pid [] x.0.1 k.0.1; rising = signals_rise pid x.0.1 k.0.1 }, readable_parts pid x k)
+
 pub report_law : (pid : ℕ) → Law Anything report_text (ReportAt pid) (report_front pid)
 unfolding report_text report_front
 report_law pid =
@@ -103,10 +108,7 @@ report_law pid =
     (stopped_law {z = NoQueued} (λ rest stop. stop.1) (all_queued_law pid)) (λ qs rest k stop. signals_stop qs rest stop))
     state_law (λ s rest k stop. state_stops s rest))
     report_of_parts parts_of report_text (ReportAt pid) (λ r k. refl) (λ x. refl)
-    (λ x k. let same : x.0.0.0.0.0 ≡ pid = (Decides-eqb x.0.0.0.0.0 pid).0 k.0.0.0.0.1 in (
-      record { process = same; to = signals_to pid [] x.0.1 k.0.1; rising = signals_rise pid x.0.1 k.0.1 },
-      readable_parts pid x k,
-    ))
+    (parts_at pid)
     (λ r k.
     let i = k.0 in
     let s = k.1.0 in
@@ -117,7 +119,7 @@ report_law pid =
     let queued : All IsReadableSignal r.queued = both IsStoredSignal IsSizedSignal r.queued s.queued z.queued in
     (((((((s.pid, name), (Decides-eqb r.pid.0 pid).1 i.process), all_fits IsReadableEvent [] r.events events), all_fits IsReadableLeft [] r.left left), signals_fit pid r.queued queued i.to i.rising), (s.state, z.state))))
 
-report_begins : (r : Report) (rest : List ℕ) → begins_by (codes "process ") (report_text r ++ rest) ≡ true
+pub report_begins : (r : Report) (rest : List ℕ) → begins_by (codes "process ") (report_text r ++ rest) ≡ true
 unfolding report_text
 report_begins r rest = refl
 
@@ -153,7 +155,7 @@ fits_of_record before (x ∷ rs) kept each = (
   fits_of_record (before ++ x ∷ []) rs (λ i r e. subst (λ (n : ℕ). IsReport n r) (sym (later_pid before x i)) (kept (suc i) r e)) (All-tail IsReadableReport x rs each),
 )
 
-from_zero : (rs : List Report) → Fits ReportBehind [] rs → IsReadableRecord rs
+pub from_zero : (rs : List Report) → Fits ReportBehind [] rs → IsReadableRecord rs
 from_zero rs fits =
     let each : All IsReadableReport rs = readable_of_fits [] rs fits in
     record {

@@ -11,6 +11,9 @@ pub mod KindRows
 pub mod RecordText
 pub mod Readers
 pub mod RecordFronts
+pub mod LineReaders
+pub mod RecordLines
+pub mod FaultLine
 pub mod ReadableRecord
 pub mod Refusing
 pub mod Summarizing

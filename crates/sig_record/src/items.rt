@@ -1,7 +1,7 @@
 //! What stands several times one behind the other: the lines of one kind, the parts of the processes.
 
 ghost use Rattle.std.specs.Prelude.{◌≡◌, ℕ, List, [], Bool};
-ghost use Rattle.sig_record.specs.Readers.{Reader, many};
+ghost use Rattle.sig_record.specs.LineReaders.{Lines, many_lines};
 ghost use Rattle.sig_record.specs.Refusing.{Yields};
 
 use crate::refusal::Refusal;
@@ -14,7 +14,7 @@ pub(crate) trait Item: Drop {
     ghost begins: { List ℕ → Bool };
 
     /// The one of this process that stands there, behind these.
-    ghost front: { ℕ → List Self → Reader Self };
+    ghost front: { ℕ → List Self → Lines Self };
 
     fn begins(bytes: &[u8]) -> bool
         ensures { result ≡ begins bytes.now };
@@ -37,7 +37,7 @@ pub(crate) fn read_all<'a, T: Item>(
     bytes: &'a [u8],
 ) -> Result<&'a [u8], Refusal>
     requires { items.old ≡ [] }
-    ensures { Yields (λ rest. (items.new, rest.now)) result (many T.begins (T.front pid) bytes.now) }
+    ensures { Yields (λ rest. (items.new, rest.now)) result (many_lines T.begins (T.front pid) bytes.now) }
 {
     let mut rest = bytes;
     for _ in 0..bytes.len() {

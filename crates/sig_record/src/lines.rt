@@ -6,6 +6,7 @@ ghost use Rattle.sig_terms.specs.Fronts.{Gives};
 ghost use Rattle.sig_record.specs.Readers.{spaced, closed};
 ghost use Rattle.sig_record.specs.Sorting.{is_lower};
 ghost use Rattle.sig_record.specs.Refusing.{Yields};
+ghost use Rattle.sig_record.specs.LineReaders.{one_line, or_left};
 ghost use Rattle.sig_record.specs.Phrases.{narrow, wide, row_front};
 ghost use Rattle.sig_record.specs.EventRows.{has_ended, did_front, standing_front};
 ghost use Rattle.sig_record.specs.RecordFronts.{
@@ -43,7 +44,8 @@ fn line_end<'a, T: Drop>(read: Result<(T, &'a [u8]), ReadTerm>) -> Result<(T, &'
 
 /// What was read, where it passes a test.
 fn passing<'a, T: Drop>(passes: bool, read: (T, &'a [u8])) -> Result<(T, &'a [u8]), ReadTerm>
-    ensures { Gives {Y = T × List ℕ} (λ x. (x.0, x.1.now)) result (if passes then Some (read.entry.0, read.entry.1.now) else None) }
+    ensures { Gives {Y = T × List ℕ} (λ x. (x.0, x.1.now)) result
+        (if passes then Some (read.entry.0, read.entry.1.now) else None) }
 {
     if passes {
         Ok(read)
@@ -186,7 +188,8 @@ fn whole_line<'a, T>(
     read: Result<(T, &'a [u8]), ReadTerm>,
     left: usize,
 ) -> Result<(T, &'a [u8]), Refusal>
-    ensures { (front : Option (T × List ℕ)) → Gives (λ x. (x.0, x.1.now)) read.entry front → Yields (λ x. (x.0, x.1.now)) result front }
+    ensures { (front : Option (T × List ℕ)) → Gives (λ x. (x.0, x.1.now)) read.entry front →
+        Yields (λ x. (x.0, x.1.now)) result (or_left left front) }
 {
     match read {
         Ok(found) => Ok(found),
@@ -213,7 +216,7 @@ pub(crate) fn begins_by(text: &[u8], bytes: &[u8]) -> bool
 impl Item for Event {
     ghost begins = { begins_by_digit };
 
-    ghost front = { λ pid before. event_front };
+    ghost front = { λ pid before. one_line event_front };
 
     fn begins(bytes: &[u8]) -> bool {
         begins_by_digit(bytes)
@@ -232,7 +235,7 @@ impl Item for Event {
 impl Item for Left {
     ghost begins = { begins_by (codes "left ") };
 
-    ghost front = { λ pid before. left_front };
+    ghost front = { λ pid before. one_line left_front };
 
     fn begins(bytes: &[u8]) -> bool {
         begins_by(b"left ", bytes)
@@ -251,7 +254,7 @@ impl Item for Left {
 impl Item for Signal {
     ghost begins = { begins_by (codes "queued ") };
 
-    ghost front = { queued_front };
+    ghost front = { λ pid before. one_line (queued_front pid before) };
 
     fn begins(bytes: &[u8]) -> bool {
         begins_by(b"queued ", bytes)
@@ -269,7 +272,7 @@ impl Item for Signal {
 
 /// The line of a state.
 pub(crate) fn state_line(alloc: Global, bytes: &[u8]) -> Result<(State, &[u8]), Refusal>
-    ensures { Yields (λ x. (x.0, x.1.now)) result (state_front bytes.now) }
+    ensures { Yields (λ x. (x.0, x.1.now)) result (one_line state_front bytes.now) }
 {
     whole_line(line_end(standing(alloc, bytes)), bytes.len())
 }
@@ -280,7 +283,7 @@ pub(crate) fn head_line(
     pid: u32,
     bytes: &[u8],
 ) -> Result<((u32, Name), &[u8]), Refusal>
-    ensures { Yields (λ x. (x.0, x.1.now)) result (head_front pid bytes.now) }
+    ensures { Yields (λ x. (x.0, x.1.now)) result (one_line (head_front pid) bytes.now) }
 {
     whole_line(head(alloc, pid, bytes), bytes.len())
 }

@@ -1,9 +1,9 @@
 //! Readers of a process's part of a record.
 
 ghost use Rattle.std.specs.Prelude.{◌≡◌, ℕ, List, [], codes, length};
-ghost use Rattle.sig_record.specs.Phrases.{alone};
 ghost use Rattle.sig_record.specs.Refusing.{Yields};
-ghost use Rattle.sig_record.specs.RecordFronts.{begins_by, parts_front, report_front};
+ghost use Rattle.sig_record.specs.RecordFronts.{begins_by};
+ghost use Rattle.sig_record.specs.RecordLines.{headed, parts_lines, report_lines};
 
 use crate::items::{Item, read_all};
 use crate::lines::{begins_by, head_line, state_line};
@@ -26,7 +26,8 @@ fn read_lists<'a>(
     requires events { events.old ≡ [] }
     requires left { left.old ≡ [] }
     requires queued { queued.old ≡ [] }
-    ensures { (head : ℕ × List ℕ) → Yields (λ x. (((((head, events.new), left.new), queued.new), x.0), x.1.now)) result (parts_front pid (alone head) bytes.now) }
+    ensures { (head : ℕ × List ℕ) → Yields (λ x. (((((head, events.new), left.new), queued.new), x.0), x.1.now)) result
+        (parts_lines pid (headed head) bytes.now) }
 {
     let rest = read_all(alloc, pid, events, bytes)?;
     let rest = read_all(alloc, pid, left, rest)?;
@@ -35,9 +36,9 @@ fn read_lists<'a>(
 }
 
 /// The part of this process.
-#[tactic(auto, unfolding(crate::specs::RecordFronts::report_front))]
+#[tactic(auto, unfolding(crate::specs::RecordLines::report_lines))]
 fn report(alloc: Global, pid: u32, bytes: &[u8]) -> Result<(Report, &[u8]), Refusal>
-    ensures { Yields (λ x. (x.0, x.1.now)) result (report_front pid bytes.now) }
+    ensures { Yields (λ x. (x.0, x.1.now)) result (report_lines pid bytes.now) }
 {
     let ((n, name), rest) = head_line(alloc, pid, bytes)?;
     let mut events = Sequence::new(alloc);
@@ -56,9 +57,9 @@ fn report(alloc: Global, pid: u32, bytes: &[u8]) -> Result<(Report, &[u8]), Refu
 }
 
 /// The part of the process of this number.
-#[tactic(auto, using(crate::proofs::WidePids::wide_is_none))]
+#[tactic(auto, using(crate::proofs::WidePids::wide_is_err))]
 fn report_at(alloc: Global, place: usize, bytes: &[u8]) -> Result<(Report, &[u8]), Refusal>
-    ensures { Yields (λ x. (x.0, x.1.now)) result (report_front place bytes.now) }
+    ensures { Yields (λ x. (x.0, x.1.now)) result (report_lines place bytes.now) }
 {
     if place < 1 << 32 {
         report(alloc, place as u32, bytes)
@@ -71,7 +72,7 @@ fn report_at(alloc: Global, place: usize, bytes: &[u8]) -> Result<(Report, &[u8]
 impl Item for Report {
     ghost begins = { begins_by (codes "process ") };
 
-    ghost front = { λ pid before. report_front (length before) };
+    ghost front = { λ pid before. report_lines (length before) };
 
     fn begins(bytes: &[u8]) -> bool {
         begins_by(b"process ", bytes)

@@ -7,7 +7,18 @@ ghost use Rattle.sig_terms.specs.Words.{is_name_byte};
 ghost use Rattle.sig_terms.specs.Tokens.{after_text};
 ghost use Rattle.sig_terms.specs.Fronts.{Gives};
 ghost use Rattle.sig_record.specs.Readers.{behind};
-ghost use Rattle.sig_record.specs.Phrases.{a_narrow, a_wide, a_reference, a_term, narrow, wide, term_front, ref_front, choice_front, field_front};
+ghost use Rattle.sig_record.specs.Phrases.{
+  a_narrow,
+  a_wide,
+  a_reference,
+  a_term,
+  narrow,
+  wide,
+  term_front,
+  ref_front,
+  choice_front,
+  field_front,
+};
 ghost use Rattle.sig_record.specs.RecordFronts.{name_front};
 
 use sig_terms::bytes::{follows_in_name, spells_name};

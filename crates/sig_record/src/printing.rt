@@ -291,7 +291,8 @@ fn put_spaced_kind(into: &mut Vec<u8>, kind: &Kind) -> Result<(), AllocError>
 
 fn put_signal_numbers(into: &mut Vec<u8>, signal: &Signal) -> Result<(), AllocError>
     ensures text { IsPut into.old.items into.new.items
-        (codes "queued " ++ decimal signal.now.from.0 ++ codes " " ++ decimal signal.now.number ++ codes " " ++ decimal signal.now.stamp) result }
+        (codes "queued " ++ decimal signal.now.from.0 ++ codes " " ++ decimal signal.now.number ++ codes " " ++
+        decimal signal.now.stamp) result }
     ensures from { IsNarrow signal.now.from.0 }
     ensures number { OnOk result (IsWide signal.now.number) }
     ensures stamp { OnOk result (IsWide signal.now.stamp) }
@@ -345,7 +346,8 @@ fn put_head(into: &mut Vec<u8>, pid: Pid, name: &Name) -> Result<(), AllocError>
 
 /// What the process did.
 fn put_past(into: &mut Vec<u8>, report: &Report) -> Result<(), AllocError>
-    ensures text { IsPut into.old.items into.new.items (head_text report.now.pid.0 report.now.name ++ flat_map event_text report.now.events) result }
+    ensures text { IsPut into.old.items into.new.items
+        (head_text report.now.pid.0 report.now.name ++ flat_map event_text report.now.events) result }
     ensures pid { OnOk result (IsNarrow report.now.pid.0) }
     ensures name { OnOk result (is_token report.now.name ≡ true) }
     ensures events { OnOk result (All IsStoredEvent report.now.events) }
@@ -357,7 +359,8 @@ fn put_past(into: &mut Vec<u8>, report: &Report) -> Result<(), AllocError>
 /// What it did, and what waits for it.
 fn put_lists(into: &mut Vec<u8>, report: &Report) -> Result<(), AllocError>
     ensures text { IsPut into.old.items into.new.items
-        (head_text report.now.pid.0 report.now.name ++ flat_map event_text report.now.events ++ flat_map left_text report.now.left ++ flat_map queued_text report.now.queued) result }
+        (head_text report.now.pid.0 report.now.name ++ flat_map event_text report.now.events ++
+        flat_map left_text report.now.left ++ flat_map queued_text report.now.queued) result }
     ensures pid { OnOk result (IsNarrow report.now.pid.0) }
     ensures name { OnOk result (is_token report.now.name ≡ true) }
     ensures events { OnOk result (All IsStoredEvent report.now.events) }

@@ -16,8 +16,10 @@ pub(crate) struct Setting<'a> {
     pub words: &'a [&'a str],
     /// How many bytes of the script come at a call.
     pub piece: usize,
+    /// The most bytes that a write takes.
+    pub taken: usize,
     /// The numbers of the reads and of the writes that fail, from 1.
-    pub fails: [&'static [u64]; 2],
+    pub fails: [&'a [u64]; 2],
     /// How many bytes may be told.
     pub room: usize,
 }
@@ -26,6 +28,7 @@ pub(crate) struct Setting<'a> {
 pub(crate) const PLAIN: Setting<'static> = Setting {
     words: &[],
     piece: 100000,
+    taken: 10,
     fails: [&[], &[]],
     room: 100,
 };
@@ -70,7 +73,7 @@ pub(crate) fn push_words(
 }
 
 impl Ran {
-    /// Before the run. At most ten bytes are written at a call.
+    /// Before the run.
     fn open(alloc: Global, setting: &Setting, script: Vec<u8>) -> Result<Ran, AllocError> {
         let [reads, writes] = setting.fails;
         let reads = Vec::from_slice(alloc, reads)?;
@@ -79,7 +82,7 @@ impl Ran {
         Ok(Ran {
             status: Status::Memory,
             script,
-            out: FailingSink::with_room(alloc, ROOM, 10, writes)?,
+            out: FailingSink::with_room(alloc, ROOM, setting.taken.max(1), writes)?,
             err: MemorySink::with_room(alloc, setting.room)?,
         })
     }

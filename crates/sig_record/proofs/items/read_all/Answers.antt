@@ -1,5 +1,5 @@
 use Rattle.std.proofs.Common.{ℕ, ◌+◌, ◌-◌, length, sym, ap, ◌∙◌}
-use Rattle.sig_record.specs.Readers.{items_on}
+use Rattle.sig_record.specs.LineReaders.{lines_on}
 use Rattle.sig_record.proofs.ItemSteps.{goes_on, stops_here, ran_out}
 use Rattle.sig_record.proofs.items.read_all.Goals as goal
 
@@ -9,7 +9,7 @@ loop-preserved g c =
     let begins = g.T.Item.begins in
     let front = g.T.Item.front c.args.pid in
     let read = ap (λ before. front before c.loop.rest.now) (sym c.as_slice.ensures) ∙ c.in_ok-item.ensures in
-    ap (λ items. items_on begins front (n - (c.loop.counter + 1)) items c.in_ok-item.behind.now) c.in_ok-add.ensures
+    ap (λ items. lines_on begins front (n - (c.loop.counter + 1)) items c.in_ok-item.behind.now) c.in_ok-add.ensures
     ∙ goes_on begins front n c.loop.counter c.loop.items c.loop.rest.now c.in_ok-item.item c.in_ok-item.behind.now _
     c.loop-test.true (sym c.begins.ensures ∙ c.if-not-begins.false) read c.loop.invariant
 
