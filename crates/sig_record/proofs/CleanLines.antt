@@ -2,16 +2,9 @@
 use Rattle.std.proofs.Common.{◌≡◌, ℕ, ◌^◌, ◌<◌, true, List, ◌++◌, refl, arith}
 use Rattle.std.specs.Prelude.{◌==◌, codes, decimal}
 use Rattle.sig_terms.specs.TermText.{term_text}
-use Rattle.sig_kinds.specs.declared.signal.Kind.{Kind}
-use Rattle.sig_kinds.specs.declared.signal.Kind.TheVariants as kind
 use Rattle.sig_kinds.specs.declared.signal.Signal.{Signal}
-use Rattle.sig_model.specs.declared.event.Did.{Did}
-use Rattle.sig_model.specs.declared.event.Did.TheVariants as did
-use Rattle.sig_model.specs.declared.event.Outcome.{Outcome}
-use Rattle.sig_model.specs.declared.event.Outcome.TheVariants as outcome
 use Rattle.sig_model.specs.declared.event.Event.{Event}
 use Rattle.sig_model.specs.declared.state.State.{State}
-use Rattle.sig_model.specs.declared.state.State.TheVariants as state
 use Rattle.sig_record.specs.declared.report.Left.{Left}
 use Rattle.sig_record.specs.FaultLine.{IsInline}
 use Rattle.sig_record.specs.Phrases.{Phrase, IsNarrow, phrase_text}
@@ -20,46 +13,8 @@ use Rattle.sig_record.specs.KindRows.{kind_phrase, kind_text}
 use Rattle.sig_record.specs.RecordText.{event_text, left_text, queued_text, state_text, head_text}
 use Rattle.sig_record.specs.RecordFronts.{is_process_name}
 use Rattle.sig_record.proofs.CleanTexts.{IsLine, clean_on, decimal_clean, process_name_clean, term_clean, phrase_clean}
+use Rattle.sig_record.proofs.PhraseRows.{did_word, outcome_word, kind_word, state_word}
 use Rattle.sig_record.proofs.LineLaws.{IsReadableEvent, IsReadableLeft, IsReadableSignal, IsReadableState}
-
--- ---- words
-
-did_word : (d : Did) → IsInline (did_phrase d).word
-did_word (did.Exec place) = refl
-did_word (did.From p number) = refl
-
-outcome_word : (o : Outcome) → IsInline (outcome_phrase o).word
-outcome_word (outcome.Sent to message) = refl
-outcome_word (outcome.Set value) = refl
-outcome_word outcome.Done = refl
-outcome_word (outcome.Answered value) = refl
-outcome_word (outcome.Took clause looked message) = refl
-outcome_word (outcome.After looked) = refl
-outcome_word (outcome.Ended reason) = refl
-outcome_word (outcome.Kept message) = refl
-outcome_word outcome.Dropped = refl
-outcome_word outcome.Linked = refl
-outcome_word outcome.Unlinked = refl
-outcome_word outcome.Acked = refl
-outcome_word outcome.Watched = refl
-outcome_word outcome.Unwatched = refl
-outcome_word outcome.NoProc = refl
-
-kind_word : (k : Kind) → IsInline (kind_phrase k).word
-kind_word (kind.Message term) = refl
-kind_word (kind.AliasMessage reference term) = refl
-kind_word kind.Link = refl
-kind_word (kind.Unlink id) = refl
-kind_word (kind.UnlinkAck id) = refl
-kind_word (kind.Monitor reference) = refl
-kind_word (kind.Demonitor reference) = refl
-kind_word (kind.Exit reason linked) = refl
-kind_word (kind.Down reference reason) = refl
-
-state_word : (s : State) → IsInline (state_phrase s).word
-state_word (state.Ended reason) = refl
-state_word state.Waiting = refl
-state_word state.Cut = refl
 
 -- ---- lines
 

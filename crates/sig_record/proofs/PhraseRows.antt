@@ -13,6 +13,7 @@ use Rattle.sig_model.specs.TermSizes.{KindSizes, OutcomeSizes}
 use Rattle.sig_model.proofs.TermSizeLemmas.{small_kept}
 use Rattle.sig_record.specs.EventRows as events
 use Rattle.sig_record.specs.EventRows.{did_phrase, did_text, did_rows, did_front, outcome_phrase, outcome_text, outcome_rows, outcome_front, state_phrase, state_rows, standing_front}
+use Rattle.sig_record.specs.FaultLine.{IsInline}
 use Rattle.sig_record.specs.KindRows as kinds
 use Rattle.sig_record.specs.KindRows.{kind_phrase, kind_text, kind_rows, kind_front}
 use Rattle.sig_record.specs.SizedRecord.{IsSizedPhrase, IsSizedOutcome, IsSizedKind}
@@ -112,3 +113,42 @@ state_found state.Cut = record { row = events.cut; said = tt; is = refl; first =
 pub standing_law : Law Stops (text state_phrase) (ok state_phrase) standing_front
 unfolding standing_front
 standing_law = rows_law state_phrase state_rows states_said state_found
+
+-- ---- words without a line feed
+
+pub did_word : (d : Did) → IsInline (did_phrase d).word
+did_word (did.Exec place) = refl
+did_word (did.From p number) = refl
+
+pub outcome_word : (o : Outcome) → IsInline (outcome_phrase o).word
+outcome_word (outcome.Sent to message) = refl
+outcome_word (outcome.Set value) = refl
+outcome_word outcome.Done = refl
+outcome_word (outcome.Answered value) = refl
+outcome_word (outcome.Took clause looked message) = refl
+outcome_word (outcome.After looked) = refl
+outcome_word (outcome.Ended reason) = refl
+outcome_word (outcome.Kept message) = refl
+outcome_word outcome.Dropped = refl
+outcome_word outcome.Linked = refl
+outcome_word outcome.Unlinked = refl
+outcome_word outcome.Acked = refl
+outcome_word outcome.Watched = refl
+outcome_word outcome.Unwatched = refl
+outcome_word outcome.NoProc = refl
+
+pub kind_word : (k : Kind) → IsInline (kind_phrase k).word
+kind_word (kind.Message term) = refl
+kind_word (kind.AliasMessage reference term) = refl
+kind_word kind.Link = refl
+kind_word (kind.Unlink id) = refl
+kind_word (kind.UnlinkAck id) = refl
+kind_word (kind.Monitor reference) = refl
+kind_word (kind.Demonitor reference) = refl
+kind_word (kind.Exit reason linked) = refl
+kind_word (kind.Down reference reason) = refl
+
+pub state_word : (s : State) → IsInline (state_phrase s).word
+state_word (state.Ended reason) = refl
+state_word state.Waiting = refl
+state_word state.Cut = refl
