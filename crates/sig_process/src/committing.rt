@@ -130,7 +130,7 @@ impl Progress {
         requires serials { self.old.counts.next_serial < 2 ^ 63 }
         ensures { MatchResult result
             (λ _. HasBound posts grows binding (record self.old { events = events.old.items })
-                (record self.new { events = events.new.items }) outcome)
+            (record self.new { events = events.new.items }) outcome)
             (λ _. IsSameButRoom self.old self.new × (events.new.items ≡ events.old.items)) }
     {
         if let Err(fault) = self.make_all_room(events, posts, grows) {
@@ -178,7 +178,7 @@ impl Progress {
         requires owner { self.old.tables.inner.queue.owner ≡ self.old.tables.watch.watch.owner }
         ensures event { MatchResult result
             (λ _. HasAdvanced pid.0 self.old self.new
-                (finished_exec pid.0 (state_of self.old) (executed_body (state_of self.old) execution)))
+            (finished_exec pid.0 (state_of self.old) (executed_body (state_of self.old) execution)))
             (λ _. IsSameButRoom self.old self.new) }
         ensures unsaved { OnOk result (is_saved self.new.tables.inner.queue.last ≡ false) }
     {
@@ -306,7 +306,7 @@ impl Progress {
         requires found { IsSome (env_found pattern.now self.old) }
         ensures { MatchResult result
             (λ _. HasTaken place clause looked (record self.old { events = events.old.items })
-                (record self.new { events = events.new.items }) pattern.now)
+            (record self.new { events = events.new.items }) pattern.now)
             (λ _. (self.new ≡ self.old) × (events.new.items ≡ events.old.items)) }
     {
         events.reserve(1)?;

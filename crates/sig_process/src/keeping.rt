@@ -50,7 +50,9 @@ impl Progress {
         ensures queue { self.new.tables.inner.queue ≡ self.old.tables.inner.queue }
         ensures handled { self.new.handled.items ≡ self.old.handled.items }
         ensures rest { self.new ≡ record self.old {
-            tables = record self.old.tables { inner = self.new.tables.inner }; handled = self.new.handled } }
+          tables = record self.old.tables { inner = self.new.tables.inner };
+          handled = self.new.handled;
+        } }
     {
         self.handled.room()?;
         self.tables.inner.room()

@@ -81,8 +81,12 @@ impl Progress {
     /// The plan of an instruction that goes on at the label of the target, or at the next place.
     pub(crate) fn going(&self, proc: &Proc, target: Option<u32>, plan: Plan) -> Execution
         requires { self.now.counts.place ≤ length proc.now.instrs }
-        ensures { result ≡ record { binding = Binding.Nothing; inbox = InboxChange.Nothing;
-            place = place_after proc.now.labels target self.now.counts.place; plan = plan } }
+        ensures { result ≡ record {
+          binding = Binding.Nothing;
+          inbox = InboxChange.Nothing;
+          place = place_after proc.now.labels target self.now.counts.place;
+          plan = plan;
+        } }
     {
         Execution {
             binding: Binding::Nothing,
@@ -249,8 +253,12 @@ impl Progress {
         plan: Plan,
     ) -> Result<Execution, AllocError>
         requires { self.now.counts.place ≤ length proc.now.instrs }
-        ensures { IfOk result (λ x. x ≡ record { binding = Binding.Made var.now reference; inbox = InboxChange.Nothing;
-            place = self.now.counts.place + 1; plan = plan }) }
+        ensures { IfOk result (λ x. x ≡ record {
+          binding = Binding.Made var.now reference;
+          inbox = InboxChange.Nothing;
+          place = self.now.counts.place + 1;
+          plan = plan;
+        }) }
     {
         match var.copy(self.alloc) {
             Ok(var) => Ok(Execution {
@@ -372,8 +380,12 @@ impl Progress {
     /// The answer of an instruction that changes nothing but messages and markers.
     fn answering(&self, proc: &Proc, yes: bool, inbox: InboxChange) -> Execution
         requires { self.now.counts.place ≤ length proc.now.instrs }
-        ensures execution { result ≡ record { binding = Binding.Nothing; inbox = inbox; place = self.now.counts.place + 1;
-            plan = result.plan } }
+        ensures execution { result ≡ record {
+          binding = Binding.Nothing;
+          inbox = inbox;
+          place = self.now.counts.place + 1;
+          plan = result.plan;
+        } }
         ensures body { (s : ProcessState) → body_of s result.plan ≡ record { state = s; outcome = Outcome.Answered yes; posts = [] } }
     {
         let plan = self.silent(Change::Nothing, Outcome::Answered { yes });

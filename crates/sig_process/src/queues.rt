@@ -59,8 +59,9 @@ impl Process {
         requires continues { Continues self.old.running signals.old.items }
         ensures { MatchResult result
             (λ _. (self.new ≡ record self.old {
-                running = record self.old.running { taken_in = self.old.running.taken_in ++ signals.old.items } })
-                × (signals.new.items ≡ []))
+              running = record self.old.running { taken_in = self.old.running.taken_in ++ signals.old.items };
+            })
+            × (signals.new.items ≡ []))
             (λ _. (self.new ≡ self.old) × (signals.new.items ≡ signals.old.items)) }
     {
         self.progress.taken_in.append(signals)

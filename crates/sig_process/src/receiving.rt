@@ -70,7 +70,7 @@ impl Progress {
         requires found { (start : ℕ) × (h : Hit) × IsHit clauses.now self.old clause looked start h }
         ensures taken { (start : ℕ) (h : Hit) → IsHit clauses.now self.old clause looked start h →
             OnOk result (HasAdvanced pid.0 self.old self.new
-                (finished_exec pid.0 (state_of self.old) (taking proc.now (state_of self.old) start (start + h.at) h))) }
+            (finished_exec pid.0 (state_of self.old) (taking proc.now (state_of self.old) start (start + h.at) h))) }
         ensures err { OnErr result (self.new ≡ self.old) }
         ensures unsaved { OnOk result (is_saved self.new.tables.inner.queue.last ≡ false) }
     {
