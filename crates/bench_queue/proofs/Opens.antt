@@ -2,6 +2,7 @@
 use Rattle.std.proofs.Common.{◌≡◌, ◌<◌, ◌≤◌, ◌^◌, ℕ, List, All, length, replicate, sym, subst, ap, ◌∙◌, arith}
 use Rattle.std.proofs.lemmas.List.{length-replicate}
 use Rattle.std.proofs.lemmas.List.Elements.{All-replicate}
+use Rattle.sig_kinds.specs.declared.queue_data.QueueData.TheVariants.{OffHeap}
 use Rattle.sig_layout.specs.declared.policy.Policy.{Policy}
 use Rattle.sig_layout.specs.declared.opening.Opening.{Opening}
 use Rattle.sig_layout.specs.Policies.{IsPolicy}
@@ -13,7 +14,7 @@ use Rattle.sig_queue.specs.Ends.{setup_of}
 abbrev IsFirst : ℕ → Type 0
 IsFirst n = (1 ≤ n) × (n < 2 ^ 63)
 
-pub opens : (policy : Policy) (pids : List ℕ) (o : Opening) → IsPolicy policy → o.count ≡ 256 → o.first ≡ replicate 256 1 → IsSetup (setup_of policy pids o)
+pub opens : (policy : Policy) (pids : List ℕ) (o : Opening) → IsPolicy policy → o.count ≡ 256 → o.first ≡ replicate 256 1 → IsSetup (setup_of policy OffHeap pids o)
 opens policy pids o is count first = record {
   policy = is;
   below = λ s h. let b = has_below pids s h in omega arith;

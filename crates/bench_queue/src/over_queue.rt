@@ -6,6 +6,7 @@ ghost use Rattle.bench_queue.specs.Messages.{receiver, IsFresh};
 use crate::receiver::Receiver;
 use crate::sender::Sender;
 use crate::work::{RECEIVER, Work};
+use sig_kinds::QueueData;
 use sig_layout::{Numbers, Opening, Policy, Senders};
 use sig_queue::{QSeat, SigQueue};
 use sig_terms::Pid;
@@ -91,7 +92,7 @@ fn opened(alloc: Global, policy: Policy, pids: Senders) -> Result<(SigQueue, QSe
     ensures { IfOk result (λ r. IsFresh r.0 pids r.1) }
 {
     let opening = opening(alloc)?;
-    SigQueue::open(alloc, policy, pids, &opening)
+    SigQueue::open(alloc, policy, QueueData::OffHeap, pids, &opening)
 }
 
 // Sends and receives the signals through this queue, and tells how many came.

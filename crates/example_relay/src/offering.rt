@@ -58,7 +58,8 @@ pub fn put_message(
     requires next { number ≡ line.first + length (of putter line.from.0 seat.old.knows.put) }
     ensures own { seat.new.queue ≡ seat.old.queue }
     ensures senders { seat.new.knows.senders ≡ seat.old.knows.senders }
-    ensures count { IfSome result (λ put. length (of putter line.from.0 seat.new.knows.put) ≡ length (of putter line.from.0 seat.old.knows.put) + (if put then 1 else 0)) }
+    ensures count { IfSome result (λ put. length (of putter line.from.0 seat.new.knows.put)
+        ≡ length (of putter line.from.0 seat.old.knows.put) + (if put then 1 else 0)) }
     ensures put { (o : Offer) × (result ≡ put_by o) × Offered (said line.from line.to number serial) seat.old.knows o seat.new.knows }
 {
     let offer = offer_message(queue, seat, line, number, serial);

@@ -6,7 +6,7 @@ ghost use Rattle.sig_queue.specs.Ends.{setup_of};
 ghost use Rattle.example_relay.specs.Relays.{messages, Sends, Receives, Sender};
 
 use crate::offering::put_message;
-use sig_kinds::Signals;
+use sig_kinds::{QueueData, Signals};
 use sig_layout::{Opening, Policy, Senders};
 use sig_queue::{Closed, Fetch, QSeat, SigQueue};
 use sig_terms::Pid;
@@ -149,7 +149,8 @@ fn send_and_receive<R: Threads + Wait + Sync>(
         rt,
         move || -> (QSeat, usize)
             requires { (sender.queue ≡ queue.now.id) × Sender queue.now.setup line × Sends queue.now.setup line.from [] sender.knows }
-            ensures { (result.0.queue ≡ queue.entry.now.id) × Sends queue.entry.now.setup line.from (take result.1 serials.entry.now) result.0.knows }
+            ensures { (result.0.queue ≡ queue.entry.now.id)
+                × Sends queue.entry.now.setup line.from (take result.1 serials.entry.now) result.0.knows }
         { send(queue, sender, line, serials) },
         move || -> (QSeat, Signals)
             requires { (receiver.queue ≡ queue.now.id) × Receives taken.items receiver.knows }
@@ -173,12 +174,13 @@ pub fn relay<R: Threads + Wait + Sync>(
     serials: &[u64],
     enough: usize,
 ) -> Result<Relayed, AllocError>
-    requires setup { IsSetup (setup_of policy senders opening.now) }
+    requires setup { IsSetup (setup_of policy QueueData.OffHeap senders opening.now) }
     requires sender { has senders from.0 ≡ true }
     requires receiver { opening.now.receiver.0 < opening.now.count }
-    ensures { IfOk result (λ r. of sender from.0 (r.taken.items ++ r.closed.rest) ≡ messages from opening.now.receiver (first_of (setup_of policy senders opening.now) from.0) (take r.sent serials.now)) }
+    ensures { IfOk result (λ r. of sender from.0 (r.taken.items ++ r.closed.rest) ≡ messages from opening.now.receiver
+        (first_of (setup_of policy QueueData.OffHeap senders opening.now) from.0) (take r.sent serials.now)) }
 {
-    let (queue, mut seat) = SigQueue::open(alloc, policy, senders, opening)?;
+    let (queue, mut seat) = SigQueue::open(alloc, policy, QueueData::OffHeap, senders, opening)?;
     let first = opening.first.as_slice()[from.0 as usize];
     let line = Line {
         from,

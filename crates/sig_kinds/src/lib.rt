@@ -4,10 +4,12 @@
 
 mod alias_answer;
 mod alias_mode;
+mod queue_data;
 mod signal;
 mod signals;
 
 pub use alias_answer::AliasAnswer;
 pub use alias_mode::AliasMode;
+pub use queue_data::QueueData;
 pub use signal::{Kind, Signal};
 pub use signals::{Push, Signals};

@@ -1,6 +1,8 @@
 -- When buffers are to be installed and removed, and which journals are lawful. (This project's own. The runtime's notes on parallel
 -- signal sending tell of a policy of that kind.)
 use Rattle.std.specs.Prelude.{◌≡◌, ◌⊎◌, ℕ, suc, ◌+◌, ◌-◌, ◌<◌, ◌≤◌, Bool, true, false, List, [], ◌∷◌, ◌++◌, All}
+use Rattle.sig_kinds.specs.declared.queue_data.QueueData.{QueueData}
+use Rattle.sig_kinds.specs.declared.queue_data.QueueData.TheVariants.{OnHeap, OffHeap}
 use Rattle.sig_layout.specs.declared.policy.TheConstants.{AUTO_SCORE, AUTO_RUN, AUTO_FEW}
 use Rattle.sig_layout.specs.declared.entry.Entry.{Entry}
 use Rattle.sig_layout.specs.declared.entry.Entry.TheVariants.{Direct, Fetch, Install, Remove}
@@ -10,6 +12,12 @@ use Rattle.sig_layout.specs.declared.via.Via.{Via}
 use Rattle.sig_layout.specs.declared.via.Via.TheVariants as via
 use Rattle.sig_layout.specs.declared.decision.Due.{Due}
 use Rattle.sig_layout.specs.declared.decision.Due.TheVariants as due
+
+-- The policy by which a queue goes whose receiver keeps its message queue so: on the heap there are no buffers, as under Never.
+-- (The runtime's notes on parallel signal sending: it is for processes that have their message queue outside the heap.)
+abbrev pub ruled : Policy → QueueData → Policy
+ruled p OnHeap = Never
+ruled p OffHeap = p
 
 abbrev pub IsPolicy : Policy → Type 0
 IsPolicy Never = Unit {0}

@@ -60,7 +60,9 @@ impl Journal {
         self.entries.get(index)
     }
 
-    pub(crate) fn due(&self, policy: Policy) -> Due
+    /// What this policy makes due after the journal, in constant time, where it is the one by which
+    /// the queue goes ([`Policy::ruled`]).
+    pub fn due(&self, policy: Policy) -> Due
         ensures { result ≡ due_at policy self.now }
     {
         self.summary.due(policy)

@@ -1,9 +1,10 @@
 ghost use Rattle.std.specs.Prelude.{◌≡◌};
-ghost use Rattle.sig_layout.specs.Policies.{IsDue};
+ghost use Rattle.sig_layout.specs.Policies.{IsDue, ruled};
 ghost use Rattle.sig_layout.specs.Summaries.{due_at};
 
 use crate::decision::Due;
 use crate::journal::Journal;
+use sig_kinds::QueueData;
 
 /// Under `Auto` buffers are installed where the score of direct puts comes to this.
 pub const AUTO_SCORE: u64 = 64;
@@ -31,10 +32,25 @@ pub enum Policy {
     Auto,
 }
 
-/// What the policy makes due after this journal, in constant time.
-pub fn due(policy: Policy, journal: &Journal) -> Due
-    ensures table { IsDue policy journal.now result }
-    ensures same { result ≡ due_at policy journal.now }
+impl Policy {
+    /// The policy by which a queue goes whose receiver keeps its message queue so: this one outside
+    /// the heap, and `Never` on the heap.
+    pub fn ruled(self, queue_data: QueueData) -> Policy
+        ensures { result ≡ ruled self queue_data }
+    {
+        match queue_data {
+            QueueData::OnHeap => Policy::Never,
+            QueueData::OffHeap => self,
+        }
+    }
+}
+
+/// What the policy makes due after this journal of a queue whose receiver keeps its message queue so,
+/// in constant time. On the heap it is nothing.
+pub fn due(policy: Policy, queue_data: QueueData, journal: &Journal) -> Due
+    ensures table { IsDue (ruled policy queue_data) journal.now result }
+    ensures on_heap { queue_data ≡ QueueData.OnHeap → result ≡ Due.Nothing }
+    ensures same { result ≡ due_at (ruled policy queue_data) journal.now }
 {
-    journal.due(policy)
+    journal.due(policy.ruled(queue_data))
 }

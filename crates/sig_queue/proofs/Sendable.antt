@@ -25,6 +25,7 @@ pub use Rattle.sig_lists.proofs.sequence.Sequence.TheSendSync as list_sent
 pub use Rattle.sig_queue.specs.contracts.slot.Slot as slot
 pub use Rattle.sig_queue.specs.contracts.qseat.QSeat as qseat
 pub use Rattle.sig_queue.specs.contracts.note.Note as note
+pub use Rattle.sig_queue.specs.contracts.words.Words as words
 pub use Rattle.sig_queue.specs.contracts.sig_queue.SigQueue as queue
 pub use Rattle.atomic_table.proofs.owned.Table.TheSendSync as table_sent
 pub use Rattle.sig_layout.proofs.policy.Policy.TheSendSync as policy_sent
@@ -84,8 +85,11 @@ signals_sync = search (shared_parts, signal_sync) depth 9
 batch_sync : IsSync batch.the_row
 batch_sync = search (shared_parts, signals_sync) depth 9
 
+words_sync : IsSync words.the_row
+words_sync = declared_sync words.the_type (search (parts, shared_parts, as_row_sync, table_sent.the_sync, slot_send) depth 12)
+
 pub queue_sync : IsSync queue.the_row
-queue_sync = view_sync _ _ _ _ _ (declared_sync queue.TheInside.the_type (search (parts, shared_parts, as_row_sync, table_sent.the_sync, policy_sent.the_sync, slot_send, batch_sync) depth 12))
+queue_sync = view_sync _ _ _ _ _ (declared_sync queue.TheInside.the_type (search (parts, shared_parts, as_row_sync, words_sync, policy_sent.the_sync, batch_sync) depth 12))
 
 -- both for `search`
 pub ruleset crossing = (parts, shared_parts, seat_send, note_send, queue_sync)

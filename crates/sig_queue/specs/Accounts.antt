@@ -1,5 +1,6 @@
 -- What receipts say.
 use Rattle.std.specs.Prelude.{◌≡◌, ℕ, ◌+◌, true, List, [], ◌∷◌, ◌++◌, length, slice_index_or}
+use Rattle.sig_kinds.specs.declared.queue_data.QueueData.TheVariants.{OffHeap}
 use Rattle.sig_layout.specs.declared.item.Item.{Item}
 use Rattle.sig_layout.specs.declared.policy.Policy.TheVariants.{Never}
 use Rattle.sig_layout.specs.declared.setup.Setup.{Setup}
@@ -8,21 +9,29 @@ use Rattle.sig_layout.specs.Sent.{putter, of}
 use Rattle.sig_queue.specs.declared.account.Account.{Account}
 
 abbrev pub no_account : Account
-no_account = record { receiver = record { 0 = 0 }; senders = no_senders; policy = Never; first = []; put = [] }
+no_account = record { receiver = record { 0 = 0 }; senders = no_senders; policy = Never; queue_data = OffHeap; first = []; put = [] }
 
 -- the receipt of a queue into which this was put
 abbrev pub account_of : Setup → List Item → Account
-account_of z put = record { receiver = z.opening.receiver; senders = z.senders; policy = z.policy; first = z.opening.first; put = put }
+account_of z put = record {
+  receiver = z.opening.receiver;
+  senders = z.senders;
+  policy = z.given;
+  queue_data = z.queue_data;
+  first = z.opening.first;
+  put = put;
+}
 
 -- the number that the next signal of the sender s has
 abbrev pub next_number : Account → ℕ → ℕ
 next_number a s = slice_index_or a.first s 0 + length (of putter s a.put)
 
--- b is of the same receiver, senders and policy, and the numbers go on there
+-- b is of the same receiver, senders and policy, and of messages kept in the same place, and the numbers go on there
 pub record MayFollow (a b : Account) : Type 0 where
   pub receiver : b.receiver ≡ a.receiver
   pub senders : (s : ℕ) → has b.senders s ≡ has a.senders s
   pub policy : b.policy ≡ a.policy
+  pub queue_data : b.queue_data ≡ a.queue_data
   pub numbers : (s : ℕ) → has a.senders s ≡ true → slice_index_or b.first s 0 ≡ next_number a s
 
 abbrev pub followed : Account → Account → Account

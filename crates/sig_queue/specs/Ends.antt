@@ -2,6 +2,7 @@
 use Rattle.std.specs.Prelude.{◌≡◌, ℕ, All, List, ◌++◌}
 use mathlib.Core.Option.{some}
 use lib.ListN.{get_elem?}
+use Rattle.sig_kinds.specs.declared.queue_data.QueueData.{QueueData}
 use Rattle.sig_kinds.specs.declared.signal.Signal.{Signal}
 use Rattle.sig_layout.specs.declared.layout.TheConstants.{BUFFERS}
 use Rattle.sig_layout.specs.declared.policy.Policy.{Policy}
@@ -10,7 +11,7 @@ use Rattle.sig_layout.specs.declared.entry.Entry.{Entry}
 use Rattle.sig_layout.specs.declared.opening.Opening.{Opening}
 use Rattle.sig_layout.specs.declared.setup.Setup.{Setup}
 use Rattle.sig_layout.specs.declared.knows.Knows.{Knows}
-use Rattle.sig_layout.specs.Policies.{AllowsWay, IsLawfulJournal, direct_count, fetch_count}
+use Rattle.sig_layout.specs.Policies.{ruled, AllowsWay, IsLawfulJournal, direct_count, fetch_count}
 use Rattle.sig_layout.specs.Openings.{IsCarried, IsCounted}
 use Rattle.sig_layout.specs.Carried.{outer_count}
 use Rattle.sig_layout.specs.Sent.{sender, of, signals}
@@ -19,9 +20,15 @@ use Rattle.sig_layout.specs.Rooms.{all_pieces}
 use Rattle.sig_layout.specs.Views.{table_from}
 use Rattle.sig_queue.specs.Parts.{OfBuffer}
 
--- what a queue is opened with
-abbrev pub setup_of : Policy → List ℕ → Opening → Setup
-setup_of policy senders opening = record { policy = policy; senders = senders; opening = opening }
+-- what a queue is opened with. On the heap it goes by Never, whatever policy is given
+abbrev pub setup_of : Policy → QueueData → List ℕ → Opening → Setup
+setup_of policy queue_data senders opening = record {
+  policy = ruled policy queue_data;
+  given = policy;
+  queue_data = queue_data;
+  senders = senders;
+  opening = opening;
+}
 
 -- what lies in a state of the core: the outer list, and then buffers 0 to 63
 abbrev pub left_in : QState → List Signal
@@ -35,7 +42,7 @@ pub record EndsAs (z : Setup) (v : Knows) (rest : List Signal) (journal : List E
   pub carried : All (IsCarried z) (signals v.put)
   pub counted : IsCounted z (signals v.put)
   pub left : All (IsCarried z) rest
-  -- under Never none of it was put into a buffer, and under Always none into the outer list
+  -- under Never, and on the heap, none of it was put into a buffer, and under Always off the heap none into the outer list
   pub ways : All (λ (x : Item). AllowsWay z.policy x.via) v.put
   -- the journal has an Install and a Remove where one was due, a Direct for each put into the outer list, and a Fetch for each fetch
   pub lawful : IsLawfulJournal z.policy journal

@@ -3,6 +3,7 @@ use Rattle.std.specs.Prelude.{◌≡◌, ◌≢◌, ℕ, zero, suc, ◌+◌, ◌
 use mathlib.Core.Option as maybe
 use mathlib.Core.Option.{none, some}
 use Rattle.atomic_table.specs.Table.{State, Me, Step, rest}
+use Rattle.sig_kinds.specs.declared.queue_data.QueueData.TheVariants.{OffHeap}
 use Rattle.sig_kinds.specs.declared.signal.Signal.{Signal}
 use Rattle.sig_layout.specs.declared.layout.TheConstants.{BUFFERS}
 use Rattle.sig_layout.specs.declared.senders.TheConstants.{PIDS}
@@ -96,7 +97,13 @@ list_in [] = []
 list_in (x ∷ xs) = list_or x.1
 
 abbrev pub no_setup : Setup
-no_setup = record { policy = Never; senders = []; opening = record { receiver = record { 0 = 0 }; count = 0; first = [] } }
+no_setup = record {
+  policy = Never;
+  given = Never;
+  queue_data = OffHeap;
+  senders = [];
+  opening = record { receiver = record { 0 = 0 }; count = 0; first = [] };
+}
 
 -- what each step tells
 abbrev pub Tells : Type 1

@@ -1,3 +1,4 @@
+use sig_kinds::QueueData;
 use sig_layout::{Item, Numbers, Policy, Senders};
 use sig_lists::Sequence;
 use sig_terms::Pid;
@@ -8,8 +9,10 @@ pub struct Account {
     pub receiver: Pid,
     /// Those who put.
     pub senders: Senders,
-    /// When buffers were installed and removed.
+    /// The policy that was given to the queue.
     pub policy: Policy,
+    /// Where the receiver keeps its message queue.
+    pub queue_data: QueueData,
     /// At each place, from 0, the number of the first signal of the sender with that pid.
     pub first: Numbers,
     /// What was put, each signal with its way.

@@ -61,12 +61,12 @@ impl SigQueue {
         ensures ends { EndsAs self.setup place.me.0 result.0 result.1 }
     {
         let SigQueue {
-            table,
+            words,
             policy: _,
             alloc,
             mut lists,
         } = self;
-        let mut closed = table.close_with(place);
+        let mut closed = words.close_with(place);
         take_lists(&mut closed, &mut lists);
         let slot = closed.take(0);
         closed.free();
@@ -91,7 +91,7 @@ impl SigQueue {
     {
         let note = self.note(&mut seat);
         let QSeat { place, .. } = seat;
-        let receipt = Receipt::of(&place, note.place, &self.table.shared);
+        let receipt = Receipt::of(&place, note.place, &self.words);
         let (rest, journal) = self.end(place);
         Closed {
             rest,

@@ -3,15 +3,16 @@ ghost use Rattle.sig_layout.specs.declared.outer.Outer.{Outer};
 ghost use Rattle.sig_layout.specs.Views.{number, IsSomebody};
 ghost use Rattle.sig_layout.specs.Core.{Begins};
 ghost use Rattle.sig_queue.specs.Calls.{due_of, FetchedHeld, Fetched};
-ghost use Rattle.sig_queue.specs.SeatWords.{IsOf, IsSameSeat};
+ghost use Rattle.sig_queue.specs.SeatWords.{IsOf, IsSameSeat, key_of};
 
 use crate::fetch_find::{bring_front, find_all};
 use crate::fetch_settle::settle;
 use crate::qseat::QSeat;
-use crate::rule::{SeatAt, Words};
+use crate::rule::SeatAt;
 use crate::sig_queue::SigQueue;
 use crate::slot::Slot;
-use crate::steps::{take_bits, take_value, try_outer};
+use crate::words::Words;
+use crate::words::steps::{take_bits, take_value, try_outer};
 use sig_kinds::Signals;
 use sig_layout::Policy;
 
@@ -37,7 +38,7 @@ fn fetch_held(
     policy: Policy,
 ) -> Fetch
     requires table { IsOf place.old words.now }
-    requires policy { words.now.key.policy ≡ policy }
+    requires policy { (key_of words.now).policy ≡ policy }
     requires begins { (o : Outer) × Begins place.old.me.0 o × (place.old.me.1 ≡ (0, Slot.Outer o) ∷ []) }
     requires idle { (place.old.me.0.parts ≡ []) × (place.old.me.0.saw_off ≡ false) × (place.old.me.0.mask ≡ [])
         × (place.old.me.0.back ≡ 0) × (place.old.me.0.moved ≡ 0) }
@@ -45,7 +46,7 @@ fn fetch_held(
     requires somebody { IsSomebody place.old.me.0 × (my_word ≡ number place.old.me.0 + 1) }
     ensures same { IsSameSeat place.new place.old }
     ensures bare { place.new.me.1 ≡ [] }
-    ensures fetched { FetchedHeld words.now.key into.old.items into.new.items place.old.me.0 result place.new.me.0 }
+    ensures fetched { FetchedHeld (key_of words.now) into.old.items into.new.items place.old.me.0 result place.new.me.0 }
 {
     let outer = take_value(words, place);
     // The bits are taken before the lists. Taken after them, the bit of a signal that came in between
@@ -86,7 +87,7 @@ impl SigQueue {
         ensures own { seat.new.queue ≡ seat.old.queue }
         ensures fetched { Fetched self.now.setup into.old.items into.new.items seat.old.knows result seat.new.knows }
     {
-        let words = &self.table.shared;
+        let words = &self.words;
         let my_word = seat.kept.number + 1;
         let found = try_outer(words, &mut seat.place, my_word);
         if found != 0 {

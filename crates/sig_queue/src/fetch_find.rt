@@ -6,12 +6,13 @@ ghost use Rattle.sig_layout.specs.declared.outer.Outer.{Outer};
 ghost use Rattle.sig_layout.specs.declared.knows.Knows.{Knows};
 ghost use Rattle.sig_layout.specs.Views.{number, IsSomebody, filled_at, with_bits};
 ghost use Rattle.sig_queue.specs.Fetching.{Finding, outer_out};
-ghost use Rattle.sig_queue.specs.SeatWords.{IsOf, IsBufferOf, IsSameSeat};
+ghost use Rattle.sig_queue.specs.SeatWords.{IsOf, IsBufferOf, IsSameSeat, table_of};
 
-use crate::buffer_steps::{put_list, take_list, try_buffer};
-use crate::rule::{SeatAt, Words};
+use crate::rule::SeatAt;
 use crate::slot::Slot;
-use crate::steps::set_back;
+use crate::words::Words;
+use crate::words::buffer_steps::{put_list, take_list, try_buffer};
+use crate::words::steps::set_back;
 use sig_layout::BUFFERS;
 use std::marker::Brand;
 
@@ -49,7 +50,7 @@ pub(crate) fn bring_front(place: &mut SeatAt, count: usize)
 
 // The length of the list of the slot that stands in front.
 fn measure(words: &Words, place: &mut SeatAt, buffer: usize) -> usize
-    requires table { (place.old.table_id ≡ words.now.table_id) × (buffer < BUFFERS) }
+    requires table { (place.old.table_id ≡ table_of words.now) × (buffer < BUFFERS) }
     requires out { (l : List Signal) × (place.old.me.1 ≡ (buffer + 1, Slot.List l) ∷ rest place.old.me.1) }
     ensures same { IsSameSeat place.new place.old }
     ensures still { place.new.me ≡ place.old.me }

@@ -7,13 +7,14 @@ ghost use Rattle.sig_layout.specs.Outers.{emptied};
 ghost use Rattle.sig_layout.specs.Summaries.{due_at, is_remove};
 ghost use Rattle.sig_queue.specs.Calls.{bare, Finished, Settled};
 ghost use Rattle.sig_queue.specs.Fetching.{Standing, Emptying, Leaving, all_of};
-ghost use Rattle.sig_queue.specs.SeatWords.{IsOf, IsBufferOf, IsSameSeat};
+ghost use Rattle.sig_queue.specs.SeatWords.{IsOf, IsBufferOf, IsSameSeat, key_of};
 
-use crate::buffer_steps::{leave_buffer, leave_part, put_list, take_list};
 use crate::fetch_find::{Caught, bring_front, has_bit};
 use crate::outer_box::OuterBox;
-use crate::rule::{SeatAt, Words};
-use crate::steps::{leave_fetch, leave_same, put_value, set_back};
+use crate::rule::SeatAt;
+use crate::words::Words;
+use crate::words::buffer_steps::{leave_buffer, leave_part, put_list, take_list};
+use crate::words::steps::{leave_fetch, leave_same, put_value, set_back};
 use sig_kinds::Signals;
 use sig_layout::{BUFFERS, Due, Policy};
 use std::marker::Brand;
@@ -129,7 +130,7 @@ fn finish(
     policy: Policy,
 ) -> Taken
     requires table { IsOf place.old words.now }
-    requires policy { words.now.key.policy ≡ policy }
+    requires policy { (key_of words.now).policy ≡ policy }
     requires standing { Standing held 0 place.old.me parts }
     requires held { (o : Outer) × (place.old.me.0.held ≡ Some o) × (outer ≡ emptied o (length (all_of place.old.me.0.parts))) }
     requires fetching { (place.old.me.0.fetching ≡ true) × (place.old.me.0.removing ≡ false)
@@ -140,7 +141,7 @@ fn finish(
     ensures bare { place.new.me.1 ≡ [] }
     ensures moved { into.new.items ≡ into.old.items ++ all_of place.old.me.0.parts }
     ensures count { result.count ≡ count }
-    ensures finished { Finished words.now.key place.old.me.0 result place.new.me.0 }
+    ensures finished { Finished (key_of words.now) place.old.me.0 result place.new.me.0 }
 {
     empty_all(words, place, held, parts, into);
     let due = is_removal_due(&outer, policy);
@@ -174,7 +175,7 @@ pub(crate) fn settle(
     policy: Policy,
 ) -> Option<Taken>
     requires table { IsOf place.old words.now }
-    requires policy { words.now.key.policy ≡ policy }
+    requires policy { (key_of words.now).policy ≡ policy }
     requires standing { Standing found.now.held 0 place.old.me found.now.count }
     requires total { IfSome found.now.total (λ t. t ≡ length (all_of place.old.me.0.parts)) }
     requires held { place.old.me.0.held ≡ Some outer }
@@ -183,7 +184,7 @@ pub(crate) fn settle(
     requires role { (place.old.me.0.role ≡ true) × (place.old.me.0.due ≡ false) }
     ensures same { IsSameSeat place.new place.old }
     ensures bare { place.new.me.1 ≡ [] }
-    ensures settled { Settled words.now.key into.old.items into.new.items place.old.me.0 result place.new.me.0 }
+    ensures settled { Settled (key_of words.now) into.old.items into.new.items place.old.me.0 result place.new.me.0 }
 {
     let Some(total) = found.total else {
         give_up(words, place, found.held, found.count, outer);

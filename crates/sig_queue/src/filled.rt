@@ -3,7 +3,7 @@ ghost use Rattle.sig_layout.specs.Views.{counted};
 
 use crate::qseat::QSeat;
 use crate::sig_queue::SigQueue;
-use crate::steps::load_filled;
+use crate::words::steps::load_filled;
 
 impl SigQueue {
     /// What one load of the word of bits gives.
@@ -14,6 +14,6 @@ impl SigQueue {
         ensures own { seat.new.queue ≡ seat.old.queue }
         ensures counted { seat.new.knows ≡ counted seat.old.knows result }
     {
-        load_filled(&self.table.shared, &mut seat.place)
+        load_filled(&self.words, &mut seat.place)
     }
 }

@@ -8,7 +8,7 @@ use crate::held_seat::HeldSeat;
 use crate::hold::Hold;
 use crate::qseat::QSeat;
 use crate::sig_queue::SigQueue;
-use crate::steps::{leave_same, try_outer};
+use crate::words::steps::{leave_same, try_outer};
 
 /// Takes the outer turn, at one try.
 ///
@@ -22,7 +22,7 @@ pub fn hold(queue: &SigQueue, seat: QSeat) -> Hold
         mut place,
         mut kept,
     } = seat;
-    let found = try_outer(&queue.table.shared, &mut place, kept.number + 1);
+    let found = try_outer(&queue.words, &mut place, kept.number + 1);
     if found != 0 {
         kept.refused = true;
         let seat = QSeat { place, kept };
@@ -40,6 +40,6 @@ pub fn release(queue: &SigQueue, held: HeldSeat) -> QSeat
     ensures left { result.knows ≡ record (held.knows) { held = None } }
 {
     let HeldSeat { mut place, kept } = held;
-    leave_same(&queue.table.shared, &mut place);
+    leave_same(&queue.words, &mut place);
     QSeat { place, kept }
 }

@@ -5,13 +5,14 @@ ghost use Rattle.sig_layout.specs.Openings.{IsNext};
 ghost use Rattle.sig_layout.specs.Core.{Idle, some_refused};
 ghost use Rattle.sig_layout.specs.Views.{number, IsSomebody};
 ghost use Rattle.sig_queue.specs.Calls.{Offered};
-ghost use Rattle.sig_queue.specs.SeatWords.{IsOf, IsSameSeat};
+ghost use Rattle.sig_queue.specs.SeatWords.{IsOf, IsSameSeat, key_of};
 
 use crate::qseat::QSeat;
-use crate::rule::{SeatAt, Words};
+use crate::rule::SeatAt;
 use crate::sig_queue::SigQueue;
 use crate::to_buffer::{ToBuffer, offer_to_buffer};
 use crate::to_outer::offer_outer;
+use crate::words::Words;
 use sig_kinds::Signal;
 use sig_layout::{BUFFERS, Policy, Via};
 
@@ -37,18 +38,18 @@ fn offer_at(
     policy: Policy,
 ) -> Offer
     requires table { IsOf place.old words.now }
-    requires policy { words.now.key.policy ≡ policy }
+    requires policy { (key_of words.now).policy ≡ policy }
     requires idle { Idle place.old.me.0 × (place.old.me.1 ≡ []) }
     requires somebody { IsSomebody place.old.me.0 × (my_word ≡ number place.old.me.0 + 1) }
     requires from { has place.old.me.0.senders signal.from.0 ≡ true }
-    requires next { IsNext words.now.key place.old.me.0.put signal }
+    requires next { IsNext (key_of words.now) place.old.me.0.put signal }
     requires refused { refused.old ≡ some_refused place.old.me.0.refused }
     ensures same { IsSameSeat place.new place.old }
     ensures bare { place.new.me.1 ≡ [] }
     ensures offered { Offered signal place.old.me.0 result place.new.me.0 }
     ensures refused { refused.new ≡ some_refused place.new.me.0.refused }
-    ensures never { words.now.key.policy ≡ Never → (b : ℕ) → result ≢ Offer.Put (Via.Buffer b) }
-    ensures always { words.now.key.policy ≡ Always → result ≢ Offer.Put Via.Outer }
+    ensures never { (key_of words.now).policy ≡ Never → (b : ℕ) → result ≢ Offer.Put (Via.Buffer b) }
+    ensures always { (key_of words.now).policy ≡ Always → result ≢ Offer.Put Via.Outer }
 {
     let buffer = signal.from.0 % BUFFERS as u32;
     let offered = offer_to_buffer(words, place, buffer as usize, my_word, signal);
@@ -65,8 +66,9 @@ fn offer_at(
 impl SigQueue {
     /// Offers a signal: to the sender's buffer where the mode is on, and else to the outer list. It
     /// tries the outer turn once, or that of the buffer, or first this one and then the outer one,
-    /// looks at the mode at most twice, and takes no lock. Under `Never` it is put into no buffer,
-    /// and under `Always` never into the outer list.
+    /// looks at the mode at most twice, and takes no lock. Where the queue goes by `Never`, as each
+    /// does whose receiver keeps its message queue on the heap, it is put into no buffer, and where by
+    /// `Always`, never into the outer list.
     ///
     /// Asks that the seat is of this queue and has the signal's sender, which is one of the
     /// queue's; and that the signal goes to the queue's receiver, has the next number of its sender
@@ -81,7 +83,7 @@ impl SigQueue {
         ensures never { self.now.setup.policy ≡ Never → (b : ℕ) → result ≢ Offer.Put (Via.Buffer b) }
         ensures always { self.now.setup.policy ≡ Always → result ≢ Offer.Put Via.Outer }
     {
-        let words = &self.table.shared;
+        let words = &self.words;
         let my_word = seat.kept.number + 1;
         let mut refused = seat.kept.refused;
         let offer = offer_at(

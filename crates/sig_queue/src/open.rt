@@ -4,15 +4,17 @@ ghost use Rattle.sig_layout.specs.Policies.{begins_on, first_journal as first_en
 ghost use Rattle.sig_layout.specs.Openings.{IsSetup};
 ghost use Rattle.sig_layout.specs.Views.{first_seat, mode_word};
 ghost use Rattle.sig_queue.specs.Tables.{first_words as words_at_first, first_outer, all_buffers};
+ghost use Rattle.sig_queue.specs.SeatWords.{key_of, table_of};
 ghost use Rattle.sig_queue.specs.Ends.{setup_of};
 
 use crate::kept::Kept;
 use crate::outer_box::OuterBox;
 use crate::qseat::QSeat;
-use crate::rule::{QueueTable, SeatAt};
+use crate::rule::SeatAt;
 use crate::sig_queue::SigQueue;
 use crate::slot::Slot;
-use atomic_table::Table;
+use crate::words::Words;
+use sig_kinds::QueueData;
 use sig_layout::{
     BUFFERS, Batch, Entry, Journal, MODE, Opening, Outer, Pieces, Policy, SLOTS, Senders, Setup,
     WORDS,
@@ -91,53 +93,61 @@ fn room_for_lists(alloc: Global) -> Result<Vec<Batch>, AllocError>
     Ok(lists)
 }
 
-// The table, and the seat that has all senders and the role.
-fn first_table(
+fn setup_with(
     alloc: Global,
     policy: Policy,
+    queue_data: QueueData,
     senders: Senders,
     opening: &Opening,
-) -> Result<(QueueTable, SeatAt), AllocError>
-    requires { IsSetup (setup_of policy senders opening.now) }
-    ensures table { IfOk result (λ r. (r.0.shared.table_id.words ≡ WORDS) × (r.0.shared.table_id.slots ≡ SLOTS)
-        × (r.0.shared.key ≡ setup_of policy senders opening.now)) }
-    ensures seat { IfOk result (λ r. (r.1.table_id ≡ r.0.shared.table_id) × (r.1.me ≡ (first_seat senders, []))) }
+) -> Result<Setup, AllocError>
+    ensures { IfOk result (λ z. z ≡ setup_of policy queue_data senders opening.now) }
 {
-    let setup = Setup {
-        policy,
+    Ok(Setup {
+        policy: policy.ruled(queue_data),
+        given: policy,
+        queue_data,
         senders,
         opening: opening.copy(alloc)?,
-    };
-    let slots = first_slots(alloc, policy)?;
-    let words = first_words(policy);
-    match Table::new(alloc, &words, slots, &setup) {
-        Ok(made) => Ok(made),
-        Err(_) => Err(AllocError),
-    }
+    })
+}
+
+// The table, and the seat that has all senders and the role.
+fn first_table(alloc: Global, setup: &Setup) -> Result<(Words, SeatAt), AllocError>
+    requires { IsSetup setup.now }
+    ensures table { IfOk result (λ r. ((table_of r.0).words ≡ WORDS) × ((table_of r.0).slots ≡ SLOTS) × (key_of r.0 ≡ setup.now)) }
+    ensures seat { IfOk result (λ r. (r.1.table_id ≡ table_of r.0) × (r.1.me ≡ (first_seat setup.now.senders, []))) }
+{
+    let slots = first_slots(alloc, setup.policy)?;
+    let words = first_words(setup.policy);
+    let made = Words::new(alloc, &words, slots, setup)?;
+    Ok(made)
 }
 
 impl SigQueue {
-    /// An empty queue, and the seat that has all senders and the receiver's role. The error is want
-    /// of memory.
+    /// An empty queue, and the seat that has all senders and the receiver's role. Where the receiver
+    /// keeps its message queue on the heap, the queue goes by `Never`, whatever policy is given. The
+    /// error is want of memory.
     ///
     /// Asks that the opening has one first number for each pid below its count, and no more, that
     /// each of them is at least 1 and below 2^63, that each sender is below that count, and that
-    /// the number of `Churn` is at least 1.
+    /// the number of `Churn` is at least 1, where the message queue is kept outside the heap.
     pub fn open(
         alloc: Global,
         policy: Policy,
+        queue_data: QueueData,
         senders: Senders,
         opening: &Opening,
     ) -> Result<(SigQueue, QSeat), AllocError>
-        requires { IsSetup (setup_of policy senders opening.now) }
-        ensures own { IfOk result (λ r. (r.1.queue ≡ r.0.id) × (r.0.setup ≡ setup_of policy senders opening.now)) }
+        requires { IsSetup (setup_of policy queue_data senders opening.now) }
+        ensures own { IfOk result (λ r. (r.1.queue ≡ r.0.id) × (r.0.setup ≡ setup_of policy queue_data senders opening.now)) }
         ensures first { IfOk result (λ r. r.1.knows ≡ first_seat senders) }
     {
         let lists = room_for_lists(alloc)?;
-        let (table, place) = first_table(alloc, policy, senders, opening)?;
+        let setup = setup_with(alloc, policy, queue_data, senders, opening)?;
+        let (words, place) = first_table(alloc, &setup)?;
         let queue = SigQueue {
-            table,
-            policy,
+            words,
+            policy: setup.policy,
             alloc,
             lists,
         };

@@ -4,7 +4,7 @@ ghost use Rattle.sig_layout.specs.Outers.{added, emptied, removed};
 ghost use Rattle.sig_layout.specs.declared.entry.Entry.TheVariants.{Direct, Remove};
 
 use sig_kinds::{Signal, Signals};
-use sig_layout::{Due, Entry, Growing, Journal, Outer, Pieces, Policy, due};
+use sig_layout::{Due, Entry, Growing, Journal, Outer, Pieces, Policy};
 use sig_lists::Pushed;
 use std::alloc::{AllocError, Global};
 use std::marker::Model;
@@ -109,6 +109,6 @@ impl OuterBox {
     pub(crate) fn due(&self, policy: Policy) -> Due
         ensures { result ≡ due_at policy self.now.journal }
     {
-        due(policy, &self.value.journal)
+        self.value.journal.due(policy)
     }
 }

@@ -5,7 +5,9 @@ ghost use Rattle.sig_layout.specs.declared.policy.Policy.{Policy};
 ghost use Rattle.sig_layout.specs.declared.policy.Policy.TheVariants.{Never};
 ghost use Rattle.std.specs.Prelude.{Bool, ℕ, List, false};
 ghost use Rattle.sig_layout.specs.Sets.{no_senders};
-ghost use Rattle.sig_queue.specs.Tied.{no_setup, tried_outer, tried_buffer, loaded_mode, loaded_under, loaded_filled, bit_set, bits_taken, bit_back, stored_on, stored_off, left_put, left_same, left_fetch, left_remove, left_buffer_put, left_buffer, left_part, left_passed, looked_only};
+ghost use Rattle.sig_queue.specs.Tied.{no_setup, tried_outer, tried_buffer, loaded_mode, loaded_under, loaded_filled, looked_only};
+ghost use Rattle.sig_queue.specs.Tied.{bit_set, bits_taken, bit_back, stored_on, stored_off};
+ghost use Rattle.sig_queue.specs.Tied.{left_put, left_same, left_fetch, left_remove, left_buffer_put, left_buffer, left_part, left_passed};
 
 use crate::slot::Slot;
 use atomic_table::{Join, Play, Split};

@@ -1,10 +1,12 @@
 ghost use Rattle.std.specs.Prelude.{◌≡◌};
 ghost use Rattle.sig_queue.specs.declared.account.Account.{Account};
 ghost use Rattle.sig_queue.specs.Accounts.{no_account, account_of, followed, MayFollow};
+ghost use Rattle.sig_queue.specs.SeatWords.{key_of};
 
 use crate::account::Account;
-use crate::rule::{SeatAt, Words};
+use crate::rule::SeatAt;
 use crate::slot::Slot;
+use crate::words::Words;
 use atomic_table::{Mark, PerchRule, RuledPerch};
 use sig_layout::Knows;
 use std::marker::{Brand, Model, PhantomData};
@@ -77,7 +79,7 @@ fn state_both<G: Says>(
 impl Receipt {
     // What the seat put into the queue with these words. The other place is any of this queue.
     pub(crate) fn of(seat: &SeatAt, like: SeatAt, words: &Words) -> Receipt
-        ensures { result ≡ account_of words.now.key seat.now.me.0.put }
+        ensures { result ≡ account_of (key_of words.now) seat.now.me.0.put }
     {
         let mark = state_of::<Brand>(seat, words);
         Receipt { like, mark }
@@ -85,9 +87,9 @@ impl Receipt {
 
     /// What the later receipt has comes behind what this one has.
     ///
-    /// Asks that the later one is of the same receiver, senders and policy, and that the numbers of
-    /// each sender go on in it: the sender's first number there is its first number here and as
-    /// many more as it has put here.
+    /// Asks that the later one is of the same receiver, senders and policy, that the receiver keeps
+    /// its message queue in the same place, and that the numbers of each sender go on in it: the
+    /// sender's first number there is its first number here and as many more as it has put here.
     pub fn follow(&mut self, later: Receipt)
         requires { MayFollow self.old later }
         ensures { self.new ≡ followed self.old later }

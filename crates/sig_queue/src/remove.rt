@@ -11,13 +11,14 @@ ghost use Rattle.sig_queue.specs.Fetching.{outer_out};
 ghost use Rattle.sig_queue.specs.Removing.{waited, waits, Passing, WithRoom};
 ghost use Rattle.sig_queue.specs.SeatWords.{IsOf, IsBufferOf, IsSameSeat};
 
-use crate::buffer_steps::{leave_passed, put_list, take_list, try_buffer};
 use crate::outer_box::OuterBox;
 use crate::qseat::QSeat;
-use crate::rule::{SeatAt, Words};
+use crate::rule::SeatAt;
 use crate::sig_queue::SigQueue;
 use crate::slot::Slot;
-use crate::steps::{leave_remove, leave_same, mode_off, put_value, take_value, try_outer};
+use crate::words::Words;
+use crate::words::buffer_steps::{leave_passed, put_list, take_list, try_buffer};
+use crate::words::steps::{leave_remove, leave_same, mode_off, put_value, take_value, try_outer};
 use sig_layout::{BUFFERS, Batch, Growing};
 use std::alloc::{AllocError, Global};
 use std::sync::Wait;
@@ -223,7 +224,7 @@ impl SigQueue {
         ensures tries { Prefix seat.old.knows.tries seat.new.knows.tries }
         ensures refused { seat.old.knows.refused ≤ seat.new.knows.refused }
     {
-        let words = &self.table.shared;
+        let words = &self.words;
         let my_word = seat.kept.number + 1;
         seat.kept.refused = wait_outer(rt, words, &mut seat.place, my_word, seat.kept.refused);
         remove_held(rt, self.alloc, words, &mut seat.place, my_word)?;

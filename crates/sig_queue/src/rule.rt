@@ -1,5 +1,5 @@
 use crate::slot::Slot;
-use atomic_table::{Seat, Shared, Table, TableRule};
+use atomic_table::{Seat, Table, TableRule};
 use sig_layout::{Knows, Setup};
 use std::alloc::Global;
 
@@ -16,7 +16,5 @@ impl TableRule<Slot, Knows, Setup> for QueueRule {
 }
 
 pub(crate) type SeatAt = Seat<Slot, Knows>;
-
-pub(crate) type Words = Shared<Slot, Knows, Setup, QueueRule>;
 
 pub(crate) type QueueTable = Table<Slot, Knows, Setup, QueueRule, Global>;

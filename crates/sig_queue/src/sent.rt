@@ -23,8 +23,8 @@ pub enum Sent {
 }
 
 impl SigQueue {
-    /// Offers a signal until it was put, or memory is wanting. It may wait for other seats. Under
-    /// `Never` it is put into no buffer, and under `Always` never into the outer list.
+    /// Offers a signal until it was put, or memory is wanting. It may wait for other seats. Where the
+    /// queue goes by `Never` it is put into no buffer, and where by `Always`, never into the outer list.
     ///
     /// Asks of the seat and the signal what [`offer`](SigQueue::offer) asks.
     pub fn send<R: Wait>(&self, rt: &R, seat: &mut QSeat, mut signal: Signal) -> Sent

@@ -1,7 +1,5 @@
-use crate::rule::QueueRule;
-use crate::slot::Slot;
-use atomic_table::Table;
-use sig_layout::{Batch, Knows, Policy, Setup};
+use crate::words::Words;
+use sig_layout::{Batch, Policy};
 use std::alloc::Global;
 use std::marker::Model;
 
@@ -11,7 +9,7 @@ use std::marker::Model;
 /// with its threads.
 ///
 /// ```text
-/// let (queue, mut receiver) = SigQueue::open(alloc, Policy::Auto, senders, &opening)?;
+/// let (queue, mut receiver) = SigQueue::open(alloc, Policy::Auto, QueueData::OffHeap, senders, &opening)?;
 /// let mut sender = queue.split(&mut receiver, senders, false);
 ///
 /// // one thread
@@ -34,9 +32,9 @@ use std::marker::Model;
 /// ```
 #[derive(Drop)]
 pub struct SigQueue {
-    /// The words of the turns, the mode and the bits, and the lists in slots.
-    pub(crate) table: Table<Slot, Knows, Setup, QueueRule, Global>,
-    /// When buffers are installed and removed.
+    /// The words, and the lists in slots.
+    pub(crate) words: Words,
+    /// When buffers are installed and removed: the policy by which the queue goes.
     pub(crate) policy: Policy,
     /// Where a removal gets the memory for new lists.
     pub(crate) alloc: Global,
@@ -47,16 +45,17 @@ pub struct SigQueue {
 impl Model for SigQueue {
     ghost use Rattle.std.specs.Prelude.{◌≡◌, ◌≤◌, [], vec_capacity};
     ghost use Rattle.sig_layout.specs.declared.layout.TheConstants.{BUFFERS, SLOTS, WORDS};
+    ghost use Rattle.sig_queue.specs.SeatWords.{key_of, table_of};
     ghost use Rattle.sig_queue.specs.Seats.{Queue};
 
     ghost Value = { Queue };
 
     ghost view = { λ q. record {
-      id = q.table.shared.table_id;
-      setup = q.table.shared.key;
+      id = table_of q.words;
+      setup = key_of q.words;
     } };
 
     ghost invariant = { λ q. (q.lists.items ≡ []) × (BUFFERS ≤ vec_capacity q.lists)
-        × (q.table.shared.table_id.words ≡ WORDS) × (q.table.shared.table_id.slots ≡ SLOTS)
-        × (q.table.shared.key.policy ≡ q.policy) };
+        × ((table_of q.words).words ≡ WORDS) × ((table_of q.words).slots ≡ SLOTS)
+        × ((key_of q.words).policy ≡ q.policy) };
 }

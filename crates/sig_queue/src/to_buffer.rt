@@ -9,12 +9,13 @@ ghost use Rattle.sig_layout.specs.Views.{number, IsSomebody, marked, put_to_buff
 ghost use Rattle.sig_queue.specs.Tied.{list_in};
 ghost use Rattle.sig_queue.specs.Parts.{first_part, IsOne};
 ghost use Rattle.sig_queue.specs.Calls.{Under, OfferedToBuffer, AllowsToBuffer};
-ghost use Rattle.sig_queue.specs.SeatWords.{IsBufferOf, IsSameSeat};
+ghost use Rattle.sig_queue.specs.SeatWords.{IsBufferOf, IsSameSeat, key_of};
 
-use crate::buffer_steps::{leave_buffer, leave_buffer_put, put_list, take_list, try_buffer};
-use crate::rule::{SeatAt, Words};
+use crate::rule::SeatAt;
 use crate::slot::Slot;
-use crate::steps::{load_mode, load_under, set_bit};
+use crate::words::Words;
+use crate::words::buffer_steps::{leave_buffer, leave_buffer_put, put_list, take_list, try_buffer};
+use crate::words::steps::{load_mode, load_under, set_bit};
 use sig_kinds::Signal;
 use std::marker::Brand;
 
@@ -37,7 +38,7 @@ fn leave_filled(words: &Words, place: &mut SeatAt, buffer: usize)
     requires idle { (place.old.me.0.held ≡ None) × (place.old.me.0.saw_off ≡ false) }
     requires one { IsOne place.old.me.0.parts buffer × ((first_part place.old.me.0.parts).sure ≡ true) }
     requires out { (x : Signal) × (has place.old.me.0.senders x.from.0 ≡ true)
-        × IsNext words.now.key place.old.me.0.put x × (buffer_of x.from.0 ≡ buffer)
+        × IsNext (key_of words.now) place.old.me.0.put x × (buffer_of x.from.0 ≡ buffer)
         × (place.old.me.1 ≡ (buffer + 1, Slot.List ((first_part place.old.me.0.parts).list ++ x ∷ [])) ∷ rest place.old.me.1) }
     ensures same { IsSameSeat place.new place.old }
     ensures left { place.new.me ≡ (
@@ -57,12 +58,12 @@ fn under_turn(words: &Words, place: &mut SeatAt, buffer: usize, signal: Signal) 
     requires idle { place.old.me.0.held ≡ None }
     requires one { IsOne place.old.me.0.parts buffer }
     requires from { (has place.old.me.0.senders signal.from.0 ≡ true) × (buffer_of signal.from.0 ≡ buffer) }
-    requires next { IsNext words.now.key place.old.me.0.put signal }
+    requires next { IsNext (key_of words.now) place.old.me.0.put signal }
     requires out { place.old.me.1 ≡ (buffer + 1, Slot.List (first_part place.old.me.0.parts).list) ∷ [] }
     ensures same { IsSameSeat place.new place.old }
     ensures bare { place.new.me.1 ≡ [] }
     ensures offered { Under signal place.old.me.0 result place.new.me.0 }
-    ensures allowed { AllowsToBuffer words.now.key.policy result }
+    ensures allowed { AllowsToBuffer (key_of words.now).policy result }
 {
     // A second load, under the turn: a removal may have passed this buffer since the first one, and
     // what is appended then would come out after later puts into the outer list. Without it:
@@ -94,11 +95,11 @@ pub(crate) fn offer_to_buffer(
     requires idle { Idle place.old.me.0 × (place.old.me.1 ≡ []) }
     requires somebody { IsSomebody place.old.me.0 × (my_word ≡ number place.old.me.0 + 1) }
     requires from { (has place.old.me.0.senders signal.from.0 ≡ true) × (buffer_of signal.from.0 ≡ buffer) }
-    requires next { IsNext words.now.key place.old.me.0.put signal }
+    requires next { IsNext (key_of words.now) place.old.me.0.put signal }
     ensures same { IsSameSeat place.new place.old }
     ensures bare { place.new.me.1 ≡ [] }
     ensures offered { OfferedToBuffer buffer signal place.old.me.0 result place.new.me.0 }
-    ensures allowed { AllowsToBuffer words.now.key.policy result }
+    ensures allowed { AllowsToBuffer (key_of words.now).policy result }
 {
     if !load_mode::<Brand>(words, place) {
         return ToBuffer::Off(signal);

@@ -8,12 +8,13 @@ ghost use Rattle.sig_layout.specs.Summaries.{due_at, is_install};
 ghost use Rattle.sig_layout.specs.Core.{Begins, some_refused};
 ghost use Rattle.sig_layout.specs.Views.{number, IsSomebody};
 ghost use Rattle.sig_queue.specs.Calls.{PutHeld, OfferedToOuter};
-ghost use Rattle.sig_queue.specs.SeatWords.{IsOf, IsSameSeat};
+ghost use Rattle.sig_queue.specs.SeatWords.{IsOf, IsSameSeat, key_of};
 
 use crate::offer::Offer;
-use crate::rule::{SeatAt, Words};
+use crate::rule::SeatAt;
 use crate::slot::Slot;
-use crate::steps::{leave_put, leave_same, mode_on, put_value, take_value, try_outer};
+use crate::words::Words;
+use crate::words::steps::{leave_put, leave_same, mode_on, put_value, take_value, try_outer};
 use sig_kinds::Signal;
 use sig_layout::{Policy, Via};
 
@@ -21,7 +22,7 @@ use sig_layout::{Policy, Via};
 fn install_if(words: &Words, place: &mut SeatAt, switched: bool)
     requires table { IsOf place.old words.now }
     requires begins { (o : Outer) × Begins place.old.me.0 o
-        × (switched ≡ is_install (due_at words.now.key.policy (o.journal ++ Direct (some_refused place.old.me.0.refused) ∷ []))) }
+        × (switched ≡ is_install (due_at (key_of words.now).policy (o.journal ++ Direct (some_refused place.old.me.0.refused) ∷ []))) }
     ensures same { IsSameSeat place.new place.old }
     ensures switched { place.new.me ≡ (record place.old.me.0 { switched = switched }, place.old.me.1) }
 {
@@ -39,12 +40,12 @@ fn put_held(
     policy: Policy,
 ) -> Offer
     requires table { IsOf place.old words.now }
-    requires policy { words.now.key.policy ≡ policy }
+    requires policy { (key_of words.now).policy ≡ policy }
     requires begins { (o : Outer) × Begins place.old.me.0 o × (place.old.me.1 ≡ (0, Slot.Outer o) ∷ []) }
     requires off { place.old.me.0.saw_off ≡ true }
     requires blank { (place.old.me.0.mask ≡ []) × (place.old.me.0.back ≡ 0) × (place.old.me.0.moved ≡ 0) }
     requires from { has place.old.me.0.senders signal.from.0 ≡ true }
-    requires next { IsNext words.now.key place.old.me.0.put signal }
+    requires next { IsNext (key_of words.now) place.old.me.0.put signal }
     requires refused { refused.old ≡ some_refused place.old.me.0.refused }
     ensures same { IsSameSeat place.new place.old }
     ensures bare { place.new.me.1 ≡ [] }
@@ -80,14 +81,14 @@ pub(crate) fn offer_outer(
     policy: Policy,
 ) -> Offer
     requires table { IsOf place.old words.now }
-    requires policy { words.now.key.policy ≡ policy }
+    requires policy { (key_of words.now).policy ≡ policy }
     requires idle { (place.old.me.0.held ≡ None) × (place.old.me.0.fetching ≡ false)
         × (place.old.me.0.removing ≡ false) × (place.old.me.0.switched ≡ false) × (place.old.me.1 ≡ []) }
     requires off { place.old.me.0.saw_off ≡ true }
     requires blank { (place.old.me.0.mask ≡ []) × (place.old.me.0.back ≡ 0) × (place.old.me.0.moved ≡ 0) }
     requires somebody { IsSomebody place.old.me.0 × (my_word ≡ number place.old.me.0 + 1) }
     requires from { has place.old.me.0.senders signal.from.0 ≡ true }
-    requires next { IsNext words.now.key place.old.me.0.put signal }
+    requires next { IsNext (key_of words.now) place.old.me.0.put signal }
     requires refused { refused.old ≡ some_refused place.old.me.0.refused }
     ensures same { IsSameSeat place.new place.old }
     ensures bare { place.new.me.1 ≡ [] }

@@ -5,6 +5,7 @@ use Rattle.std.proofs.lemmas.List.Elements.{All-nil, All-cons}
 use Rattle.std.proofs.lemmas.Bool.{eq-eqb, ne_eqb}
 use Rattle.std.proofs.lemmas.Bool.Decides.{eqb_tells, nat_tests}
 use Rattle.sig_model.specs.Running.{Running}
+use Rattle.sig_kinds.specs.declared.queue_data.QueueData.TheVariants.{OffHeap}
 use Rattle.sig_layout.specs.declared.policy.Policy.{Policy}
 use Rattle.sig_layout.specs.declared.opening.Opening.{Opening}
 use Rattle.sig_layout.specs.declared.knows.Knows.{Knows}
@@ -138,7 +139,7 @@ length_numbers t [] = refl
 length_numbers t (r ∷ rs) = ap suc (length_numbers t rs)
 
 pub first_setup : (policy : Policy) (senders : List ℕ) (crew : List Running) (t : ℕ) (o : Opening) → IsPolicy policy → AreNumbered crew → t < length crew → o.count ≡ length crew → o.first ≡ numbers_to t crew →
-    ((s : ℕ) → has senders s ≡ (is_in 0 (length crew) s && not (s == t))) → IsSetup (setup_of policy senders o)
+    ((s : ℕ) → has senders s ≡ (is_in 0 (length crew) s && not (s == t))) → IsSetup (setup_of policy OffHeap senders o)
 first_setup policy senders crew t o policy_is numbered lt count first has_is = record {
   policy = policy_is;
   below = λ s h. subst (λ n. s < n) (sym count) (in_below (length crew) s (not (s == t)) (sym (has_is s) ∙ h));

@@ -150,6 +150,7 @@ module _ (script : Program) (policy : Policy) (crew : List Running) (between las
             (λ t. (let k : (s < length mid) × (s ≢ p) = f.senders s t in e.all s (omega (arith, k.0, mid_many)) k.1))
             (λ t. (let k : (s < length crew) × (s ≢ p) = e.senders s t in f.all s (omega (arith, k.0, mid_many)) k.1));
         policy = f.policy_is ∙ sym e.policy_is;
+        queue_data = f.data ∙ sym e.data;
         numbers = λ s is.
             let k : (s < length crew) × (s ≢ p) = e.senders s is in
             let r : (r : Running) × (slice_get crew s ≡ Some r) = some_at crew s k.0 in
@@ -180,6 +181,7 @@ module _ (script : Program) (policy : Policy) (crew : List Running) (between las
       subst (IsReceiptOf policy crew after p) (sym w.4) (record {
         receiver = e.receiver;
         policy_is = e.policy_is;
+        data = e.data;
         senders = e.senders;
         all = e.all;
         first = e.first;

@@ -12,6 +12,7 @@ use Rattle.sig_process.specs.Standing.{Standing, runnings_of}
 use Rattle.sig_model.specs.Still.{IsStill, IsStillCrew}
 use Rattle.sig_model.specs.Accounts.{went, coming_from}
 use Rattle.sig_model.specs.CrewLaw.{IsLawfulCrew, whole_member}
+use Rattle.sig_kinds.specs.declared.queue_data.QueueData.TheVariants.{OffHeap}
 use Rattle.sig_layout.specs.declared.policy.Policy.{Policy}
 use Rattle.sig_layout.specs.Sets.{has}
 use Rattle.sig_layout.specs.Sent.{signals}
@@ -31,6 +32,7 @@ NoneMore crew later = (p : ℕ) (r t : Running) → slice_get crew p ≡ Some r 
 pub record IsReceiptOf (policy : Policy) (crew later : List Running) (p : ℕ) (a : Account) : Type 0 where
   pub receiver : a.receiver.0 ≡ p
   pub policy_is : a.policy ≡ policy
+  pub data : a.queue_data ≡ OffHeap
   pub senders : (s : ℕ) → has a.senders s ≡ true → (s < length crew) × (s ≢ p)
   pub all : (s : ℕ) → s < length crew → s ≢ p → has a.senders s ≡ true
   -- the number of each one's first signal is the one after those that it had sent

@@ -7,6 +7,7 @@ ghost use Rattle.sig_layout.specs.Sets.{has};
 ghost use Rattle.sig_workers.specs.Parts.{is_in};
 ghost use Rattle.sig_workers.specs.Opening.{numbers_to, AreNumbered, first_seated, IsQueueOf, AreOpened};
 
+use sig_kinds::QueueData;
 use sig_layout::{Numbers, Opening, Policy, Senders};
 use sig_process::Process;
 use sig_queue::{QSeat, SigQueue};
@@ -62,7 +63,7 @@ fn open_one(
         count,
         first,
     };
-    SigQueue::open(alloc, policy, senders, &opening)
+    SigQueue::open(alloc, policy, QueueData::OffHeap, senders, &opening)
 }
 
 /// Opens the queue of each process, by pid. The error is want of memory.

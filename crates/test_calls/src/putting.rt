@@ -260,7 +260,8 @@ pub(crate) fn put_three<R: Threads + Wait + Sync>(
         { put_two(rt, queue, first, second, one, two, count) },
         move || -> ((QSeat, bool), (QSeat, Signals))
             requires { Puts queue.now three third × (receiver.queue ≡ queue.now.id) × Receives taken.items receiver.knows }
-            ensures { Keeps queue.entry.now third.knows.senders result.0.0 × (result.1.0.queue ≡ queue.entry.now.id) × Receives result.1.1.items result.1.0.knows }
+            ensures { Keeps queue.entry.now third.knows.senders result.0.0
+                × (result.1.0.queue ≡ queue.entry.now.id) × Receives result.1.1.items result.1.0.knows }
         { put_and_receive(rt, queue, third, receiver, three, count, taken, enough) },
     )
 }

@@ -7,12 +7,12 @@ ghost use Rattle.test_calls.specs.Queues.{IsOfFour, IsFresh, HasAll};
 use crate::held::hold_and_offer;
 use crate::orders::{are, are_in_order, gather, has};
 use crate::pids::{only, pair, trio};
-use crate::putting::{note_and_receive, put_three};
+use crate::putting::{note_and_receive, offered, put_three};
 use crate::shared::{none_is_other, passes};
 use crate::switching::switch;
 use example_relay::{Line, Relayed, relay};
-use sig_kinds::Signals;
-use sig_layout::{Entry, Numbers, Opening, Policy, Senders};
+use sig_kinds::{QueueData, Signals};
+use sig_layout::{Entry, Numbers, Opening, Policy, Senders, Via};
 use sig_queue::{Fetch, QSeat, SigQueue};
 use sig_terms::Pid;
 use std::alloc::{AllocError, Global};
@@ -39,7 +39,16 @@ fn opened(alloc: Global, policy: Policy, senders: Senders) -> Result<(SigQueue, 
     ensures { IfOk result (λ r. IsFresh r.0 senders r.1) }
 {
     let opening = opening(alloc)?;
-    SigQueue::open(alloc, policy, senders, &opening)
+    SigQueue::open(alloc, policy, QueueData::OffHeap, senders, &opening)
+}
+
+// The same where the receiver keeps its message queue on the heap, under `Always`.
+fn opened_on_heap(alloc: Global, senders: Senders) -> Result<(SigQueue, QSeat), AllocError>
+    requires { (s : ℕ) → has senders s ≡ true → s < 4 }
+    ensures { IfOk result (λ r. IsFresh r.0 senders r.1) }
+{
+    let opening = opening(alloc)?;
+    SigQueue::open(alloc, Policy::Always, QueueData::OnHeap, senders, &opening)
 }
 
 // One of five policies.
@@ -135,6 +144,29 @@ fn a_held_turn(alloc: Global) -> Result<bool, AllocError> {
 #[test]
 fn another_seat_holds_the_outer_turn(rt: HostRuntime) {
     passes(&rt, a_held_turn(rt.alloc()));
+}
+
+// Whether a signal is put into the outer list.
+fn puts_outside(queue: SigQueue, mut seat: QSeat, senders: Senders) -> bool
+    requires fresh { IsFresh queue senders seat }
+    requires one { has senders 1 ≡ true }
+{
+    let (way, _) = offered(&queue, &mut seat, line(1), 1, 11);
+    let closed = queue.close(seat);
+    let put = has(&closed.journal, &[Entry::Direct { refused: false }]);
+    drop(closed);
+    put & (way == Some(Via::Outer))
+}
+
+fn a_put_on_the_heap(alloc: Global) -> Result<bool, AllocError> {
+    let senders = only(Pid(1));
+    let (queue, seat) = opened_on_heap(alloc, senders)?;
+    Ok(puts_outside(queue, seat, senders))
+}
+
+#[test]
+fn a_queue_on_the_heap_has_no_buffers(rt: HostRuntime) {
+    passes(&rt, a_put_on_the_heap(rt.alloc()));
 }
 
 // The entries of one switch on, one fetch, one switch off and one on.

@@ -1,4 +1,5 @@
 use Rattle.std.proofs.Common.{rules, ◌≡◌, ◌++◌, ◌||◌, Bool, List, take, sym, ap, ◌∙◌, append-nil}
+use Rattle.sig_kinds.specs.declared.queue_data.QueueData.TheVariants.{OffHeap}
 use Rattle.sig_kinds.specs.declared.signal.Signal.{Signal}
 use Rattle.sig_layout.specs.declared.setup.Setup.{Setup}
 use Rattle.sig_layout.specs.declared.knows.Knows.{Knows}
@@ -20,7 +21,7 @@ pub returns : goal.returns
 returns g c = let v : Knows = c.join.new.seat.knows in let j = c.join.ensures.both in
     let sends : Sends c.in_ok-queue.queue.setup c.args.from (take c.send_and_receive-sender.result.0.1 c.args.serials.now) c.send_and_receive-sender.result.0.0.knows = search rules in
     let receives : Receives c.send_and_receive-sender.result.1.1.items c.send_and_receive-sender.result.1.0.knows = search rules in
-    let same : c.in_ok-queue.queue.setup ≡ setup_of c.args.policy c.args.senders c.args.opening.now = search rules in
+    let same : c.in_ok-queue.queue.setup ≡ setup_of c.args.policy OffHeap c.args.senders c.args.opening.now = search rules in
     let put = ap (λ (k : Knows). signals k.put) j ∙ ((λ i. signals (receives.none_put i ++ c.send_and_receive-sender.result.0.0.knows.put)) ∙ sends.put_is) in
     let taken : v.taken ≡ c.send_and_receive-sender.result.1.1.items = ap (λ (k : Knows). k.taken) j ∙ ((λ i. receives.taken_is i ++ sends.none_taken i) ∙ append-nil c.send_and_receive-sender.result.1.1.items) in
     ap (λ (l : List Signal). of sender c.args.from.0 (l ++ c.close-closed.result.rest)) (sym taken) ∙ (sym (c.close-closed.ensures.ends.order c.args.from.0) ∙ (ap (of sender c.args.from.0) put

@@ -7,9 +7,9 @@ use Rattle.sig_queue.proofs.open.first_table.Goals as goal
 pub new-requires : goal.new-requires
 new-requires c = starts _ _ _ c.requires.policy (search rules) (search rules)
 
-pub returns-in-Ok-clause-table : goal.returns-in-Ok-clause-table
-returns-in-Ok-clause-table c = let t = c.in-Ok.ensures.ok in (
-  t.0 ∙ (ap length c.first_words-words.ensures ∙ words_counted c.args.policy),
-  t.1 ∙ (ap length c.in_ok-slots.ensures ∙ slots_counted (slot.Outer (first_outer c.args.policy))),
+pub returns-clause-table : goal.returns-clause-table
+returns-clause-table c = let t = c.in_ok-made.ensures.table in (
+  t.0 ∙ (ap length c.first_words-words.ensures ∙ words_counted c.args.setup.now.policy),
+  t.1 ∙ (ap length c.in_ok-slots.ensures ∙ slots_counted (slot.Outer (first_outer c.args.setup.now.policy))),
   search rules,
 )

@@ -8,6 +8,7 @@ use Rattle.sig_layout.specs.Views.{put_to_buffer}
 use Rattle.sig_queue.specs.declared.slot.Slot.TheVariants as slot
 use Rattle.sig_queue.specs.Parts.{first_part, IsOne}
 use Rattle.sig_queue.specs.Tied.{Held, list_in}
+use Rattle.sig_queue.specs.SeatWords.{key_of}
 use Rattle.sig_queue.proofs.to_buffer.leave_filled.Goals as goal
 
 pub set_bit-requires-clause-one : goal.set_bit-requires-clause-one
@@ -20,7 +21,7 @@ leave_buffer_put-requires-clause-one c =
 
 pub leave_buffer_put-requires-clause-out : goal.leave_buffer_put-requires-clause-out
 leave_buffer_put-requires-clause-out c =
-    subst (λ (m : Held). (x : Signal) × (has m.0.senders x.from.0 ≡ true) × IsNext c.args.words.now.key m.0.put x × (buffer_of x.from.0 ≡ c.args.buffer)
+    subst (λ (m : Held). (x : Signal) × (has m.0.senders x.from.0 ≡ true) × IsNext (key_of c.args.words.now) m.0.put x × (buffer_of x.from.0 ≡ c.args.buffer)
     × (m.1 ≡ (c.args.buffer + 1, slot.List ((first_part m.0.parts).list ++ x ∷ [])) ∷ rest m.1)) (sym c.set_bit.ensures.set) c.requires.out
 
 pub returns-clause-left : goal.returns-clause-left

@@ -10,6 +10,7 @@ use Rattle.sig_queue.specs.declared.slot.Slot.{Slot}
 use Rattle.sig_queue.specs.declared.slot.Slot.TheVariants as slot
 use Rattle.sig_queue.specs.Tied.{Held, list_in}
 use Rattle.sig_queue.specs.Parts.{first_part}
+use Rattle.sig_queue.specs.SeatWords.{key_of}
 use Rattle.sig_queue.proofs.Fetches.{same_front}
 use Rattle.sig_queue.proofs.Offering.{put_under}
 use Rattle.sig_queue.proofs.to_buffer.under_turn.Goals as goal
@@ -25,7 +26,7 @@ leave_filled-requires-clause-out c = let x : Signal = c.args.signal in let v : K
     let slots = ap (λ (h : Held). h.1) c.put_list-2.ensures.back in (
       x,
       ap (λ (w : Knows). has w.senders x.from.0) seat ∙ c.requires.from.0,
-      subst (λ (w : Knows). IsNext c.args.words.now.key w.put x) (sym seat) c.requires.next,
+      subst (λ (w : Knows). IsNext (key_of c.args.words.now) w.put x) (sym seat) c.requires.next,
       c.requires.from.1,
       slots ∙ (λ k. (c.args.buffer + 1, slot.List ((c.in_default.ensures.ok ∙ (λ j. list j ++ x ∷ [])) k)) ∷ sym (ap rest slots) k),
     )

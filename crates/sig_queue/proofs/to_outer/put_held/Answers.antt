@@ -12,6 +12,7 @@ use Rattle.sig_layout.specs.Views.{signals_of, put_by, after_put}
 use Rattle.sig_layout.specs.Core.{Begins, some_refused}
 use Rattle.sig_layout.specs.Summaries.{due_at, is_install}
 use Rattle.sig_queue.specs.Tied.{Held, outer_in}
+use Rattle.sig_queue.specs.SeatWords.{key_of}
 use Rattle.sig_queue.proofs.Settling.{same_outer}
 use Rattle.sig_queue.proofs.to_outer.put_held.Goals as goal
 
@@ -35,7 +36,7 @@ leave_put-requires-clause-held c = let b = c.requires.begins in let m : Held = c
       ap (λ (v : Knows). v.held) seat ∙ b.1.held,
       ap (λ (v : Knows). v.switched) seat ∙ (c.in-Ok.ensures.due ∙ (λ k. is_install (due_at (sym c.requires.policy k) ((is k).journal ++ Direct (refused k) ∷ [])))),
       ap (λ (v : Knows). has v.senders c.args.signal.from.0) seat ∙ c.requires.from,
-      subst (λ (v : Knows). IsNext c.args.words.now.key v.put c.args.signal) (sym seat) c.requires.next,
+      subst (λ (v : Knows). IsNext (key_of c.args.words.now) v.put c.args.signal) (sym seat) c.requires.next,
       slots ∙ (λ k. (0, slot.Outer ((c.in-Ok.ensures.ok ∙ (λ j. added (is j) c.args.signal (refused j) (sym (ap (λ (v : Knows). v.switched) seat) j))) k)) ∷ sym (ap rest slots) k),
     )
 

@@ -27,7 +27,8 @@ returns c =
     both c.open.result _ _ _
     (λ r own first. (
       record {
-        policy_is = ap (λ (z : Setup). z.policy) own.1;
+        policy_is = ap (λ (z : Setup). z.given) own.1;
+        data = ap (λ (z : Setup). z.queue_data) own.1;
         receiver = ap (λ (z : Setup). z.opening.receiver.0) own.1;
         count = ap (λ (z : Setup). z.opening.count) own.1 ∙ sym many;
         senders = λ s. ap (λ (z : Setup). has z.senders s) own.1 ∙ subst (λ n. has c.senders_but-senders.result s ≡ (is_in 0 n s && not (s == c.args.at))) (sym many) (c.senders_but-senders.ensures s);

@@ -1,6 +1,0 @@
-use Rattle.std.proofs.Common.{rules}
-use Rattle.sig_queue.proofs.Ties.{removes}
-use Rattle.sig_queue.proofs.steps.leave_remove.Goals as goal
-
-pub store-requires : goal.store-requires
-store-requires c = let h = c.requires.held in let f = c.requires.removing in (search rules, search rules, removes _ _ _ _ h.0 h.1 f.0 f.1 f.2 f.4 f.5 f.3 h.2)

@@ -1,6 +1,0 @@
-use Rattle.std.proofs.Common.{rules}
-use Rattle.sig_queue.proofs.Ties.{loads_filled}
-use Rattle.sig_queue.proofs.steps.load_filled.Goals as goal
-
-pub load-requires : goal.load-requires
-load-requires c = (search rules, search rules, loads_filled _ _ _ _)

@@ -1,6 +1,0 @@
-use Rattle.std.proofs.Common.{rules}
-use Rattle.sig_queue.proofs.Ties.{stores_on}
-use Rattle.sig_queue.proofs.steps.mode_on.Goals as goal
-
-pub store-requires : goal.store-requires
-store-requires c = (search rules, search rules, stores_on _ _ _ _ c.requires.begins.0 c.requires.begins.1 c.requires.begins.2)

@@ -1,6 +1,0 @@
-use Rattle.std.proofs.Common.{rules}
-use Rattle.sig_queue.proofs.Ties.{takes_bits}
-use Rattle.sig_queue.proofs.steps.take_bits.Goals as goal
-
-pub swap-requires : goal.swap-requires
-swap-requires c = (search rules, search rules, takes_bits _ _ _ _ c.requires.begins.0 c.requires.begins.1)

@@ -1,6 +1,0 @@
-use Rattle.std.proofs.Common.{rules}
-use Rattle.sig_queue.proofs.Ties.{takes_outer}
-use Rattle.sig_queue.proofs.steps.try_outer.Goals as goal
-
-pub compare_exchange-requires : goal.compare_exchange-requires
-compare_exchange-requires c = (search rules, search rules, takes_outer _ _ _ _ _ c.requires.idle.0 c.requires.idle.1 c.requires.idle.2)

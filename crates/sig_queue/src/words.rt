@@ -1,0 +1,16 @@
+//! The words of a queue and their one owner. The field is private to this file and to those below
+//! it, and each function there makes one step on the table, without a loop. So everything else looks
+//! at a word only by a step that has a contract: what it finds stands in what the seat knows, or, at
+//! [`steps::look_only`], isn't given out. The table's looks without a seat can't be called.
+use crate::rule::QueueTable;
+
+pub(crate) mod buffer_steps;
+pub(crate) mod ends;
+pub(crate) mod seat_steps;
+pub(crate) mod steps;
+
+/// The words of the turns, the mode and the bits, and the lists in slots.
+#[derive(Drop)]
+pub(crate) struct Words {
+    table: QueueTable,
+}
