@@ -8,10 +8,8 @@ use Rattle.std.proofs.lemmas.Slice.Eq.{bytes_eq-Decides}
 use Rattle.sig_kinds.specs.declared.alias_mode.AliasMode.{AliasMode}
 use Rattle.sig_kinds.specs.declared.alias_mode.AliasMode.TheVariants as alias_mode
 use Rattle.sig_terms.proofs.TokenReads.{Stops}
-use Rattle.sig_patterns.specs.declared.clause.Clause.{Clause}
 use Rattle.sig_patterns.specs.declared.var.Var.{Var}
 use Rattle.sig_patterns.specs.declared.expression.Expr.{Expr}
-use Rattle.sig_patterns.specs.declared.pattern.Pattern.{Pattern}
 use Rattle.sig_tokens.specs.declared.fault.FaultKind.{FaultKind}
 use Rattle.sig_tokens.specs.declared.fault.FaultKind.TheVariants.{Syntax}
 use Rattle.sig_tokens.specs.declared.known.Known.{Known}
@@ -26,16 +24,15 @@ use Rattle.sig_tokens.specs.Faults.{◌>>=◌, on_ok}
 use Rattle.sig_tokens.specs.Names.{label_of, name_at, variable_at, target_at}
 use Rattle.sig_tokens.specs.Tokens.{cut_of, text, is_token_in_range, checked, tokens_of, IsNameToken, IsVariableToken}
 use Rattle.sig_tokens.specs.Expressions.{expr_spelling}
-use Rattle.sig_tokens.specs.PatternTexts.{pattern_spelling}
 use Rattle.sig_program.specs.Instructions.{Operand, an_expr, a_variable, a_label, a_switch, a_mode, a_flag, Said, AllSaid}
-use Rattle.sig_reader.specs.Forms.{keyword_of, may_stand, ends, arrow_of, count_from, turns_of, switch_of, word_at, mode_of, flag_of, operand_at, all_said, whole_name, marker_of, on_of, form_of, form_behind, said_by, said}
-use Rattle.sig_canon.specs.ScriptText.{name_of_place, expr_text, after_blank, flag_text, mode_text, switch_text, target_text, marker_text, pattern_text}
-use Rattle.sig_canon.specs.ReadableScript.{IsReadableExpr, IsReadableClause}
-use Rattle.sig_reader.proofs.Seen.{expr_seen, pattern_seen}
+use Rattle.sig_reader.specs.Forms.{keyword_of, may_stand, ends, arrow_of, count_from, turns_of, switch_of, word_at, mode_of, flag_of, operand_at, all_said, whole_name, marker_of, form_of, form_behind, said_by, said}
+use Rattle.sig_canon.specs.ScriptText.{name_of_place, expr_text, after_blank, flag_text, mode_text, switch_text, target_text, marker_text}
+use Rattle.sig_canon.specs.ReadableScript.{IsReadableExpr}
+use Rattle.sig_reader.proofs.Seen.{expr_seen}
 use Rattle.sig_canon.proofs.WordTexts.{is_inline, when_true, name_word, variable_word, count_word, count_again, arrow}
 use Rattle.sig_canon.proofs.CutTexts.{tokens_at, token_at, token_text, word_tokens, IsWellCut, IsCut, word_is_cut, behind_text, blank_tokens, nothing_is_whole, no_tokens}
 use Rattle.sig_canon.proofs.PhraseReads.{ends_sooner}
-use Rattle.sig_canon.proofs.PhraseTexts.{name_found, variable_found, expr_read, pattern_read, phrase_found}
+use Rattle.sig_canon.proofs.PhraseTexts.{name_found, variable_found, expr_read, phrase_found}
 use Rattle.sig_canon.proofs.KnownNames.{Reads}
 use Rattle.sig_program.specs.declared.version.Version.{Version}
 
@@ -55,14 +52,14 @@ no_rest version read x r = record {
   again = λ line at here. ap (read line) (no_tokens version at) ∙ r line;
 }
 
--- a blank, a text, and the rest behind it
-pub rest_on : (version : Version) {X Y : Type 0} (read : List ℕ → List Token → Result X FaultKind) (next : List ℕ → List Token → Result Y FaultKind) (a bytes : List ℕ) (x : X) (y : Y) → IsCut version Stops a → IsRest version next bytes y →
+-- a blank, a text that ends there, and the rest behind it
+pub text_on : (version : Version) {X Y : Type 0} {E : List ℕ → Type 0} (read : List ℕ → List Token → Result X FaultKind) (next : List ℕ → List Token → Result Y FaultKind) (a bytes : List ℕ) (x : X) (y : Y) → IsCut version E a → E bytes → IsRest version next bytes y →
     ((line : List ℕ) (at end : ℕ) → drop at line ≡ a ++ bytes → end ≡ at + length a → next line (tokens_at version end bytes) ≡ Ok y → read line (tokens_at version at (a ++ bytes)) ≡ Ok x) → IsRest version read (32 ∷ (a ++ bytes)) x
-rest_on version read next a bytes x y c r step = record {
+text_on version read next a bytes x y c stops r step = record {
   whole = λ line at here.
       let there : drop (at + 1) line ≡ a ++ bytes = behind_text line (32 ∷ []) (a ++ bytes) at (at + 1) here refl in
       let end : ℕ = at + 1 + length a in
-      subst (IsWellCut line) (sym (blank_tokens version (a ++ bytes) at (at + 1) refl)) (c.whole line bytes (at + 1) end there refl r.stops (r.whole line end (behind_text line a bytes (at + 1) end there refl)));
+      subst (IsWellCut line) (sym (blank_tokens version (a ++ bytes) at (at + 1) refl)) (c.whole line bytes (at + 1) end there refl stops (r.whole line end (behind_text line a bytes (at + 1) end there refl)));
   clean = list_all-append is_inline a bytes ∙ rw c.clean r.clean;
   stops = refl;
   again = λ line at here.
@@ -71,6 +68,10 @@ rest_on version read next a bytes x y c r step = record {
       ap (λ (k : Cut). read line k.tokens) (blank_tokens version (a ++ bytes) at (at + 1) refl)
       ∙ step line (at + 1) end there refl (r.again line end (behind_text line a bytes (at + 1) end there refl));
 }
+
+pub rest_on : (version : Version) {X Y : Type 0} (read : List ℕ → List Token → Result X FaultKind) (next : List ℕ → List Token → Result Y FaultKind) (a bytes : List ℕ) (x : X) (y : Y) → IsCut version Stops a → IsRest version next bytes y →
+    ((line : List ℕ) (at end : ℕ) → drop at line ≡ a ++ bytes → end ≡ at + length a → next line (tokens_at version end bytes) ≡ Ok y → read line (tokens_at version at (a ++ bytes)) ≡ Ok x) → IsRest version read (32 ∷ (a ++ bytes)) x
+rest_on version read next a bytes x y c r step = text_on version read next a bytes x y c r.stops r step
 
 -- the same rest, for a reader that makes more of it
 pub rest_made : (version : Version) {X Y : Type 0} {read : List ℕ → List Token → Result X FaultKind} {bytes : List ℕ} {x : X} → IsRest version read bytes x → (more : List ℕ → List Token → Result Y FaultKind) (y : Y) →
@@ -232,19 +233,6 @@ marker_rest version (Some x) named =
     let rest = last_rest version variable_at x.0 x.0 (λ bytes. Some (record { 0 = bytes })) (word_is_cut version x.0 (variable_word version x.0 named)) (λ line rest at end there place stops. variable_found version line x.0 rest at end named there place stops) in
     rest_on version marker_of (λ line ts. variable_at line ts >>= λ y. ends (Some (record { 0 = y.0 })) y.1) (codes "using") (32 ∷ (x.0 ++ [])) (Some x) (Some x) (word_is_cut version (codes "using") (name_word version (codes "using") using_named)) rest
     (λ line at end there e found. using_found version line (32 ∷ (x.0 ++ [])) at end there e refl ∙ found)
-
--- a pattern, and an arrow behind it
-pub clause_rest : (version : Version) (known : Known) (here : ℕ) (names labels : List (List ℕ)) (f g : ℕ → ℕ) → Reads known here names labels f g → (c : Clause) → IsReadableClause version (length names) c → IfSome c.target (λ n. n < length labels) →
-    IsRest version (on_of known here) (concat (map after_blank (pattern_text names c.pattern ∷ target_text labels c.target))) (form.On (pattern_seen f c.pattern) (option_map g c.target))
-clause_rest version known here names labels f g reads c readable within =
-    let r = (pattern_read version known here names labels f g reads c.pattern readable.pattern.plain).whole in
-    let bytes : List ℕ = concat (map after_blank (target_text labels c.target)) in
-    let q : Pattern = pattern_seen f c.pattern in
-    let target = arrow_rest version known here names labels f g reads c.target within in
-    rest_on version (on_of known here) (arrow_of known here) (pattern_text names c.pattern) bytes (form.On q (option_map g c.target)) (option_map g c.target) r.cut target
-    (λ line at end there e found.
-    ap (λ (t : Result (Pattern × List Token) FaultKind). t >>= λ x. on_ok (form.On x.0) (arrow_of known here line x.1)) (phrase_found version pattern_spelling known (pattern_text names c.pattern) q _ _ r readable.pattern.nodes readable.pattern.depth line bytes at end there e target.stops)
-    ∙ ap (λ (t : Result (Option ℕ) FaultKind). on_ok (form.On q) t) found)
 
 -- ---- lines
 

@@ -20,11 +20,12 @@ use Rattle.sig_program.specs.Parts.{said_exprs, said_vars, said_labels, said_mod
 use Rattle.sig_program.specs.Scripts.{IsInstrWithin}
 use Rattle.sig_tokens.specs.Faults.{on_ok}
 use Rattle.sig_reader.specs.Forms.{form_of}
-use Rattle.sig_canon.specs.ScriptText.{name_of_place, spaced, after_blank, expr_text, pattern_text, switch_text, target_text, marker_text, clause_line, said_texts, spoken_lines, instr_lines, label_line, turns_line}
+use Rattle.sig_canon.specs.ScriptText.{name_of_place, spaced, after_blank, expr_text, pattern_text, guard_text, switch_text, target_text, marker_text, clause_line, said_texts, spoken_lines, instr_lines, label_line, turns_line}
 use Rattle.sig_canon.specs.ReadableScript.{IsReadableExpr, IsReadableClause, IsReadableInstr}
 use Rattle.sig_reader.proofs.TableLemmas.{made_of, instr_as, word_means, word_named, AreOrderly, orderly}
-use Rattle.sig_reader.proofs.Seen.{expr_seen, pattern_seen, all_seen, spoken_seen, instr_seen}
-use Rattle.sig_canon.proofs.FormReads.{no_rest, rest_made, AreOperands, no_operands, operand_on, expr_operand, variable_operand, label_operand, switch_read, mode_rest, flag_rest, name_rest, turns_rest, arrow_rest, marker_rest, clause_rest, IsFormLine}
+use Rattle.sig_reader.proofs.Seen.{expr_seen, clause_seen, all_seen, spoken_seen, instr_seen}
+use Rattle.sig_canon.proofs.FormReads.{no_rest, rest_made, AreOperands, no_operands, operand_on, expr_operand, variable_operand, label_operand, switch_read, mode_rest, flag_rest, name_rest, turns_rest, arrow_rest, marker_rest, IsFormLine}
+use Rattle.sig_canon.proofs.GuardTexts.{clause_rest}
 use Rattle.sig_tokens.specs.Tokens.{IsNameToken, IsVariableToken}
 use Rattle.sig_canon.proofs.KnownNames.{Reads}
 use Rattle.sig_program.specs.declared.version.Version.{Version}
@@ -76,15 +77,15 @@ receive_form version known here using named = record {
 }
 
 pub clause_form : (version : Version) (known : Known) (here : ℕ) (names labels : List (List ℕ)) (f g : ℕ → ℕ) → Reads known here names labels f g → (c : Clause) → IsReadableClause version (length names) c → IfSome c.target (λ n. n < length labels) →
-    IsFormLine version known here (clause_line names labels c) keyword.On (form.On (pattern_seen f c.pattern) (option_map g c.target))
+    IsFormLine version known here (clause_line names labels c) keyword.On (form.On (clause_seen f g c))
 unfolding form_of clause_line
 clause_form version known here names labels f g reads c readable within = record {
   front = codes "on";
-  bytes = concat (map after_blank (pattern_text names c.pattern ∷ target_text labels c.target));
+  bytes = concat (map after_blank (pattern_text names c.pattern ∷ guard_text c.guard (target_text labels c.target)));
   is = refl;
   named = (omega arith, refl);
   means = refl;
-  rest = rest_made version (clause_rest version known here names labels f g reads c readable within) (form_of known here keyword.On) (form.On (pattern_seen f c.pattern) (option_map g c.target)) (λ line ts found. found);
+  rest = rest_made version (clause_rest version known here names labels f g reads c readable within) (form_of known here keyword.On) (form.On (clause_seen f g c)) (λ line ts found. found);
 }
 
 pub after_form : (version : Version) (known : Known) (here : ℕ) (names labels : List (List ℕ)) (f g : ℕ → ℕ) → Reads known here names labels f g → (a : After) → IfSome a.target (λ n. n < length labels) →

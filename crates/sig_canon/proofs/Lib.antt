@@ -1,6 +1,7 @@
 pub mod WordLemmas
 pub mod ReadableTerms
 pub mod ReadablePhrases
+pub mod ReadableGuards
 pub mod ReadableForms
 pub mod DistinctLemmas
 pub mod ReadableLemmas
@@ -15,6 +16,7 @@ pub mod CutTexts
 pub mod PhraseReads
 pub mod PhraseTexts
 pub mod FormReads
+pub mod GuardTexts
 pub mod FormTexts
 pub mod CleanLines
 pub mod PrintLemmas

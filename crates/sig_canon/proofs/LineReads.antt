@@ -19,7 +19,7 @@ use Rattle.sig_canon.specs.ScriptText.{spaced, target_text, marker_text, clause_
 use Rattle.sig_canon.specs.ReadableScript.{IsReadableClause, IsReadableInstr}
 use Rattle.sig_reader.specs.Forms.{may_stand_at, may_stand, said}
 use Rattle.sig_tokens.specs.Tokens.{IsNameToken, IsVariableToken}
-use Rattle.sig_reader.proofs.Seen.{pattern_seen, instr_seen}
+use Rattle.sig_reader.proofs.Seen.{clause_seen, instr_seen}
 use Rattle.sig_canon.proofs.FormReads.{line_said}
 use Rattle.sig_canon.proofs.FormTexts.{turns_form, process_form, label_form, receive_form, clause_form, after_form, end_form, instr_form}
 pub use Rattle.sig_canon.proofs.KnownNames.{Reads, any_reads, among_reads}
@@ -62,9 +62,9 @@ receive_said known d using here named = line_said known d (spaced (codes "receiv
 
 pub clause_said : (known : Known) (d : Draft) (names labels : List (List ℕ)) (f g : ℕ → ℕ) → Reads known (length d.procs) names labels f g → may_stand d keyword.On ≡ true →
     (c : Clause) → IsReadableClause d.version (length names) c → IfSome c.target (λ n. n < length labels) →
-    said known d (clause_line names labels c) ≡ Ok (Some (form.On (pattern_seen f c.pattern) (option_map g c.target)))
+    said known d (clause_line names labels c) ≡ Ok (Some (form.On (clause_seen f g c)))
 clause_said known d names labels f g reads here c readable within =
-    line_said known d (clause_line names labels c) keyword.On (form.On (pattern_seen f c.pattern) (option_map g c.target)) (clause_form d.version known (length d.procs) names labels f g reads c readable within) here
+    line_said known d (clause_line names labels c) keyword.On (form.On (clause_seen f g c)) (clause_form d.version known (length d.procs) names labels f g reads c readable within) here
 
 pub after_said : (known : Known) (d : Draft) (names labels : List (List ℕ)) (f g : ℕ → ℕ) → Reads known (length d.procs) names labels f g → may_stand d keyword.After ≡ true →
     (a : After) → IfSome a.target (λ n. n < length labels) →

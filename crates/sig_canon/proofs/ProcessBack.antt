@@ -5,7 +5,6 @@ use Rattle.std.specs.List.{cons_option}
 use Rattle.std.proofs.lemmas.List.{append-nil, map-append}
 use Rattle.std.proofs.lemmas.List.Elements.{All-nil, All-cons, All-head, All-tail, All-append, All-weaker}
 use Rattle.sig_patterns.specs.declared.clause.Clause.{Clause}
-use Rattle.sig_patterns.specs.declared.guard.Guard.{Guard}
 use Rattle.sig_patterns.specs.declared.var.Var.{Var}
 use Rattle.sig_program.specs.declared.label.Label.{Label}
 use Rattle.sig_program.specs.declared.instruction.After.{After}
@@ -80,9 +79,8 @@ module _ (known : Known) (names : List (List ℕ)) (f g : ℕ → ℕ) (e : Draf
       let good : IsReadableClause e.version (length names) c = All-head (IsReadableClause e.version (length names)) c clauses readable in
       let says = clause_said known d names tags f g reads refl c good (All-head (λ (c : Clause). IsTarget (length tags) c.target) c clauses within) in
       let allowed : is_marked using (pattern_seen f c.pattern) ≡ true = still-marked using c (All-head (Pinned using) c clauses marked) in
-      let takes : taken d (form.On (pattern_seen f c.pattern) (option_map g c.target)) ≡ Ok (inside p using more None) =
-      rw allowed (ap (λ (guard : Option Guard). Ok (inside p using (before ++ record (clause_seen f g c) { guard = guard } ∷ []) None)) (sym good.guard)) in
-      let first = one_line known d (inside p using more None) (clause_line names tags c) (form.On (pattern_seen f c.pattern) (option_map g c.target)) says takes in
+      let takes : taken d (form.On (clause_seen f g c)) ≡ Ok (inside p using more None) = rw (good.allowed, allowed) refl in
+      let first = one_line known d (inside p using more None) (clause_line names tags c) (form.On (clause_seen f g c)) says takes in
       let rest = clauses-lead p using more clauses (All-tail (IsReadableClause e.version (length names)) c clauses readable) (All-tail (λ (c : Clause). IsTarget (length tags) c.target) c clauses within) (All-tail (Pinned using) c clauses marked) in
       same_end known d (inside p using (more ++ map (clause_seen f g) clauses) None) (inside p using (before ++ map (clause_seen f g) (c ∷ clauses)) None) (map (clause_line names tags) (c ∷ clauses))
       (ap (λ (cs : List Clause). inside p using cs None) (append_assoc before (clause_seen f g c ∷ []) (map (clause_seen f g) clauses)))

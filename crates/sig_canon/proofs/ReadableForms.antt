@@ -2,6 +2,7 @@
 use Rattle.std.proofs.Common.{◌≡◌, ℕ, List, [], ◌∷◌, length, All, IfSome, Bool, false, Option, Some, None, Result, codes, sym, subst}
 use Rattle.std.proofs.lemmas.List.Elements.{All-nil, All-cons}
 use Rattle.sig_patterns.specs.declared.clause.Clause.{Clause}
+use Rattle.sig_patterns.specs.declared.guard.Guard.{Guard}
 use Rattle.sig_patterns.specs.declared.var.Var.{Var}
 use Rattle.sig_patterns.specs.declared.pattern.Pattern.{Pattern}
 use Rattle.sig_program.specs.declared.version.Version.{Version}
@@ -22,11 +23,13 @@ use Rattle.sig_tokens.specs.Faults.{◌>>=◌, on_ok}
 use Rattle.sig_tokens.specs.Tokens.{text, tokens_of, IsNameToken, IsVariableToken}
 use Rattle.sig_tokens.specs.Names.{label_of, name_at, variable_at}
 use Rattle.sig_tokens.specs.PatternTexts.{pattern_of}
-use Rattle.sig_reader.specs.Forms.{operand_at, all_said, mode_of, flag_of, switch_of, word_at, keyword_of, may_stand, ends, arrow_of, count_from, turns_of, whole_name, marker_of, on_of, instr_of, form_of, form_behind, said_by, said}
-use Rattle.sig_canon.specs.ReadableScript.{IsReadableExpr, IsReadablePattern, IsReadableClause, IsReadableInstr}
+use Rattle.sig_reader.specs.Forms.{operand_at, all_said, mode_of, flag_of, switch_of, word_at, keyword_of, may_stand, ends, arrow_of, count_from, turns_of, whole_name, marker_of, behind_pattern, on_of, instr_of, form_of, form_behind, said_by, said}
+use Rattle.sig_canon.specs.ReadableScript.{IsReadableExpr, IsReadablePattern, IsReadableGuard, IsReadableClause, IsReadableInstr}
 use Rattle.sig_reader.proofs.TableLemmas.{spoken_again, instr_as}
 use Rattle.sig_reader.proofs.BoundTermLemmas.{Holds, anything, holds-if, holds-on_ok, holds-then, holds-ends}
 use Rattle.sig_canon.proofs.WordLemmas.{AreWords, tokens-words}
+use Rattle.sig_reader.specs.Guards.{guard_at}
+use Rattle.sig_canon.proofs.ReadableGuards.{IsGuardRead, guard-read}
 use Rattle.sig_canon.proofs.ReadablePhrases.{holds-weaker, name-read, variable-read, expr-read, pattern-read}
 
 -- what is known of a form in a script of this version
@@ -35,7 +38,7 @@ IsReadableForm v count (form.Process name) = IsNameToken name
 IsReadableForm v count (form.Label name) = IsNameToken name
 IsReadableForm v count (form.Do i) = IsReadableInstr v count i
 IsReadableForm v count (form.Receive using) = IfSome using (λ x. IsVariableToken x.0)
-IsReadableForm v count (form.On pattern target) = IsReadablePattern count pattern
+IsReadableForm v count (form.On c) = IsReadablePattern count c.pattern × IfSome c.guard IsReadableGuard
 IsReadableForm v count _ = Unit {0}
 
 -- a word that means something
@@ -128,10 +131,19 @@ module _ (v : Version) (s : Program) (here : ℕ) (line : List ℕ) where
       (λ u _. holds-then (λ (y : List ℕ × List Token). IsVariableToken y.0 × AreWords line y.1) IsMarker (λ y. ends (Some (record { 0 = y.0 })) y.1) (variable_at line x.1) (variable-read line x.1 k.1)
       (λ y l. holds-ends IsMarker (Some (record { 0 = y.0 })) y.1 l.0)))
 
+  abbrev IsEnd : Option Guard × Option ℕ → Type 0
+  IsEnd y = IfSome y.0 IsReadableGuard
+
+  behind_pattern-read : (ts : List Token) → AreWords line ts → Holds IsEnd (behind_pattern (Among s) here line ts)
+  behind_pattern-read ts h =
+      holds-then (IsGuardRead line) IsEnd (λ x. on_ok (λ target. (x.0, target)) (arrow_of (Among s) here line x.1)) (guard_at line ts) (guard-read line ts h)
+      (λ x k. holds-on_ok (λ _. Unit {0}) IsEnd (λ target. (x.0, target)) (arrow_of (Among s) here line x.1) (anything (arrow_of (Among s) here line x.1)) (λ o _. k.0))
+
   on-read : (ts : List Token) → AreWords line ts → Holds IsForm (on_of (Among s) here line ts)
   on-read ts h =
-      holds-then (λ (x : Pattern × List Token). IsReadablePattern count x.0 × AreWords line x.1) IsForm (λ x. on_ok (form.On x.0) (arrow_of (Among s) here line x.1)) (pattern_of (Among s) line ts) (pattern-read s line ts h)
-      (λ x k. holds-on_ok (λ _. Unit {0}) IsForm (form.On x.0) (arrow_of (Among s) here line x.1) (anything (arrow_of (Among s) here line x.1)) (λ o _. k.0))
+      holds-then (λ (x : Pattern × List Token). IsReadablePattern count x.0 × AreWords line x.1) IsForm
+      (λ x. on_ok (λ y. form.On (record { pattern = x.0; guard = y.0; target = y.1 })) (behind_pattern (Among s) here line x.1)) (pattern_of (Among s) line ts) (pattern-read s line ts h)
+      (λ x k. holds-on_ok IsEnd IsForm (λ y. form.On (record { pattern = x.0; guard = y.0; target = y.1 })) (behind_pattern (Among s) here line x.1) (behind_pattern-read x.1 k.1) (λ y m. (k.0, m)))
 
   turns-read : (ts : List Token) → Holds IsForm (turns_of line ts)
   turns-read [] = tt

@@ -6,7 +6,6 @@ use Rattle.std.proofs.lemmas.Bool.Decides.{nat_tests}
 use Rattle.std.proofs.lemmas.List.{map-append}
 use Rattle.std.proofs.lemmas.List.Elements.{All-nil, All-push}
 use Rattle.sig_patterns.specs.declared.clause.Clause.{Clause}
-use Rattle.sig_patterns.specs.declared.pattern.Pattern.{Pattern}
 use Rattle.sig_patterns.specs.declared.var.Var.{Var}
 use Rattle.sig_program.specs.declared.label.Label.{Label}
 use Rattle.sig_program.specs.declared.instruction.After.{After}
@@ -20,13 +19,12 @@ use Rattle.sig_program.specs.declared.version.Version.TheVariants.{One}
 use Rattle.sig_reader.specs.declared.form.Form.{Form}
 use Rattle.sig_reader.specs.declared.form.Form.TheVariants as form
 use Rattle.sig_program.specs.Scripts.{Declared, Program, bare_process}
-use Rattle.sig_program.specs.Parts.{plain_clause}
 use Rattle.sig_tokens.specs.Faults.{Fault, ◌>>=◌}
 use Rattle.sig_tokens.specs.Lines.{lines_of}
 use Rattle.sig_reader.specs.Forms.{said}
-use Rattle.sig_reader.specs.Drafts.{blank, open_proc, all_procs, begun, labelled, with_instr, is_marked, with_clause, taken_at}
+use Rattle.sig_reader.specs.Drafts.{blank, open_proc, all_procs, begun, labelled, with_instr, is_marked, may_guard, with_clause, taken_at}
 use Rattle.sig_reader.specs.Grammar.{taken_if, line_taken, walk, header_of, script_behind, script_of_lines, script_of}
-use Rattle.sig_canon.specs.ReadableScript.{IsReadablePattern, IsReadableClause, IsReadableInstr, AreDistinct, IsReadableScript}
+use Rattle.sig_canon.specs.ReadableScript.{IsReadablePattern, IsReadableGuard, IsReadableClause, IsReadableInstr, AreDistinct, IsReadableScript}
 use Rattle.sig_program.specs.declared.script.TheConstants.{MOST_PROCESSES, MOST_TURNS}
 use Rattle.sig_program.specs.declared.instruction.Receiving.{Receiving}
 use Rattle.sig_program.specs.declared.instruction.Instr.TheVariants as instr
@@ -118,11 +116,15 @@ module _ (count : ℕ) (draft : Draft) where
     receive = tt;
   }
 
-  with_clause-good : (using : Option Var) (clauses : List Clause) (pattern : Pattern) (target : Option ℕ) → IsReadablePattern count pattern → All (IsReadableClause draft.version count) clauses →
-      Holds (λ more. All (IsReadableClause draft.version count) more) (with_clause using clauses pattern target)
-  with_clause-good using clauses pattern target k h =
-      holds-if (λ (more : List Clause). All (IsReadableClause draft.version count) more) (is_marked using pattern) _ _
-      (λ _. All-push (IsReadableClause draft.version count) clauses (plain_clause pattern target) h (record { pattern = k; guard = refl })) (λ _. tt)
+  abbrev AreGoodHere : List Clause → Type 0
+  AreGoodHere clauses = All (IsReadableClause draft.version count) clauses
+
+  with_clause-good : (using : Option Var) (clauses : List Clause) (c : Clause) → IsReadablePattern count c.pattern → IfSome c.guard IsReadableGuard → AreGoodHere clauses →
+      Holds AreGoodHere (with_clause draft.version using clauses c)
+  with_clause-good using clauses c k g h =
+      holds-if AreGoodHere (may_guard draft.version c.guard) _ _
+      (λ may. holds-if AreGoodHere (is_marked using c.pattern) _ _
+      (λ _. All-push (IsReadableClause draft.version count) clauses c h (record { pattern = k; guard = g; allowed = may })) (λ _. tt)) (λ _. tt)
 
   receive-good : (r : Receiving) → All (IsReadableClause draft.version count) r.clauses → IfSome r.using (λ x. IsVariableToken x.0) → IsReadableInstr draft.version count (instr.Receive r)
   receive-good r h k = record { exprs = All-nil _; clauses = h; vars = All-nil IsVariableToken; using = k }
@@ -139,10 +141,10 @@ module _ (count : ℕ) (draft : Draft) where
   taken_at-good (Outside p) (form.Do i) d h o k = changed p (with_instr p i) d h refl (instr-good draft.version count p i k (all-last IsGoodHere draft.procs p h))
   taken_at-good (Outside p) (form.Receive using) d h o k = record { names = d; procs = h; receive = (All-nil (IsReadableClause draft.version count), k) }
   taken_at-good (Outside p) _ d h o k = tt
-  taken_at-good (Inside p r) (form.On pattern target) d h o k =
-      holds-on_ok (λ (more : List Clause). All (IsReadableClause draft.version count) more) (IsGoodDraft count)
-      (λ more. record draft { section = Inside p (record r { clauses = more }) }) (with_clause r.using r.clauses pattern target)
-      (with_clause-good r.using r.clauses pattern target k o.0) (λ more m. record { names = d; procs = h; receive = (m, o.1) })
+  taken_at-good (Inside p r) (form.On c) d h o k =
+      holds-on_ok AreGoodHere (IsGoodDraft count)
+      (λ more. record draft { section = Inside p (record r { clauses = more }) }) (with_clause draft.version r.using r.clauses c)
+      (with_clause-good r.using r.clauses c k.0 k.1 o.0) (λ more m. record { names = d; procs = h; receive = (m, o.1) })
   taken_at-good (Inside p r) (form.After next) d h o k = record { names = d; procs = h; receive = o }
   taken_at-good (Inside p r) form.End d h o k =
       changed p (with_instr p (instr.Receive r)) d h refl

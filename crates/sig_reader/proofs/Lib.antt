@@ -1,4 +1,5 @@
 pub mod FitLemmas
+pub mod GuardLemmas
 pub mod ReaderLemmas
 pub mod TableLemmas
 pub mod BoundTermLemmas

@@ -8,7 +8,7 @@ pub use sig_canon::{
 };
 pub use sig_program::{
     After, DEFAULT_TURNS, Instr, Instrs, Label, Labels, MOST_PROCESSES, MOST_TURNS, Proc, Procs,
-    Script,
+    Script, Version,
 };
 pub use sig_reader::{MOST_BYTES, ScriptError, read_script};
 pub use sig_tokens::FaultKind;

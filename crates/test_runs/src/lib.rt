@@ -11,6 +11,8 @@ mod exits;
 #[cfg(test)]
 mod gates;
 #[cfg(test)]
+mod guards;
+#[cfg(test)]
 mod large;
 #[cfg(test)]
 mod links;

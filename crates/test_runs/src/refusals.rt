@@ -4,6 +4,8 @@ const VALUE: &[u8] = b"sigscript 1\nprocess a\nset X ";
 
 const CLAUSE: &[u8] = b"sigscript 1\nprocess a\nreceive\non ";
 
+const GUARD: &[u8] = b"sigscript 2\nprocess a\nreceive\non N when N > 0";
+
 /// Texts in pieces, each so many times, that have as many bytes as a text may have, and their records.
 pub(crate) static LONGEST: [(&[(&[u8], usize)], &[u8]); 2] = [
     (&[(b"sigscript 1\n%", 1), (b"x", 1048563)], b"sigrecord 1\n"),
@@ -11,7 +13,7 @@ pub(crate) static LONGEST: [(&[(&[u8], usize)], &[u8]); 2] = [
 ];
 
 /// Texts in pieces, each so many times, and the line and the kind where they are refused.
-pub(crate) static LONG: [(&[(&[u8], usize)], &[u8]); 20] = [
+pub(crate) static LONG: [(&[(&[u8], usize)], &[u8]); 27] = [
     (&[(b"sigscript 1\n%", 1), (b"x", 1048564)], b"0: too_long"),
     (&[(b" ", 1048576)], b"1: header"),
     (&[(b" ", 1048577)], b"0: too_long"),
@@ -69,6 +71,33 @@ pub(crate) static LONG: [(&[(&[u8], usize)], &[u8]); 20] = [
     (
         &[(CLAUSE, 1), (b"[_", 1), (b",_", 1022), (b"|_]\nend", 1)],
         b"4: term_too_large",
+    ),
+    (&[(GUARD, 1), (b" and 1 < N", 63), (b"\nend", 1)], b""),
+    (&[(GUARD, 1), (b" or is_pid(N)", 63), (b"\nend", 1)], b""),
+    (
+        &[(GUARD, 1), (b" and N > 0", 64), (b"\nend", 1)],
+        b"4: term_too_large",
+    ),
+    (
+        &[(GUARD, 1), (b" or 1 < N", 64), (b"\nend", 1)],
+        b"4: term_too_large",
+    ),
+    (
+        &[
+            (GUARD, 1),
+            (b" or N > 0 and is_pid(N)", 31),
+            (b" and N > 0", 1),
+            (b" or is_pid(", 1),
+        ],
+        b"4: term_too_large",
+    ),
+    (
+        &[(GUARD, 1), (b" and N > 0", 63), (b" and x", 1)],
+        b"4: syntax",
+    ),
+    (
+        &[(GUARD, 1), (b" and N > 0", 63), (b" and", 1)],
+        b"4: syntax",
     ),
 ];
 
@@ -298,7 +327,7 @@ pub(crate) static OTHERS: [(&[u8], &[u8]); 9] = [
 pub(crate) static OTHER_FIRST_LINES: [(&[u8], &[u8]); 9] = [
     (b"", b"1: header"),
     (b"\nsigscript 1", b"1: header"),
-    (b"sigscript 2", b"1: header"),
+    (b"sigscript 3", b"1: header"),
     (b"sigscript -1", b"1: header"),
     (b"sigscript", b"1: header"),
     (b"sigscript 1 1", b"1: header"),

@@ -2,6 +2,7 @@
 
 use crate::documents::{EXAMPLES, REFUSALS};
 use crate::exits::{EXIT_SIGNALS, EXITS};
+use crate::guards::{GUARD_FAULTS, GUARDS, SIGN_FAULTS};
 use crate::large::{GROWTHS, ROUNDS};
 use crate::links::{LINK_CALLS, LINKED_EXITS, QUEUED, UNLINKS};
 use crate::markers::MARKERS;
@@ -322,6 +323,13 @@ pub(crate) static LINES: Around = Around {
     refused: false,
 };
 
+/// Scripts of version 2 without their first line, and their records without theirs.
+static LINES_TWO: Around = Around {
+    head: b"sigscript 2\n",
+    sides: [b"sigrecord 1\n", b""],
+    refused: false,
+};
+
 /// Whole scripts and records.
 static WHOLE: Around = Around {
     head: b"",
@@ -332,6 +340,13 @@ static WHOLE: Around = Around {
 /// Scripts without their first line, and where they are refused and why.
 static REFUSED: Around = Around {
     head: b"sigscript 1\n",
+    sides: [b"sigrun: line ", b"\n"],
+    refused: true,
+};
+
+/// Scripts of version 2 without their first line, and where they are refused and why.
+static REFUSED_TWO: Around = Around {
+    head: b"sigscript 2\n",
     sides: [b"sigrun: line ", b"\n"],
     refused: true,
 };
@@ -397,7 +412,7 @@ impl Around {
 
 #[test]
 fn scripts_give_their_records(rt: HostRuntime) {
-    let tables: [(&Around, &[(&[u8], &[u8])]); 15] = [
+    let tables: [(&Around, &[(&[u8], &[u8])]); 16] = [
         (&LINES, &TAKEN),
         (&LINES, &VALUES),
         (&LINES, &GOING),
@@ -411,6 +426,7 @@ fn scripts_give_their_records(rt: HostRuntime) {
         (&LINES, &QUEUED),
         (&LINES, &WATCHES),
         (&LINES, &MARKERS),
+        (&LINES_TWO, &GUARDS),
         (&WHOLE, &TEXTS),
         (&WHOLE, &EXAMPLES),
     ];
@@ -426,13 +442,15 @@ fn scripts_give_their_records(rt: HostRuntime) {
 
 #[test]
 fn texts_are_refused_at_their_line(rt: HostRuntime) {
-    let tables: [(&Around, &[(&[u8], &[u8])]); 8] = [
+    let tables: [(&Around, &[(&[u8], &[u8])]); 10] = [
         (&REFUSED, &HEADS),
         (&REFUSED, &TERMS),
         (&REFUSED, &RECEIVES),
         (&REFUSED, &OPERANDS),
         (&REFUSED, &MARKER_CLAUSES),
         (&REFUSED, &OTHERS),
+        (&REFUSED, &SIGN_FAULTS),
+        (&REFUSED_TWO, &GUARD_FAULTS),
         (&REFUSED_TEXTS, &OTHER_FIRST_LINES),
         (&TOLD_TEXTS, &REFUSALS),
     ];

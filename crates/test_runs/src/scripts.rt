@@ -16,7 +16,7 @@ enum Piece {
 }
 
 /// The texts of scripts, piece by piece.
-static PRINTED: [&[Piece]; 6] = [
+static PRINTED: [&[Piece]; 8] = [
     &[
         Piece::Same(b"sigscript 1\n"),
         Piece::Spelled(b"", b"turns 1000\n"),
@@ -38,6 +38,10 @@ end
         b" sigscript 001 % a comment\r\n\n turns 0020000\t\nprocess b\nlabel l % twice\nlabel m\nprocess a",
         b"sigscript 1\nturns 20000\nprocess b\nlabel l\nlabel m\nprocess a\n",
     )],
+    &[
+        Piece::Spelled(b"\tsigscript 02 % a comment\n", b"sigscript 2\nturns 1000\n"),
+        Piece::Same(b"process a\n"),
+    ],
     // Each expression.
     &[
         Piece::Same(b"sigscript 1\n"),
@@ -92,6 +96,27 @@ on [a|[b,c]]
             br"end
 label here
 label there
+",
+        ),
+    ],
+    // Each test of a guard.
+    &[
+        Piece::Spelled(b"sigscript 2\n", b"sigscript 2\nturns 1000\n"),
+        Piece::Same(b"process a\nreceive\non {A,B}"),
+        Piece::Spelled(
+            b"when  A>-09or is_atom( A )and B==007->here",
+            b" when A > -9 or is_atom(A) and B == 7 -> here",
+        ),
+        Piece::Same(b"\non [A|B] "),
+        Piece::Spelled(
+            b"when A<B or A>B and A=<B or A>=B and A==B and A/=B",
+            b"when A < B or A > B and A =< B or A >= B and A == B and A /= B",
+        ),
+        Piece::Same(
+            br"
+on X when is_integer(X) and is_atom(X) or is_pid(X) and is_reference(X) or is_tuple(X) or is_list(X)
+end
+label here
 ",
         ),
     ],
