@@ -178,7 +178,7 @@ fn begin(alloc: Global, draft: &mut Draft, name: Name) -> Result<(), Stop>
 fn is_bare(proc: &DraftProc) -> bool
     ensures { result ≡ is_bare proc.now }
 {
-    proc.labels.labels().is_empty() && proc.instrs.len() == 0
+    proc.labels.labels().is_empty() && proc.instrs.as_slice().is_empty()
 }
 
 /// Whether a process of a script of this version may tell where it keeps its messages, which it has
