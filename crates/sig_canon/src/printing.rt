@@ -112,7 +112,8 @@ fn put_proc(
 {
     put_named(into, b"process", &proc.name)?;
     put_queue_data(into, version, proc.queue_data)?;
-    put_placed(into, procs, proc.labels.as_slice(), proc.instrs.as_slice())
+    put_placed(into, procs, proc.labels.as_slice(), proc.instrs.as_slice())?;
+    Ok(())
 }
 
 /// Appends the lines of the processes of a script of this version.
