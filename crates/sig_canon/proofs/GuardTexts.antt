@@ -353,7 +353,7 @@ module _ (known : Known) (here : ℕ) where
       let value : Behind = (Some (record { alternatives = (t ∷ ts) ∷ more }), y) in
       let last = rest_made Two r (guarded ((t ∷ ts) ∷ more)) value (λ line us found. ap (on_ok (λ target. (Some (record { alternatives = (t ∷ ts) ∷ more }), target))) found) in
       let tests = tests_rest guarded (target_text labels target) value (λ line at. no_join line (tokens_at Two at (texts (target_text labels target))) (target_front Two labels target at)) MOST_TESTS [] [] t ts more
-          (All-head IsReadableTest t ts first.1) (All-tail IsReadableTest t ts first.1) (All-tail IsReadableAlternative (t ∷ ts) more all) (omega (arith, few, count)) last in
+      (All-head IsReadableTest t ts first.1) (All-tail IsReadableTest t ts first.1) (All-tail IsReadableAlternative (t ∷ ts) more all) (omega (arith, few, count)) last in
       let bytes : List ℕ = texts (test_text t (tests_text (codes "and") ts (alternatives_text (codes "or") more (target_text labels target)))) in
       rest_on Two (behind_pattern known here) (from guarded MOST_TESTS [] []) (codes "when") bytes value value (word_is_cut Two (codes "when") (name_word Two (codes "when") when_named)) tests (λ line at end there e found.
       ap (λ (x : Result (Option Guard × List Token) FaultKind). x >>= λ z. on_ok (λ target. (z.0, target)) (arrow_of known here line z.1)) (when_found line bytes at end there e tests.stops)

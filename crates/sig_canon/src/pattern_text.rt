@@ -49,7 +49,7 @@ fn put_between(
 ) -> Result<(), AllocError>
     ensures text { OnOk result (into.new.items
         ≡ into.old.items ++ opening.now
-            ++ joined (map (λ w. w.whole) (map (pattern_written (names_of procs.now)) items.now)) ++ closing.now) }
+        ++ joined (map (λ w. w.whole) (map (pattern_written (names_of procs.now)) items.now)) ++ closing.now) }
     ensures front { OnErr result (take (length into.old.items) into.new.items ≡ into.old.items) }
 {
     put(into, opening)?;

@@ -98,4 +98,4 @@ module _ (P : TokenKind → List ℕ → Type 0) (each : OfEach P) where
       (either rest (b == 45) _ _ (λ _. of_minus rest bs)
       (either rest (b == 95) _ _ (λ _. of_underscore rest bs)
       (either rest (b == 39) _ _ (λ _. of_quote b bs (drop (front_run is_atom_byte bs) bs))
-      (of_sign rest (sign_of b) _ (of_version v rest b bs)))))))))
+      (of_sign rest (sign_of b) _ (of_version v rest b bs))))))))

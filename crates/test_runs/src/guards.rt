@@ -76,18 +76,45 @@ pub(crate) static GUARD_FAULTS: [(&[u8], &[u8]); 28] = [
     (b"process a\nreceive\non N when N > x\nend", b"4: syntax"),
     (b"process a\nreceive\non N when x > N\nend", b"4: syntax"),
     (b"process a\nreceive\non N when N = 1\nend", b"4: syntax"),
-    (b"process a\nreceive\non N when N > 1 and\nend", b"4: syntax"),
+    (
+        b"process a\nreceive\non N when N > 1 and\nend",
+        b"4: syntax",
+    ),
     (b"process a\nreceive\non N when N > 1 or\nend", b"4: syntax"),
     (b"process a\nreceive\non N when or N > 1\nend", b"4: syntax"),
     (b"process a\nreceive\non N when (N > 1)\nend", b"4: syntax"),
-    (b"process a\nreceive\non N when N > 1, N > 2\nend", b"4: syntax"),
-    (b"process a\nreceive\non N when N > 1 when N > 2\nend", b"4: syntax"),
-    (b"process a\nreceive\non N -> l when N > 1\nend\nlabel l", b"4: syntax"),
-    (b"process a\nreceive\non N when is_map(N)\nend", b"4: syntax"),
-    (b"process a\nreceive\non N when is_atom N\nend", b"4: syntax"),
-    (b"process a\nreceive\non N when is_atom(n)\nend", b"4: syntax"),
-    (b"process a\nreceive\non N when is_atom(1)\nend", b"4: syntax"),
-    (b"process a\nreceive\non N when is_atom(N\nend", b"4: syntax"),
+    (
+        b"process a\nreceive\non N when N > 1, N > 2\nend",
+        b"4: syntax",
+    ),
+    (
+        b"process a\nreceive\non N when N > 1 when N > 2\nend",
+        b"4: syntax",
+    ),
+    (
+        b"process a\nreceive\non N -> l when N > 1\nend\nlabel l",
+        b"4: syntax",
+    ),
+    (
+        b"process a\nreceive\non N when is_map(N)\nend",
+        b"4: syntax",
+    ),
+    (
+        b"process a\nreceive\non N when is_atom N\nend",
+        b"4: syntax",
+    ),
+    (
+        b"process a\nreceive\non N when is_atom(n)\nend",
+        b"4: syntax",
+    ),
+    (
+        b"process a\nreceive\non N when is_atom(1)\nend",
+        b"4: syntax",
+    ),
+    (
+        b"process a\nreceive\non N when is_atom(N\nend",
+        b"4: syntax",
+    ),
     (b"process a\nreceive\nafter when 1 == 1\nend", b"4: syntax"),
     (
         b"process a\nreceive\non N when N > 9223372036854775808\nend",

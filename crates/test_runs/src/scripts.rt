@@ -39,7 +39,10 @@ end
         b"sigscript 1\nturns 20000\nprocess b\nlabel l\nlabel m\nprocess a\n",
     )],
     &[
-        Piece::Spelled(b"\tsigscript 02 % a comment\n", b"sigscript 2\nturns 1000\n"),
+        Piece::Spelled(
+            b"\tsigscript 02 % a comment\n",
+            b"sigscript 2\nturns 1000\n",
+        ),
         Piece::Same(b"process a\n"),
     ],
     // Where processes keep their messages.
