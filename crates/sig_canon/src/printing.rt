@@ -93,11 +93,11 @@ fn put_queue_data(
 ) -> Result<(), AllocError>
     ensures { IsPut into.old.items into.new.items (flat_map line_text (data_lines version queue_data)) result }
 {
-    let line: &[u8] = match (version, queue_data) {
-        (Version::Two, QueueData::OffHeap) => b"message_queue_data off_heap\n",
-        _ => b"",
-    };
-    put(into, line)
+    match (version, queue_data) {
+        (Version::Two, QueueData::OffHeap) => put(into, b"message_queue_data off_heap\n"),
+        (Version::Two, QueueData::OnHeap) => put(into, b""),
+        (Version::One, _) => put(into, b""),
+    }
 }
 
 /// Appends the lines of a process of a script of this version.

@@ -250,7 +250,10 @@ fn place_queue_data(
     ensures { Gives (λ u. section.new) result (data_placed version told section.old queue_data) }
 {
     match section {
-        Section::Outside(proc) if may_tell(version, told, proc) => {
+        Section::Outside(proc) => {
+            if !may_tell(version, told, proc) {
+                return Err(Stop::Fault(FaultKind::Syntax));
+            }
             proc.queue_data = queue_data;
             Ok(())
         }
