@@ -10,10 +10,10 @@ returns-then-is_empty c = no_line c.args.bytes.now (sym c.if-is_empty.ensures)
 pub returns-in-Some : goal.returns-in-Some
 returns-in-Some c =
     let rest : script_of_lines (lines_of c.args.bytes.now) ≡ walk_twice c.in-Some.version (lines_of c.behind_line.result.now) =
-    behind_header c.args.bytes.now c.first_line-first.result.now (Some c.in-Some.version) (sym c.if-is_empty.ensures) c.first_line-first.ensures.line (sym c.in-Some.is ∙ c.in_ok-read_header.ensures)
+    behind_header c.args.bytes.now c.first_line-first.result.now (Some c.in-Some.version) (sym c.if-is_empty.ensures) c.first_line-first.ensures.line (sym c.in-Some.is ∙ c.in_ok-version.ensures)
     ∙ ap (λ (xs : List ℕ). walk_twice c.in-Some.version (lines_of xs)) (sym c.behind_line.ensures) in
     rw rest c.read_body.ensures
 
 pub returns-in-None : goal.returns-in-None
 returns-in-None c =
-    behind_header c.args.bytes.now c.first_line-first.result.now None (sym c.if-is_empty.ensures) c.first_line-first.ensures.line (sym c.in-None.is ∙ c.in_ok-read_header.ensures)
+    behind_header c.args.bytes.now c.first_line-first.result.now None (sym c.if-is_empty.ensures) c.first_line-first.ensures.line (sym c.in-None.is ∙ c.in_ok-version.ensures)
