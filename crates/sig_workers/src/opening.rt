@@ -62,8 +62,14 @@ fn open_one(
         count,
         first,
     };
-    let process = &procs[at as usize];
-    SigQueue::open(alloc, policy, process.queue_data(), senders, &opening)
+    let place = at as usize;
+    SigQueue::open(
+        alloc,
+        policy,
+        procs[place].queue_data(),
+        senders,
+        &opening,
+    )
 }
 
 /// Opens the queue of each process, by pid. The error is want of memory.

@@ -31,7 +31,7 @@ returns c =
       record {
         policy_is = ap (λ (z : Setup). z.given) own.1;
         data = λ r at_r. ap (λ (z : Setup). z.queue_data) own.1 ∙ c.queue_data.ensures
-            ∙ ap (λ (x : Running). x.proc.queue_data) (same_Some c.index-process.result.now.running r (sym (running_at c.args.procs.now c.args.at c.index-process.result.now c.requires.within c.index-process.ensures) ∙ at_r));
+            ∙ ap (λ (x : Running). x.proc.queue_data) (same_Some c.index-procs-place.result.running r (sym (running_at c.args.procs.now c.args.at c.index-procs-place.result c.requires.within c.index-procs-place.is) ∙ at_r));
         receiver = ap (λ (z : Setup). z.opening.receiver.0) own.1;
         count = ap (λ (z : Setup). z.opening.count) own.1 ∙ sym many;
         senders = λ s. ap (λ (z : Setup). has z.senders s) own.1 ∙ subst (λ n. has c.senders_but-senders.result s ≡ (is_in 0 n s && not (s == c.args.at))) (sym many) (c.senders_but-senders.ensures s);
