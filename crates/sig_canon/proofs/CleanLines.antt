@@ -97,8 +97,8 @@ one_clean : (lines : List (List ℕ)) (line : List ℕ) → lines ≡ line ∷ [
 one_clean lines line is clean = subst AreClean (sym is) (clean, tt)
 
 -- the line of where messages are kept
-data_clean : (v : Version) (data : QueueData) → AreClean (data_lines v data)
-data_clean One data = tt
+data_clean : (v : Version) (queue_data : QueueData) → AreClean (data_lines v queue_data)
+data_clean One queue_data = tt
 data_clean Two OnHeap = tt
 data_clean Two OffHeap = (refl, tt)
 

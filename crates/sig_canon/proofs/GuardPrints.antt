@@ -1,11 +1,15 @@
 -- The text of a guard is put together from those of its tests.
-use Rattle.std.proofs.Common.{◌≡◌, ℕ, List, [], ◌∷◌, ◌++◌, map, Option, Some, None, refl, sym, ap, ◌∙◌, append_assoc, codes}
+use Rattle.std.proofs.Common.{◌≡◌, ℕ, ◌-◌, ◌≤◌, List, [], ◌∷◌, ◌++◌, length, map, take, drop, get_or, Option, Some, None, Result, refl, sym, ap, ◌∙◌, append_assoc, codes}
 use Rattle.std.specs.List.{concat, flat_map}
+use Rattle.sig_terms.specs.Putting.{IsPut}
+use Rattle.sig_patterns.specs.declared.clause.Clause.{Clause}
 use Rattle.sig_patterns.specs.declared.guard.Guard.{Guard}
 use Rattle.sig_patterns.specs.declared.guard.Test.{Test}
 use Rattle.sig_patterns.specs.declared.guard.Test.TheVariants as test
-use Rattle.sig_canon.specs.ScriptText.{after_blank, test_text, tests_text, alternatives_text, guard_text}
+use Rattle.sig_canon.specs.ScriptText.{after_blank, test_text, tests_text, alternatives_text, guard_text, pattern_text, target_text, clause_line, line_text}
 use Rattle.sig_canon.specs.Printing.{test_behind, tests_behind, alternatives_behind}
+use Rattle.sig_canon.proofs.JoinedLemmas.{first_and_rest}
+use Rattle.sig_canon.proofs.PrintLemmas.{two_put}
 
 -- texts behind others
 words-append : (xs ys : List (List ℕ)) → concat (map after_blank (xs ++ ys)) ≡ concat (map after_blank xs) ++ concat (map after_blank ys)
@@ -70,3 +74,28 @@ alternatives-each (ts ∷ tss) = alternatives-cons (codes "or") ts tss ∙ ap (�
 
 pub first_alternative : (word : List ℕ) (ts : List Test) (tss : List (List Test)) → alternatives_behind word (ts ∷ tss) ≡ tests_behind word ts ++ flat_map (tests_behind (codes "or")) tss
 first_alternative word ts tss = alternatives-cons word ts tss ∙ ap (λ (b : List ℕ). tests_behind word ts ++ b) (alternatives-each tss)
+
+-- the first test is put, and then the others
+pub tests_put : {T E : Type 0} (r : Result T E) (word : List ℕ) (ts : List Test) (t : Test) (a b c : List ℕ) → 1 ≤ length ts → t ≡ get_or ts 0 t → b ≡ a ++ test_behind word t →
+    IsPut b c (flat_map (test_behind (codes "and")) (take (length ts - 1) (drop 1 ts))) r → IsPut a c (tests_behind word ts) r
+tests_put r word ts t a b c long is put more =
+    let rest : List Test = take (length ts - 1) (drop 1 ts) in
+    two_put r a b c (test_behind word t) (flat_map (test_behind (codes "and")) rest) (tests_behind word ts) put more (ap (tests_behind word) (first_and_rest ts t long is) ∙ first_test word t rest)
+
+-- the same with alternatives
+pub alternatives_put : {T E : Type 0} (r : Result T E) (word : List ℕ) (tss : List (List Test)) (ts : List Test) (a b c : List ℕ) → 1 ≤ length tss → ts ≡ get_or tss 0 ts → b ≡ a ++ tests_behind word ts →
+    IsPut b c (flat_map (tests_behind (codes "or")) (take (length tss - 1) (drop 1 tss))) r → IsPut a c (alternatives_behind word tss) r
+alternatives_put r word tss ts a b c long is put more =
+    let rest : List (List Test) = take (length tss - 1) (drop 1 tss) in
+    two_put r a b c (tests_behind word ts) (flat_map (tests_behind (codes "or")) rest) (alternatives_behind word tss) put more
+    (ap (alternatives_behind word) (first_and_rest tss ts long is) ∙ first_alternative word ts rest)
+
+-- the parts of a clause's line
+pub clause_split : (names labels : List (List ℕ)) (c : Clause) → line_text (clause_line names labels c)
+    ≡ (((codes "on " ++ pattern_text names c.pattern) ++ concat (map after_blank (guard_text c.guard []))) ++ concat (map after_blank (target_text labels c.target))) ++ codes "\n"
+unfolding clause_line
+clause_split names labels c =
+    let pattern : List ℕ = pattern_text names c.pattern in
+    let guard : List ℕ = concat (map after_blank (guard_text c.guard [])) in
+    let target : List ℕ = concat (map after_blank (target_text labels c.target)) in
+    ap (λ (w : List ℕ). (codes "on " ++ w) ++ codes "\n") (ap (λ (w : List ℕ). pattern ++ w) (guard_words c.guard (target_text labels c.target)) ∙ sym (append_assoc pattern guard target))

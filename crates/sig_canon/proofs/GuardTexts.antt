@@ -28,11 +28,9 @@ use Rattle.sig_tokens.specs.declared.token.TokenKind.TheVariants.{Name, Variable
 use Rattle.sig_tokens.specs.declared.token.Token.{Token}
 use Rattle.sig_tokens.specs.declared.token.Cut.{Cut}
 use Rattle.sig_tokens.specs.Faults.{◌>>=◌, on_ok}
-use Rattle.sig_tokens.specs.Names.{name_at, variable_at}
 use Rattle.sig_tokens.specs.PatternTexts.{pattern_spelling}
 use Rattle.sig_tokens.specs.Signs.{op_of}
 use Rattle.sig_tokens.specs.Tokens.{IsNameToken, IsVariableToken}
-use Rattle.sig_reader.specs.declared.form.Form.{Form}
 use Rattle.sig_reader.specs.declared.form.Form.TheVariants as form
 use Rattle.sig_reader.specs.declared.guards.Join.{Join}
 use Rattle.sig_reader.specs.declared.guards.Join.TheVariants as join
@@ -45,7 +43,7 @@ use Rattle.sig_canon.specs.ScriptText.{after_blank, name_of_place, side_text, op
 use Rattle.sig_canon.specs.ReadableScript.{IsReadableSide, IsReadableTest, IsReadableAlternative, IsReadableGuard, IsReadableClause}
 use Rattle.sig_canon.proofs.WordTexts.{Anything, IsWord, name_word, variable_word, int_word, int_again, arrow, open_paren, close_paren, BeforeBlank, less_sign, greater_sign, at_most_sign, at_least_sign, equal_sign, unequal_sign}
 use Rattle.sig_canon.proofs.CutTexts.{tokens_at, token_at, token_text, word_tokens, IsCut, word_is_cut, cut_on, behind_text, blank_tokens, no_tokens}
-use Rattle.sig_canon.proofs.PhraseReads.{byte_on, ends_sooner}
+use Rattle.sig_canon.proofs.PhraseReads.{byte_on}
 use Rattle.sig_canon.proofs.PhraseTexts.{name_found, variable_found, pattern_read, phrase_found}
 use Rattle.sig_canon.proofs.FormReads.{IsRest, text_on, rest_on, rest_made, arrow_rest}
 use Rattle.sig_canon.proofs.KnownNames.{Reads}
@@ -124,6 +122,10 @@ kind_cut : (kind : TermKind) (word : List ℕ) → IsVariableToken word → IsCu
 kind_cut kind word named =
     cut_on Two (kind_word kind) (enclosed word) (word_is_cut Two (kind_word kind) (name_word Two (kind_word kind) (kind_named kind))) (enclosed_cut word named) (λ rest _. refl)
 
+-- the text of a test for a kind
+kind_text : (kind : TermKind) (word : List ℕ) → kind_word kind ++ codes "(" ++ word ++ codes ")" ≡ kind_word kind ++ enclosed word
+kind_text kind word = append_assoc (kind_word kind ++ 40 ∷ []) word (41 ∷ []) ∙ append_assoc (kind_word kind) (40 ∷ []) (word ++ 41 ∷ [])
+
 closed_found : (rest : List ℕ) (at end : ℕ) → end ≡ at + 1 → behind_sign sign.CloseParen (tokens_at Two at (41 ∷ rest)) ≡ Ok (tokens_at Two end rest)
 closed_found rest at end place = ap (behind_sign sign.CloseParen) (word_tokens Two (41 ∷ []) rest at end close_paren tt place)
 
@@ -174,6 +176,9 @@ compared line o s rest at end stops place =
     let front = word_tokens Two (side_text o) rest at end s.word stops place in
     ap (test_at line) front ∙ s.compares line (token_at s.kind at (side_text o) ∷ tokens_at Two end rest) ∙ ap (compare_at line) (sym front)
 
+abbrev comparison : Operand → Op → Operand × List Token → Test × List Token
+comparison left o z = (test.Compare left o z.0, z.1)
+
 module _ {Y : Type 0} (more : OfMore Test Y) (rest : List (List ℕ)) (y : Y) where
   -- the last side, the sign and the first side of a comparison, each with what is read behind it
   right_rest : (left right : Operand) (o : Op) → IsSide right → IsRest Two (more (test.Compare left o right)) (texts rest) y →
@@ -191,12 +196,12 @@ module _ {Y : Type 0} (more : OfMore Test Y) (rest : List (List ℕ)) (y : Y) wh
       ap (λ (t : Result (Op × List Token) FaultKind). t >>= λ x. side_at line x.1 >>= λ z. more (test.Compare left x.0 z.0) line z.1) (op_found o (texts (side_text right ∷ rest)) at end e refl) ∙ found)
 
   behind_op : (left : Operand) (o : Op) (line : List ℕ) (r : Result (Operand × List Token) FaultKind) →
-      (on_ok (λ z. (test.Compare left o z.0, z.1)) r >>= λ x. more x.0 line x.1) ≡ (r >>= λ z. more (test.Compare left o z.0) line z.1)
+      (on_ok (comparison left o) r >>= λ x. more x.0 line x.1) ≡ (r >>= λ z. more (test.Compare left o z.0) line z.1)
   behind_op left o line (Ok z) = refl
   behind_op left o line (Err e) = refl
 
   behind_left : (left : Operand) (line : List ℕ) (r : Result (Op × List Token) FaultKind) →
-      ((r >>= λ x. on_ok (λ z. (test.Compare left x.0 z.0, z.1)) (side_at line x.1)) >>= λ x. more x.0 line x.1) ≡ (r >>= λ x. side_at line x.1 >>= λ z. more (test.Compare left x.0 z.0) line z.1)
+      ((r >>= λ x. on_ok (comparison left x.0) (side_at line x.1)) >>= λ x. more x.0 line x.1) ≡ (r >>= λ x. side_at line x.1 >>= λ z. more (test.Compare left x.0 z.0) line z.1)
   behind_left left line (Ok x) = behind_op left x.0 line (side_at line x.1)
   behind_left left line (Err e) = refl
 
@@ -217,7 +222,8 @@ module _ {Y : Type 0} (more : OfMore Test Y) (rest : List (List ℕ)) (y : Y) wh
 
   test_rest : (t : Test) → IsReadableTest t → IsRest Two (more t) (texts rest) y → IsRest Two (λ line ts. test_at line ts >>= λ x. more x.0 line x.1) (texts (test_text t rest)) y
   test_rest (test.Compare left o right) readable r = compare_rest left right o (side_word left readable.0) (side_word right readable.1) r
-  test_rest (test.Is kind x) named r = kind_rest kind x named r
+  test_rest (test.Is kind x) named r =
+      subst (λ (bytes : List ℕ). IsRest Two (λ line ts. test_at line ts >>= λ z. more z.0 line z.1) (texts (bytes ∷ rest)) y) (sym (kind_text kind x.0)) (kind_rest kind x named r)
 
 -- ---- tests with `and` and `or` between them
 
@@ -326,6 +332,9 @@ no_guard line (t ∷ ts) h = rw h refl
 when_named : IsNameToken (codes "when")
 when_named = (omega arith, refl)
 
+abbrev some_guard : List (List Test) × List Token → Option Guard × List Token
+some_guard x = (Some (record { alternatives = x.0 }), x.1)
+
 module _ (known : Known) (here : ℕ) where
   abbrev Behind : Type 0
   Behind = Option Guard × Option ℕ
@@ -333,7 +342,10 @@ module _ (known : Known) (here : ℕ) where
   abbrev guarded : OfMore (List (List Test)) Behind
   guarded alternatives line ts = on_ok (λ target. (Some (record { alternatives = alternatives }), target)) (arrow_of known here line ts)
 
-  guard_made : (line : List ℕ) (r : ReadGuard) → (on_ok (λ (x : List (List Test) × List Token). (Some (record { alternatives = x.0 }), x.1)) r >>= λ x. on_ok (λ target. (x.0, target)) (arrow_of known here line x.1)) ≡ (r >>= λ x. guarded x.0 line x.1)
+  abbrev with_target : List ℕ → Option Guard × List Token → Result Behind FaultKind
+  with_target line x = on_ok (λ target. (x.0, target)) (arrow_of known here line x.1)
+
+  guard_made : (line : List ℕ) (r : ReadGuard) → (on_ok some_guard r >>= λ x. with_target line x) ≡ (r >>= λ x. guarded x.0 line x.1)
   guard_made line (Ok x) = refl
   guard_made line (Err e) = refl
 

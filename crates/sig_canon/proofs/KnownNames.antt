@@ -1,6 +1,6 @@
 -- The names that a reader knows, and what it gives for them.
 use Rattle.std.proofs.Common.{◌≡◌, ◌≢◌, ℕ, zero, suc, ◌<◌, Bool, true, false, cond, List, [], ◌∷◌, length, map, position, refl, ap, ◌∙◌, arith}
-use Rattle.std.specs.Prelude.{All, Option, Some, None, option_map, ok_or, Ok}
+use Rattle.std.specs.Prelude.{All, Option, Some, option_map, ok_or, Ok}
 use Rattle.std.specs.Str.{bytes_eq}
 use Rattle.std.proofs.lemmas.List.Elements.{All-head, All-tail}
 use Rattle.std.proofs.lemmas.List.{length-map}

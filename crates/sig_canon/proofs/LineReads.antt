@@ -1,5 +1,5 @@
 -- Each line of the canonical text is read back as the form that it was printed from.
-use Rattle.std.proofs.Common.{◌≡◌, ℕ, ◌<◌, ◌≤◌, true, false, List, [], ◌∷◌, length, map, refl, ap}
+use Rattle.std.proofs.Common.{◌≡◌, ℕ, ◌<◌, ◌≤◌, true, false, List, [], ◌∷◌, length, map, ap}
 use Rattle.std.specs.Prelude.{IfSome, Option, Some, option_map, Ok, codes}
 use Rattle.sig_kinds.specs.declared.queue_data.QueueData.TheVariants.{OffHeap}
 use Rattle.sig_patterns.specs.declared.clause.Clause.{Clause}

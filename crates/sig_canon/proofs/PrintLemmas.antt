@@ -1,5 +1,5 @@
 -- What stands in front of a text stays there.
-use Rattle.std.proofs.Common.{◌≡◌, ℕ, ◌+◌, ◌<◌, ◌≤◌, List, [], ◌∷◌, ◌++◌, take, length, get_or, append_assoc, length-append, length-take, Result, Ok, Err, refl, sym, ap, ◌∙◌, arith, codes}
+use Rattle.std.proofs.Common.{◌≡◌, ℕ, ◌+◌, ◌<◌, ◌≤◌, List, [], ◌∷◌, ◌++◌, take, length, get_or, append_assoc, length-append, length-take, Result, Ok, Err, refl, sym, ap, ◌∙◌, arith}
 use Rattle.std.proofs.lemmas.List.{take-take, take_at, take_all, take_more, flat_map_more}
 use Rattle.std.proofs.lemmas.Grind.{flat_map-append}
 use Rattle.std.specs.List.{flat_map}
@@ -102,3 +102,12 @@ last_text (Err y) c d w z h e = tt
 pub last_front : {T E : Type 0} (r : Result T E) (a c d : List ℕ) → OnErr r (take (length c) d ≡ c) → take (length a) c ≡ a → OnErr r (take (length a) d ≡ a)
 last_front (Ok v) a c d h p = tt
 last_front (Err y) a c d h p = front_on a c d p h
+
+-- a piece, and one behind it whose result is returned
+pub two_put : {T E : Type 0} (r : Result T E) (a b c x y whole : List ℕ) → b ≡ a ++ x → IsPut b c y r → whole ≡ x ++ y → IsPut a c whole r
+two_put (Ok v) a b c x y whole p q e = (q.0 ∙ ap (λ (xs : List ℕ). xs ++ y) p ∙ append_assoc a x y ∙ ap (λ (ys : List ℕ). a ++ ys) (sym e), tt)
+two_put (Err k) a b c x y whole p q e = (tt, front_on a b c (kept_one a b x p) q.1)
+
+-- two pieces as one
+pub more_put : (a b c x y : List ℕ) → b ≡ a ++ x → c ≡ b ++ y → c ≡ a ++ (x ++ y)
+more_put a b c x y p q = q ∙ ap (λ (xs : List ℕ). xs ++ y) p ∙ append_assoc a x y

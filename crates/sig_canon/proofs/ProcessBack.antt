@@ -228,10 +228,10 @@ module _ (known : Known) (names : List (List ℕ)) (f g : ℕ → ℕ) (e : Draf
         (ap (λ (js : List Instr). outside (record p { labels = labels; instrs = js })) (append_assoc p.instrs (seen i ∷ []) (map seen is))) third))
 
     -- the lines of a process behind its first and that of where it keeps its messages
-    pub process-leads : (data : QueueData) (name : List ℕ) (is : List Instr) → AreRising labels → All (IsPlace (length is)) labels → All IsFine is →
-        Leads known (outside (bare_process data name)) (placed_lines names labels 1 is) (outside (record (bare_process data name) { labels = labels; instrs = map seen is }))
-    process-leads data name is rising places fine =
-        placed-lead is (bare_process data name) labels
+    pub process-leads : (queue_data : QueueData) (name : List ℕ) (is : List Instr) → AreRising labels → All (IsPlace (length is)) labels → All IsFine is →
+        Leads known (outside (bare_process queue_data name)) (placed_lines names labels 1 is) (outside (record (bare_process queue_data name) { labels = labels; instrs = map seen is }))
+    process-leads queue_data name is rising places fine =
+        placed-lead is (bare_process queue_data name) labels
         (record {
           all = refl;
           before = All-nil (λ (l : Label). l.place < 0 + 1);
@@ -244,18 +244,18 @@ module _ (known : Known) (names : List (List ℕ)) (f g : ℕ → ℕ) (e : Draf
 abbrev pub is_told : Version → QueueData → Bool
 is_told Two OffHeap = true
 is_told Two OnHeap = false
-is_told One data = false
+is_told One queue_data = false
 
 -- a process begins, and the line of where it keeps its messages was read or there is none
 abbrev pub begun_in : Draft → List ℕ → Version → Draft
 begun_in d name v = record d { version = v; section = Outside (bare_proc v name); told = false }
 
 abbrev pub told_in : Draft → List ℕ → Version → QueueData → Draft
-told_in d name v data = record d { version = v; section = Outside (bare_process data name); told = is_told v data }
+told_in d name v queue_data = record d { version = v; section = Outside (bare_process queue_data name); told = is_told v queue_data }
 
-pub data-lead : (known : Known) (d : Draft) (name : List ℕ) (v : Version) (data : QueueData) → MayKeep v data → Leads known (begun_in d name v) (data_lines v data) (told_in d name v data)
-data-lead known d name One OffHeap h = no_lines known (begun_in d name One)
-data-lead known d name One OnHeap h = absurd cc
-data-lead known d name Two OnHeap h = no_lines known (begun_in d name Two)
-data-lead known d name Two OffHeap h =
+pub told-lead : (known : Known) (d : Draft) (name : List ℕ) (v : Version) (queue_data : QueueData) → MayKeep v queue_data → Leads known (begun_in d name v) (data_lines v queue_data) (told_in d name v queue_data)
+told-lead known d name One OffHeap h = no_lines known (begun_in d name One)
+told-lead known d name One OnHeap h = absurd cc
+told-lead known d name Two OnHeap h = no_lines known (begun_in d name Two)
+told-lead known d name Two OffHeap h =
     one_line known (begun_in d name Two) (told_in d name Two OffHeap) (spaced (codes "message_queue_data") (codes "off_heap" ∷ [])) (form.QueueData OffHeap) (data_said known (begun_in d name Two) refl) refl

@@ -1,7 +1,6 @@
 -- What a line says is readable.
 use Rattle.std.proofs.Common.{◌≡◌, ℕ, List, [], ◌∷◌, length, All, IfSome, Bool, false, Option, Some, None, Result, codes, sym, subst}
 use Rattle.std.proofs.lemmas.List.Elements.{All-nil, All-cons}
-use Rattle.sig_patterns.specs.declared.clause.Clause.{Clause}
 use Rattle.sig_patterns.specs.declared.guard.Guard.{Guard}
 use Rattle.sig_patterns.specs.declared.var.Var.{Var}
 use Rattle.sig_patterns.specs.declared.pattern.Pattern.{Pattern}

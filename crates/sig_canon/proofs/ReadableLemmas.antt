@@ -9,7 +9,6 @@ use Rattle.sig_kinds.specs.declared.queue_data.QueueData.{QueueData}
 use Rattle.sig_patterns.specs.declared.clause.Clause.{Clause}
 use Rattle.sig_patterns.specs.declared.var.Var.{Var}
 use Rattle.sig_program.specs.declared.label.Label.{Label}
-use Rattle.sig_program.specs.declared.instruction.After.{After}
 use Rattle.sig_program.specs.declared.instruction.Instr.{Instr}
 use Rattle.sig_tokens.specs.declared.known.Known.TheVariants.{Any, Among}
 use Rattle.sig_reader.specs.declared.draft.Section.{Section}
@@ -40,7 +39,7 @@ use Rattle.sig_tokens.specs.Tokens.{tokens_of, IsNameToken, IsVariableToken}
 -- the process that is read, and the others
 record IsGood (v : Version) (count : ℕ) (p : Declared) : Type 0 where
   name : IsNameToken p.name
-  data : MayKeep v p.queue_data
+  messages : MayKeep v p.queue_data
   labels : All (λ (l : Label). IsNameToken l.name) p.labels
   distinct : AreDistinct (map (λ (l : Label). l.name) p.labels)
   instrs : All (IsReadableInstr v count) p.instrs
@@ -68,14 +67,14 @@ kept_may One = refl
 kept_may Two = tt
 
 -- a line tells it in version 2 alone
-told_may : (v : Version) (told : Bool) (p : Declared) (data : QueueData) → may_tell v told p ≡ true → MayKeep v data
-told_may One told p data h = absurd cc
-told_may Two told p data h = tt
+told_may : (v : Version) (told : Bool) (p : Declared) (queue_data : QueueData) → may_tell v told p ≡ true → MayKeep v queue_data
+told_may One told p queue_data h = absurd cc
+told_may Two told p queue_data h = tt
 
 empty-good : (v : Version) (count : ℕ) (name : List ℕ) → IsNameToken name → IsGood v count (bare_proc v name)
 empty-good v count name h = record {
   name = h;
-  data = kept_may v;
+  messages = kept_may v;
   labels = All-nil (λ (l : Label). IsNameToken l.name);
   distinct = AreDistinct.none;
   instrs = All-nil (IsReadableInstr v count);
@@ -96,7 +95,7 @@ begun-good count d name named h =
 instr-good : (v : Version) (count : ℕ) (p : Declared) (i : Instr) → IsReadableInstr v count i → IsGood v count p → IsGood v count (with_instr p i)
 instr-good v count p i k h = record {
   name = h.name;
-  data = h.data;
+  messages = h.messages;
   labels = h.labels;
   distinct = h.distinct;
   instrs = All-push (IsReadableInstr v count) p.instrs i h.instrs k;
@@ -110,7 +109,7 @@ labelled-good v count p name named h =
     (λ free. (
       record {
         name = h.name;
-        data = h.data;
+        messages = h.messages;
         labels = All-push (λ (l : Label). IsNameToken l.name) p.labels l h.labels named;
         distinct = subst AreDistinct (sym (map-append (λ (l : Label). l.name) p.labels (l ∷ [])))
             (distinct-push (map (λ (l : Label). l.name) p.labels) name h.distinct (free_name (λ (l : Label). l.name) p.labels name free));
@@ -134,11 +133,11 @@ module _ (count : ℕ) (draft : Draft) where
   abbrev AreGoodHere : List Clause → Type 0
   AreGoodHere clauses = All (IsReadableClause draft.version count) clauses
 
-  told-good : (p : Declared) (data : QueueData) → AreDistinct (names (draft.procs ++ p ∷ [])) → All IsGoodHere (draft.procs ++ p ∷ []) → MayKeep draft.version data →
-      IsGoodDraft count (record draft { section = Outside (record p { queue_data = data }); told = true })
-  told-good p data d h may =
+  told-good : (p : Declared) (queue_data : QueueData) → AreDistinct (names (draft.procs ++ p ∷ [])) → All IsGoodHere (draft.procs ++ p ∷ []) → MayKeep draft.version queue_data →
+      IsGoodDraft count (record draft { section = Outside (record p { queue_data = queue_data }); told = true })
+  told-good p queue_data d h may =
       let k : IsGoodHere p = all-last IsGoodHere draft.procs p h in
-      let m = changed p (record p { queue_data = data }) d h refl (record { name = k.name; data = may; labels = k.labels; distinct = k.distinct; instrs = k.instrs }) in
+      let m = changed p (record p { queue_data = queue_data }) d h refl (record { name = k.name; messages = may; labels = k.labels; distinct = k.distinct; instrs = k.instrs }) in
       record { names = m.names; procs = m.procs; receive = tt }
 
   with_clause-good : (using : Option Var) (clauses : List Clause) (c : Clause) → IsReadablePattern count c.pattern → IfSome c.guard IsReadableGuard → AreGoodHere clauses →
@@ -157,8 +156,8 @@ module _ (count : ℕ) (draft : Draft) where
   taken_at-good Before (form.Process name) d h o k = begun-good count (record draft { section = Before }) name k (record { names = d; procs = h; receive = tt })
   taken_at-good Before _ d h o k = tt
   taken_at-good (Outside p) (form.Process name) d h o k = begun-good count (record draft { section = Outside p }) name k (record { names = d; procs = h; receive = tt })
-  taken_at-good (Outside p) (form.QueueData data) d h o k =
-      holds-if (IsGoodDraft count) (may_tell draft.version draft.told p) _ _ (λ e. told-good p data d h (told_may draft.version draft.told p data e)) (λ _. tt)
+  taken_at-good (Outside p) (form.QueueData queue_data) d h o k =
+      holds-if (IsGoodDraft count) (may_tell draft.version draft.told p) _ _ (λ e. told-good p queue_data d h (told_may draft.version draft.told p queue_data e)) (λ _. tt)
   taken_at-good (Outside p) (form.Label name) d h o k =
       holds-on_ok (λ q. IsGoodHere q × (q.name ≡ p.name)) (IsGoodDraft count) (λ q. record draft { section = Outside q })
       (labelled p name) (labelled-good draft.version count p name k (all-last IsGoodHere draft.procs p h)) (λ q m. changed p q d h m.1 m.0)
@@ -208,7 +207,7 @@ walked v lines first s le e k =
       names = good.0;
       procs = λ i d lt.
           let h = each i d lt in
-          record { name = h.name; data = h.data; labels = h.labels; distinct = h.distinct; within = within i d lt; instrs = h.instrs };
+          record { name = h.name; messages = h.messages; labels = h.labels; distinct = h.distinct; within = within i d lt; instrs = h.instrs };
     }
 
 walked_twice : (v : Version) (lines : List (List ℕ)) (s : Program) (r : Result Program Fault) → length lines ≤ 2 ^ 30 → walk v Any lines ≡ r → (r >>= λ first. walk v (Among first) lines) ≡ Ok s → IsReadableScript s

@@ -1,5 +1,5 @@
 -- The walks over the lines of the canonical text give the script back.
-use Rattle.std.proofs.Common.{◌≡◌, ◌≢◌, ℕ, ◌<◌, ◌≤◌, codes, List, [], ◌∷◌, ◌++◌, length, map, All, Bool, true, false, if◌then◌else◌, nat_le, Option, Some, Result, Ok, refl, sym, ◌∙◌, ap, subst, arith, append_assoc, length-append}
+use Rattle.std.proofs.Common.{◌≡◌, ◌≢◌, ℕ, ◌<◌, ◌≤◌, codes, List, [], ◌∷◌, ◌++◌, length, map, All, Bool, true, false, nat_le, Option, Some, Result, Ok, refl, sym, ◌∙◌, ap, subst, arith, append_assoc, length-append}
 use Rattle.std.specs.List.{list_any, flat_map}
 use Rattle.std.specs.Str.{bytes_eq}
 use Rattle.std.specs.Option.{option_map_or}
@@ -9,7 +9,6 @@ use Rattle.std.proofs.lemmas.List.Elements.{All-head, All-map}
 use Rattle.sig_kinds.specs.declared.queue_data.QueueData.{QueueData}
 use Rattle.sig_program.specs.declared.label.Label.{Label}
 use Rattle.sig_program.specs.declared.instruction.Instr.{Instr}
-use Rattle.sig_tokens.specs.declared.fault.FaultKind.TheVariants.{Header}
 use Rattle.sig_reader.specs.declared.keyword.Keyword.TheVariants as keyword
 use Rattle.sig_tokens.specs.declared.known.Known.{Known}
 use Rattle.sig_tokens.specs.declared.known.Known.TheVariants.{Any, Among}
@@ -31,7 +30,7 @@ use Rattle.sig_canon.specs.ScriptText.{spaced, data_lines, placed_lines, process
 use Rattle.sig_canon.specs.ReadableScript.{IsReadableInstr, AreDistinct, MayKeep, IsReadableProc, IsReadableScript}
 use Rattle.sig_canon.proofs.DistinctLemmas.{all_after, name_free, distinct-before}
 use Rattle.sig_canon.proofs.WalkSteps.{Leads, no_lines, one_line, lines_joined, same_lines, one_more}
-use Rattle.sig_canon.proofs.ProcessBack.{process-leads, is_told, told_in, data-lead}
+use Rattle.sig_canon.proofs.ProcessBack.{process-leads, is_told, told_in, told-lead}
 use Rattle.sig_reader.proofs.Seen.{kept, zeroed, instr_seen}
 use Rattle.sig_canon.proofs.LineReads.{Reads, label_names, any_reads, among_reads, instr_kept, turns_said, process_said, lines_again}
 use Rattle.sig_tokens.specs.Tokens.{cut_of, tokens_of, IsNameToken}
@@ -137,13 +136,13 @@ module _ (known : Known) (f g : ℕ → ℕ) (s : Program) (readable : IsReadabl
       let here : All (IsReadableInstr s.version (length names)) p.instrs = subst (λ (n : ℕ). All (IsReadableInstr s.version n) p.instrs) count good.instrs in
       let fine : All (IsReadableInstr d.version (length names)) p.instrs = subst (λ (v : Version). All (IsReadableInstr v (length names)) p.instrs) (sym h.version) here in
       let lawful : All (IsInstrWithin (length (label_names p.labels))) p.instrs = subst (λ (n : ℕ). All (IsInstrWithin n) p.instrs) tags good.within.lawful in
-      let may : MayKeep d.version p.queue_data = subst (λ (v : Version). MayKeep v p.queue_data) (sym h.version) good.data in
+      let may : MayKeep d.version p.queue_data = subst (λ (v : Version). MayKeep v p.queue_data) (sym h.version) good.messages in
       let told : Draft = told_in (record d { procs = all_procs d }) p.name d.version p.queue_data in
-      let data = data-lead known (record d { procs = all_procs d }) p.name d.version p.queue_data may in
+      let telling = told-lead known (record d { procs = all_procs d }) p.name d.version p.queue_data may in
       let rest = process-leads known names f g told p.labels known_here good.labels good.distinct p.queue_data p.name p.instrs good.within.rising good.within.places (λ i e lt. (fine i e lt, lawful i e lt)) in
       let line : List ℕ = spaced (codes "process") (p.name ∷ []) in
       let placed : List (List ℕ) = placed_lines names p.labels 1 p.instrs in
-      let front = one_more known d (begun_as d p.name) told line (data_lines d.version p.queue_data) first data in
+      let front = one_more known d (begun_as d p.name) told line (data_lines d.version p.queue_data) first telling in
       same_lines known d (next d p) (process_lines s.version names p) ((line ∷ data_lines d.version p.queue_data) ++ placed)
       (ap (λ (v : Version). (line ∷ data_lines v p.queue_data) ++ placed) (sym h.version))
       (lines_joined known d told (next d p) (line ∷ data_lines d.version p.queue_data) placed front rest)

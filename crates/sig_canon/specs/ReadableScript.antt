@@ -164,7 +164,7 @@ MayKeep Two queue_data = Unit {0}
 -- a process that lines of this version may hold
 pub record IsReadableProc (version : Version) (count : ℕ) (p : Declared) : Type 0 where
   pub name : IsNameToken p.name
-  pub data : MayKeep version p.queue_data
+  pub messages : MayKeep version p.queue_data
   pub labels : All (λ (l : Label). IsNameToken l.name) p.labels
   pub distinct : AreDistinct (map (λ (l : Label). l.name) p.labels)
   pub within : IsWithin p

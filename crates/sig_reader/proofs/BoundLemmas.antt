@@ -79,8 +79,8 @@ fit_last n d p q h s = record {
 }
 
 -- messages kept elsewhere
-small_again : (n : ℕ) (p : Declared) (data : QueueData) → IsSmall n p → IsSmall n (record p { queue_data = data })
-small_again n p data h = record { instrs = h.instrs; labels = h.labels }
+small_again : (n : ℕ) (p : Declared) (queue_data : QueueData) → IsSmall n p → IsSmall n (record p { queue_data = queue_data })
+small_again n p queue_data h = record { instrs = h.instrs; labels = h.labels }
 
 -- where it was told
 fit_told : (n : ℕ) (d : Draft) (p q : Declared) →
@@ -119,9 +119,9 @@ fit_at n d Before (form.Turns m) h =
 fit_at n d Before (form.Process name) h = fit_begun n (record d { section = Before }) name h
 fit_at n d Before _ h = tt
 fit_at n d (Outside p) (form.Process name) h = fit_begun n (record d { section = Outside p }) name h
-fit_at n d (Outside p) (form.QueueData data) h =
-    let q : Declared = record p { queue_data = data } in
-    holds-if (IsFit (n + 1)) (may_tell d.version d.told p) _ _ (λ _. fit_told n d p q h (small_later n q (small_again n p data (all-last (IsSmall n) d.procs p h.small)))) (λ _. tt)
+fit_at n d (Outside p) (form.QueueData queue_data) h =
+    let q : Declared = record p { queue_data = queue_data } in
+    holds-if (IsFit (n + 1)) (may_tell d.version d.told p) _ _ (λ _. fit_told n d p q h (small_later n q (small_again n p queue_data (all-last (IsSmall n) d.procs p h.small)))) (λ _. tt)
 fit_at n d (Outside p) (form.Label name) h =
     holds-on_ok (IsSmall (n + 1)) (IsFit (n + 1)) (λ q. record d { section = Outside q }) (labelled p name)
     (small_labelled n p name (all-last (IsSmall n) d.procs p h.small)) (λ q s. fit_last n d p q h s)
@@ -531,11 +531,11 @@ module _ (s : Program) (n : ℕ) (d : Draft) (bounded : IfSome d.turns (λ t. t 
     receive = tt;
   }
 
-  told-meant : (p : Declared) (data : QueueData) → Each (IsMeant s) 0 (d.procs ++ p ∷ []) →
-      IsMeantDraft s (n + 1) (record d { section = Outside (record p { queue_data = data }); told = true })
-  told-meant p data h =
+  told-meant : (p : Declared) (queue_data : QueueData) → Each (IsMeant s) 0 (d.procs ++ p ∷ []) →
+      IsMeantDraft s (n + 1) (record d { section = Outside (record p { queue_data = queue_data }); told = true })
+  told-meant p queue_data h =
       let k : IsMeant s (length d.procs) p = current p h in
-      let m = changed p (record p { queue_data = data }) h (record { places = k.places; rising = k.rising; lawful = k.lawful; below = k.below }) in
+      let m = changed p (record p { queue_data = queue_data }) h (record { places = k.places; rising = k.rising; lawful = k.lawful; below = k.below }) in
       record { turns = m.turns; procs = m.procs; receive = tt }
 
   clause-more : (p : Declared) (r : Receiving) (c : Clause) → IsOpen s n (length d.procs) (Inside p r) →
@@ -575,8 +575,8 @@ module _ (s : Program) (n : ℕ) (d : Draft) (bounded : IfSome d.turns (λ t. t 
   taken_at-meant Before _ lt h o k = tt
   taken_at-meant (Outside p) (form.Process name) lt h o k =
       begun-meant s n (record d { section = Outside p }) name (record { turns = bounded; procs = h; receive = tt })
-  taken_at-meant (Outside p) (form.QueueData data) lt h o k =
-      holds-if (IsMeantDraft s (n + 1)) (may_tell d.version d.told p) _ _ (λ _. told-meant p data h) (λ _. tt)
+  taken_at-meant (Outside p) (form.QueueData queue_data) lt h o k =
+      holds-if (IsMeantDraft s (n + 1)) (may_tell d.version d.told p) _ _ (λ _. told-meant p queue_data h) (λ _. tt)
   taken_at-meant (Outside p) (form.Label name) lt h o k =
       holds-on_ok (IsMeant s (length d.procs)) (IsMeantDraft s (n + 1)) (λ q. record d { section = Outside q })
       (labelled p name) (label-more s (length d.procs) p name (current p h)) (λ q m. changed p q h m)

@@ -31,7 +31,7 @@ use Rattle.sig_reader.specs.Drafts.{blank, open_proc, all_procs, program_of, bar
 use Rattle.sig_reader.specs.Grammar.{located, finished, taken_if, line_taken, body, walk, walk_twice}
 use Rattle.sig_reader.proofs.BoundLemmas.{procs_within, script_sound}
 use Rattle.sig_tokens.proofs.LabelLemmas.{next, position-cons}
-use Rattle.sig_reader.proofs.Seen.{kept, zeroed, pattern_seen, clause_seen, after_seen, receiving_seen, instr_seen}
+use Rattle.sig_reader.proofs.Seen.{kept, zeroed, pattern_seen, clause_seen, receiving_seen, instr_seen}
 use Rattle.sig_reader.proofs.SeenLemmas.{instr_kept, pins_seen}
 use Rattle.sig_reader.proofs.OtherPhrases.{Sees, sees-of, sees-same, sees-if, sees-on_ok, sees-then}
 use Rattle.sig_reader.proofs.OtherForms.{AreSeen, form_seen, proc_seen, section_seen, draft_seen, said-sees}

@@ -19,7 +19,7 @@ use Rattle.sig_program.specs.declared.instruction.After.{After}
 use Rattle.sig_program.specs.declared.instruction.Instr.{Instr}
 use Rattle.sig_program.specs.Instructions.{Operand, an_expr, Said, AllSaid, operands_of, Spoken, Says, Receives, spoken}
 use Rattle.sig_reader.proofs.TableLemmas.{made_of, made_again}
-use Rattle.sig_reader.proofs.Seen.{kept, zeroed, expr_seen, expr_seen_step, pattern_seen, pattern_seen_step, clause_seen, after_seen, said_seen, all_seen, spoken_seen, instr_seen}
+use Rattle.sig_reader.proofs.Seen.{kept, expr_seen, expr_seen_step, pattern_seen, pattern_seen_step, clause_seen, after_seen, said_seen, all_seen, spoken_seen, instr_seen}
 
 -- ---- nothing changes in the second walk
 

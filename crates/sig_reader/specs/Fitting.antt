@@ -1,5 +1,5 @@
 -- The bounds that hold while a text is read.
-use Rattle.std.specs.Prelude.{ℕ, ◌≤◌, ◌^◌, length, All}
+use Rattle.std.specs.Prelude.{ℕ, ◌≤◌, length, All}
 use Rattle.sig_reader.specs.declared.draft.Draft.{Draft}
 use Rattle.sig_program.specs.Scripts.{Declared, most_processes}
 use Rattle.sig_reader.specs.Drafts.{all_procs}

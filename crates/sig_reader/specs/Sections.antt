@@ -1,6 +1,6 @@
 -- Where the next line stands behind a form that begins no process and tells no turns; by the version behind a clause, and behind the
 -- line of where messages are kept.
-use Rattle.std.specs.Prelude.{[], Bool, if◌then◌else◌, Option, Some, None, Result, Ok, Err}
+use Rattle.std.specs.Prelude.{Bool, if◌then◌else◌, Option, Some, Result, Ok, Err}
 use Rattle.sig_kinds.specs.declared.queue_data.QueueData.{QueueData}
 use Rattle.sig_patterns.specs.declared.clause.Clause.{Clause}
 use Rattle.sig_patterns.specs.declared.var.Var.{Var}

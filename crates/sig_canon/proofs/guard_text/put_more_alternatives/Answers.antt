@@ -1,6 +1,7 @@
-use Rattle.std.proofs.Common.{arith, take, codes, refl}
+use Rattle.std.proofs.Common.{arith, take, codes, refl, ap, ◌∙◌, ◌++◌, List}
 use Rattle.std.specs.List.{flat_map}
 use Rattle.std.proofs.lemmas.Bool.Decides.{nat_tests}
+use Rattle.sig_patterns.specs.declared.guard.Test.{Test}
 use Rattle.sig_canon.specs.Printing.{tests_behind}
 use Rattle.sig_canon.proofs.PrintLemmas.{refused, kept_front, each_put, all_put}
 use Rattle.sig_canon.proofs.guard_text.put_more_alternatives.Goals as goal
@@ -13,7 +14,8 @@ returns-in_err-put_tests c =
 pub loop-tests-preserved : goal.loop-tests-preserved
 loop-tests-preserved c =
     each_put (tests_behind (codes "or")) c.args.alternatives.now c.loop-tests.tests-index c.tests-item.result c.args.into.now.items c.loop-tests.into.items c.put_tests.new.into.items
-    (grind (arith, nat_tests, c.loop-tests-test.true)) c.tests-item.is c.loop-tests.invariant c.in_ok-put_tests.ensures.0
+    (grind (arith, nat_tests, c.loop-tests-test.true)) c.tests-item.is c.loop-tests.invariant
+    (c.in_ok-put_tests.ensures.0 ∙ ap (λ (ts : List Test). c.loop-tests.into.items ++ tests_behind (codes "or") ts) c.as_slice.ensures)
 
 pub returns : goal.returns
 returns c = (
