@@ -4,6 +4,8 @@ use Rattle.std.specs.Prelude.{All, IfSome, Option, Some, None, codes, filter_map
 use Rattle.std.specs.List.{list_all, flat_map}
 use Rattle.std.proofs.lemmas.List.{length-map}
 use Rattle.std.proofs.lemmas.List.Elements.{All-head, All-tail, All-map}
+use Rattle.sig_kinds.specs.declared.queue_data.QueueData.{QueueData}
+use Rattle.sig_kinds.specs.declared.queue_data.QueueData.TheVariants.{OnHeap, OffHeap}
 use Rattle.sig_patterns.specs.declared.clause.Clause.{Clause}
 use Rattle.sig_terms.proofs.Choices.{both_true}
 use Rattle.sig_program.specs.declared.version.Version.{Version}
@@ -17,7 +19,7 @@ use Rattle.sig_reader.specs.declared.keyword.Keyword.TheVariants as keyword
 use Rattle.sig_reader.specs.declared.form.Form.TheVariants as form
 use Rattle.sig_program.specs.Scripts.{Declared, Program, IsInstrWithin}
 use Rattle.sig_tokens.specs.Lines.{lines_of, onto_first}
-use Rattle.sig_canon.specs.ScriptText.{clause_line, after_lines, instr_lines, label_line, labels_there, placed_lines, process_lines, names_of, procs_lines, turns_line, header_line, script_lines, line_text, script_text}
+use Rattle.sig_canon.specs.ScriptText.{clause_line, after_lines, instr_lines, label_line, labels_there, data_lines, placed_lines, process_lines, names_of, procs_lines, turns_line, header_line, script_lines, line_text, script_text}
 use Rattle.sig_canon.specs.ReadableScript.{IsReadableClause, IsReadableInstr, IsReadableProc, IsReadableScript}
 use Rattle.sig_reader.proofs.Seen.{zeroed, instr_seen}
 use Rattle.sig_tokens.specs.Tokens.{IsNameToken}
@@ -94,6 +96,12 @@ IsPlain names labels = Reads Any 0 names labels zeroed zeroed
 one_clean : (lines : List (List ℕ)) (line : List ℕ) → lines ≡ line ∷ [] → list_all is_inline line ≡ true → AreClean lines
 one_clean lines line is clean = subst AreClean (sym is) (clean, tt)
 
+-- the line of where messages are kept
+data_clean : (v : Version) (queue_data : QueueData) → AreClean (data_lines v queue_data)
+data_clean One queue_data = tt
+data_clean Two OnHeap = tt
+data_clean Two OffHeap = (refl, tt)
+
 -- in a script of this version
 module _ (v : Version) where
   instr_line_clean : (lines : List (List ℕ)) (i : Instr) → IsInstrLine v Any 0 lines i → AreClean lines
@@ -154,20 +162,20 @@ module _ (v : Version) where
       (instr_clean names tags reads i (All-head (IsReadableInstr v (length names)) i is readable) (All-head (IsInstrWithin (length tags)) i is lawful)))
       (placed_clean names labels reads named (place + 1) is (All-tail (IsReadableInstr v (length names)) i is readable) (All-tail (IsInstrWithin (length tags)) i is lawful))
 
-  process_clean : (names : List (List ℕ)) (p : Declared) → All IsNameToken names → IsReadableProc v (length names) p → AreClean (process_lines names p)
+  process_clean : (names : List (List ℕ)) (p : Declared) → All IsNameToken names → IsReadableProc v (length names) p → AreClean (process_lines v names p)
   unfolding process_lines
   process_clean names p named readable =
       let tags : List (List ℕ) = map (λ (l : Label). l.name) p.labels in
       let reads = any_reads 0 names tags named (All-map IsNameToken (λ (l : Label). l.name) p.labels readable.labels) in
       let same : length p.labels ≡ length tags = sym (length-map p.labels (λ (l : Label). l.name)) in (
         line_clean v Any 0 _ keyword.Process _ (process_form v Any 0 p.name readable.name),
-        placed_clean names p.labels reads readable.labels 1 p.instrs readable.instrs (subst (λ n. All (IsInstrWithin n) p.instrs) same readable.within.lawful),
+        clean_on (data_lines v p.queue_data) (placed_lines names p.labels 1 p.instrs) (data_clean v p.queue_data) (placed_clean names p.labels reads readable.labels 1 p.instrs readable.instrs (subst (λ n. All (IsInstrWithin n) p.instrs) same readable.within.lawful)),
       )
 
-  procs_clean : (names : List (List ℕ)) (procs : List Declared) → All IsNameToken names → All (IsReadableProc v (length names)) procs → AreClean (flat_map (process_lines names) procs)
+  procs_clean : (names : List (List ℕ)) (procs : List Declared) → All IsNameToken names → All (IsReadableProc v (length names)) procs → AreClean (flat_map (process_lines v names) procs)
   procs_clean names [] named readable = tt
   procs_clean names (p ∷ ps) named readable =
-      clean_on (process_lines names p) _ (process_clean names p named (All-head (IsReadableProc v (length names)) p ps readable)) (procs_clean names ps named (All-tail (IsReadableProc v (length names)) p ps readable))
+      clean_on (process_lines v names p) _ (process_clean names p named (All-head (IsReadableProc v (length names)) p ps readable)) (procs_clean names ps named (All-tail (IsReadableProc v (length names)) p ps readable))
 
 -- ---- the lines of a script
 
@@ -184,6 +192,6 @@ unfolding script_text script_lines
 lines_again s readable =
     let names : List (List ℕ) = names_of s.procs in
     let same : length s.procs ≡ length names = sym (length-map s.procs (λ (p : Declared). p.name)) in
-    let procs : AreClean (procs_lines s.procs) = procs_clean s.version names s.procs (names_named s.version (length s.procs) s.procs readable.procs) (subst (λ n. All (IsReadableProc s.version n) s.procs) same readable.procs) in
+    let procs : AreClean (procs_lines s.version s.procs) = procs_clean s.version names s.procs (names_named s.version (length s.procs) s.procs readable.procs) (subst (λ n. All (IsReadableProc s.version n) s.procs) same readable.procs) in
     let turns = line_clean s.version Any 0 (turns_line s.turns) keyword.Turns (form.Turns s.turns) (turns_form s.version Any 0 s.turns readable.sound.turns) in
     lines_cut (script_lines s) (header_clean s.version, (turns, procs))

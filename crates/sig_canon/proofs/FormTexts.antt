@@ -1,9 +1,10 @@
 -- The lines of the canonical text, by the words with which they begin.
 use Rattle.std.proofs.Common.{◌≡◌, ◌≢◌, ℕ, ◌<◌, ◌≤◌, Bool, true, false, List, [], ◌∷◌, ◌++◌, length, map, refl, ap, ◌∙◌, arith}
-use Rattle.std.specs.Prelude.{All, IfSome, Option, Some, option_map, codes, decimal}
+use Rattle.std.specs.Prelude.{All, IfSome, Result, Option, Some, option_map, codes, decimal}
 use Rattle.std.specs.List.{concat}
 use Rattle.std.proofs.lemmas.List.Elements.{All-head, All-tail}
 use Rattle.sig_kinds.specs.declared.alias_mode.AliasMode.TheVariants as alias_mode
+use Rattle.sig_kinds.specs.declared.queue_data.QueueData.TheVariants.{OffHeap}
 use Rattle.sig_patterns.specs.declared.clause.Clause.{Clause}
 use Rattle.sig_patterns.specs.declared.var.Var.{Var}
 use Rattle.sig_patterns.specs.declared.expression.Expr.{Expr}
@@ -18,8 +19,9 @@ use Rattle.sig_program.specs.declared.script.TheConstants.{MOST_TURNS}
 use Rattle.sig_program.specs.Instructions.{Operand, an_expr, a_variable, a_label, a_switch, a_mode, a_flag, AllSaid, word_of, operands_of, instr_by, Spoken, Says, Receives, spoken}
 use Rattle.sig_program.specs.Parts.{said_exprs, said_vars, said_labels, said_mode, exprs_in, vars_in, targets_in, mode_by}
 use Rattle.sig_program.specs.Scripts.{IsInstrWithin}
-use Rattle.sig_tokens.specs.Faults.{on_ok}
-use Rattle.sig_reader.specs.Forms.{form_of}
+use Rattle.sig_tokens.specs.declared.fault.FaultKind.{FaultKind}
+use Rattle.sig_tokens.specs.Faults.{◌>>=◌, on_ok}
+use Rattle.sig_reader.specs.Forms.{queue_data_of, form_of}
 use Rattle.sig_canon.specs.ScriptText.{name_of_place, spaced, after_blank, expr_text, pattern_text, guard_text, switch_text, target_text, marker_text, clause_line, said_texts, spoken_lines, instr_lines, label_line, turns_line}
 use Rattle.sig_canon.specs.ReadableScript.{IsReadableExpr, IsReadableClause, IsReadableInstr}
 use Rattle.sig_reader.proofs.TableLemmas.{made_of, instr_as, word_means, word_named, AreOrderly, orderly}
@@ -52,6 +54,18 @@ process_form version known here name named = record {
   named = (omega arith, refl);
   means = refl;
   rest = rest_made version (name_rest version name named) (form_of known here keyword.Process) (form.Process name) (λ line ts found. ap (on_ok form.Process) found);
+}
+
+pub data_form : (version : Version) (known : Known) (here : ℕ) → IsFormLine version known here (spaced (codes "message_queue_data") (codes "off_heap" ∷ [])) keyword.QueueData (form.QueueData OffHeap)
+unfolding form_of
+data_form version known here = record {
+  front = codes "message_queue_data";
+  bytes = 32 ∷ (codes "off_heap" ++ []);
+  is = refl;
+  named = (omega arith, refl);
+  means = refl;
+  rest = rest_made version (name_rest version (codes "off_heap") (omega arith, refl)) (form_of known here keyword.QueueData) (form.QueueData OffHeap)
+      (λ line ts found. ap (λ (r : Result (List ℕ) FaultKind). on_ok form.QueueData (r >>= queue_data_of)) found);
 }
 
 pub label_form : (version : Version) (known : Known) (here : ℕ) (l : Label) → IsNameToken l.name → IsFormLine version known here (label_line l) keyword.Label (form.Label l.name)

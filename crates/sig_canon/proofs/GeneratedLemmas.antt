@@ -5,6 +5,7 @@ use Rattle.std.specs.Str.{bytes_eq}
 use Rattle.std.proofs.lemmas.List.FromFn.{length-range_with_len}
 use Rattle.std.proofs.lemmas.List.Elements.{All-nil, All-cons, All-head, All-tail, All-append, All-map}
 use Rattle.sig_kinds.specs.declared.alias_mode.AliasMode.TheVariants as alias_mode
+use Rattle.sig_kinds.specs.declared.queue_data.QueueData.TheVariants.{OffHeap}
 use Rattle.sig_patterns.specs.declared.clause.Clause.{Clause}
 use Rattle.sig_patterns.specs.declared.expression.Expr.{Expr}
 use Rattle.sig_patterns.specs.declared.expression.Expr.TheVariants as expr
@@ -217,7 +218,7 @@ generated_sound n = record {
 }
 
 pub client_is : (n : ℕ) (name own : List ℕ) (labels : List Label) (is : List Instr) → own ≡ name → labels ≡ [] → is ≡ flat_map call (range_with_len 1 n) →
-    record { name = own; labels = labels; instrs = is } ≡ client n name
+    record { name = own; queue_data = OffHeap; labels = labels; instrs = is } ≡ client n name
 unfolding client
 client_is n name own labels is e f g = cc
 

@@ -1,6 +1,7 @@
 -- Each line of the canonical text is read back as the form that it was printed from.
 use Rattle.std.proofs.Common.{◌≡◌, ℕ, ◌<◌, ◌≤◌, true, false, List, [], ◌∷◌, length, map, ap}
 use Rattle.std.specs.Prelude.{IfSome, Option, Some, option_map, Ok, codes}
+use Rattle.sig_kinds.specs.declared.queue_data.QueueData.TheVariants.{OffHeap}
 use Rattle.sig_patterns.specs.declared.clause.Clause.{Clause}
 use Rattle.sig_patterns.specs.declared.var.Var.{Var}
 use Rattle.sig_program.specs.declared.label.Label.{Label}
@@ -21,7 +22,7 @@ use Rattle.sig_reader.specs.Forms.{may_stand_at, may_stand, said}
 use Rattle.sig_tokens.specs.Tokens.{IsNameToken, IsVariableToken}
 use Rattle.sig_reader.proofs.Seen.{clause_seen, instr_seen}
 use Rattle.sig_canon.proofs.FormReads.{line_said}
-use Rattle.sig_canon.proofs.FormTexts.{turns_form, process_form, label_form, receive_form, clause_form, after_form, end_form, instr_form}
+use Rattle.sig_canon.proofs.FormTexts.{turns_form, process_form, data_form, label_form, receive_form, clause_form, after_form, end_form, instr_form}
 pub use Rattle.sig_canon.proofs.KnownNames.{Reads, any_reads, among_reads}
 pub use Rattle.sig_reader.proofs.SeenLemmas.{expr_kept, pattern_kept, instr_kept, pins_seen}
 pub use Rattle.sig_canon.proofs.FormTexts.{is_receive}
@@ -42,6 +43,10 @@ turns_said known d n here few = line_said known d (turns_line n) keyword.Turns (
 pub process_said : (known : Known) (d : Draft) (name : List ℕ) → may_stand d keyword.Process ≡ true → IsNameToken name →
     said known d (spaced (codes "process") (name ∷ [])) ≡ Ok (Some (form.Process name))
 process_said known d name here named = line_said known d (spaced (codes "process") (name ∷ [])) keyword.Process (form.Process name) (process_form d.version known (length d.procs) name named) here
+
+pub data_said : (known : Known) (d : Draft) → may_stand d keyword.QueueData ≡ true →
+    said known d (spaced (codes "message_queue_data") (codes "off_heap" ∷ [])) ≡ Ok (Some (form.QueueData OffHeap))
+data_said known d here = line_said known d (spaced (codes "message_queue_data") (codes "off_heap" ∷ [])) keyword.QueueData (form.QueueData OffHeap) (data_form d.version known (length d.procs)) here
 
 pub label_said : (known : Known) (d : Draft) (l : Label) → may_stand d keyword.Label ≡ true → IsNameToken l.name →
     said known d (label_line l) ≡ Ok (Some (form.Label l.name))

@@ -8,7 +8,7 @@ use Rattle.sig_program.specs.declared.instruction.Instr.{Instr}
 use Rattle.sig_program.specs.Instructions.{Spoken, Says, Receives, spoken}
 use Rattle.sig_program.specs.declared.version.Version.{Version}
 use Rattle.sig_program.specs.Scripts.{Declared}
-use Rattle.sig_canon.specs.ScriptText.{spoken_lines, instr_lines, header_line, turns_line, procs_lines, script_lines, script_text, line_text}
+use Rattle.sig_canon.specs.ScriptText.{spaced, spoken_lines, instr_lines, data_lines, placed_lines, process_lines, header_line, turns_line, procs_lines, script_lines, script_text, line_text}
 use Rattle.sig_canon.specs.Printing.{first_of, rest_of}
 use Rattle.sig_terms.specs.Putting.{IsPut}
 
@@ -51,9 +51,16 @@ kept_more a b piece c p e = front_on a b c p (ap (take (length b)) e ∙ take_at
 
 -- a script's text is its first line, that of its turns, and those of its processes
 pub script_split : (version : Version) (turns : ℕ) (procs : List Declared) →
-    script_text (record { version = version; turns = turns; procs = procs }) ≡ (line_text (header_line version) ++ line_text (turns_line turns)) ++ flat_map line_text (procs_lines procs)
+    script_text (record { version = version; turns = turns; procs = procs }) ≡ (line_text (header_line version) ++ line_text (turns_line turns)) ++ flat_map line_text (procs_lines version procs)
 unfolding script_lines script_text
-script_split version turns procs = sym (append_assoc (line_text (header_line version)) (line_text (turns_line turns)) (flat_map line_text (procs_lines procs)))
+script_split version turns procs = sym (append_assoc (line_text (header_line version)) (line_text (turns_line turns)) (flat_map line_text (procs_lines version procs)))
+
+-- a process's text is its first line, that of where it keeps its messages, and those behind
+pub process_split : (version : Version) (names : List (List ℕ)) (p : Declared) →
+    flat_map line_text (process_lines version names p)
+      ≡ (line_text (spaced (codes "process") (p.name ∷ [])) ++ flat_map line_text (data_lines version p.queue_data)) ++ flat_map line_text (placed_lines names p.labels 1 p.instrs)
+unfolding process_lines
+process_split version names p = flat_map-append line_text (spaced (codes "process") (p.name ∷ []) ∷ data_lines version p.queue_data) (placed_lines names p.labels 1 p.instrs)
 
 -- behind the texts of the items so far, that of one item more
 pub each_put : {X : Type 0} (t : X → List ℕ) (xs : List X) (i : ℕ) (x : X) (a b c : List ℕ) → i < length xs → x ≡ get_or xs i x → b ≡ a ++ flat_map t (take i xs) → c ≡ b ++ t x → c ≡ a ++ flat_map t (take (i + 1) xs)

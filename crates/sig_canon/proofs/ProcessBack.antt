@@ -1,11 +1,15 @@
 -- The lines of a process are read back.
-use Rattle.std.proofs.Common.{◌≡◌, ℕ, suc, ◌+◌, ◌<◌, ◌≤◌, List, [], ◌∷◌, ◌++◌, length, map, All, IfSome, true, Option, Some, None, Ok, refl, sym, ◌∙◌, ap, subst, arith, append_assoc, length-append, codes}
+use Rattle.std.proofs.Common.{◌≡◌, ℕ, suc, ◌+◌, ◌<◌, ◌≤◌, List, [], ◌∷◌, ◌++◌, length, map, All, IfSome, true, false, Option, Some, None, Ok, refl, sym, ◌∙◌, ap, subst, arith, append_assoc, length-append, codes}
 use Rattle.std.specs.Prelude.{option_map, option_to_list, filter_map}
 use Rattle.std.specs.List.{cons_option}
 use Rattle.std.proofs.lemmas.List.{append-nil, map-append}
 use Rattle.std.proofs.lemmas.List.Elements.{All-nil, All-cons, All-head, All-tail, All-append, All-weaker}
+use Rattle.sig_kinds.specs.declared.queue_data.QueueData.{QueueData}
+use Rattle.sig_kinds.specs.declared.queue_data.QueueData.TheVariants.{OnHeap, OffHeap}
 use Rattle.sig_patterns.specs.declared.clause.Clause.{Clause}
 use Rattle.sig_patterns.specs.declared.var.Var.{Var}
+use Rattle.sig_program.specs.declared.version.Version.{Version}
+use Rattle.sig_program.specs.declared.version.Version.TheVariants.{One, Two}
 use Rattle.sig_program.specs.declared.label.Label.{Label}
 use Rattle.sig_program.specs.declared.instruction.After.{After}
 use Rattle.sig_program.specs.declared.instruction.Instr.{Instr}
@@ -16,14 +20,14 @@ use Rattle.sig_reader.specs.declared.draft.Draft.{Draft}
 use Rattle.sig_reader.specs.declared.form.Form.TheVariants as form
 use Rattle.sig_program.specs.Scripts.{Declared, AreMarked, IsInstrWithin, IsPlace, AreRising, bare_process}
 use Rattle.sig_program.specs.declared.instruction.Receiving.{Receiving}
-use Rattle.sig_reader.specs.Drafts.{with_instr, is_marked, taken}
-use Rattle.sig_canon.specs.ScriptText.{spaced, marker_text, target_text, clause_line, after_lines, instr_lines, label_line, labels_there, placed_lines}
-use Rattle.sig_canon.specs.ReadableScript.{IsReadableClause, IsReadableInstr, AreDistinct}
+use Rattle.sig_reader.specs.Drafts.{bare_proc, with_instr, is_marked, taken}
+use Rattle.sig_canon.specs.ScriptText.{spaced, marker_text, target_text, clause_line, after_lines, instr_lines, label_line, labels_there, data_lines, placed_lines}
+use Rattle.sig_canon.specs.ReadableScript.{IsReadableClause, IsReadableInstr, AreDistinct, MayKeep}
 use Rattle.sig_canon.proofs.DistinctLemmas.{all_before, all_after, name_free, distinct-before, distinct-front}
 use Rattle.sig_canon.proofs.LabelOrder.{StandAt, StandFrom, StandBefore, IsCut, cut_at, found_there, none_later}
 use Rattle.sig_canon.proofs.WalkSteps.{Leads, no_lines, one_line, lines_joined, same_lines, same_end, one_more}
 use Rattle.sig_reader.proofs.Seen.{pattern_seen, clause_seen, after_seen, receiving_seen, instr_seen}
-use Rattle.sig_canon.proofs.LineReads.{Reads, label_names, IsSaid, pins_seen, label_said, instr_said, receive_said, clause_said, after_said, end_said}
+use Rattle.sig_canon.proofs.LineReads.{Reads, label_names, IsSaid, pins_seen, data_said, label_said, instr_said, receive_said, clause_said, after_said, end_said}
 use Rattle.sig_tokens.specs.Tokens.{IsNameToken}
 
 -- the target of a clause, and that of an `after`, are labels
@@ -223,11 +227,11 @@ module _ (known : Known) (names : List (List ℕ)) (f g : ℕ → ℕ) (e : Draf
         (same_end known (outside r) (outside (record r { labels = labels; instrs = r.instrs ++ map seen is })) end (placed_lines names labels (length r.instrs + 1) is)
         (ap (λ (js : List Instr). outside (record p { labels = labels; instrs = js })) (append_assoc p.instrs (seen i ∷ []) (map seen is))) third))
 
-    -- all lines of a process behind its first
-    pub process-leads : (name : List ℕ) (is : List Instr) → AreRising labels → All (IsPlace (length is)) labels → All IsFine is →
-        Leads known (outside (bare_process name)) (placed_lines names labels 1 is) (outside (record (bare_process name) { labels = labels; instrs = map seen is }))
-    process-leads name is rising places fine =
-        placed-lead is (bare_process name) labels
+    -- the lines of a process behind its first and that of where it keeps its messages
+    pub process-leads : (queue_data : QueueData) (name : List ℕ) (is : List Instr) → AreRising labels → All (IsPlace (length is)) labels → All IsFine is →
+        Leads known (outside (bare_process queue_data name)) (placed_lines names labels 1 is) (outside (record (bare_process queue_data name) { labels = labels; instrs = map seen is }))
+    process-leads queue_data name is rising places fine =
+        placed-lead is (bare_process queue_data name) labels
         (record {
           all = refl;
           before = All-nil (λ (l : Label). l.place < 0 + 1);
@@ -235,3 +239,23 @@ module _ (known : Known) (names : List (List ℕ)) (f g : ℕ → ℕ) (e : Draf
           within = All-weaker (IsPlace (length is)) (λ (l : Label). l.place ≤ 0 + length is + 1) (λ l k. omega (arith, k.1)) labels places;
           rising = rising;
         }) fine
+
+-- where a process keeps its messages, and whether a line has told it
+abbrev pub is_told : Version → QueueData → Bool
+is_told Two OffHeap = true
+is_told Two OnHeap = false
+is_told One queue_data = false
+
+-- a process begins, and the line of where it keeps its messages was read or there is none
+abbrev pub begun_in : Draft → List ℕ → Version → Draft
+begun_in d name v = record d { version = v; section = Outside (bare_proc v name); told = false }
+
+abbrev pub told_in : Draft → List ℕ → Version → QueueData → Draft
+told_in d name v queue_data = record d { version = v; section = Outside (bare_process queue_data name); told = is_told v queue_data }
+
+pub told-lead : (known : Known) (d : Draft) (name : List ℕ) (v : Version) (queue_data : QueueData) → MayKeep v queue_data → Leads known (begun_in d name v) (data_lines v queue_data) (told_in d name v queue_data)
+told-lead known d name One OffHeap h = no_lines known (begun_in d name One)
+told-lead known d name One OnHeap h = absurd cc
+told-lead known d name Two OnHeap h = no_lines known (begun_in d name Two)
+told-lead known d name Two OffHeap h =
+    one_line known (begun_in d name Two) (told_in d name Two OffHeap) (spaced (codes "message_queue_data") (codes "off_heap" ∷ [])) (form.QueueData OffHeap) (data_said known (begun_in d name Two) refl) refl

@@ -22,7 +22,7 @@ use Rattle.sig_tokens.specs.Faults.{◌>>=◌, on_ok}
 use Rattle.sig_tokens.specs.Tokens.{text, tokens_of, IsNameToken, IsVariableToken}
 use Rattle.sig_tokens.specs.Names.{label_of, name_at, variable_at}
 use Rattle.sig_tokens.specs.PatternTexts.{pattern_of}
-use Rattle.sig_reader.specs.Forms.{operand_at, all_said, mode_of, flag_of, switch_of, word_at, keyword_of, may_stand, ends, arrow_of, count_from, turns_of, whole_name, marker_of, behind_pattern, on_of, instr_of, form_of, form_behind, said_by, said}
+use Rattle.sig_reader.specs.Forms.{operand_at, all_said, mode_of, flag_of, switch_of, word_at, keyword_of, may_stand, ends, arrow_of, count_from, turns_of, whole_name, queue_data_at, marker_of, behind_pattern, on_of, instr_of, form_of, form_behind, said_by, said}
 use Rattle.sig_canon.specs.ReadableScript.{IsReadableExpr, IsReadablePattern, IsReadableGuard, IsReadableClause, IsReadableInstr}
 use Rattle.sig_reader.proofs.TableLemmas.{spoken_again, instr_as}
 use Rattle.sig_reader.proofs.BoundTermLemmas.{Holds, anything, holds-if, holds-on_ok, holds-then, holds-ends}
@@ -153,6 +153,7 @@ module _ (v : Version) (s : Program) (here : ℕ) (line : List ℕ) where
   unfolding form_of
   form-read keyword.Turns ts h = turns-read ts
   form-read keyword.Process ts h = holds-on_ok IsNameToken IsForm form.Process (whole_name line ts) (whole_name-read ts h) (λ n k. k)
+  form-read keyword.QueueData ts h = holds-on_ok (λ _. Unit {0}) IsForm form.QueueData (queue_data_at line ts) (anything (queue_data_at line ts)) (λ q _. tt)
   form-read keyword.Label ts h = holds-on_ok IsNameToken IsForm form.Label (whole_name line ts) (whole_name-read ts h) (λ n k. k)
   form-read keyword.Receive ts h = holds-on_ok IsMarker IsForm form.Receive (marker_of line ts) (marker-read ts h) (λ u k. k)
   form-read keyword.On ts h = on-read ts h

@@ -5,6 +5,7 @@ use Rattle.std.specs.Str.{bytes_eq}
 use Rattle.std.proofs.lemmas.Bool.Decides.{nat_tests}
 use Rattle.std.proofs.lemmas.List.{map-append}
 use Rattle.std.proofs.lemmas.List.Elements.{All-nil, All-push}
+use Rattle.sig_kinds.specs.declared.queue_data.QueueData.{QueueData}
 use Rattle.sig_patterns.specs.declared.clause.Clause.{Clause}
 use Rattle.sig_patterns.specs.declared.var.Var.{Var}
 use Rattle.sig_program.specs.declared.label.Label.{Label}
@@ -14,17 +15,17 @@ use Rattle.sig_reader.specs.declared.draft.Section.{Section}
 use Rattle.sig_reader.specs.declared.draft.Section.TheVariants.{Before, Outside, Inside}
 use Rattle.sig_reader.specs.declared.draft.Draft.{Draft}
 use Rattle.sig_program.specs.declared.version.Version.{Version}
-use Rattle.sig_program.specs.declared.version.Version.TheVariants.{One}
+use Rattle.sig_program.specs.declared.version.Version.TheVariants.{One, Two}
 use Rattle.sig_reader.specs.declared.form.Form.{Form}
 use Rattle.sig_reader.specs.declared.form.Form.TheVariants as form
-use Rattle.sig_program.specs.Scripts.{Declared, Program, bare_process}
+use Rattle.sig_program.specs.Scripts.{Declared, Program, most_processes}
 use Rattle.sig_tokens.specs.Faults.{Fault, ◌>>=◌}
 use Rattle.sig_tokens.specs.Lines.{lines_of}
 use Rattle.sig_reader.specs.Forms.{said}
-use Rattle.sig_reader.specs.Drafts.{blank, open_proc, all_procs, begun, labelled, with_instr, is_marked, may_guard, with_clause, taken_at}
+use Rattle.sig_reader.specs.Drafts.{blank, open_proc, all_procs, kept_in, bare_proc, begun, may_tell, labelled, with_instr, is_marked, may_guard, with_clause, taken_at}
 use Rattle.sig_reader.specs.Grammar.{taken_if, line_taken, walk, header_of, script_behind, script_of_lines, script_of}
-use Rattle.sig_canon.specs.ReadableScript.{IsReadablePattern, IsReadableGuard, IsReadableClause, IsReadableInstr, AreDistinct, IsReadableScript}
-use Rattle.sig_program.specs.declared.script.TheConstants.{MOST_PROCESSES, MOST_TURNS}
+use Rattle.sig_canon.specs.ReadableScript.{IsReadablePattern, IsReadableGuard, IsReadableClause, IsReadableInstr, AreDistinct, MayKeep, IsReadableScript}
+use Rattle.sig_program.specs.declared.script.TheConstants.{MOST_TURNS}
 use Rattle.sig_program.specs.declared.instruction.Receiving.{Receiving}
 use Rattle.sig_program.specs.declared.instruction.Instr.TheVariants as instr
 use Rattle.sig_reader.specs.declared.reader.TheConstants.{MOST_BYTES}
@@ -38,6 +39,7 @@ use Rattle.sig_tokens.specs.Tokens.{tokens_of, IsNameToken, IsVariableToken}
 -- the process that is read, and the others
 record IsGood (v : Version) (count : ℕ) (p : Declared) : Type 0 where
   name : IsNameToken p.name
+  messages : MayKeep v p.queue_data
   labels : All (λ (l : Label). IsNameToken l.name) p.labels
   distinct : AreDistinct (map (λ (l : Label). l.name) p.labels)
   instrs : All (IsReadableInstr v count) p.instrs
@@ -59,9 +61,20 @@ names-last : (ps : List Declared) (p q : Declared) → q.name ≡ p.name → nam
 names-last ps p q e =
     map-append (λ (p : Declared). p.name) ps (p ∷ []) ∙ ap (λ (name : List ℕ). names ps ++ name ∷ []) (sym e) ∙ sym (map-append (λ (p : Declared). p.name) ps (q ∷ []))
 
-empty-good : (v : Version) (count : ℕ) (name : List ℕ) → IsNameToken name → IsGood v count (bare_process name)
+-- where messages are kept that no line tells of
+kept_may : (v : Version) → MayKeep v (kept_in v)
+kept_may One = refl
+kept_may Two = tt
+
+-- a line tells it in version 2 alone
+told_may : (v : Version) (told : Bool) (p : Declared) (queue_data : QueueData) → may_tell v told p ≡ true → MayKeep v queue_data
+told_may One told p queue_data h = absurd cc
+told_may Two told p queue_data h = tt
+
+empty-good : (v : Version) (count : ℕ) (name : List ℕ) → IsNameToken name → IsGood v count (bare_proc v name)
 empty-good v count name h = record {
   name = h;
+  messages = kept_may v;
   labels = All-nil (λ (l : Label). IsNameToken l.name);
   distinct = AreDistinct.none;
   instrs = All-nil (IsReadableInstr v count);
@@ -69,9 +82,9 @@ empty-good v count name h = record {
 
 begun-good : (count : ℕ) (d : Draft) (name : List ℕ) → IsNameToken name → IsGoodDraft count d → Holds (IsGoodDraft count) (begun d name)
 begun-good count d name named h =
-    let p : Declared = bare_process name in
+    let p : Declared = bare_proc d.version name in
     holds-if (IsGoodDraft count) (list_any (λ (p : Declared). bytes_eq p.name name) (all_procs d)) _ _ (λ _. tt)
-    (λ free. holds-if (IsGoodDraft count) (nat_le MOST_PROCESSES (length (all_procs d))) _ _ (λ _. tt)
+    (λ free. holds-if (IsGoodDraft count) (nat_le (most_processes d.version) (length (all_procs d))) _ _ (λ _. tt)
     (λ _. record {
       names = subst AreDistinct (sym (map-append (λ (p : Declared). p.name) (all_procs d) (p ∷ [])))
           (distinct-push (names (all_procs d)) name h.names (free_name (λ (p : Declared). p.name) (all_procs d) name free));
@@ -82,6 +95,7 @@ begun-good count d name named h =
 instr-good : (v : Version) (count : ℕ) (p : Declared) (i : Instr) → IsReadableInstr v count i → IsGood v count p → IsGood v count (with_instr p i)
 instr-good v count p i k h = record {
   name = h.name;
+  messages = h.messages;
   labels = h.labels;
   distinct = h.distinct;
   instrs = All-push (IsReadableInstr v count) p.instrs i h.instrs k;
@@ -95,6 +109,7 @@ labelled-good v count p name named h =
     (λ free. (
       record {
         name = h.name;
+        messages = h.messages;
         labels = All-push (λ (l : Label). IsNameToken l.name) p.labels l h.labels named;
         distinct = subst AreDistinct (sym (map-append (λ (l : Label). l.name) p.labels (l ∷ [])))
             (distinct-push (map (λ (l : Label). l.name) p.labels) name h.distinct (free_name (λ (l : Label). l.name) p.labels name free));
@@ -118,6 +133,13 @@ module _ (count : ℕ) (draft : Draft) where
   abbrev AreGoodHere : List Clause → Type 0
   AreGoodHere clauses = All (IsReadableClause draft.version count) clauses
 
+  told-good : (p : Declared) (queue_data : QueueData) → AreDistinct (names (draft.procs ++ p ∷ [])) → All IsGoodHere (draft.procs ++ p ∷ []) → MayKeep draft.version queue_data →
+      IsGoodDraft count (record draft { section = Outside (record p { queue_data = queue_data }); told = true })
+  told-good p queue_data d h may =
+      let k : IsGoodHere p = all-last IsGoodHere draft.procs p h in
+      let m = changed p (record p { queue_data = queue_data }) d h refl (record { name = k.name; messages = may; labels = k.labels; distinct = k.distinct; instrs = k.instrs }) in
+      record { names = m.names; procs = m.procs; receive = tt }
+
   with_clause-good : (using : Option Var) (clauses : List Clause) (c : Clause) → IsReadablePattern count c.pattern → IfSome c.guard IsReadableGuard → AreGoodHere clauses →
       Holds AreGoodHere (with_clause draft.version using clauses c)
   with_clause-good using clauses c k g h =
@@ -134,6 +156,8 @@ module _ (count : ℕ) (draft : Draft) where
   taken_at-good Before (form.Process name) d h o k = begun-good count (record draft { section = Before }) name k (record { names = d; procs = h; receive = tt })
   taken_at-good Before _ d h o k = tt
   taken_at-good (Outside p) (form.Process name) d h o k = begun-good count (record draft { section = Outside p }) name k (record { names = d; procs = h; receive = tt })
+  taken_at-good (Outside p) (form.QueueData queue_data) d h o k =
+      holds-if (IsGoodDraft count) (may_tell draft.version draft.told p) _ _ (λ e. told-good p queue_data d h (told_may draft.version draft.told p queue_data e)) (λ _. tt)
   taken_at-good (Outside p) (form.Label name) d h o k =
       holds-on_ok (λ q. IsGoodHere q × (q.name ≡ p.name)) (IsGoodDraft count) (λ q. record draft { section = Outside q })
       (labelled p name) (labelled-good draft.version count p name k (all-last IsGoodHere draft.procs p h)) (λ q m. changed p q d h m.1 m.0)
@@ -183,7 +207,7 @@ walked v lines first s le e k =
       names = good.0;
       procs = λ i d lt.
           let h = each i d lt in
-          record { name = h.name; labels = h.labels; distinct = h.distinct; within = within i d lt; instrs = h.instrs };
+          record { name = h.name; messages = h.messages; labels = h.labels; distinct = h.distinct; within = within i d lt; instrs = h.instrs };
     }
 
 walked_twice : (v : Version) (lines : List (List ℕ)) (s : Program) (r : Result Program Fault) → length lines ≤ 2 ^ 30 → walk v Any lines ≡ r → (r >>= λ first. walk v (Among first) lines) ≡ Ok s → IsReadableScript s

@@ -6,6 +6,7 @@ use Rattle.std.specs.Option.{option_map_or}
 use Rattle.std.proofs.lemmas.Bool.Decides.{nat_tests}
 use Rattle.std.proofs.lemmas.List.{append-nil, map-append, length-map}
 use Rattle.std.proofs.lemmas.List.Elements.{All-head, All-map}
+use Rattle.sig_kinds.specs.declared.queue_data.QueueData.{QueueData}
 use Rattle.sig_program.specs.declared.label.Label.{Label}
 use Rattle.sig_program.specs.declared.instruction.Instr.{Instr}
 use Rattle.sig_reader.specs.declared.keyword.Keyword.TheVariants as keyword
@@ -17,19 +18,19 @@ use Rattle.sig_reader.specs.declared.draft.Draft.{Draft}
 use Rattle.sig_program.specs.declared.version.Version.{Version}
 use Rattle.sig_program.specs.declared.version.Version.TheVariants.{One, Two}
 use Rattle.sig_reader.specs.declared.form.Form.TheVariants as form
-use Rattle.sig_program.specs.declared.script.TheConstants.{DEFAULT_TURNS, MOST_PROCESSES, MOST_TURNS}
+use Rattle.sig_program.specs.declared.script.TheConstants.{DEFAULT_TURNS, MOST_TURNS}
 use Rattle.sig_reader.specs.declared.reader.TheConstants.{MOST_BYTES}
-use Rattle.sig_program.specs.Scripts.{Declared, Program, IsInstrWithin, bare_process}
+use Rattle.sig_program.specs.Scripts.{Declared, Program, IsInstrWithin, bare_process, most_processes}
 use Rattle.sig_tokens.specs.Faults.{Fault, ◌>>=◌}
 use Rattle.sig_tokens.specs.Names.{labels_at}
 use Rattle.sig_reader.specs.Forms.{may_stand_at}
-use Rattle.sig_reader.specs.Drafts.{blank, all_procs, program_of, begun, taken_at, taken}
+use Rattle.sig_reader.specs.Drafts.{blank, all_procs, program_of, bare_proc, begun, taken_at, taken}
 use Rattle.sig_reader.specs.Grammar.{finished, body, walk, header_of, script_behind, script_of_lines, script_of}
-use Rattle.sig_canon.specs.ScriptText.{spaced, process_lines, names_of, procs_lines, turns_line, header_line, script_lines, script_text}
-use Rattle.sig_canon.specs.ReadableScript.{IsReadableInstr, AreDistinct, IsReadableProc, IsReadableScript}
+use Rattle.sig_canon.specs.ScriptText.{spaced, data_lines, placed_lines, process_lines, names_of, procs_lines, turns_line, header_line, script_lines, script_text}
+use Rattle.sig_canon.specs.ReadableScript.{IsReadableInstr, AreDistinct, MayKeep, IsReadableProc, IsReadableScript}
 use Rattle.sig_canon.proofs.DistinctLemmas.{all_after, name_free, distinct-before}
-use Rattle.sig_canon.proofs.WalkSteps.{Leads, no_lines, one_line, lines_joined, one_more}
-use Rattle.sig_canon.proofs.ProcessBack.{process-leads}
+use Rattle.sig_canon.proofs.WalkSteps.{Leads, no_lines, one_line, lines_joined, same_lines, one_more}
+use Rattle.sig_canon.proofs.ProcessBack.{process-leads, is_told, told_in, told-lead}
 use Rattle.sig_reader.proofs.Seen.{kept, zeroed, instr_seen}
 use Rattle.sig_canon.proofs.LineReads.{Reads, label_names, any_reads, among_reads, instr_kept, turns_said, process_said, lines_again}
 use Rattle.sig_tokens.specs.Tokens.{cut_of, tokens_of, IsNameToken}
@@ -67,14 +68,14 @@ ends-well n d (Outside p) h = refl
 ends-well n d (Inside p r) h = absurd cc
 
 abbrev begun_as : Draft → List ℕ → Draft
-begun_as d name = record d { procs = all_procs d; section = Outside (bare_process name) }
+begun_as d name = record d { procs = all_procs d; section = Outside (bare_proc d.version name); told = false }
 
-begun-again : (d : Draft) (name : List ℕ) → list_any (λ (p : Declared). bytes_eq p.name name) (all_procs d) ≡ false → nat_le MOST_PROCESSES (length (all_procs d)) ≡ false →
+begun-again : (d : Draft) (name : List ℕ) → list_any (λ (p : Declared). bytes_eq p.name name) (all_procs d) ≡ false → nat_le (most_processes d.version) (length (all_procs d)) ≡ false →
     begun d name ≡ Ok (begun_as d name)
 begun-again d name free room = rw (free, room) refl
 
-has-room : (n m : ℕ) → n < m → m ≤ MOST_PROCESSES → nat_le MOST_PROCESSES n ≡ false
-has-room n m lt le = grind (arith, nat_tests)
+has-room : (most n m : ℕ) → n < m → m ≤ most → nat_le most n ≡ false
+has-room most n m lt le = grind (arith, nat_tests)
 
 -- a process among the others
 length-behind : (done ps : List Declared) (p : Declared) → length done < length (done ++ p ∷ ps)
@@ -96,7 +97,7 @@ module _ (known : Known) (f g : ℕ → ℕ) (s : Program) (readable : IsReadabl
     closed : is_closed d.section ≡ true
 
   abbrev next : Draft → Declared → Draft
-  next d p = record d { procs = all_procs d; section = Outside (seen p) }
+  next d p = record d { procs = all_procs d; section = Outside (seen p); told = is_told d.version p.queue_data }
 
   next-at : (done : List Declared) (p : Declared) (d : Draft) → IsAt done d → IsAt (done ++ p ∷ []) (next d p)
   next-at done p d h = record {
@@ -120,12 +121,13 @@ module _ (known : Known) (f g : ℕ → ℕ) (s : Program) (readable : IsReadabl
       let same : names_of done ≡ names_of (all_procs d) = sym (ap names_of h.procs ∙ names-seen f g done) in
       name_free (λ (q : Declared). q.name) (all_procs d) p.name (subst (λ (ns : List (List ℕ)). All (λ other. other ≢ p.name) ns) same (distinct-before (names_of done) p.name (names_of ps) apart))
 
-  process-lead : (done ps : List Declared) (p : Declared) (d : Draft) → s.procs ≡ done ++ p ∷ ps → IsAt done d → Leads known d (process_lines names p) (next d p)
+  process-lead : (done ps : List Declared) (p : Declared) (d : Draft) → s.procs ≡ done ++ p ∷ ps → IsAt done d → Leads known d (process_lines s.version names p) (next d p)
   unfolding process_lines
   process-lead done ps p d is h =
       let good = at-hand done ps p is in
-      let room : nat_le MOST_PROCESSES (length (all_procs d)) ≡ false =
-      has-room (length (all_procs d)) (length s.procs) (omega (arith, so-many done d h, ap length is, length-behind done ps p)) readable.sound.few in
+      let few : length s.procs ≤ most_processes d.version = subst (λ (v : Version). length s.procs ≤ most_processes v) (sym h.version) readable.sound.few in
+      let room : nat_le (most_processes d.version) (length (all_procs d)) ≡ false =
+      has-room (most_processes d.version) (length (all_procs d)) (length s.procs) (omega (arith, so-many done d h, ap length is, length-behind done ps p)) few in
       let takes : taken d (form.Process p.name) ≡ Ok (begun_as d p.name) = takes-process d d.section p.name h.closed ∙ begun-again d p.name (new-name done ps p d is h) room in
       let first = one_line known d (begun_as d p.name) (spaced (codes "process") (p.name ∷ [])) (form.Process p.name) (process_said known d p.name (stands d d.section h.closed) good.name) takes in
       let known_here : Reads known (length (all_procs d)) names (label_names p.labels) f g = subst (λ (n : ℕ). Reads known n names (label_names p.labels) f g) (so-many done d h) (reads done p ps is) in
@@ -134,8 +136,16 @@ module _ (known : Known) (f g : ℕ → ℕ) (s : Program) (readable : IsReadabl
       let here : All (IsReadableInstr s.version (length names)) p.instrs = subst (λ (n : ℕ). All (IsReadableInstr s.version n) p.instrs) count good.instrs in
       let fine : All (IsReadableInstr d.version (length names)) p.instrs = subst (λ (v : Version). All (IsReadableInstr v (length names)) p.instrs) (sym h.version) here in
       let lawful : All (IsInstrWithin (length (label_names p.labels))) p.instrs = subst (λ (n : ℕ). All (IsInstrWithin n) p.instrs) tags good.within.lawful in
-      let rest = process-leads known names f g (begun_as d p.name) p.labels known_here good.labels good.distinct p.name p.instrs good.within.rising good.within.places (λ i e lt. (fine i e lt, lawful i e lt)) in
-      one_more known d (begun_as d p.name) (next d p) (spaced (codes "process") (p.name ∷ [])) _ first rest
+      let may : MayKeep d.version p.queue_data = subst (λ (v : Version). MayKeep v p.queue_data) (sym h.version) good.messages in
+      let told : Draft = told_in (record d { procs = all_procs d }) p.name d.version p.queue_data in
+      let telling = told-lead known (record d { procs = all_procs d }) p.name d.version p.queue_data may in
+      let rest = process-leads known names f g told p.labels known_here good.labels good.distinct p.queue_data p.name p.instrs good.within.rising good.within.places (λ i e lt. (fine i e lt, lawful i e lt)) in
+      let line : List ℕ = spaced (codes "process") (p.name ∷ []) in
+      let placed : List (List ℕ) = placed_lines names p.labels 1 p.instrs in
+      let front = one_more known d (begun_as d p.name) told line (data_lines d.version p.queue_data) first telling in
+      same_lines known d (next d p) (process_lines s.version names p) ((line ∷ data_lines d.version p.queue_data) ++ placed)
+      (ap (λ (v : Version). (line ∷ data_lines v p.queue_data) ++ placed) (sym h.version))
+      (lines_joined known d told (next d p) (line ∷ data_lines d.version p.queue_data) placed front rest)
 
   -- all processes
   record IsEnd (d : Draft) (lines : List (List ℕ)) : Type 0 where
@@ -143,12 +153,12 @@ module _ (known : Known) (f g : ℕ → ℕ) (s : Program) (readable : IsReadabl
     at : IsAt s.procs end
     leads : Leads known d lines end
 
-  procs-lead : (ps done : List Declared) (d : Draft) → s.procs ≡ done ++ ps → IsAt done d → IsEnd d (flat_map (process_lines names) ps)
+  procs-lead : (ps done : List Declared) (d : Draft) → s.procs ≡ done ++ ps → IsAt done d → IsEnd d (flat_map (process_lines s.version names) ps)
   procs-lead [] done d is h = record { end = d; at = subst (λ (qs : List Declared). IsAt qs d) (sym (is ∙ append-nil done)) h; leads = no_lines known d }
   procs-lead (p ∷ ps) done d is h =
       let first = process-lead done ps p d is h in
       let rest = procs-lead ps (done ++ p ∷ []) (next d p) (is ∙ sym (append_assoc done (p ∷ []) ps)) (next-at done p d h) in
-      record { end = rest.end; at = rest.at; leads = lines_joined known d (next d p) rest.end (process_lines names p) (flat_map (process_lines names) ps) first rest.leads }
+      record { end = rest.end; at = rest.at; leads = lines_joined known d (next d p) rest.end (process_lines s.version names p) (flat_map (process_lines s.version names) ps) first rest.leads }
 
   few-turns : (n : ℕ) → n ≤ MOST_TURNS → nat_le n MOST_TURNS ≡ true
   few-turns n h = grind (arith, nat_tests)
@@ -159,23 +169,23 @@ module _ (known : Known) (f g : ℕ → ℕ) (s : Program) (readable : IsReadabl
   abbrev begin : Draft
   begin = record start { turns = Some s.turns }
 
-  all-lead : IsEnd start (turns_line s.turns ∷ procs_lines s.procs)
+  all-lead : IsEnd start (turns_line s.turns ∷ procs_lines s.version s.procs)
   all-lead =
       let few : nat_le s.turns MOST_TURNS ≡ true = few-turns s.turns readable.sound.turns in
       let takes : taken start (form.Turns s.turns) ≡ Ok begin = rw few refl in
       let first = one_line known start begin (turns_line s.turns) (form.Turns s.turns) (turns_said known start s.turns refl readable.sound.turns) takes in
       let rest = procs-lead s.procs [] begin refl (record { version = refl; turns = refl; procs = refl; closed = refl }) in
-      record { end = rest.end; at = rest.at; leads = one_more known start begin rest.end (turns_line s.turns) (procs_lines s.procs) first rest.leads }
+      record { end = rest.end; at = rest.at; leads = one_more known start begin rest.end (turns_line s.turns) (procs_lines s.version s.procs) first rest.leads }
 
   said-at-end : (d : Draft) → IsAt s.procs d → program_of d ≡ program_seen f g s
   said-at-end d h =
       let made : Version → Option ℕ → List Declared → Program = λ version turns procs. record { version = version; turns = option_map_or (λ n. n) turns DEFAULT_TURNS; procs = procs } in
       ap (λ (version : Version). made version d.turns (all_procs d)) h.version ∙ ap (λ (turns : Option ℕ). made s.version turns (all_procs d)) h.turns ∙ ap (made s.version (Some s.turns)) h.procs
 
-  pub walk_back : walk s.version known (turns_line s.turns ∷ procs_lines s.procs) ≡ Ok (program_seen f g s)
+  pub walk_back : walk s.version known (turns_line s.turns ∷ procs_lines s.version s.procs) ≡ Ok (program_seen f g s)
   unfolding body
   walk_back =
-      let lines : List (List ℕ) = turns_line s.turns ∷ procs_lines s.procs in
+      let lines : List (List ℕ) = turns_line s.turns ∷ procs_lines s.version s.procs in
       let whole = all-lead in
       let n : ℕ = whole.leads.number 2 in
       ap (body known 2 start) (sym (append-nil lines)) ∙ whole.leads.goes_on 2 [] ∙ ends-well n whole.end whole.end.section whole.at.closed
@@ -191,7 +201,7 @@ header_again Two = refl
 
 module _ (s : Program) (readable : IsReadableScript s) where
   abbrev behind_header : List (List ℕ)
-  behind_header = turns_line s.turns ∷ procs_lines s.procs
+  behind_header = turns_line s.turns ∷ procs_lines s.version s.procs
 
   one-readable : (done ps : List Declared) (p : Declared) → s.procs ≡ done ++ p ∷ ps → IsReadableProc s.version (length s.procs) p
   one-readable done ps p is =

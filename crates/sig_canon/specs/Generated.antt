@@ -3,6 +3,7 @@
 use Rattle.std.specs.Prelude.{ℕ, List, [], ◌∷◌, Some, None, codes, pos, map}
 use Rattle.std.specs.List.{flat_map, range_with_len}
 use Rattle.sig_kinds.specs.declared.alias_mode.AliasMode.TheVariants as alias_mode
+use Rattle.sig_kinds.specs.declared.queue_data.QueueData.TheVariants.{OffHeap}
 use Rattle.sig_patterns.specs.declared.var.Var.{Var}
 use Rattle.sig_patterns.specs.declared.clause.Clause.{Clause}
 use Rattle.sig_patterns.specs.declared.expression.Expr.{Expr}
@@ -40,6 +41,7 @@ hub_answer = instr.Send (expr.Var (var_named (codes "R"))) answer_message
 unfoldable pub hub : Declared
 hub = record {
   name = codes "hub";
+  queue_data = OffHeap;
   labels = record { name = codes "loop"; place = 1 } ∷ record { name = codes "answer"; place = 2 } ∷ [];
   instrs = hub_receive ∷ hub_answer ∷ instr.Goto 0 ∷ [];
 }
@@ -82,7 +84,7 @@ call k = instr.Reserve ∷ watch_hub ∷ bind_mark ∷ send_call k ∷ await_ans
 
 -- calls 1 to n
 unfoldable pub client : ℕ → List ℕ → Declared
-client n name = record (bare_process name) { instrs = flat_map call (range_with_len 1 n) }
+client n name = record (bare_process OffHeap name) { instrs = flat_map call (range_with_len 1 n) }
 
 abbrev pub client_names : List (List ℕ)
 client_names = codes "c0" ∷ codes "c1" ∷ codes "c2" ∷ codes "c3" ∷ codes "c4" ∷ codes "c5" ∷ codes "c6" ∷ codes "c7" ∷ []

@@ -1,6 +1,8 @@
 -- The scripts that a reader gives: those whose canonical text is read back as an equal script.
 use Rattle.std.specs.Prelude.{◌≡◌, ◌≢◌, ◌≤◌, ℕ, ◌+◌, List, [], ◌∷◌, length, map, sum, max, Bool, true, ◌&&◌, nat_lt, IsTrue, All, IfSome}
 use Rattle.std.specs.List.{list_all}
+use Rattle.sig_kinds.specs.declared.queue_data.QueueData.{QueueData}
+use Rattle.sig_kinds.specs.declared.queue_data.QueueData.TheVariants.{OffHeap}
 use Rattle.sig_terms.specs.Words.{is_variable, is_atom}
 use Rattle.sig_terms.specs.Nodes.{greatest}
 use Rattle.sig_terms.specs.Readable.{is_wide}
@@ -21,6 +23,7 @@ use Rattle.sig_patterns.specs.declared.pattern.Pattern.TheOpen.{Pattern-F}
 use Rattle.sig_patterns.specs.declared.pattern.Pattern.TheOpen as pattern
 use Rattle.sig_patterns.specs.declared.pattern.Pattern.TheFolds.{fold-Pattern}
 use Rattle.sig_program.specs.declared.version.Version.{Version}
+use Rattle.sig_program.specs.declared.version.Version.TheVariants.{One, Two}
 use Rattle.sig_program.specs.declared.label.Label.{Label}
 use Rattle.sig_program.specs.declared.instruction.Instr.{Instr}
 use Rattle.sig_program.specs.Parts.{exprs_of, vars_of, clauses_of, using_of}
@@ -153,9 +156,15 @@ pub data AreDistinct : List (List ℕ) → Type 0 where
   none : AreDistinct []
   more : {name : List ℕ} {names : List (List ℕ)} → All (λ other. name ≢ other) names → AreDistinct names → AreDistinct (name ∷ names)
 
+-- where a process of this version may keep its messages
+abbrev pub MayKeep : Version → QueueData → Type 0
+MayKeep One queue_data = queue_data ≡ OffHeap
+MayKeep Two queue_data = Unit {0}
+
 -- a process that lines of this version may hold
 pub record IsReadableProc (version : Version) (count : ℕ) (p : Declared) : Type 0 where
   pub name : IsNameToken p.name
+  pub messages : MayKeep version p.queue_data
   pub labels : All (λ (l : Label). IsNameToken l.name) p.labels
   pub distinct : AreDistinct (map (λ (l : Label). l.name) p.labels)
   pub within : IsWithin p

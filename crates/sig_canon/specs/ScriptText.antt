@@ -6,6 +6,8 @@ use Rattle.std.specs.List.{concat, flat_map}
 use Rattle.std.specs.Option.{option_map_or}
 use Rattle.sig_kinds.specs.declared.alias_mode.AliasMode.{AliasMode}
 use Rattle.sig_kinds.specs.declared.alias_mode.AliasMode.TheVariants as alias_mode
+use Rattle.sig_kinds.specs.declared.queue_data.QueueData.{QueueData}
+use Rattle.sig_kinds.specs.declared.queue_data.QueueData.TheVariants.{OnHeap, OffHeap}
 use Rattle.sig_patterns.specs.declared.clause.Clause.{Clause}
 use Rattle.sig_patterns.specs.declared.guard.Guard.{Guard}
 use Rattle.sig_patterns.specs.declared.guard.Op.{Op}
@@ -191,15 +193,23 @@ placed_lines names labels place [] = labels_there labels place
 placed_lines names labels place (i ∷ is) =
     labels_there labels place ++ instr_lines names (map (λ l. l.name) labels) i ++ placed_lines names labels (place + 1) is
 
-unfoldable pub process_lines : List (List ℕ) → Declared → List (List ℕ)
-process_lines names p = spaced (codes "process") (p.name ∷ []) ∷ placed_lines names p.labels 1 p.instrs
+-- In version 2 a line tells of a process that keeps its messages off its heap; otherwise there is none.
+abbrev pub data_lines : Version → QueueData → List (List ℕ)
+data_lines Two OffHeap = spaced (codes "message_queue_data") (codes "off_heap" ∷ []) ∷ []
+data_lines Two OnHeap = []
+data_lines One queue_data = []
+
+-- the lines of a process of a script of this version
+unfoldable pub process_lines : Version → List (List ℕ) → Declared → List (List ℕ)
+process_lines version names p =
+    (spaced (codes "process") (p.name ∷ []) ∷ data_lines version p.queue_data) ++ placed_lines names p.labels 1 p.instrs
 
 abbrev pub names_of : List Declared → List (List ℕ)
 names_of procs = map (λ (p : Declared). p.name) procs
 
 -- the lines behind the first two
-abbrev pub procs_lines : List Declared → List (List ℕ)
-procs_lines procs = flat_map (process_lines (names_of procs)) procs
+abbrev pub procs_lines : Version → List Declared → List (List ℕ)
+procs_lines version procs = flat_map (process_lines version (names_of procs)) procs
 
 abbrev pub turns_line : ℕ → List ℕ
 turns_line n = spaced (codes "turns") (decimal n ∷ [])
@@ -211,7 +221,7 @@ header_line Two = codes "sigscript 2"
 
 -- the lines of a script
 unfoldable pub script_lines : Program → List (List ℕ)
-script_lines s = header_line s.version ∷ turns_line s.turns ∷ procs_lines s.procs
+script_lines s = header_line s.version ∷ turns_line s.turns ∷ procs_lines s.version s.procs
 
 abbrev pub line_text : List ℕ → List ℕ
 line_text line = line ++ codes "\n"

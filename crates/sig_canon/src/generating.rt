@@ -25,7 +25,7 @@ ghost use Rattle.sig_canon.specs.Generated.{
   generated,
 };
 
-use sig_kinds::AliasMode;
+use sig_kinds::{AliasMode, QueueData};
 use sig_lists::Sequence;
 use sig_patterns::{Clause, Clauses, Expr, Exprs, Pattern, Patterns, Var};
 use sig_program::{
@@ -168,6 +168,7 @@ fn make_hub(alloc: Global) -> Result<Proc, AllocError>
     let name = name_of(alloc, b"hub")?;
     Ok(Proc {
         name,
+        queue_data: QueueData::OffHeap,
         labels,
         instrs,
     })
@@ -305,6 +306,7 @@ fn add_client(alloc: Global, procs: &mut Procs, name: &[u8], n: u32) -> Result<(
     let name = name_of(alloc, name)?;
     let client = Proc {
         name,
+        queue_data: QueueData::OffHeap,
         labels: Sequence::new(alloc),
         instrs,
     };

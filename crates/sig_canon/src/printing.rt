@@ -10,6 +10,7 @@ ghost use Rattle.sig_canon.specs.ScriptText.{
   names_of,
   labels_there,
   placed_lines,
+  data_lines,
   process_lines,
   procs_lines,
   turns_line,
@@ -21,6 +22,7 @@ ghost use Rattle.sig_canon.specs.ScriptText.{
 
 use crate::instruction_text::put_instr;
 use crate::putting::{put, put_count, put_word};
+use sig_kinds::QueueData;
 use sig_program::{Instr, Label, Proc, Script, Version};
 use sig_terms::Name;
 use std::alloc::AllocError;
@@ -82,21 +84,44 @@ fn put_placed(
     Ok(())
 }
 
-/// Appends the lines of a process.
-#[tactic(auto, unfolding(crate::specs::ScriptText::process_lines), using(crate::proofs::PrintLemmas::kept_front))]
-fn put_proc(into: &mut Vec<u8>, procs: &[Proc], proc: &Proc) -> Result<(), AllocError>
-    ensures { IsPut into.old.items into.new.items (flat_map line_text (process_lines (names_of procs.now) proc.now)) result }
+/// Appends the line of where a process keeps its messages, which stands in version 2 for a process
+/// that keeps them off its heap.
+fn put_queue_data(
+    into: &mut Vec<u8>,
+    version: Version,
+    queue_data: QueueData,
+) -> Result<(), AllocError>
+    ensures { IsPut into.old.items into.new.items (flat_map line_text (data_lines version queue_data)) result }
 {
-    put_named(into, b"process", &proc.name)?;
-    put_placed(into, procs, proc.labels.as_slice(), proc.instrs.as_slice())
+    match (version, queue_data) {
+        (Version::Two, QueueData::OffHeap) => put(into, b"message_queue_data off_heap\n"),
+        (Version::Two, QueueData::OnHeap) => put(into, b""),
+        (Version::One, _) => put(into, b""),
+    }
 }
 
-/// Appends the lines of the processes.
-fn put_procs(into: &mut Vec<u8>, procs: &[Proc]) -> Result<(), AllocError>
-    ensures { IsPut into.old.items into.new.items (flat_map line_text (procs_lines procs.now)) result }
+/// Appends the lines of a process of a script of this version.
+#[tactic(auto, using(crate::proofs::PrintLemmas::kept_front))]
+fn put_proc(
+    into: &mut Vec<u8>,
+    version: Version,
+    procs: &[Proc],
+    proc: &Proc,
+) -> Result<(), AllocError>
+    ensures { IsPut into.old.items into.new.items (flat_map line_text (process_lines version (names_of procs.now) proc.now)) result }
+{
+    put_named(into, b"process", &proc.name)?;
+    put_queue_data(into, version, proc.queue_data)?;
+    put_placed(into, procs, proc.labels.as_slice(), proc.instrs.as_slice())?;
+    Ok(())
+}
+
+/// Appends the lines of the processes of a script of this version.
+fn put_procs(into: &mut Vec<u8>, version: Version, procs: &[Proc]) -> Result<(), AllocError>
+    ensures { IsPut into.old.items into.new.items (flat_map line_text (procs_lines version procs.now)) result }
 {
     for proc in procs {
-        put_proc(into, procs, proc)?;
+        put_proc(into, version, procs, proc)?;
     }
     Ok(())
 }
@@ -131,7 +156,7 @@ fn put_script(
 {
     put_header(into, version)?;
     put_turns(into, turns)?;
-    put_procs(into, procs)?;
+    put_procs(into, version, procs)?;
     Ok(())
 }
 

@@ -2,6 +2,7 @@
 use Rattle.std.proofs.Common.{[]}
 use Rattle.sig_terms.specs.Names.{Named}
 use Rattle.sig_kinds.specs.declared.signal.Signal.{Signal}
+use Rattle.sig_kinds.specs.declared.queue_data.QueueData.TheVariants.{OffHeap}
 use Rattle.sig_kinds.specs.SignalNames.{SignalNames}
 use Rattle.sig_program.specs.Scripts.{Declared, bare_process}
 use Rattle.sig_model.specs.Names.{ScriptNames}
@@ -16,7 +17,7 @@ any_signal x = record { from = tt; to = tt; kind = λ i d lt. tt }
 
 -- a process that does nothing; what a process does with a signal depends on no part of a script
 abbrev pub no_part : Declared
-no_part = bare_process []
+no_part = bare_process OffHeap []
 
 pub any_script : (p : Declared) → ScriptNames Any p
 any_script p = λ i d lt j e l m f g. tt

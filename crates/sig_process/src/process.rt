@@ -14,7 +14,7 @@ use crate::history::History;
 use crate::progress::{Counts, Progress, Tables};
 use crate::waiting::next_signal;
 use sig_base::Steps;
-use sig_kinds::Signals;
+use sig_kinds::{QueueData, Signals};
 use sig_lists::Sequence;
 use sig_model::{Events, LAST_STAMP};
 use sig_program::{Proc, Script};
@@ -159,6 +159,13 @@ impl Process {
         ensures { result ≡ self.now.running.count }
     {
         self.count
+    }
+
+    /// Where it keeps its messages. (Module `erlang`, `process_flag/2`, `message_queue_data`.)
+    pub fn queue_data(&self) -> QueueData
+        ensures { result ≡ self.now.running.proc.queue_data }
+    {
+        self.proc.queue_data
     }
 
     /// The events, in their order.

@@ -1,1 +1,2 @@
 pub mod PidLemmas
+pub mod ProcessCounts

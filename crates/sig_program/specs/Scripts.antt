@@ -1,6 +1,7 @@
 -- Scripts and their processes, as contracts see them.
 use Rattle.std.specs.Prelude.{◌≡◌, ◌≢◌, ℕ, ◌+◌, ◌<◌, ◌≤◌, ◌^◌, List, [], ◌∷◌, length, All, IfSome, true, Option, Some}
 use Rattle.sig_kinds.specs.declared.alias_mode.AliasMode.TheVariants as alias_mode
+use Rattle.sig_kinds.specs.declared.queue_data.QueueData.{QueueData}
 use Rattle.sig_patterns.specs.declared.clause.Clause.{Clause}
 use Rattle.sig_patterns.specs.declared.expression.Expr.{Expr}
 use Rattle.sig_patterns.specs.declared.pattern.Pattern.{Pattern}
@@ -9,18 +10,20 @@ use Rattle.sig_patterns.specs.Pinning.{pins}
 use Rattle.sig_program.specs.declared.label.Label.{Label}
 use Rattle.sig_program.specs.declared.instruction.Instr.{Instr}
 use Rattle.sig_program.specs.declared.version.Version.{Version}
+use Rattle.sig_program.specs.declared.version.Version.TheVariants.{One, Two}
 use Rattle.sig_program.specs.Parts.{exprs_of, using_of, clauses_of, targets_of, mode_in, pids_of, pids_of_pattern}
-use Rattle.sig_program.specs.declared.script.TheConstants.{MOST_PROCESSES, MOST_TURNS}
+use Rattle.sig_program.specs.declared.script.TheConstants.{MOST_TURNS}
 
--- a process: its name, its labels and what it does
+-- a process: its name, where it keeps its messages, its labels and what it does
 pub record Declared : Type 0 where
   pub name : List ℕ
+  pub queue_data : QueueData
   pub labels : List Label
   pub instrs : List Instr
 
 -- one of this name that has no label and does nothing
-abbrev pub bare_process : List ℕ → Declared
-bare_process name = record { name = name; labels = []; instrs = [] }
+abbrev pub bare_process : QueueData → List ℕ → Declared
+bare_process queue_data name = record { name = name; queue_data = queue_data; labels = []; instrs = [] }
 
 -- a script: the version of its language, how many instructions each process may execute, and the processes
 pub record Program : Type 0 where
@@ -72,8 +75,13 @@ IsInstrBelow count i = All (IsExprBelow count) (exprs_of i) × All (λ (c : Clau
 abbrev pub IsProcBelow : ℕ → Declared → Type 0
 IsProcBelow count p = All (IsInstrBelow count) p.instrs
 
+-- how many processes a script of this version may have
+abbrev pub most_processes : Version → ℕ
+most_processes One = 64
+most_processes Two = 256
+
 -- the bounds that each script keeps
 pub record IsScriptWithin (s : Program) : Type 0 where
-  pub few : length s.procs ≤ MOST_PROCESSES
+  pub few : length s.procs ≤ most_processes s.version
   pub turns : s.turns ≤ MOST_TURNS
   pub pids : All (IsProcBelow (length s.procs)) s.procs

@@ -16,6 +16,7 @@ ghost use Rattle.sig_program.specs.Scripts.{IsWithin, IsInstrWithin};
 
 use crate::instruction::{Instr, Instrs};
 use crate::label::Labels;
+use sig_kinds::QueueData;
 use sig_lists::{Sequence, copy_all};
 use sig_terms::Name;
 use std::alloc::{AllocError, Global};
@@ -28,6 +29,8 @@ use std::marker::Model;
 pub struct Proc {
     /// The process's name.
     pub name: Name,
+    /// Where it keeps its messages.
+    pub queue_data: QueueData,
     /// Its labels.
     pub labels: Labels,
     /// What it does.
@@ -44,9 +47,9 @@ impl Model for Proc {
 
     ghost coded = { Prim.hlevel (codes, expr.the_row.coded, pattern.the_row.coded) };
 
-    ghost view = { λ p. record { name = p.name; labels = p.labels; instrs = p.instrs } };
+    ghost view = { λ p. record { name = p.name; queue_data = p.queue_data; labels = p.labels; instrs = p.instrs } };
 
-    ghost invariant = { λ p. IsWithin (record { name = p.name; labels = p.labels; instrs = p.instrs }) };
+    ghost invariant = { λ p. IsWithin (record { name = p.name; queue_data = p.queue_data; labels = p.labels; instrs = p.instrs }) };
 }
 
 /// The processes of a script, in the order of their lines.
@@ -92,6 +95,7 @@ impl Proc {
         let instrs = copy_all(alloc, &self.instrs)?;
         Ok(Proc {
             name,
+            queue_data: self.queue_data,
             labels,
             instrs,
         })

@@ -1,12 +1,12 @@
 ghost use Rattle.std.specs.Prelude.{◌≡◌, ◌≤◌, length, slice_get, option_copied};
-ghost use Rattle.sig_program.specs.Scripts.{IsScriptWithin};
+ghost use Rattle.sig_program.specs.Scripts.{most_processes, IsScriptWithin};
 
 use crate::process::{Proc, Procs};
 use crate::version::Version;
 use std::marker::Model;
 
-/// The most processes of a script.
-pub const MOST_PROCESSES: usize = 64;
+/// The most processes of a script, whatever its version.
+pub const MOST_PROCESSES: usize = 256;
 
 /// The most instructions that a script may let each of its processes execute.
 pub const MOST_TURNS: u32 = 20000;
@@ -14,8 +14,19 @@ pub const MOST_TURNS: u32 = 20000;
 /// The instructions that each process may execute where the script doesn't say how many.
 pub const DEFAULT_TURNS: u32 = 1000;
 
-/// A script: at most [`MOST_PROCESSES`] processes, each of which executes at most `turns`
-/// instructions, and these are at most [`MOST_TURNS`]. Each pid in it is below the count of
+/// The most processes of a script of this version: 64 in version 1, and [`MOST_PROCESSES`] in
+/// version 2. (The language of scripts is this project's own.)
+pub fn most_processes(version: Version) -> usize
+    ensures { result ≡ most_processes version }
+{
+    match version {
+        Version::One => 64,
+        Version::Two => MOST_PROCESSES,
+    }
+}
+
+/// A script: at most as many processes as its version allows, by [`most_processes`], each of which
+/// executes at most `turns` instructions, and these are at most [`MOST_TURNS`]. Each pid in it is below the count of
 /// processes.
 #[derive(Debug, Drop)]
 pub struct Script {
@@ -44,6 +55,7 @@ impl Model for Script {
 
 impl Script {
     /// How many processes there are.
+    #[tactic(auto, using(crate::proofs::ProcessCounts::few_procs))]
     pub fn count(&self) -> u32
         ensures count { result ≡ length self.now.procs }
         ensures few { length self.now.procs ≤ MOST_PROCESSES }

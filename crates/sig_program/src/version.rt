@@ -3,6 +3,7 @@
 pub enum Version {
     /// The first line is `sigscript 1`.
     One,
-    /// The first line is `sigscript 2`. A clause may have a guard.
+    /// The first line is `sigscript 2`. A clause may have a guard, and a process may
+    /// tell where it keeps its messages.
     Two,
 }

@@ -7,10 +7,12 @@ use Rattle.std.specs.Str.{bytes_eq}
 use Rattle.std.proofs.lemmas.Bool.Decides.{nat_tests}
 use Rattle.std.proofs.lemmas.List.{map-append, length-map}
 use Rattle.std.proofs.lemmas.List.Elements.{All-nil, All-cons, All-head, All-tail, All-append, All-push, All-weaker}
+use Rattle.sig_kinds.specs.declared.queue_data.QueueData.{QueueData}
 use Rattle.sig_patterns.specs.declared.clause.Clause.{Clause}
 use Rattle.sig_patterns.specs.declared.var.Var.{Var}
 use Rattle.sig_patterns.specs.Pinning.{pins}
 use Rattle.sig_program.specs.declared.version.Version.{Version}
+use Rattle.sig_program.specs.declared.version.Version.TheVariants.{One, Two}
 use Rattle.sig_program.specs.declared.label.Label.{Label}
 use Rattle.sig_program.specs.declared.instruction.After.{After}
 use Rattle.sig_program.specs.declared.instruction.Instr.{Instr}
@@ -25,7 +27,7 @@ use Rattle.sig_reader.specs.declared.draft.Section.TheVariants.{Before, Outside,
 use Rattle.sig_reader.specs.declared.draft.Draft.{Draft}
 use Rattle.sig_reader.specs.declared.form.Form.{Form}
 use Rattle.sig_reader.specs.declared.form.Form.TheVariants as form
-use Rattle.sig_program.specs.Scripts.{Declared, Program, AreMarked, IsInstrWithin, IsPlace, AreRising, IsWithin, IsExprBelow, IsPatternBelow, IsInstrBelow, IsScriptWithin, bare_process}
+use Rattle.sig_program.specs.Scripts.{Declared, Program, AreMarked, IsInstrWithin, IsPlace, AreRising, IsWithin, IsExprBelow, IsPatternBelow, IsInstrBelow, IsScriptWithin, most_processes}
 use Rattle.sig_program.specs.Parts.{targets_of}
 use Rattle.sig_tokens.specs.declared.fault.Stop.{Stop}
 use Rattle.sig_tokens.specs.Faults.{Fault, ◌>>=◌, on_ok, Gives}
@@ -33,13 +35,13 @@ use Rattle.sig_tokens.specs.Lines.{lines_of, onto_first}
 use Rattle.sig_tokens.specs.Tokens.{text, tokens_of}
 use Rattle.sig_tokens.specs.Names.{labels_at}
 use Rattle.sig_tokens.specs.PatternTexts.{pattern_of}
-use Rattle.sig_reader.specs.Forms.{keyword_of, may_stand, ends, arrow_of, count_from, turns_of, whole_name, marker_of, behind_pattern, on_of, instr_of, form_of, form_behind, said_by, said}
-use Rattle.sig_reader.specs.Drafts.{blank, open_proc, all_procs, program_of, begun, labelled, with_instr, is_marked, may_guard, with_clause, taken_at}
+use Rattle.sig_reader.specs.Forms.{keyword_of, may_stand, ends, arrow_of, count_from, turns_of, whole_name, queue_data_at, marker_of, behind_pattern, on_of, instr_of, form_of, form_behind, said_by, said}
+use Rattle.sig_reader.specs.Drafts.{blank, open_proc, all_procs, program_of, bare_proc, begun, may_tell, labelled, with_instr, is_marked, may_guard, with_clause, taken_at}
 use Rattle.sig_reader.specs.Grammar.{located, finished, taken_if, line_taken, body, walk}
 use Rattle.sig_reader.specs.Fitting.{IsSmall, IsFit}
 use Rattle.sig_reader.proofs.FitLemmas.{all-last}
 use Rattle.sig_reader.proofs.BoundTermLemmas.{Holds, anything, holds-of, holds-if, holds-on_ok, holds-then, holds-ends, IsTarget, IsMeantForm, no-mode, said-meant}
-use Rattle.sig_program.specs.declared.script.TheConstants.{DEFAULT_TURNS, MOST_PROCESSES, MOST_TURNS}
+use Rattle.sig_program.specs.declared.script.TheConstants.{DEFAULT_TURNS, MOST_TURNS}
 use Rattle.sig_program.specs.declared.instruction.Receiving.{Receiving}
 use Rattle.sig_program.specs.declared.instruction.Instr.TheVariants as instr
 
@@ -58,8 +60,12 @@ all-later n ps h = All-weaker (IsSmall n) (IsSmall (n + 1)) (small_later n) ps h
 pub fit_later : (n : ℕ) (d : Draft) → IsFit n d → IsFit (n + 1) d
 fit_later n d h = record { few = h.few; small = all-later n (all_procs d) h.small }
 
+none_many : (v : Version) → 0 ≤ most_processes v
+none_many One = omega arith
+none_many Two = omega arith
+
 pub fit_blank : (n : ℕ) (v : Version) → IsFit n (blank v)
-fit_blank n v = record { few = omega arith; small = All-nil (IsSmall n) }
+fit_blank n v = record { few = none_many v; small = All-nil (IsSmall n) }
 
 -- another last process
 same-length : {A : Type 0} (xs : List A) (x y : A) → length (xs ++ x ∷ []) ≡ length (xs ++ y ∷ [])
@@ -72,6 +78,15 @@ fit_last n d p q h s = record {
   small = All-push (IsSmall (n + 1)) d.procs q (all-later n d.procs (all-front (IsSmall n) d.procs p h.small)) s;
 }
 
+-- messages kept elsewhere
+small_again : (n : ℕ) (p : Declared) (queue_data : QueueData) → IsSmall n p → IsSmall n (record p { queue_data = queue_data })
+small_again n p queue_data h = record { instrs = h.instrs; labels = h.labels }
+
+-- where it was told
+fit_told : (n : ℕ) (d : Draft) (p q : Declared) →
+    IsFit n (record d { section = Outside p }) → IsSmall (n + 1) q → IsFit (n + 1) (record d { section = Outside q; told = true })
+fit_told n d p q h s = let k = fit_last n d p q h s in record { few = k.few; small = k.small }
+
 small_instr : (n : ℕ) (p : Declared) (i : Instr) → IsSmall n p → IsSmall (n + 1) (with_instr p i)
 small_instr n p i h = record { instrs = omega (arith, h.instrs, length-append p.instrs (i ∷ [])); labels = omega (arith, h.labels) }
 
@@ -83,17 +98,17 @@ small_labelled n p name h =
     holds-if (IsSmall (n + 1)) (list_any (λ (l : Label). bytes_eq l.name name) p.labels) _ _ (λ _. tt)
     (λ _. small_label n p (record { name = name; place = length p.instrs + 1 }) h)
 
-room_for_one : (n m : ℕ) → nat_le MOST_PROCESSES n ≡ false → m ≡ n + 1 → m ≤ MOST_PROCESSES
-room_for_one n m room e = grind (arith, nat_tests)
+room_for_one : (most n m : ℕ) → nat_le most n ≡ false → m ≡ n + 1 → m ≤ most
+room_for_one most n m room e = grind (arith, nat_tests)
 
 fit_begun : (n : ℕ) (d : Draft) (name : List ℕ) → IsFit n d → Holds (IsFit (n + 1)) (begun d name)
 fit_begun n d name h =
-    let p : Declared = bare_process name in
+    let p : Declared = bare_proc d.version name in
     let small : IsSmall (n + 1) p = record { instrs = omega arith; labels = omega arith } in
     holds-if (IsFit (n + 1)) (list_any (λ (p : Declared). bytes_eq p.name name) (all_procs d)) _ _ (λ _. tt)
-    (λ _. holds-if (IsFit (n + 1)) (nat_le MOST_PROCESSES (length (all_procs d))) _ _ (λ _. tt)
+    (λ _. holds-if (IsFit (n + 1)) (nat_le (most_processes d.version) (length (all_procs d))) _ _ (λ _. tt)
     (λ room. record {
-      few = room_for_one (length (all_procs d)) (length (all_procs d ++ p ∷ [])) room (length-append (all_procs d) (p ∷ []));
+      few = room_for_one (most_processes d.version) (length (all_procs d)) (length (all_procs d ++ p ∷ [])) room (length-append (all_procs d) (p ∷ []));
       small = All-push (IsSmall (n + 1)) (all_procs d) p (all-later n (all_procs d) h.small) small;
     }))
 
@@ -104,6 +119,9 @@ fit_at n d Before (form.Turns m) h =
 fit_at n d Before (form.Process name) h = fit_begun n (record d { section = Before }) name h
 fit_at n d Before _ h = tt
 fit_at n d (Outside p) (form.Process name) h = fit_begun n (record d { section = Outside p }) name h
+fit_at n d (Outside p) (form.QueueData queue_data) h =
+    let q : Declared = record p { queue_data = queue_data } in
+    holds-if (IsFit (n + 1)) (may_tell d.version d.told p) _ _ (λ _. fit_told n d p q h (small_later n q (small_again n p queue_data (all-last (IsSmall n) d.procs p h.small)))) (λ _. tt)
 fit_at n d (Outside p) (form.Label name) h =
     holds-on_ok (IsSmall (n + 1)) (IsFit (n + 1)) (λ q. record d { section = Outside q }) (labelled p name)
     (small_labelled n p name (all-last (IsSmall n) d.procs p h.small)) (λ q s. fit_last n d p q h s)
@@ -158,7 +176,7 @@ module _ (known : Known) (P : ℕ → Draft → Type 0) (Q : Program → Type 0)
 
 -- few processes, and few instructions and labels in each
 abbrev IsFew : ℕ → Program → Type 0
-IsFew m s = (length s.procs ≤ MOST_PROCESSES) × All (IsSmall m) s.procs
+IsFew m s = (length s.procs ≤ most_processes s.version) × All (IsSmall m) s.procs
 
 small_more : (n m : ℕ) (p : Declared) → n ≤ m → IsSmall n p → IsSmall m p
 small_more n m p le h = record { instrs = omega (arith, h.instrs); labels = omega (arith, h.labels) }
@@ -248,6 +266,8 @@ unfolding form_of
 form-counted known here keyword.Turns line ts = turns-counted line ts
 form-counted known here keyword.Process line ts =
     holds-on_ok (λ _. Unit {0}) (SaysAs keyword.Process) form.Process (whole_name line ts) (anything (whole_name line ts)) (λ n _ cs. refl)
+form-counted known here keyword.QueueData line ts =
+    holds-on_ok (λ _. Unit {0}) (SaysAs keyword.QueueData) form.QueueData (queue_data_at line ts) (anything (queue_data_at line ts)) (λ q _ cs. refl)
 form-counted known here keyword.Label line ts =
     holds-on_ok (λ _. Unit {0}) (SaysAs keyword.Label) form.Label (whole_name line ts) (anything (whole_name line ts)) (λ n _ cs. refl)
 form-counted known here keyword.Receive line ts =
@@ -306,7 +326,7 @@ begun-counted : (d : Draft) (name : List ℕ) → Holds (CountedAs d.version (co
 begun-counted d name =
     let P : Draft → Type 0 = CountedAs d.version (counts (all_procs d) ++ 0 ∷ []) in
     holds-if P (list_any (λ (p : Declared). bytes_eq p.name name) (all_procs d)) _ _ (λ _. tt)
-    (λ _. holds-if P (nat_le MOST_PROCESSES (length (all_procs d))) _ _ (λ _. tt) (λ _. (counts-push (all_procs d) (bare_process name), refl)))
+    (λ _. holds-if P (nat_le (most_processes d.version) (length (all_procs d))) _ _ (λ _. tt) (λ _. (counts-push (all_procs d) (bare_proc d.version name), refl)))
 
 labelled-counted : (p : Declared) (name : List ℕ) → Holds (λ q. length q.labels ≡ length p.labels + 1) (labelled p name)
 labelled-counted p name =
@@ -319,6 +339,8 @@ taken_at-counted d Before (form.Turns m) = holds-if (CountedAs d.version (counts
 taken_at-counted d Before (form.Process name) = begun-counted (record d { section = Before }) name
 taken_at-counted d Before _ = tt
 taken_at-counted d (Outside p) (form.Process name) = begun-counted (record d { section = Outside p }) name
+taken_at-counted d (Outside p) (form.QueueData q) =
+    holds-if (CountedAs d.version (counts (d.procs ++ p ∷ []))) (may_tell d.version d.told p) _ _ (λ _. (counts-last d.procs p (record p { queue_data = q }) refl, refl)) (λ _. tt)
 taken_at-counted d (Outside p) (form.Label name) =
     holds-on_ok (λ q. length q.labels ≡ length p.labels + 1) (CountedAs d.version (one_more (counts (d.procs ++ p ∷ [])))) (λ q. record d { section = Outside q })
     (labelled p name) (labelled-counted p name) (λ q h. (counts-more d.procs p q h, refl))
@@ -410,8 +432,8 @@ rising-push (first ∷ ls) l (AreRising.more least rest) below =
     AreRising.more (All-push (λ (other : Label). first.place ≤ other.place) ls l least (All-head (λ (other : Label). other.place ≤ l.place) first ls below))
     (rising-push ls l rest (All-tail (λ (other : Label). other.place ≤ l.place) first ls below))
 
-empty-meant : (s : Program) (here : ℕ) (name : List ℕ) → IsMeant s here (bare_process name)
-empty-meant s here name = record {
+empty-meant : (s : Program) (here : ℕ) (v : Version) (name : List ℕ) → IsMeant s here (bare_proc v name)
+empty-meant s here v name = record {
   places = All-nil (IsPlace 0);
   rising = AreRising.none;
   lawful = All-nil (IsInstrWithin (length (labels_at here s.procs)));
@@ -453,13 +475,13 @@ few-turns n h = grind (arith, nat_tests)
 
 begun-meant : (s : Program) (n : ℕ) (d : Draft) (name : List ℕ) → IsMeantDraft s n d → Holds (IsMeantDraft s (n + 1)) (begun d name)
 begun-meant s n d name h =
-    let p : Declared = bare_process name in
+    let p : Declared = bare_proc d.version name in
     let place : length (all_procs d) ≡ 0 + length (all_procs d) = omega arith in
     holds-if (IsMeantDraft s (n + 1)) (list_any (λ (p : Declared). bytes_eq p.name name) (all_procs d)) _ _ (λ _. tt)
-    (λ _. holds-if (IsMeantDraft s (n + 1)) (nat_le MOST_PROCESSES (length (all_procs d))) _ _ (λ _. tt)
+    (λ _. holds-if (IsMeantDraft s (n + 1)) (nat_le (most_processes d.version) (length (all_procs d))) _ _ (λ _. tt)
     (λ _. record {
       turns = h.turns;
-      procs = each-push (IsMeant s) 0 (length (all_procs d)) (all_procs d) p place h.procs (empty-meant s (length (all_procs d)) name);
+      procs = each-push (IsMeant s) 0 (length (all_procs d)) (all_procs d) p place h.procs (empty-meant s (length (all_procs d)) d.version name);
       receive = tt;
     }))
 
@@ -509,6 +531,13 @@ module _ (s : Program) (n : ℕ) (d : Draft) (bounded : IfSome d.turns (λ t. t 
     receive = tt;
   }
 
+  told-meant : (p : Declared) (queue_data : QueueData) → Each (IsMeant s) 0 (d.procs ++ p ∷ []) →
+      IsMeantDraft s (n + 1) (record d { section = Outside (record p { queue_data = queue_data }); told = true })
+  told-meant p queue_data h =
+      let k : IsMeant s (length d.procs) p = current p h in
+      let m = changed p (record p { queue_data = queue_data }) h (record { places = k.places; rising = k.rising; lawful = k.lawful; below = k.below }) in
+      record { turns = m.turns; procs = m.procs; receive = tt }
+
   clause-more : (p : Declared) (r : Receiving) (c : Clause) → IsOpen s n (length d.procs) (Inside p r) →
       IsPatternBelow (length s.procs) c.pattern → IsTarget (length (labels_at (length d.procs) s.procs)) c.target → is_marked r.using c.pattern ≡ true →
       IsOpen s (n + 1) (length d.procs) (Inside p (record r { clauses = r.clauses ++ c ∷ [] }))
@@ -546,6 +575,8 @@ module _ (s : Program) (n : ℕ) (d : Draft) (bounded : IfSome d.turns (λ t. t 
   taken_at-meant Before _ lt h o k = tt
   taken_at-meant (Outside p) (form.Process name) lt h o k =
       begun-meant s n (record d { section = Outside p }) name (record { turns = bounded; procs = h; receive = tt })
+  taken_at-meant (Outside p) (form.QueueData queue_data) lt h o k =
+      holds-if (IsMeantDraft s (n + 1)) (may_tell d.version d.told p) _ _ (λ _. told-meant p queue_data h) (λ _. tt)
   taken_at-meant (Outside p) (form.Label name) lt h o k =
       holds-on_ok (IsMeant s (length d.procs)) (IsMeantDraft s (n + 1)) (λ q. record d { section = Outside q })
       (labelled p name) (label-more s (length d.procs) p name (current p h)) (λ q m. changed p q h m)

@@ -5,6 +5,7 @@ use Rattle.std.proofs.lemmas.List.Quantifiers.{position-Some}
 use Rattle.std.proofs.lemmas.List.Elements.{All-nil, All-cons, All-push}
 use Rattle.sig_kinds.specs.declared.alias_mode.AliasMode.{AliasMode}
 use Rattle.sig_kinds.specs.declared.alias_mode.AliasMode.TheVariants as alias_mode
+use Rattle.sig_kinds.specs.declared.queue_data.QueueData.TheVariants.{OffHeap}
 use Rattle.sig_patterns.specs.declared.clause.Clause.{Clause}
 use Rattle.sig_patterns.specs.declared.guard.Guard.{Guard}
 use Rattle.sig_patterns.specs.declared.var.Var.{Var}
@@ -37,7 +38,7 @@ use Rattle.sig_tokens.specs.Signs.{is_open_brace, is_open_bracket, is_arrow, is_
 use Rattle.sig_tokens.specs.Phrases.{Read, Spelling, behind, elements, closed, is_before_tail, ending, bracketed, single, phrase_by, phrase_front, phrase_at, phrase_of}
 use Rattle.sig_tokens.specs.Expressions.{expr_enclosing, expr_spelling, expr_of}
 use Rattle.sig_tokens.specs.PatternTexts.{pattern_signed, pattern_enclosing, pattern_spelling, pattern_of}
-use Rattle.sig_reader.specs.Forms.{word_at, mode_of, operand_at, all_said, keyword_of, may_stand, ends, arrow_of, count_from, turns_of, whole_name, marker_of, behind_pattern, on_of, instr_of, form_of, form_behind, said_by, said}
+use Rattle.sig_reader.specs.Forms.{word_at, mode_of, operand_at, all_said, keyword_of, may_stand, ends, arrow_of, count_from, turns_of, whole_name, queue_data_at, marker_of, behind_pattern, on_of, instr_of, form_of, form_behind, said_by, said}
 use Rattle.sig_reader.specs.Guards.{guard_at}
 use Rattle.sig_reader.proofs.TableLemmas.{spoken_again, instr_as}
 use Rattle.sig_tokens.proofs.NestLemmas.{nested_pids}
@@ -104,7 +105,7 @@ found e m (Some i) h = h i refl
 pub pid-below : (s : Program) (name : List ℕ) → Holds (λ n. n < length s.procs) (pid_of (Among s) name)
 pid-below s name =
     found UnknownProcess (length s.procs) (position (λ (p : Declared). bytes_eq p.name name) s.procs)
-    (λ i e. (position-Some (λ (p : Declared). bytes_eq p.name name) s.procs i (bare_process []) e).0)
+    (λ i e. (position-Some (λ (p : Declared). bytes_eq p.name name) s.procs i (bare_process OffHeap []) e).0)
 
 abbrev IsProcess : Program → ℕ → Type 0
 IsProcess s pid = pid < length s.procs
@@ -345,6 +346,7 @@ module _ (s : Program) (here : ℕ) (line : List ℕ) where
   unfolding form_of
   form-meant keyword.Turns ts = turns-meant ts
   form-meant keyword.Process ts = holds-on_ok (λ _. Unit {0}) IsMeantHere form.Process (whole_name line ts) (anything (whole_name line ts)) (λ n _. tt)
+  form-meant keyword.QueueData ts = holds-on_ok (λ _. Unit {0}) IsMeantHere form.QueueData (queue_data_at line ts) (anything (queue_data_at line ts)) (λ q _. tt)
   form-meant keyword.Label ts = holds-on_ok (λ _. Unit {0}) IsMeantHere form.Label (whole_name line ts) (anything (whole_name line ts)) (λ n _. tt)
   form-meant keyword.Receive ts = holds-on_ok (λ _. Unit {0}) IsMeantHere form.Receive (marker_of line ts) (anything (marker_of line ts)) (λ u _. tt)
   form-meant keyword.On ts = on-meant ts

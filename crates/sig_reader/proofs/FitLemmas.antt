@@ -1,10 +1,13 @@
 -- The bounds while a text is read.
-use Rattle.std.proofs.Common.{ℕ, ◌<◌, ◌^◌, List, [], ◌∷◌, ◌++◌, All, arith}
+use Rattle.std.proofs.Common.{ℕ, ◌<◌, ◌≤◌, ◌^◌, List, [], ◌∷◌, ◌++◌, length, All, arith}
 use Rattle.std.proofs.lemmas.List.Elements.{All-nil, All-cons, All-head, All-tail}
-use Rattle.sig_program.specs.Scripts.{Declared}
+use Rattle.sig_program.specs.declared.script.TheConstants.{MOST_PROCESSES}
+use Rattle.sig_program.specs.Scripts.{Declared, most_processes}
+use Rattle.sig_program.proofs.ProcessCounts.{most_of_all}
+use Rattle.sig_reader.specs.declared.draft.Draft.{Draft}
 use Rattle.sig_reader.specs.declared.draft.Section.{Section}
 use Rattle.sig_reader.specs.declared.draft.Section.TheVariants.{Before, Outside, Inside}
-use Rattle.sig_reader.specs.Drafts.{open_proc}
+use Rattle.sig_reader.specs.Drafts.{open_proc, all_procs}
 use Rattle.sig_reader.specs.Fitting.{IsSmall}
 
 pub all-last : {A : Type 0} (P : A → Type 0) (xs : List A) (x : A) → All P (xs ++ x ∷ []) → P x
@@ -25,3 +28,7 @@ pub open_fits : (n : ℕ) (procs : List Declared) (section : Section) → n < 2 
 open_fits n procs Before lt h = All-nil (IsSmall (2 ^ 31))
 open_fits n procs (Outside p) lt h = last-of n procs p lt h
 open_fits n procs (Inside p r) lt h = last-of n procs p lt h
+
+-- as many processes as a version allows
+pub few_in_all : (d : Draft) → length (all_procs d) ≤ most_processes d.version → length (all_procs d) ≤ MOST_PROCESSES
+few_in_all d h = omega (arith, h, most_of_all d.version)

@@ -21,7 +21,7 @@ use Rattle.sig_tokens.specs.Names.{pid_of, label_of, name_at, variable_at, targe
 use Rattle.sig_tokens.specs.Signs.{is_arrow}
 use Rattle.sig_tokens.specs.PatternTexts.{pattern_of}
 use Rattle.sig_program.specs.Instructions.{Operand, an_expr, a_variable, a_label, a_switch, a_mode, a_flag, operands_of, instr_by, Spoken}
-use Rattle.sig_reader.specs.Forms.{switch_at, word_at, mode_of, flag_of, operand_at, all_said, keyword_of, may_stand_at, may_stand, ends, arrow_of, count_from, turns_of, whole_name, marker_of, behind_pattern, on_of, instr_of, form_of, form_behind, said_by, said}
+use Rattle.sig_reader.specs.Forms.{switch_at, word_at, mode_of, flag_of, operand_at, all_said, keyword_of, may_stand_at, may_stand, ends, arrow_of, count_from, turns_of, whole_name, queue_data_at, marker_of, behind_pattern, on_of, instr_of, form_of, form_behind, said_by, said}
 use Rattle.sig_reader.specs.Guards.{guard_at}
 use Rattle.sig_reader.proofs.TableLemmas.{made_of, spoken_again, instr_as}
 use Rattle.sig_reader.proofs.Seen.{pattern_seen, clause_seen, after_seen, receiving_seen, said_seen, all_seen, spoken_seen, instr_seen}
@@ -34,6 +34,7 @@ form_seen f g (form.On c) = form.On (clause_seen f g c)
 form_seen f g (form.After after) = form.After (after_seen g after)
 form_seen f g (form.Turns n) = form.Turns n
 form_seen f g (form.Process name) = form.Process name
+form_seen f g (form.QueueData q) = form.QueueData q
 form_seen f g (form.Label name) = form.Label name
 form_seen f g (form.Receive using) = form.Receive using
 form_seen f g form.End = form.End
@@ -128,6 +129,8 @@ module _ (f g : ℕ → ℕ) (known other : Known) (seen : AreSeen f g known oth
     form-sees keyword.Turns ts = turns-see ts
     form-sees keyword.Process ts =
         sees-on_ok (λ x. x) (form_seen f g) form.Process form.Process (whole_name line ts) (whole_name line ts) (sees-same (λ x. x) (whole_name line ts) (λ x. refl)) (λ x. refl)
+    form-sees keyword.QueueData ts =
+        sees-on_ok (λ x. x) (form_seen f g) form.QueueData form.QueueData (queue_data_at line ts) (queue_data_at line ts) (sees-same (λ x. x) (queue_data_at line ts) (λ x. refl)) (λ x. refl)
     form-sees keyword.Label ts =
         sees-on_ok (λ x. x) (form_seen f g) form.Label form.Label (whole_name line ts) (whole_name line ts) (sees-same (λ x. x) (whole_name line ts) (λ x. refl)) (λ x. refl)
     form-sees keyword.Receive ts =

@@ -1,6 +1,6 @@
 -- A text that is walked where the names are known is walked too where the same names have other pids and other places; so a
 -- script that one walk gives among its own names is the one that both walks give.
-use Rattle.std.proofs.Common.{◌≡◌, ℕ, zero, suc, ◌+◌, ◌≤◌, ◌^◌, All, List, [], ◌∷◌, ◌++◌, length, map, position, slice_get, Bool, ◌||◌, cond, nat_le, if◌then◌else◌, Option, Some, None, Result, Ok, Err, refl, sym, ◌∙◌, ap, subst, ok_or}
+use Rattle.std.proofs.Common.{◌≡◌, ℕ, zero, suc, ◌+◌, ◌≤◌, ◌^◌, All, List, [], ◌∷◌, ◌++◌, length, map, position, slice_get, Bool, false, true, ◌||◌, cond, nat_le, if◌then◌else◌, Option, Some, None, Result, Ok, Err, refl, sym, ◌∙◌, ap, subst, ok_or}
 use Rattle.std.specs.Option.{option_map, option_map_or}
 use Rattle.std.specs.List.{list_any}
 use Rattle.std.specs.Str.{bytes_eq}
@@ -9,6 +9,7 @@ use Rattle.sig_patterns.specs.declared.clause.Clause.{Clause}
 use Rattle.sig_patterns.specs.declared.pattern.Pattern.{Pattern}
 use Rattle.sig_patterns.specs.declared.var.Var.{Var}
 use Rattle.sig_program.specs.declared.version.Version.{Version}
+use Rattle.sig_program.specs.declared.version.Version.TheVariants.{One, Two}
 use Rattle.sig_program.specs.declared.label.Label.{Label}
 use Rattle.sig_program.specs.declared.instruction.Instr.{Instr}
 use Rattle.sig_tokens.specs.declared.fault.FaultKind.{FaultKind}
@@ -20,13 +21,13 @@ use Rattle.sig_reader.specs.declared.draft.Section.TheVariants.{Before, Outside,
 use Rattle.sig_reader.specs.declared.draft.Draft.{Draft}
 use Rattle.sig_reader.specs.declared.form.Form.{Form}
 use Rattle.sig_reader.specs.declared.form.Form.TheVariants as form
-use Rattle.sig_program.specs.declared.script.TheConstants.{MOST_PROCESSES, MOST_TURNS}
-use Rattle.sig_program.specs.Scripts.{Declared, Program, IsWithin, IsScriptWithin, bare_process}
+use Rattle.sig_program.specs.declared.script.TheConstants.{MOST_TURNS}
+use Rattle.sig_program.specs.Scripts.{Declared, Program, IsWithin, IsScriptWithin, most_processes}
 use Rattle.sig_program.specs.declared.instruction.Instr.TheVariants as instr
 use Rattle.sig_tokens.specs.Faults.{Fault, ◌>>=◌}
 use Rattle.sig_tokens.specs.Names.{pid_of, labels_at, label_of}
 use Rattle.sig_reader.specs.Forms.{said}
-use Rattle.sig_reader.specs.Drafts.{blank, open_proc, all_procs, program_of, begun, labelled, with_instr, is_marked, may_guard, with_clause, taken_at}
+use Rattle.sig_reader.specs.Drafts.{blank, open_proc, all_procs, program_of, bare_proc, begun, may_tell, labelled, with_instr, is_marked, may_guard, with_clause, taken_at}
 use Rattle.sig_reader.specs.Grammar.{located, finished, taken_if, line_taken, body, walk, walk_twice}
 use Rattle.sig_reader.proofs.BoundLemmas.{procs_within, script_sound}
 use Rattle.sig_tokens.proofs.LabelLemmas.{next, position-cons}
@@ -106,12 +107,12 @@ module _ (f g : ℕ → ℕ) where
       let seen : Declared → Declared = proc_seen f g in
       let next : List Declared → Result Draft FaultKind = λ ps.
       if list_any (λ (p : Declared). bytes_eq p.name name) ps then Err DuplicateName
-      else if nat_le MOST_PROCESSES (length ps) then Err TooManyProcesses
-      else Ok (record d { procs = ps; section = Outside (bare_process name) }) in
+      else if nat_le (most_processes d.version) (length ps) then Err TooManyProcesses
+      else Ok (record d { procs = ps; section = Outside (bare_proc d.version name); told = false }) in
       let here : Sees (draft_seen f g) (begun d name) (next (map seen (all_procs d))) =
       rw (any-same f g name (all_procs d), length-map (all_procs d) seen)
       (sees-if (draft_seen f g) (list_any (λ (p : Declared). bytes_eq p.name name) (all_procs d)) _ _ _ _ tt
-      (sees-if (draft_seen f g) (nat_le MOST_PROCESSES (length (all_procs d))) _ _ _ _ tt refl)) in
+      (sees-if (draft_seen f g) (nat_le (most_processes d.version) (length (all_procs d))) _ _ _ _ tt refl)) in
       subst (λ ps. Sees (draft_seen f g) (begun d name) (next ps)) (sym (all-seen d.procs d.section)) here
 
   labelled-sees : (p : Declared) (name : List ℕ) → Sees (proc_seen f g) (labelled p name) (labelled (proc_seen f g p) name)
@@ -132,12 +133,18 @@ module _ (f g : ℕ → ℕ) where
       rw (marked-same using c.pattern) (sees-if (map (clause_seen f g)) (may_guard v c.guard) _ _ _ _ (sees-if (map (clause_seen f g)) (is_marked using c.pattern) _ _ _ _
       (ap (λ (cs : List Clause). Ok cs) (sym (map-append (clause_seen f g) clauses (c ∷ [])))) tt) tt)
 
+  may_tell-same : (v : Version) (told : Bool) (p : Declared) → may_tell v told (proc_seen f g p) ≡ may_tell v told p
+  may_tell-same One told p = refl
+  may_tell-same Two told p = rw (length-map p.instrs (instr_seen f g)) refl
+
   taken_at-sees : (d : Draft) (section : Section) (said : Form) →
       let e : Draft = record d { section = section } in Sees (draft_seen f g) (taken_at e section said) (taken_at (draft_seen f g e) (section_seen f g section) (form_seen f g said))
   taken_at-sees d Before (form.Turns n) = sees-if (draft_seen f g) (nat_le n MOST_TURNS) _ _ _ _ refl tt
   taken_at-sees d Before (form.Process name) = begun-sees (record d { section = Before }) name
   taken_at-sees d Before _ = tt
   taken_at-sees d (Outside p) (form.Process name) = begun-sees (record d { section = Outside p }) name
+  taken_at-sees d (Outside p) (form.QueueData q) =
+      rw (may_tell-same d.version d.told p) (sees-if (draft_seen f g) (may_tell d.version d.told p) _ _ _ _ refl tt)
   taken_at-sees d (Outside p) (form.Label name) =
       sees-on_ok (proc_seen f g) (draft_seen f g) (λ q. record d { section = Outside q }) (λ q. record (draft_seen f g d) { section = Outside q })
       (labelled p name) (labelled (proc_seen f g p) name) (labelled-sees p name) (λ q. refl)

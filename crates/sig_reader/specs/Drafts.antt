@@ -1,8 +1,10 @@
 -- What was read so far, and with one form more.
-use Rattle.std.specs.Prelude.{ℕ, ◌+◌, List, [], ◌∷◌, ◌++◌, length, nat_le, Bool, true, false, if◌then◌else◌, Option, Some, None, Result, Ok, Err}
+use Rattle.std.specs.Prelude.{ℕ, ◌+◌, ◌==◌, List, [], ◌∷◌, ◌++◌, length, nat_le, Bool, true, false, not, ◌&&◌, if◌then◌else◌, Option, Some, None, Result, Ok, Err}
 use Rattle.std.specs.Option.{option_map_or}
 use Rattle.std.specs.List.{list_any}
 use Rattle.std.specs.Str.{bytes_eq}
+use Rattle.sig_kinds.specs.declared.queue_data.QueueData.{QueueData}
+use Rattle.sig_kinds.specs.declared.queue_data.QueueData.TheVariants.{OnHeap, OffHeap}
 use Rattle.sig_patterns.specs.declared.clause.Clause.{Clause}
 use Rattle.sig_patterns.specs.declared.guard.Guard.{Guard}
 use Rattle.sig_patterns.specs.declared.pattern.Pattern.{Pattern}
@@ -21,13 +23,13 @@ use Rattle.sig_reader.specs.declared.draft.Section.TheVariants.{Before, Outside,
 use Rattle.sig_reader.specs.declared.draft.Draft.{Draft}
 use Rattle.sig_reader.specs.declared.form.Form.{Form}
 use Rattle.sig_reader.specs.declared.form.Form.TheVariants as form
-use Rattle.sig_program.specs.Scripts.{Declared, Program, bare_process}
+use Rattle.sig_program.specs.Scripts.{Declared, Program, bare_process, most_processes}
 use Rattle.sig_tokens.specs.Faults.{on_ok}
-use Rattle.sig_program.specs.declared.script.TheConstants.{DEFAULT_TURNS, MOST_PROCESSES, MOST_TURNS}
+use Rattle.sig_program.specs.declared.script.TheConstants.{DEFAULT_TURNS, MOST_TURNS}
 
 -- before the first line
 abbrev pub blank : Version → Draft
-blank version = record { version = version; turns = None; procs = []; section = Before }
+blank version = record { version = version; turns = None; procs = []; section = Before; told = false }
 
 -- the process that is being read
 abbrev pub open_proc : Section → List Declared
@@ -43,19 +45,37 @@ all_procs d = d.procs ++ open_proc d.section
 abbrev pub program_of : Draft → Program
 program_of d = record { version = d.version; turns = option_map_or (λ n. n) d.turns DEFAULT_TURNS; procs = all_procs d }
 
--- a process begins: its name is a new one, and there are at most MOST_PROCESSES processes
+-- where a process keeps its messages that doesn't tell it
+abbrev pub kept_in : Version → QueueData
+kept_in One = OffHeap
+kept_in Two = OnHeap
+
+-- a process of which only its first line was read
+abbrev pub bare_proc : Version → List ℕ → Declared
+bare_proc version name = bare_process (kept_in version) name
+
+-- a process begins: its name is a new one, and there are at most as many processes as the version allows
 abbrev pub begun : Draft → List ℕ → Result Draft FaultKind
 begun d name =
     if list_any (λ (p : Declared). bytes_eq p.name name) (all_procs d) then Err DuplicateName
-    else if nat_le MOST_PROCESSES (length (all_procs d)) then Err TooManyProcesses
-    else Ok (record d { procs = all_procs d; section = Outside (bare_process name) })
+    else if nat_le (most_processes d.version) (length (all_procs d)) then Err TooManyProcesses
+    else Ok (record d { procs = all_procs d; section = Outside (bare_proc d.version name); told = false })
 
 -- the same of the processes so far alone
-abbrev pub has_room : List Declared → List ℕ → Result (Unit {0}) FaultKind
-has_room procs name =
+abbrev pub has_room : Version → List Declared → List ℕ → Result (Unit {0}) FaultKind
+has_room version procs name =
     if list_any (λ (p : Declared). bytes_eq p.name name) procs then Err DuplicateName
-    else if nat_le MOST_PROCESSES (length procs) then Err TooManyProcesses
+    else if nat_le (most_processes version) (length procs) then Err TooManyProcesses
     else Ok tt
+
+-- nothing stands in the process yet
+abbrev pub is_bare : Declared → Bool
+is_bare p = (length p.labels == 0) && (length p.instrs == 0)
+
+-- In version 2 a process tells where it keeps its messages at most once, before its first label and its first instruction.
+abbrev pub may_tell : Version → Bool → Declared → Bool
+may_tell One told p = false
+may_tell Two told p = not told && is_bare p
 
 -- a label before the next instruction: its name is a new one in its process
 abbrev pub labelled : Declared → List ℕ → Result Declared FaultKind
@@ -92,6 +112,8 @@ abbrev pub taken_at : Draft → Section → Form → Result Draft FaultKind
 taken_at d Before (form.Turns n) = if nat_le n MOST_TURNS then Ok (record d { turns = Some n }) else Err TooManyTurns
 taken_at d Before (form.Process name) = begun d name
 taken_at d (Outside p) (form.Process name) = begun d name
+taken_at d (Outside p) (form.QueueData q) =
+    if may_tell d.version d.told p then Ok (record d { section = Outside (record p { queue_data = q }); told = true }) else Err Syntax
 taken_at d (Outside p) (form.Label name) = on_ok (λ q. record d { section = Outside q }) (labelled p name)
 taken_at d (Outside p) (form.Do i) = Ok (record d { section = Outside (with_instr p i) })
 taken_at d (Outside p) (form.Receive using) = Ok (record d { section = Inside p (bare_receive using) })

@@ -4,6 +4,8 @@ use Rattle.std.specs.List.{find}
 use Rattle.std.specs.Str.{bytes_eq}
 use Rattle.sig_kinds.specs.declared.alias_mode.AliasMode.{AliasMode}
 use Rattle.sig_kinds.specs.declared.alias_mode.AliasMode.TheVariants as alias_mode
+use Rattle.sig_kinds.specs.declared.queue_data.QueueData.{QueueData}
+use Rattle.sig_kinds.specs.declared.queue_data.QueueData.TheVariants.{OnHeap, OffHeap}
 use Rattle.sig_patterns.specs.declared.guard.Guard.{Guard}
 use Rattle.sig_patterns.specs.declared.var.Var.{Var}
 use Rattle.sig_program.specs.declared.instruction.Instr.{Instr}
@@ -41,6 +43,7 @@ abbrev pub keyword_of : List ℕ → Option Keyword
 keyword_of word =
     if bytes_eq word (codes "turns") then Some keyword.Turns
     else if bytes_eq word (codes "process") then Some keyword.Process
+    else if bytes_eq word (codes "message_queue_data") then Some keyword.QueueData
     else if bytes_eq word (codes "label") then Some keyword.Label
     else if bytes_eq word (codes "receive") then Some keyword.Receive
     else if bytes_eq word (codes "on") then Some keyword.On
@@ -54,9 +57,10 @@ may_begin turns keyword.Turns = is_none turns
 may_begin turns keyword.Process = true
 may_begin turns _ = false
 
--- in a process, outside a receive: a label, an instruction, the next process
+-- in a process, outside a receive: where it keeps its messages, a label, an instruction, the next process
 abbrev pub may_be_outside : Keyword → Bool
 may_be_outside keyword.Process = true
+may_be_outside keyword.QueueData = true
 may_be_outside keyword.Label = true
 may_be_outside (keyword.Do verb) = true
 may_be_outside keyword.Receive = true
@@ -152,6 +156,17 @@ instr_of known here v line ts = on_ok (instr_by v) (all_said known here line (op
 abbrev pub whole_name : List ℕ → List Token → Result (List ℕ) FaultKind
 whole_name line ts = name_at line ts >>= λ x. ends x.0 x.1
 
+-- `on_heap` or `off_heap`
+abbrev pub queue_data_of : List ℕ → Result QueueData FaultKind
+queue_data_of word =
+    if bytes_eq word (codes "on_heap") then Ok OnHeap
+    else if bytes_eq word (codes "off_heap") then Ok OffHeap
+    else Err Syntax
+
+-- where a process keeps its messages, and nothing behind it
+abbrev pub queue_data_at : List ℕ → List Token → Result QueueData FaultKind
+queue_data_at line ts = whole_name line ts >>= queue_data_of
+
 -- the variable of a receive's marker, and nothing behind it
 abbrev pub marked_by : List ℕ → List Token → Result (Option Var) FaultKind
 marked_by line ts = variable_at line ts >>= λ y. ends (Some (record { 0 = y.0 })) y.1
@@ -179,6 +194,7 @@ on_of known here line ts =
 unfoldable pub form_of : Known → ℕ → Keyword → List ℕ → List Token → Result Form FaultKind
 form_of known here keyword.Turns line ts = turns_of line ts
 form_of known here keyword.Process line ts = on_ok form.Process (whole_name line ts)
+form_of known here keyword.QueueData line ts = on_ok form.QueueData (queue_data_at line ts)
 form_of known here keyword.Label line ts = on_ok form.Label (whole_name line ts)
 form_of known here keyword.Receive line ts = on_ok form.Receive (marker_of line ts)
 form_of known here keyword.On line ts = on_of known here line ts

@@ -1,5 +1,7 @@
--- Where the next line stands behind a form that begins no process and tells no turns; by the version behind a clause.
-use Rattle.std.specs.Prelude.{Option, Some, Result, Ok, Err}
+-- Where the next line stands behind a form that begins no process and tells no turns; by the version behind a clause, and behind the
+-- line of where messages are kept.
+use Rattle.std.specs.Prelude.{Bool, if◌then◌else◌, Option, Some, Result, Ok, Err}
+use Rattle.sig_kinds.specs.declared.queue_data.QueueData.{QueueData}
 use Rattle.sig_patterns.specs.declared.clause.Clause.{Clause}
 use Rattle.sig_patterns.specs.declared.var.Var.{Var}
 use Rattle.sig_tokens.specs.declared.fault.FaultKind.{FaultKind}
@@ -9,7 +11,7 @@ use Rattle.sig_reader.specs.declared.draft.Section.TheVariants.{Outside, Inside}
 use Rattle.sig_reader.specs.declared.form.Form.{Form}
 use Rattle.sig_reader.specs.declared.form.Form.TheVariants as form
 use Rattle.sig_tokens.specs.Faults.{on_ok}
-use Rattle.sig_reader.specs.Drafts.{labelled, with_instr, with_clause, bare_receive}
+use Rattle.sig_reader.specs.Drafts.{may_tell, labelled, with_instr, with_clause, bare_receive}
 use Rattle.sig_program.specs.declared.instruction.Instr.TheVariants as instr
 use Rattle.sig_program.specs.declared.version.Version.{Version}
 
@@ -36,3 +38,8 @@ section_taken _ _ = Err Syntax
 abbrev pub clause_placed : Version → Section → Clause → Result Section FaultKind
 clause_placed version (Inside p r) c = on_ok (λ more. Inside p (record r { clauses = more })) (with_clause version r.using r.clauses c)
 clause_placed version _ c = Err Syntax
+
+-- where the process keeps its messages, if it has told that or not
+abbrev pub data_placed : Version → Bool → Section → QueueData → Result Section FaultKind
+data_placed version told (Outside p) q = if may_tell version told p then Ok (Outside (record p { queue_data = q })) else Err Syntax
+data_placed version told _ q = Err Syntax

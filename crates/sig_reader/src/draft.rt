@@ -4,14 +4,17 @@ ghost use Rattle.std.specs.Str.{bytes_eq};
 ghost use Rattle.sig_tokens.specs.declared.fault.FaultKind.TheVariants.{Syntax};
 ghost use Rattle.sig_tokens.specs.declared.fault.Stop.TheVariants.{Fault};
 ghost use Rattle.sig_tokens.specs.Faults.{Gives};
-ghost use Rattle.sig_program.specs.declared.script.TheConstants.{MOST_PROCESSES};
-ghost use Rattle.sig_program.specs.Scripts.{Declared, bare_process};
+ghost use Rattle.sig_program.specs.Scripts.{Declared, most_processes};
 ghost use Rattle.sig_reader.specs.Drafts.{
   blank,
   open_proc,
   all_procs,
+  kept_in,
+  bare_proc,
   begun,
   has_room,
+  is_bare,
+  may_tell,
   labelled,
   with_instr,
   is_marked,
@@ -21,17 +24,18 @@ ghost use Rattle.sig_reader.specs.Drafts.{
   taken_at,
   taken,
 };
-ghost use Rattle.sig_reader.specs.Sections.{inside_of, outside_of, section_taken, clause_placed};
+ghost use Rattle.sig_reader.specs.Sections.{inside_of, outside_of, section_taken, clause_placed, data_placed};
 ghost use Rattle.sig_reader.specs.Grammar.{finished, line_taken};
 ghost use Rattle.sig_reader.specs.Reading.{IsReading, MayEnd};
 ghost use Rattle.sig_reader.specs.Fitting.{IsSmall, IsFit};
 
 use crate::form::{Form, read_line};
 use crate::reader::ScriptError;
+use sig_kinds::QueueData;
 use sig_lists::Sequence;
 use sig_patterns::{Clause, Clauses, Guard, Pattern, Var, pins};
 use sig_program::{
-    After, DEFAULT_TURNS, Instr, Label, MOST_PROCESSES, MOST_TURNS, Receiving, Version,
+    After, DEFAULT_TURNS, Instr, Label, MOST_TURNS, Receiving, Version, most_processes,
 };
 use sig_terms::Name;
 use sig_tokens::{
@@ -62,6 +66,8 @@ pub struct Draft {
     pub procs: DraftProcs,
     /// Where the next line stands.
     pub section: Section,
+    /// Whether the process that is being read has told where it keeps its messages.
+    pub told: bool,
 }
 
 impl Draft {
@@ -74,6 +80,7 @@ impl Draft {
             turns: None,
             procs: Sequence::new(alloc),
             section: Section::Before,
+            told: false,
         }
     }
 }
@@ -117,25 +124,36 @@ fn is_proc_among(procs: &[DraftProc], name: &[u8]) -> bool
     place_of_proc(procs, name).is_some()
 }
 
-/// Whether there is room behind these processes for one of this name.
-fn check_room(procs: &[DraftProc], name: &[u8]) -> Result<(), Stop>
-    ensures { Gives (λ u. u) result (has_room procs.now name.now) }
+/// Whether there is room behind these processes of a script of this version for one of this name.
+fn check_room(version: Version, procs: &[DraftProc], name: &[u8]) -> Result<(), Stop>
+    ensures { Gives (λ u. u) result (has_room version procs.now name.now) }
 {
     if is_proc_among(procs, name) {
         return Err(Stop::Fault(FaultKind::DuplicateName));
     }
-    if procs.len() >= MOST_PROCESSES {
+    if procs.len() >= most_processes(version) {
         return Err(Stop::Fault(FaultKind::TooManyProcesses));
     }
     Ok(())
 }
 
-/// A process of which only its first line was read.
-fn bare_process(alloc: Global, name: Name) -> DraftProc
-    ensures { result ≡ bare_process name }
+/// Where a process keeps its messages that doesn't tell it.
+fn kept_in(version: Version) -> QueueData
+    ensures { result ≡ kept_in version }
+{
+    match version {
+        Version::One => QueueData::OffHeap,
+        Version::Two => QueueData::OnHeap,
+    }
+}
+
+/// A process of a script of this version, of which only its first line was read.
+fn bare_proc(alloc: Global, version: Version, name: Name) -> DraftProc
+    ensures { result ≡ bare_proc version name }
 {
     DraftProc {
         name,
+        queue_data: kept_in(version),
         labels: LabelTable::new(alloc),
         instrs: Sequence::new(alloc),
     }
@@ -149,12 +167,29 @@ fn begin(alloc: Global, draft: &mut Draft, name: Name) -> Result<(), Stop>
         &mut draft.procs,
         replace(&mut draft.section, Section::Before),
     )?;
-    check_room(draft.procs.as_slice(), name.bytes())?;
-    enter(
-        &mut draft.section,
-        Section::Outside(bare_process(alloc, name)),
-    );
+    check_room(draft.version, draft.procs.as_slice(), name.bytes())?;
+    let proc = bare_proc(alloc, draft.version, name);
+    enter(&mut draft.section, Section::Outside(proc));
+    draft.told = false;
     Ok(())
+}
+
+/// Whether nothing stands in the process yet.
+fn is_bare(proc: &DraftProc) -> bool
+    ensures { result ≡ is_bare proc.now }
+{
+    proc.labels.labels().is_empty() && proc.instrs.as_slice().is_empty()
+}
+
+/// Whether a process of a script of this version may tell where it keeps its messages, which it has
+/// told before or not.
+fn may_tell(version: Version, told: bool, proc: &DraftProc) -> bool
+    ensures { result ≡ may_tell version told proc.now }
+{
+    match version {
+        Version::One => false,
+        Version::Two => !told && is_bare(proc),
+    }
 }
 
 /// A label line.
@@ -202,6 +237,37 @@ fn take_process(alloc: Global, draft: &mut Draft, name: Name) -> Result<(), Stop
         Section::Inside(_, _) => Err(Stop::Fault(FaultKind::Syntax)),
         _ => begin(alloc, draft, name),
     }
+}
+
+/// The line of where a process keeps its messages, in a section whose process has told it before or
+/// not.
+fn place_queue_data(
+    version: Version,
+    told: bool,
+    section: &mut Section,
+    queue_data: QueueData,
+) -> Result<(), Stop>
+    ensures { Gives (λ u. section.new) result (data_placed version told section.old queue_data) }
+{
+    match section {
+        Section::Outside(proc) => {
+            if !may_tell(version, told, proc) {
+                return Err(Stop::Fault(FaultKind::Syntax));
+            }
+            proc.queue_data = queue_data;
+            Ok(())
+        }
+        _ => Err(Stop::Fault(FaultKind::Syntax)),
+    }
+}
+
+/// The line of where a process keeps its messages.
+fn take_queue_data(draft: &mut Draft, queue_data: QueueData) -> Result<(), Stop>
+    ensures { Gives (λ u. draft.new) result (taken_at draft.old draft.old.section (Form.QueueData queue_data)) }
+{
+    place_queue_data(draft.version, draft.told, &mut draft.section, queue_data)?;
+    draft.told = true;
+    Ok(())
 }
 
 /// A label line in a process, outside a receive.
@@ -386,6 +452,7 @@ fn take_form(alloc: Global, draft: &mut Draft, n: u64, form: Form) -> Result<(),
     match form {
         Form::Turns(n) => take_turns(draft, n),
         Form::Process(name) => take_process(alloc, draft, name),
+        Form::QueueData(queue_data) => take_queue_data(draft, queue_data),
         Form::Label(name) => place_label(alloc, &mut draft.section, name),
         Form::Do(instr) => place_instr(&mut draft.section, instr),
         Form::Receive { using } => place_receive(alloc, &mut draft.section, using),
@@ -398,9 +465,8 @@ fn take_form(alloc: Global, draft: &mut Draft, n: u64, form: Form) -> Result<(),
 /// Line `n` behind what was read so far, or what is wrong with it. What was read is of no use
 /// behind a line that is wrong. The room of the list of tokens is used again.
 ///
-/// Asks that `n` is below 2^31; and that what was read so far has at most
-/// [`MOST_PROCESSES`](sig_program::MOST_PROCESSES) processes, each with at most `n` instructions and
-/// `n` labels.
+/// Asks that `n` is below 2^31; and that what was read so far has at most as many processes as the
+/// version allows, by [`most_processes`], each with at most `n` instructions and `n` labels.
 pub fn take_line(
     alloc: Global,
     known: &Known,
@@ -439,9 +505,11 @@ fn check_end(section: &Section, n: u64) -> Result<(), ScriptError>
 
 /// The script, where the text may end before line `n`.
 ///
-/// Asks that what was read has at most [`MOST_PROCESSES`](sig_program::MOST_PROCESSES) processes.
+/// Asks that what was read has at most as many processes as the version allows, by
+/// [`most_processes`].
+#[tactic(auto, using(crate::proofs::FitLemmas::few_in_all))]
 pub fn finish(draft: Draft, n: u64) -> Result<DraftScript, ScriptError>
-    requires { length (all_procs draft) ≤ MOST_PROCESSES }
+    requires { length (all_procs draft) ≤ most_processes draft.version }
     ensures { IsReading (finished n draft draft.section) result }
 {
     let ended = check_end(&draft.section, n);

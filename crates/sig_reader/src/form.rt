@@ -15,6 +15,8 @@ ghost use Rattle.sig_reader.specs.Forms.{
   flag_of,
   all_said,
   whole_name,
+  queue_data_of,
+  queue_data_at,
   marked_by,
   using_at,
   marker_of,
@@ -30,7 +32,7 @@ ghost use Rattle.sig_reader.specs.Forms.{
 use crate::draft::{Draft, Section};
 use crate::guards::take_guard;
 use crate::keyword::{Keyword, read_keyword};
-use sig_kinds::AliasMode;
+use sig_kinds::{AliasMode, QueueData};
 use sig_patterns::{Clause, Expr, Guard, Var};
 use sig_program::{After, Instr, Verb};
 use sig_terms::Name;
@@ -49,6 +51,8 @@ pub enum Form {
     Turns(u64),
     /// A process begins.
     Process(Name),
+    /// Where the process keeps its messages.
+    QueueData(QueueData),
     /// The place of the next instruction has a name.
     Label(Name),
     /// An instruction that is no receive.
@@ -279,6 +283,27 @@ fn read_name(alloc: Global, line: &Line) -> Result<Name, Stop>
     Ok(name_of(alloc, word)?)
 }
 
+/// Where messages are kept, by this word.
+fn queue_data_of(word: &[u8]) -> Result<QueueData, Stop>
+    ensures { Gives (λ q. q) result (queue_data_of word.now) }
+{
+    if equal_bytes(word, b"on_heap") {
+        Ok(QueueData::OnHeap)
+    } else if equal_bytes(word, b"off_heap") {
+        Ok(QueueData::OffHeap)
+    } else {
+        Err(Stop::Fault(FaultKind::Syntax))
+    }
+}
+
+/// Where a process keeps its messages, and nothing behind it.
+fn read_queue_data(line: &Line) -> Result<QueueData, Stop>
+    ensures { Gives (λ q. q) result (queue_data_at line.now.text line.now.tokens) }
+{
+    let word = whole_word(line)?;
+    queue_data_of(word)
+}
+
 /// The variable of a receive's marker, and nothing behind it.
 fn marker_variable(alloc: Global, line: &Line) -> Result<Option<Var>, Stop>
     ensures { Gives (λ v. v) result (marked_by line.now.text line.now.tokens) }
@@ -456,6 +481,7 @@ fn read_form(
     match word {
         Keyword::Turns => read_turns(line),
         Keyword::Process => read_name(alloc, line).map(Form::Process),
+        Keyword::QueueData => read_queue_data(line).map(Form::QueueData),
         Keyword::Label => read_name(alloc, line).map(Form::Label),
         Keyword::Receive => {
             let using = read_marker(alloc, line)?;

@@ -17,6 +17,8 @@ pub enum Keyword {
     Turns,
     /// `process`: a process begins.
     Process,
+    /// `message_queue_data`: where the process keeps its messages.
+    QueueData,
     /// `label`: names the place of the next instruction.
     Label,
     /// An instruction that is no receive.
@@ -49,6 +51,8 @@ pub fn read_keyword(word: &[u8]) -> Option<Keyword>
         Some(Keyword::Turns)
     } else if equal_bytes(word, b"process") {
         Some(Keyword::Process)
+    } else if equal_bytes(word, b"message_queue_data") {
+        Some(Keyword::QueueData)
     } else if equal_bytes(word, b"label") {
         Some(Keyword::Label)
     } else if equal_bytes(word, b"receive") {
@@ -83,6 +87,7 @@ impl Keyword {
     {
         match self {
             Keyword::Process => true,
+            Keyword::QueueData => true,
             Keyword::Label => true,
             Keyword::Do(_) => true,
             Keyword::Receive => true,

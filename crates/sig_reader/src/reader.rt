@@ -170,6 +170,7 @@ fn seal_procs(alloc: Global, drafts: DraftProcs) -> Result<Procs, AllocError>
     for draft in drafts.into_vec() {
         procs.push(Proc {
             name: draft.name,
+            queue_data: draft.queue_data,
             labels: draft.labels.into_labels(),
             instrs: draft.instrs,
         })?;

@@ -6,6 +6,7 @@ ghost use Rattle.sig_program.specs.Scripts.{Declared};
 ghost use Rattle.sig_tokens.specs.Names.{labels_at};
 
 use crate::label_table::LabelTable;
+use sig_kinds::QueueData;
 use sig_lists::Sequence;
 use sig_program::{Instrs, Version};
 use sig_terms::Name;
@@ -16,6 +17,7 @@ use std::marker::Model;
 #[derive(Drop)]
 pub struct DraftProc {
     pub name: Name,
+    pub queue_data: QueueData,
     pub labels: LabelTable,
     pub instrs: Instrs,
 }
@@ -30,7 +32,7 @@ impl Model for DraftProc {
 
     ghost coded = { Prim.hlevel (codes, expr.the_row.coded, pattern.the_row.coded) };
 
-    ghost view = { λ p. record { name = p.name; labels = p.labels; instrs = p.instrs } };
+    ghost view = { λ p. record { name = p.name; queue_data = p.queue_data; labels = p.labels; instrs = p.instrs } };
 }
 
 /// The processes, in the order of their lines.

@@ -19,7 +19,8 @@ pub enum FaultKind {
     TermTooLarge,
     /// A process has the name of an earlier one.
     DuplicateName,
-    /// There are [`MOST_PROCESSES`](sig_program::MOST_PROCESSES) processes before it.
+    /// There are as many processes before it as the script's version allows, by
+    /// [`most_processes`](sig_program::most_processes).
     TooManyProcesses,
     /// A label of a process has the name of an earlier one.
     DuplicateLabel,

@@ -104,7 +104,7 @@ module _ (script : Program) (policy : Policy) (crew : List Running) (queues : Li
         record {
           receiver = ap (λ (z : Account). z.receiver.0) c.closed.account ∙ q.receiver;
           policy_is = ap (λ (z : Account). z.policy) c.closed.account ∙ q.policy_is;
-          queue_data_is = ap (λ (z : Account). z.queue_data) c.closed.account ∙ q.queue_data_is;
+          queue_data_is = λ r at_r. ap (λ (z : Account). z.queue_data) c.closed.account ∙ q.queue_data_is r at_r;
           senders = λ s is. (in_below (length crew) s (not (s == p)) (sym (sender s) ∙ is), λ e. apart s p (is_in 0 (length crew) s) (sym (sender s) ∙ is) e);
           all = λ s b ne. sender s ∙ ap (λ z. z && not (s == p)) (subst (λ n. is_in 0 n s ≡ true) all (in_crew s b)) ∙ ap (λ z. not z) (ne_eqb s p ne);
           first = λ s r at_r. ap (λ (z : Account). slice_index_or z.first s 0) c.closed.account ∙ first_is script policy crew queues law p c.q q (omega (arith, lt, as_many)) s r at_r;

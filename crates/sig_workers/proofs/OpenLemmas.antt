@@ -5,11 +5,12 @@ use Rattle.std.proofs.lemmas.List.Elements.{All-nil, All-cons}
 use Rattle.std.proofs.lemmas.Bool.{eq-eqb, ne_eqb}
 use Rattle.std.proofs.lemmas.Bool.Decides.{eqb_tells, nat_tests}
 use Rattle.sig_model.specs.Running.{Running}
-use Rattle.sig_kinds.specs.declared.queue_data.QueueData.TheVariants.{OffHeap}
+use Rattle.sig_kinds.specs.declared.queue_data.QueueData.{QueueData}
+use Rattle.sig_kinds.specs.declared.queue_data.QueueData.TheVariants.{OnHeap, OffHeap}
 use Rattle.sig_layout.specs.declared.policy.Policy.{Policy}
 use Rattle.sig_layout.specs.declared.opening.Opening.{Opening}
 use Rattle.sig_layout.specs.declared.knows.Knows.{Knows}
-use Rattle.sig_layout.specs.Policies.{IsPolicy}
+use Rattle.sig_layout.specs.Policies.{ruled, IsPolicy}
 use Rattle.sig_layout.specs.Openings.{IsSetup}
 use Rattle.sig_layout.specs.Sets.{has}
 use Rattle.sig_layout.specs.Sent.{putter, keep}
@@ -138,10 +139,15 @@ length_numbers : (t : ℕ) (procs : List Running) → length (numbers_to t procs
 length_numbers t [] = refl
 length_numbers t (r ∷ rs) = ap suc (length_numbers t rs)
 
-pub first_setup : (policy : Policy) (senders : List ℕ) (crew : List Running) (t : ℕ) (o : Opening) → IsPolicy policy → AreNumbered crew → t < length crew → o.count ≡ length crew → o.first ≡ numbers_to t crew →
-    ((s : ℕ) → has senders s ≡ (is_in 0 (length crew) s && not (s == t))) → IsSetup (setup_of policy OffHeap senders o)
-first_setup policy senders crew t o policy_is numbered lt count first has_is = record {
-  policy = policy_is;
+-- a lawful policy rules as one, wherever messages are kept
+ruled_policy : (policy : Policy) (data : QueueData) → IsPolicy policy → IsPolicy (ruled policy data)
+ruled_policy policy OnHeap h = tt
+ruled_policy policy OffHeap h = h
+
+pub first_setup : (policy : Policy) (data : QueueData) (senders : List ℕ) (crew : List Running) (t : ℕ) (o : Opening) → IsPolicy policy → AreNumbered crew → t < length crew → o.count ≡ length crew → o.first ≡ numbers_to t crew →
+    ((s : ℕ) → has senders s ≡ (is_in 0 (length crew) s && not (s == t))) → IsSetup (setup_of policy data senders o)
+first_setup policy data senders crew t o policy_is numbered lt count first has_is = record {
+  policy = ruled_policy policy data policy_is;
   below = λ s h. subst (λ n. s < n) (sym count) (in_below (length crew) s (not (s == t)) (sym (has_is s) ∙ h));
   places = ap (λ (z : List ℕ). length z) first ∙ length_numbers t crew ∙ sym count;
   numbers = subst (All (λ n. (1 ≤ n) × (n < 2 ^ 63))) (sym first) (numbers_all t crew (λ s r at. numbered t s r at lt));

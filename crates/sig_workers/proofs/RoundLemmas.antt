@@ -3,6 +3,7 @@ use Rattle.std.proofs.Common.{◌≡◌, ℕ, ◌+◌, ◌<◌, ◌≤◌, List,
 use Rattle.std.specs.Prelude.{slice_get, All, slice_index}
 use Rattle.std.proofs.lemmas.Option.{same_Some, slice_get_within}
 use Rattle.sig_program.specs.Scripts.{Program, IsScriptWithin}
+use Rattle.sig_program.proofs.ProcessCounts.{most_of_all}
 use Rattle.sig_model.specs.declared.event.Event.{Event}
 use Rattle.sig_model.specs.Running.{Running}
 use Rattle.sig_model.specs.OneWorker.{IsClear}
@@ -31,7 +32,7 @@ use Rattle.sig_workers.proofs.EndLemmas.{may_close, ends, strange_none, end_rece
 
 -- a sound script has few processes
 pub crew_few : (script : Program) (crew : List Running) → IsScriptWithin script → IsLawfulCrew script crew → length crew ≤ 256
-crew_few script crew sound law = omega (arith, sound.few, law.many)
+crew_few script crew sound law = omega (arith, sound.few, law.many, most_of_all script.version)
 
 -- the next numbers of a lawful crew
 pub crew_numbered : (script : Program) (crew : List Running) → IsLawfulCrew script crew → AreNumbered crew

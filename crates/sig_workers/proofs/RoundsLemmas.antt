@@ -4,10 +4,10 @@ use Rattle.std.specs.Prelude.{◌==◌, slice_get, slice_index_or}
 use Rattle.std.proofs.lemmas.List.{append-nil}
 use Rattle.std.proofs.lemmas.List.Elements.{filter-append}
 use Rattle.std.proofs.lemmas.List.Sums.{sum_by-cons}
-use Rattle.std.proofs.lemmas.Option.{same_Some}
+use Rattle.std.proofs.lemmas.Option.{same_Some, slice_get_within}
 use Rattle.sig_terms.specs.declared.pid.Pid.{Pid}
 use Rattle.sig_kinds.specs.declared.signal.Signal.{Signal}
-use Rattle.sig_program.specs.Scripts.{Program}
+use Rattle.sig_program.specs.Scripts.{Declared, Program}
 use Rattle.sig_model.specs.declared.state.TheConstants.{LAST_STAMP}
 use Rattle.sig_model.specs.declared.event.Event.{Event}
 use Rattle.sig_model.specs.Running.{Running}
@@ -140,6 +140,17 @@ module _ (script : Program) (policy : Policy) (crew : List Running) (between las
   mid_at : (s : ℕ) (r : Running) → slice_get crew s ≡ Some r → (m : Running) × (slice_get mid s ≡ Some m)
   mid_at s r at = let w : (m : Running) × (slice_get mid s ≡ Some m) × (x : List Event) × (m.events ≡ r.events ++ x) = a.begin s r at in (w.0, w.1)
 
+  -- a process runs the same part of the script in each lawful crew
+  same_part : (p : ℕ) (r m : Running) → slice_get crew p ≡ Some r → slice_get mid p ≡ Some m → m.proc ≡ r.proc
+  same_part p r m at_r at_m = same_Some m.proc r.proc (sym (a.lawful.processes p m at_m).proc ∙ (law.processes p r at_r).proc)
+
+  same_data : (p : ℕ) (x y : Account) → slice_get receipts p ≡ Some x → slice_get more p ≡ Some y → y.queue_data ≡ x.queue_data
+  same_data p x y at_x at_y =
+      let within : p < length crew = (let w : p < length receipts = slice_get_within receipts p x at_x in omega (arith, w, a.count)) in
+      let r : (r : Running) × (slice_get crew p ≡ Some r) = some_at crew p within in
+      let m : (m : Running) × (slice_get mid p ≡ Some m) = mid_at p r.0 r.1 in
+      (b.receipt p y at_y).data m.0 m.1 ∙ ap (λ (d : Declared). d.queue_data) (same_part p r.0 m.0 r.1 m.1) ∙ sym ((a.receipt p x at_x).data r.0 r.1)
+
   may_at : (p : ℕ) (x y : Account) → slice_get receipts p ≡ Some x → slice_get more p ≡ Some y → MayFollow x y
   may_at p x y at_x at_y =
       let e : IsReceiptOf policy crew mid p x = a.receipt p x at_x in
@@ -150,7 +161,7 @@ module _ (script : Program) (policy : Policy) (crew : List Running) (between las
             (λ t. (let k : (s < length mid) × (s ≢ p) = f.senders s t in e.all s (omega (arith, k.0, mid_many)) k.1))
             (λ t. (let k : (s < length crew) × (s ≢ p) = e.senders s t in f.all s (omega (arith, k.0, mid_many)) k.1));
         policy = f.policy_is ∙ sym e.policy_is;
-        queue_data = f.queue_data_is ∙ sym e.queue_data_is;
+        queue_data = same_data p x y at_x at_y;
         numbers = λ s is.
             let k : (s < length crew) × (s ≢ p) = e.senders s is in
             let r : (r : Running) × (slice_get crew s ≡ Some r) = some_at crew s k.0 in

@@ -1,7 +1,6 @@
 -- Queues are opened for a crew, and its seats are cut.
 use Rattle.std.specs.Prelude.{◌≡◌, ◌==◌, ℕ, ◌<◌, ◌≤◌, ◌^◌, not, ◌&&◌, List, [], length, map, slice_get, slice_index, Some}
 use Rattle.sig_model.specs.Running.{Running}
-use Rattle.sig_kinds.specs.declared.queue_data.QueueData.TheVariants.{OffHeap}
 use Rattle.sig_layout.specs.declared.policy.Policy.{Policy}
 use Rattle.sig_layout.specs.Sets.{has}
 use Rattle.sig_layout.specs.Views.{first_seat}
@@ -20,10 +19,10 @@ AreNumbered crew = (p s : ℕ) (r : Running) → slice_get crew s ≡ Some r →
 abbrev pub first_seated : Queue → Seated
 first_seated q = record { queue = q.id; knows = first_seat q.setup.senders }
 
--- the queue of p, of a crew: it is opened off the heap
+-- the queue of p, of a crew: it keeps messages where the process does
 pub record IsQueueOf (policy : Policy) (crew : List Running) (p : ℕ) (q : Queue) : Type 0 where
   pub policy_is : q.setup.given ≡ policy
-  pub queue_data_is : q.setup.queue_data ≡ OffHeap
+  pub queue_data_is : (r : Running) → slice_get crew p ≡ Some r → q.setup.queue_data ≡ r.proc.queue_data
   pub receiver : q.setup.opening.receiver.0 ≡ p
   pub count : q.setup.opening.count ≡ length crew
   pub senders : (s : ℕ) → has q.setup.senders s ≡ (is_in 0 (length crew) s && not (s == p))

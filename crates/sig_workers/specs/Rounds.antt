@@ -12,7 +12,6 @@ use Rattle.sig_process.specs.Standing.{Standing, runnings_of}
 use Rattle.sig_model.specs.Still.{IsStill, IsStillCrew}
 use Rattle.sig_model.specs.Accounts.{went, coming_from}
 use Rattle.sig_model.specs.CrewLaw.{IsLawfulCrew, whole_member}
-use Rattle.sig_kinds.specs.declared.queue_data.QueueData.TheVariants.{OffHeap}
 use Rattle.sig_layout.specs.declared.policy.Policy.{Policy}
 use Rattle.sig_layout.specs.Sets.{has}
 use Rattle.sig_layout.specs.Sent.{signals}
@@ -27,12 +26,12 @@ Begin crew later = (p : ℕ) (r : Running) → slice_get crew p ≡ Some r → (
 abbrev pub NoneMore : List Running → List Running → Type 0
 NoneMore crew later = (p : ℕ) (r t : Running) → slice_get crew p ≡ Some r → slice_get later p ≡ Some t → t.events ≡ r.events
 
--- The receipt at place p: its receiver is p, its senders are all others, and for each of them it has what that one sent to p between
--- the two crews, in order.
+-- The receipt at place p: its receiver is p, which keeps its messages where the receipt says, its senders are all others, and for each
+-- of them it has what that one sent to p between the two crews, in order.
 pub record IsReceiptOf (policy : Policy) (crew later : List Running) (p : ℕ) (a : Account) : Type 0 where
   pub receiver : a.receiver.0 ≡ p
   pub policy_is : a.policy ≡ policy
-  pub queue_data_is : a.queue_data ≡ OffHeap
+  pub queue_data_is : (r : Running) → slice_get crew p ≡ Some r → a.queue_data ≡ r.proc.queue_data
   pub senders : (s : ℕ) → has a.senders s ≡ true → (s < length crew) × (s ≢ p)
   pub all : (s : ℕ) → s < length crew → s ≢ p → has a.senders s ≡ true
   -- the number of each one's first signal is the one after those that it had sent

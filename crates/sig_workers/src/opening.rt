@@ -7,7 +7,6 @@ ghost use Rattle.sig_layout.specs.Sets.{has};
 ghost use Rattle.sig_workers.specs.Parts.{is_in};
 ghost use Rattle.sig_workers.specs.Opening.{numbers_to, AreNumbered, first_seated, IsQueueOf, AreOpened};
 
-use sig_kinds::QueueData;
 use sig_layout::{Numbers, Opening, Policy, Senders};
 use sig_process::Process;
 use sig_queue::{QSeat, SigQueue};
@@ -40,8 +39,8 @@ fn first_numbers(alloc: Global, procs: &[Process], to: Pid) -> Result<Numbers, A
     Ok(numbers)
 }
 
-/// Opens the queue of one process, with the seat that has all senders and the role. The error is
-/// want of memory.
+/// Opens the queue of one process, which keeps its messages where the process does, with the seat
+/// that has all senders and the role. The error is want of memory.
 fn open_one(
     alloc: Global,
     policy: Policy,
@@ -63,7 +62,14 @@ fn open_one(
         count,
         first,
     };
-    SigQueue::open(alloc, policy, QueueData::OffHeap, senders, &opening)
+    let place = at as usize;
+    SigQueue::open(
+        alloc,
+        policy,
+        procs[place].queue_data(),
+        senders,
+        &opening,
+    )
 }
 
 /// Opens the queue of each process, by pid. The error is want of memory.

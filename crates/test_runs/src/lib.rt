@@ -23,6 +23,8 @@ mod markers;
 #[cfg(test)]
 mod matches;
 #[cfg(test)]
+mod processes;
+#[cfg(test)]
 mod records;
 #[cfg(test)]
 mod refusals;

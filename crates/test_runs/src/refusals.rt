@@ -102,7 +102,7 @@ pub(crate) static LONG: [(&[(&[u8], usize)], &[u8]); 27] = [
 ];
 
 /// Refusals of turns, processes, labels and where they stand: the lines behind the header, and where they are refused and why.
-pub(crate) static HEADS: [(&[u8], &[u8]); 30] = [
+pub(crate) static HEADS: [(&[u8], &[u8]); 31] = [
     (b"foo", b"2: syntax"),
     (b"foo 99999999999999999999", b"2: int_range"),
     (b"turns -1", b"2: syntax"),
@@ -136,6 +136,7 @@ pub(crate) static HEADS: [(&[u8], &[u8]); 30] = [
     (b"process a\nbind X Y", b"3: syntax"),
     (b"process a\nclear", b"3: syntax"),
     (b"process a\nclear @a", b"3: syntax"),
+    (b"process a\nmessage_queue_data off_heap", b"3: syntax"),
 ];
 
 /// Refusals of expressions: the lines behind the header, and where they are refused and why.

@@ -7,6 +7,7 @@ use crate::large::{GROWTHS, ROUNDS};
 use crate::links::{LINK_CALLS, LINKED_EXITS, QUEUED, UNLINKS};
 use crate::markers::MARKERS;
 use crate::matches::MATCHES;
+use crate::processes::DATA_FAULTS;
 use crate::refusals::{
     HEADS, LONG, LONGEST, MARKER_CLAUSES, OPERANDS, OTHER_FIRST_LINES, OTHERS, RECEIVES, TERMS,
 };
@@ -355,7 +356,7 @@ static REFUSED_TWO: Around = Around {
 };
 
 /// Whole texts, and where they are refused and why.
-static REFUSED_TEXTS: Around = Around {
+pub(crate) static REFUSED_TEXTS: Around = Around {
     head: b"",
     sides: [b"sigrun: line ", b"\n"],
     refused: true,
@@ -445,7 +446,7 @@ fn scripts_give_their_records(rt: HostRuntime) {
 
 #[test]
 fn texts_are_refused_at_their_line(rt: HostRuntime) {
-    let tables: [(&Around, &[(&[u8], &[u8])]); 10] = [
+    let tables: [(&Around, &[(&[u8], &[u8])]); 11] = [
         (&REFUSED, &HEADS),
         (&REFUSED, &TERMS),
         (&REFUSED, &RECEIVES),
@@ -454,6 +455,7 @@ fn texts_are_refused_at_their_line(rt: HostRuntime) {
         (&REFUSED, &OTHERS),
         (&REFUSED, &SIGN_FAULTS),
         (&REFUSED_TWO, &GUARD_FAULTS),
+        (&REFUSED_TWO, &DATA_FAULTS),
         (&REFUSED_TEXTS, &OTHER_FIRST_LINES),
         (&TOLD_TEXTS, &REFUSALS),
     ];

@@ -16,7 +16,7 @@ enum Piece {
 }
 
 /// The texts of scripts, piece by piece.
-static PRINTED: [&[Piece]; 8] = [
+static PRINTED: [&[Piece]; 9] = [
     &[
         Piece::Same(b"sigscript 1\n"),
         Piece::Spelled(b"", b"turns 1000\n"),
@@ -44,6 +44,14 @@ end
             b"sigscript 2\nturns 1000\n",
         ),
         Piece::Same(b"process a\n"),
+    ],
+    // Where processes keep their messages.
+    &[
+        Piece::Same(b"sigscript 2\n"),
+        Piece::Spelled(b"", b"turns 1000\n"),
+        Piece::Same(b"process a\n"),
+        Piece::Spelled(b"message_queue_data on_heap\n", b""),
+        Piece::Same(b"stop\nprocess b\nmessage_queue_data off_heap\nlabel l\nprocess c\n"),
     ],
     // Each expression.
     &[

@@ -6,4 +6,4 @@ use Rattle.sig_canon.proofs.printing.put_procs.Given as goal
 
 -- the processes so far
 abbrev pub invariant-loop-proc : goal.invariant-loop-proc
-invariant-loop-proc l = l.into.items ≡ l.fn.into.items ++ flat_map (λ (p : Declared). flat_map line_text (process_lines (names_of l.procs) p)) (take l.proc-index l.procs)
+invariant-loop-proc l = l.into.items ≡ l.fn.into.items ++ flat_map (λ (p : Declared). flat_map line_text (process_lines l.version (names_of l.procs) p)) (take l.proc-index l.procs)
