@@ -58,7 +58,7 @@ script_split version turns procs = sym (append_assoc (line_text (header_line ver
 -- a process's text is its first line, that of where it keeps its messages, and those behind
 pub process_split : (version : Version) (names : List (List ℕ)) (p : Declared) →
     flat_map line_text (process_lines version names p)
-      ≡ (line_text (spaced (codes "process") (p.name ∷ [])) ++ flat_map line_text (data_lines version p.queue_data)) ++ flat_map line_text (placed_lines names p.labels 1 p.instrs)
+    ≡ (line_text (spaced (codes "process") (p.name ∷ [])) ++ flat_map line_text (data_lines version p.queue_data)) ++ flat_map line_text (placed_lines names p.labels 1 p.instrs)
 unfolding process_lines
 process_split version names p = flat_map-append line_text (spaced (codes "process") (p.name ∷ []) ∷ data_lines version p.queue_data) (placed_lines names p.labels 1 p.instrs)
 

@@ -149,7 +149,7 @@ module _ (script : Program) (policy : Policy) (crew : List Running) (between las
       let within : p < length crew = (let w : p < length receipts = slice_get_within receipts p x at_x in omega (arith, w, a.count)) in
       let r : (r : Running) × (slice_get crew p ≡ Some r) = some_at crew p within in
       let m : (m : Running) × (slice_get mid p ≡ Some m) = mid_at p r.0 r.1 in
-      (b.receipt p y at_y).data m.0 m.1 ∙ ap (λ (d : Declared). d.queue_data) (same_part p r.0 m.0 r.1 m.1) ∙ sym ((a.receipt p x at_x).data r.0 r.1)
+      (b.receipt p y at_y).queue_data_is m.0 m.1 ∙ ap (λ (d : Declared). d.queue_data) (same_part p r.0 m.0 r.1 m.1) ∙ sym ((a.receipt p x at_x).queue_data_is r.0 r.1)
 
   may_at : (p : ℕ) (x y : Account) → slice_get receipts p ≡ Some x → slice_get more p ≡ Some y → MayFollow x y
   may_at p x y at_x at_y =

@@ -63,13 +63,7 @@ fn open_one(
         first,
     };
     let place = at as usize;
-    SigQueue::open(
-        alloc,
-        policy,
-        procs[place].queue_data(),
-        senders,
-        &opening,
-    )
+    SigQueue::open(alloc, policy, procs[place].queue_data(), senders, &opening)
 }
 
 /// Opens the queue of each process, by pid. The error is want of memory.
