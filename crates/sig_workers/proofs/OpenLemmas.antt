@@ -140,14 +140,14 @@ length_numbers t [] = refl
 length_numbers t (r ∷ rs) = ap suc (length_numbers t rs)
 
 -- a lawful policy rules as one, wherever messages are kept
-ruled_policy : (policy : Policy) (data : QueueData) → IsPolicy policy → IsPolicy (ruled policy data)
+ruled_policy : (policy : Policy) (kept : QueueData) → IsPolicy policy → IsPolicy (ruled policy kept)
 ruled_policy policy OnHeap h = tt
 ruled_policy policy OffHeap h = h
 
-pub first_setup : (policy : Policy) (data : QueueData) (senders : List ℕ) (crew : List Running) (t : ℕ) (o : Opening) → IsPolicy policy → AreNumbered crew → t < length crew → o.count ≡ length crew → o.first ≡ numbers_to t crew →
-    ((s : ℕ) → has senders s ≡ (is_in 0 (length crew) s && not (s == t))) → IsSetup (setup_of policy data senders o)
-first_setup policy data senders crew t o policy_is numbered lt count first has_is = record {
-  policy = ruled_policy policy data policy_is;
+pub first_setup : (policy : Policy) (kept : QueueData) (senders : List ℕ) (crew : List Running) (t : ℕ) (o : Opening) → IsPolicy policy → AreNumbered crew → t < length crew → o.count ≡ length crew → o.first ≡ numbers_to t crew →
+    ((s : ℕ) → has senders s ≡ (is_in 0 (length crew) s && not (s == t))) → IsSetup (setup_of policy kept senders o)
+first_setup policy kept senders crew t o policy_is numbered lt count first has_is = record {
+  policy = ruled_policy policy kept policy_is;
   below = λ s h. subst (λ n. s < n) (sym count) (in_below (length crew) s (not (s == t)) (sym (has_is s) ∙ h));
   places = ap (λ (z : List ℕ). length z) first ∙ length_numbers t crew ∙ sym count;
   numbers = subst (All (λ n. (1 ≤ n) × (n < 2 ^ 63))) (sym first) (numbers_all t crew (λ s r at. numbered t s r at lt));
