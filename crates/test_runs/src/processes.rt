@@ -17,8 +17,14 @@ pub(crate) static DATA_FAULTS: [(&[u8], &[u8]); 10] = [
     (b"process a\nmessage_queue_data", b"3: syntax"),
     (b"process a\nmessage_queue_data off", b"3: syntax"),
     (b"process a\nmessage_queue_data off_heap 1", b"3: syntax"),
-    (b"process a\nstop\nmessage_queue_data off_heap", b"4: syntax"),
-    (b"process a\nlabel l\nmessage_queue_data on_heap", b"4: syntax"),
+    (
+        b"process a\nstop\nmessage_queue_data off_heap",
+        b"4: syntax",
+    ),
+    (
+        b"process a\nlabel l\nmessage_queue_data on_heap",
+        b"4: syntax",
+    ),
     (
         b"process a\nmessage_queue_data on_heap\nmessage_queue_data off_heap",
         b"4: syntax",
@@ -46,7 +52,8 @@ const COUNTS: [(&[u8], u32, &[u8]); 4] = [
 ];
 
 /// A process that takes each `x` that comes.
-const TAKER: &[u8] = b"sigscript 2\nprocess p0\nmessage_queue_data off_heap\nlabel l\nreceive\non x\nend\ngoto l\n";
+const TAKER: &[u8] =
+    b"sigscript 2\nprocess p0\nmessage_queue_data off_heap\nlabel l\nreceive\non x\nend\ngoto l\n";
 
 /// What stands in the record of 255 senders and one that takes what they send, and how often: the
 /// taker has three events for each of them, and waits with nothing left.
