@@ -17,6 +17,9 @@ use Rattle.sig_kinds.specs.contracts.signals.Signals as signals
 use Rattle.sig_links.specs.contracts.links.Links as links
 use Rattle.sig_inner.specs.contracts.inner.Inner as inner
 use Rattle.sig_patterns.specs.contracts.env.Env as env
+use Rattle.sig_patterns.specs.contracts.guard.Test as test
+use Rattle.sig_patterns.specs.contracts.guard.Guard as guard
+use Rattle.sig_patterns.specs.contracts.clause.Clause as clause
 use Rattle.sig_program.specs.contracts.process.Proc as proc
 use Rattle.sig_program.specs.contracts.instruction.Instr as instr
 use Rattle.sig_model.specs.contracts.event.Event as event
@@ -50,8 +53,17 @@ env_send = search (term_send, crosses, maps.crosses, sendable) depth 40
 name_send : IsSend name.the_row
 name_send = search (crosses, sendable) depth 40
 
+test_send : IsSend test.the_row
+test_send = search (name_send, crosses, sendable) depth 60 fits 20000
+
+guard_send : IsSend guard.the_row
+guard_send = search (test_send, crosses, sendable) depth 60 fits 20000
+
+clause_send : IsSend clause.the_row
+clause_send = search (name_send, guard_send, pattern_knot.send-Pattern, crosses, sendable) depth 60 fits 20000
+
 instr_send : IsSend instr.the_row
-instr_send = search (name_send, expr_knot.send-Expr, pattern_knot.send-Pattern, crosses, sendable) depth 60 fits 200000 steps 20000000
+instr_send = search (name_send, clause_send, expr_knot.send-Expr, pattern_knot.send-Pattern, crosses, sendable) depth 60 fits 200000 steps 20000000
 
 proc_send : IsSend proc.the_row
 proc_send = search (instr_send, crosses, maps.crosses, sendable) depth 40
