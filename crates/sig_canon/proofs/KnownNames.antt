@@ -12,7 +12,7 @@ use Rattle.sig_tokens.specs.declared.known.Known.{Known}
 use Rattle.sig_tokens.specs.declared.known.Known.TheVariants.{Any, Among}
 use Rattle.sig_tokens.specs.Tokens.{IsNameToken}
 use Rattle.sig_tokens.specs.Names.{pid_of, labels_at, label_of}
-use Rattle.sig_tokens.proofs.LabelLemmas.{next, position-cons}
+use Rattle.sig_tokens.proofs.PlaceLemmas.{next, position-cons}
 use Rattle.sig_reader.proofs.Seen.{kept, zeroed}
 use Rattle.sig_canon.specs.ScriptText.{name_of_place, names_of}
 use Rattle.sig_canon.specs.ReadableScript.{AreDistinct}

@@ -30,7 +30,7 @@ use Rattle.sig_reader.specs.Forms.{said}
 use Rattle.sig_reader.specs.Drafts.{blank, open_proc, all_procs, program_of, bare_proc, begun, may_tell, labelled, with_instr, is_marked, may_guard, with_clause, taken_at}
 use Rattle.sig_reader.specs.Grammar.{located, finished, taken_if, line_taken, body, walk, walk_twice}
 use Rattle.sig_reader.proofs.BoundLemmas.{procs_within, script_sound}
-use Rattle.sig_tokens.proofs.LabelLemmas.{next, position-cons}
+use Rattle.sig_tokens.proofs.PlaceLemmas.{next, position-cons}
 use Rattle.sig_reader.proofs.Seen.{kept, zeroed, pattern_seen, clause_seen, receiving_seen, instr_seen}
 use Rattle.sig_reader.proofs.SeenLemmas.{instr_kept, pins_seen}
 use Rattle.sig_reader.proofs.OtherPhrases.{Sees, sees-of, sees-same, sees-if, sees-on_ok, sees-then}

@@ -1,10 +1,8 @@
 ghost use Rattle.std.specs.Prelude.{◌≡◌, ◌+◌, ◌<◌, ◌≤◌, ◌^◌, ◌++◌, [], ◌∷◌, length, Ok, Err, All};
-ghost use Rattle.std.specs.List.{list_any};
-ghost use Rattle.std.specs.Str.{bytes_eq};
 ghost use Rattle.sig_tokens.specs.declared.fault.FaultKind.TheVariants.{Syntax};
 ghost use Rattle.sig_tokens.specs.declared.fault.Stop.TheVariants.{Fault};
 ghost use Rattle.sig_tokens.specs.Faults.{Gives};
-ghost use Rattle.sig_program.specs.Scripts.{Declared, most_processes};
+ghost use Rattle.sig_program.specs.Scripts.{most_processes};
 ghost use Rattle.sig_reader.specs.Drafts.{
   blank,
   open_proc,
@@ -38,9 +36,7 @@ use sig_program::{
     After, DEFAULT_TURNS, Instr, Label, MOST_TURNS, Receiving, Version, most_processes,
 };
 use sig_terms::Name;
-use sig_tokens::{
-    DraftProc, DraftProcs, DraftScript, FaultKind, Known, LabelTable, Stop, Tokens, place_of_proc,
-};
+use sig_tokens::{DraftProc, DraftScript, FaultKind, Known, LabelTable, ProcTable, Stop, Tokens};
 use std::alloc::Global;
 use std::mem::{drop, replace};
 
@@ -63,7 +59,7 @@ pub struct Draft {
     /// How many instructions each process may execute, where that was said.
     pub turns: Option<u32>,
     /// The processes before the one that is being read.
-    pub procs: DraftProcs,
+    pub procs: ProcTable,
     /// Where the next line stands.
     pub section: Section,
     /// Whether the process that is being read has told where it keeps its messages.
@@ -78,7 +74,7 @@ impl Draft {
         Draft {
             version,
             turns: None,
-            procs: Sequence::new(alloc),
+            procs: ProcTable::new(alloc),
             section: Section::Before,
             told: false,
         }
@@ -100,7 +96,7 @@ fn enter(section: &mut Section, next: Section)
 }
 
 /// Closes the process that was being read.
-fn close(procs: &mut DraftProcs, section: Section) -> Result<(), Stop>
+fn close(procs: &mut ProcTable, section: Section) -> Result<(), Stop>
     ensures { Gives (λ u. procs.new) result (Ok (procs.old ++ open_proc section)) }
 {
     match section {
@@ -116,22 +112,14 @@ fn close(procs: &mut DraftProcs, section: Section) -> Result<(), Stop>
     }
 }
 
-/// Whether a process has the name.
-#[tactic(auto, using(sig_tokens::proofs::LabelLemmas::any_place))]
-fn is_proc_among(procs: &[DraftProc], name: &[u8]) -> bool
-    ensures { result ≡ list_any (λ (p : Declared). bytes_eq p.name name.now) procs.now }
-{
-    place_of_proc(procs, name).is_some()
-}
-
 /// Whether there is room behind these processes of a script of this version for one of this name.
-fn check_room(version: Version, procs: &[DraftProc], name: &[u8]) -> Result<(), Stop>
+fn check_room(version: Version, procs: &ProcTable, name: &[u8]) -> Result<(), Stop>
     ensures { Gives (λ u. u) result (has_room version procs.now name.now) }
 {
-    if is_proc_among(procs, name) {
+    if procs.has(name) {
         return Err(Stop::Fault(FaultKind::DuplicateName));
     }
-    if procs.len() >= most_processes(version) {
+    if procs.as_slice().len() >= most_processes(version) {
         return Err(Stop::Fault(FaultKind::TooManyProcesses));
     }
     Ok(())
@@ -167,7 +155,7 @@ fn begin(alloc: Global, draft: &mut Draft, name: Name) -> Result<(), Stop>
         &mut draft.procs,
         replace(&mut draft.section, Section::Before),
     )?;
-    check_room(draft.version, draft.procs.as_slice(), name.bytes())?;
+    check_room(draft.version, &draft.procs, name.bytes())?;
     let proc = bare_proc(alloc, draft.version, name);
     enter(&mut draft.section, Section::Outside(proc));
     draft.told = false;

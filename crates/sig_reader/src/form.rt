@@ -519,7 +519,7 @@ fn read_behind(
 {
     match word {
         Some(word) if stands(draft, word) => {
-            read_form(alloc, known, draft.procs.len(), word, line)
+            read_form(alloc, known, draft.procs.as_slice().len(), word, line)
         }
         _ => Err(Stop::Fault(FaultKind::Syntax)),
     }

@@ -25,7 +25,7 @@ use sig_lists::Sequence;
 use sig_program::{Proc, Procs, Script, Version};
 use sig_terms::bytes::equal_bytes;
 use sig_tokens::{
-    DraftProcs, DraftScript, FaultKind, Known, Line, Stop, TokenKind, first_line, read_tokens,
+    DraftScript, FaultKind, Known, Line, ProcTable, Stop, TokenKind, first_line, read_tokens,
     spells_one, spells_two,
 };
 use std::alloc::{AllocError, Global};
@@ -162,7 +162,7 @@ fn behind_line<'a>(bytes: &'a [u8], line: &[u8]) -> &'a [u8]
 }
 
 /// The processes, whose bounds are known.
-fn seal_procs(alloc: Global, drafts: DraftProcs) -> Result<Procs, AllocError>
+fn seal_procs(alloc: Global, drafts: ProcTable) -> Result<Procs, AllocError>
     requires { All IsWithin drafts }
     ensures { IfOk result (λ procs. procs ≡ drafts) }
 {

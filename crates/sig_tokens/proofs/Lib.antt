@@ -3,6 +3,6 @@ pub mod FrontTokens
 pub mod SpellingLemmas
 pub mod CutLemmas
 pub mod LineLemmas
-pub mod LabelLemmas
+pub mod PlaceLemmas
 pub mod PhraseLemmas
 pub mod NestLemmas

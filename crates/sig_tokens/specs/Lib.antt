@@ -7,5 +7,5 @@ pub mod Names
 pub mod Phrases
 pub mod Expressions
 pub mod PatternTexts
-pub mod LabelPlaces
+pub mod NamePlaces
 pub mod FaultWords

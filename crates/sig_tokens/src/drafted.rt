@@ -1,16 +1,14 @@
-ghost use Rattle.std.specs.Prelude.{◌≡◌, ◌≤◌, ◌<◌, length, position, IfSome};
+ghost use Rattle.std.specs.Prelude.{◌≡◌, position};
 ghost use Rattle.std.specs.Str.{bytes_eq};
 ghost use Rattle.sig_program.specs.declared.label.Label.{Label};
-ghost use Rattle.sig_program.specs.declared.script.TheConstants.{MOST_PROCESSES};
 ghost use Rattle.sig_program.specs.Scripts.{Declared};
 ghost use Rattle.sig_tokens.specs.Names.{labels_at};
 
 use crate::label_table::LabelTable;
+use crate::proc_table::ProcTable;
 use sig_kinds::QueueData;
-use sig_lists::Sequence;
 use sig_program::{Instrs, Version};
 use sig_terms::Name;
-use sig_terms::bytes::equal_bytes;
 use std::marker::Model;
 
 /// A process as it was read. Its targets may still be labels of any process.
@@ -35,9 +33,6 @@ impl Model for DraftProc {
     ghost view = { λ p. record { name = p.name; queue_data = p.queue_data; labels = p.labels; instrs = p.instrs } };
 }
 
-/// The processes, in the order of their lines.
-pub type DraftProcs = Sequence<DraftProc>;
-
 /// A script as it was read, of at most [`MOST_PROCESSES`](sig_program::MOST_PROCESSES) processes.
 #[derive(Drop)]
 pub struct DraftScript {
@@ -45,7 +40,8 @@ pub struct DraftScript {
     pub version: Version,
     /// How many instructions each process may execute.
     pub turns: u32,
-    pub procs: DraftProcs,
+    /// The processes, in the order of their lines.
+    pub procs: ProcTable,
 }
 
 impl Model for DraftScript {
@@ -65,16 +61,6 @@ impl Model for DraftScript {
     ghost invariant = { λ s. length s.procs ≤ MOST_PROCESSES };
 }
 
-/// The place of the process of this name. `None` exactly where no process has it.
-pub fn place_of_proc(procs: &[DraftProc], name: &[u8]) -> Option<usize>
-    ensures place { result ≡ position (λ (p : Declared). bytes_eq p.name name.now) procs.now }
-    ensures within { IfSome result (λ n. n < length procs.now) }
-{
-    procs
-        .iter()
-        .position(|proc| equal_bytes(proc.name.bytes(), name))
-}
-
 /// The place of the label of this name among those of the process at this place.
 fn label_among(procs: &[DraftProc], here: usize, name: &[u8]) -> Option<u32>
     ensures { result ≡ position (λ (l : Label). bytes_eq l.name name.now) (labels_at here procs.now) }
@@ -90,7 +76,7 @@ impl DraftScript {
     pub fn pid_of(&self, name: &[u8]) -> Option<u32>
         ensures { result ≡ position (λ (p : Declared). bytes_eq p.name name.now) self.now.procs }
     {
-        match place_of_proc(self.procs.as_slice(), name) {
+        match self.procs.place_of(name) {
             Some(place) => Some(place as u32),
             None => None,
         }

@@ -26,13 +26,13 @@ pub struct LabelTable {
 impl Model for LabelTable {
     ghost use Rattle.std.specs.Prelude.{List};
     ghost use Rattle.sig_program.specs.declared.label.Label.{Label};
-    ghost use Rattle.sig_tokens.specs.LabelPlaces.{IsIndexed};
+    ghost use Rattle.sig_tokens.specs.NamePlaces.{IsIndexed};
 
     ghost Value = { List Label };
 
     ghost view = { λ t. t.labels };
 
-    ghost invariant = { λ t. IsIndexed t.labels t.places.entries };
+    ghost invariant = { λ t. IsIndexed (λ (l : Label). l.name) t.labels t.places.entries };
 }
 
 impl LabelTable {
@@ -56,7 +56,7 @@ impl LabelTable {
     }
 
     /// Whether a label has the name.
-    #[tactic(auto, using(crate::proofs::LabelLemmas::any_place))]
+    #[tactic(auto, using(crate::proofs::PlaceLemmas::any_place))]
     pub fn has(&self, name: &[u8]) -> bool
         ensures any { result ≡ list_any (λ (l : Label). bytes_eq l.name name.now) self.now }
         ensures none { result ≡ false → position (λ (l : Label). bytes_eq l.name name.now) self.now ≡ None }

@@ -1,5 +1,5 @@
--- A label more, and where the labels stand then.
-use Rattle.std.proofs.Common.{◌≡◌, ℕ, suc, ◌+◌, List, [], ◌∷◌, ◌++◌, length, position, cond, Bool, true, false, not, ◌||◌, nat_lt, Option, Some, None, refl, sym, ap, ◌∙◌, arith}
+-- Where the items of a list stand, by their names, and where with one item more.
+use Rattle.std.proofs.Common.{◌≡◌, ℕ, suc, ◌+◌, ◌<◌, List, [], ◌∷◌, ◌++◌, length, position, cond, Bool, true, false, not, ◌||◌, nat_lt, Option, Some, None, IfSome, refl, sym, ap, ◌∙◌, arith}
 use Rattle.std.proofs.lemmas.Bool.Decides.{nat_tests}
 use Rattle.std.specs.Option.{option_map, is_some}
 use Rattle.std.specs.List.{list_any, position_or_len}
@@ -8,13 +8,13 @@ use Rattle.std.specs.Cmp.Lexicographic.{slice_cmp}
 use Rattle.std.specs.Map.{lookup}
 use Rattle.std.specs.BTreeMap.{is_at, insert_entry}
 use Rattle.std.specs.Str.{bytes_eq}
+use Rattle.std.proofs.lemmas.List.Quantifiers.{position-Some}
 use Rattle.std.proofs.lemmas.Slice.Eq.{bytes_eq-Decides}
 use Rattle.std.proofs.lemmas.Map.Text.{is_eq-slice_cmp}
 use Rattle.std.specs.declared.vec.Vec.{Vec}
 use Rattle.std.specs.declared.alloc.Global.{Global}
 use Rattle.sig_patterns.proofs.ByteKeyLemmas.{lookup-insert_entry}
-use Rattle.sig_program.specs.declared.label.Label.{Label}
-use Rattle.sig_tokens.specs.LabelPlaces.{IsIndexed}
+use Rattle.sig_tokens.specs.NamePlaces.{IsIndexed}
 
 -- the place of the first item that passes a test, by the first item and the rest
 abbrev pub next : ℕ → ℕ
@@ -78,6 +78,12 @@ pub any_place : {A : Type 0} (p : A → Bool) (xs : List A) → is_some (positio
 any_place p [] = refl
 any_place p (x ∷ xs) = ap is_some (position-cons p x xs) ∙ any-some (p x) (position p xs) ∙ ap (λ (b : Bool). p x || b) (any_place p xs)
 
+-- a place is one of the list's
+pub place_within : {A : Type 0} (p : A → Bool) (xs : List A) (o : Option ℕ) → o ≡ position p xs → IfSome o (λ n. n < length xs)
+place_within p xs None e = tt
+place_within p [] (Some n) e = (let no : Some n ≡ None = e in absurd cc)
+place_within p (x ∷ xs) (Some n) e = (position-Some p (x ∷ xs) n x (sym e)).0
+
 -- what is found once a name has its place
 looked-up : (q : List ℕ) (k : Vec ℕ Global) (v : ℕ) (es : List (Vec ℕ Global × ℕ)) →
     lookup (is_at (λ x. slice_cmp nat_cmp q x.items)) (insert_entry (λ x y. slice_cmp nat_cmp x.items y.items) es k v)
@@ -109,14 +115,36 @@ same-name q name o n false e free =
     let other : bytes_eq name q ≡ false = differ q name (bytes_eq name q) e refl in
     rw other (kept o n)
 
--- a label more is indexed
-pub indexed_more : (labels : List Label) (label : Label) (k : Vec ℕ Global) (es : List (Vec ℕ Global × ℕ)) → k.items ≡ label.name →
-    position (λ (l : Label). bytes_eq l.name label.name) labels ≡ None → IsIndexed labels es →
-    IsIndexed (labels ++ label ∷ []) (insert_entry (λ x y. slice_cmp nat_cmp x.items y.items) es k (length labels))
-indexed_more labels label k es key free index = λ q.
-    looked-up q k (length labels) es
-    ∙ ap (λ (name : List ℕ). cond (bytes_eq q name) (Some (length labels)) (lookup (is_at (λ x. slice_cmp nat_cmp q x.items)) es)) key
-    ∙ ap (cond (bytes_eq q label.name) (Some (length labels))) (index q)
-    ∙ same-name q label.name (position (λ (l : Label). bytes_eq l.name q) labels) (length labels) (bytes_eq q label.name) refl
-    (λ same. ap (λ (name : List ℕ). position (λ (l : Label). bytes_eq l.name name) labels) same ∙ free)
-    ∙ sym (position-last (λ (l : Label). bytes_eq l.name q) labels label)
+-- an item whose name has a place
+had : (o : Option ℕ) (n : ℕ) (v : Bool) → (v ≡ true → is_some o ≡ true) → o ≡ or_last o v n
+unfolding or_last
+had (Some i) n v h = refl
+had None n true h = (let no : false ≡ true = h refl in absurd cc)
+had None n false h = refl
+
+module _ {A : Type 0} (name_of : A → List ℕ) where
+  -- an item more is indexed where its name is a new one
+  pub indexed_more : (items : List A) (item : A) (k : Vec ℕ Global) (es : List (Vec ℕ Global × ℕ)) → k.items ≡ name_of item →
+      position (λ (x : A). bytes_eq (name_of x) (name_of item)) items ≡ None → IsIndexed name_of items es →
+      IsIndexed name_of (items ++ item ∷ []) (insert_entry (λ x y. slice_cmp nat_cmp x.items y.items) es k (length items))
+  indexed_more items item k es key free index = λ q.
+      looked-up q k (length items) es
+      ∙ ap (λ (name : List ℕ). cond (bytes_eq q name) (Some (length items)) (lookup (is_at (λ x. slice_cmp nat_cmp q x.items)) es)) key
+      ∙ ap (cond (bytes_eq q (name_of item)) (Some (length items))) (index q)
+      ∙ same-name q (name_of item) (position (λ (x : A). bytes_eq (name_of x) q) items) (length items) (bytes_eq q (name_of item)) refl
+      (λ same. ap (λ (name : List ℕ). position (λ (x : A). bytes_eq (name_of x) name) items) same ∙ free)
+      ∙ sym (position-last (λ (x : A). bytes_eq (name_of x) q) items item)
+
+  has-place : (items : List A) (item : A) (q : List ℕ) → list_any (λ (x : A). bytes_eq (name_of x) (name_of item)) items ≡ true → name_of item ≡ q →
+      is_some (position (λ (x : A). bytes_eq (name_of x) q) items) ≡ true
+  has-place items item q known same =
+      any_place (λ (x : A). bytes_eq (name_of x) q) items ∙ ap (λ (name : List ℕ). list_any (λ (x : A). bytes_eq (name_of x) name) items) (sym same) ∙ known
+
+  -- the same entries index an item more where its name has a place
+  pub indexed_again : (items : List A) (item : A) (es : List (Vec ℕ Global × ℕ)) → list_any (λ (x : A). bytes_eq (name_of x) (name_of item)) items ≡ true →
+      IsIndexed name_of items es → IsIndexed name_of (items ++ item ∷ []) es
+  indexed_again items item es known index = λ q.
+      index q
+      ∙ had (position (λ (x : A). bytes_eq (name_of x) q) items) (length items) (bytes_eq (name_of item) q)
+      (λ same. has-place items item q known ((bytes_eq-Decides (name_of item) q).0 same))
+      ∙ sym (position-last (λ (x : A). bytes_eq (name_of x) q) items item)
