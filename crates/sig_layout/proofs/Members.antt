@@ -1,10 +1,10 @@
 -- Sets of pids, bit by bit.
-use Rattle.std.proofs.Common.{◌≡◌, ◌≢◌, ℕ, zero, suc, ◌+◌, ◌-◌, ◌/◌, ◌%◌, ◌<◌, ◌≤◌, ◌==◌, ◌&&◌, ◌||◌, ◌⊎◌, ltb, max, min, bit_or, bit_and, bit_xor, Bool, true, false, not, if◌then◌else◌, List, [], ◌∷◌, length, get_or, set, get_or-set_same, get_or-set_other, ◌*◌, ◌^◌, w64, eq-eqb, ne_eqb, ◌∙◌, sym, refl, ap, arith, inl, inr, ⊎_elim}
+use Rattle.std.proofs.Common.{◌≡◌, ◌≢◌, ℕ, zero, suc, ◌+◌, ◌/◌, ◌%◌, ◌<◌, ◌≤◌, ◌==◌, ◌&&◌, ◌||◌, ◌⊎◌, ltb, max, min, bit_or, bit_and, bit_xor, Bool, true, false, not, if◌then◌else◌, List, [], ◌∷◌, length, get_or, set, get_or-set_same, get_or-set_other, ◌*◌, ◌^◌, w64, eq-eqb, ne_eqb, ◌∙◌, sym, refl, ap, arith, inl, inr, ⊎_elim}
 use Rattle.std.specs.Int.{bit_at}
 use mathlib.Core.Logic.{dite}
 use native.Mathlib.Decide.{ℕ_discrete}
 use Rattle.std.proofs.lemmas.Nat.Bits.{bit_at_set_same, bit_at_set_other, bit_at_or, bit_at_and, bit_at_xor, bit_at-lt, bit_at-zero}
-use Rattle.std.proofs.lemmas.Bool.{ltb-true, lt-ltb}
+use Rattle.std.proofs.lemmas.Bool.{ltb-true, lt-ltb, cases_lt}
 use Rattle.sig_layout.specs.Sets.{has, no_senders, minus, plus, first_from, least_from, least}
 use Rattle.sig_layout.proofs.Sending.{and_left, not_both, bool_cases}
 
@@ -137,13 +137,51 @@ pub least_has : (set : List ℕ) → least set ≢ 256 → has set (least set) �
 unfolding least_from
 least_has set d = first_has set 256 0 d
 
-pub least_step : (k : ℕ) (set : List ℕ) → k < 256 → least_from k set ≡ (if has set k then k else least_from (suc k) set)
-unfolding least_from
-least_step k set h = let e : 256 - k ≡ suc (256 - suc k) = omega arith in ap (λ (n : ℕ). first_from k n set) e
+-- a pid that is in the set, where none below it is
+least_at : (set : List ℕ) (pid : ℕ) → has set pid ≡ true → ((s : ℕ) → s < pid → has set s ≡ false) → least set ≡ pid
+least_at set pid h none = let below = has_below set pid h in let le = least_le set pid h in
+    ⊎_elim
+    (λ (lt : least set < pid). absurd (not_both (has set (least set)) (least_has set (λ e. omega arith)) (none (least set) lt)))
+    (λ (ge : pid ≤ least set). omega arith)
+    (cases_lt (least set) pid)
 
-pub least_end : (set : List ℕ) → least_from 256 set ≡ 256
-unfolding least_from
-least_end set = refl
+-- no word below this one has a pid
+abbrev pub NoneBelow : ℕ → List ℕ → Type 0
+NoneBelow w set = (s : ℕ) → s < w * 64 → has set s ≡ false
+
+-- a pid whose bit is 0 is not in the set
+no_bit_set : (set : List ℕ) (word w s : ℕ) → get_or set w 0 ≡ word → s / 64 ≡ w → bit_at word (s % 64) ≡ 0 → has set s ≡ false
+no_bit_set set word w s is e none = ap (λ (z : ℕ). ltb s 256 && (bit_at (get_or set z 0) (s % 64) == 1)) e
+    ∙ (ap (λ (z : ℕ). ltb s 256 && (bit_at z (s % 64) == 1)) is
+    ∙ (ap (λ (z : ℕ). ltb s 256 && (z == 1)) none ∙ and_none (ltb s 256)))
+
+-- and one whose bit is 1 is
+bit_set : (set : List ℕ) (word w k : ℕ) → w < 4 → k < 64 → get_or set w 0 ≡ word → bit_at word k ≡ 1 → has set (w * 64 + k) ≡ true
+bit_set set word w k low small is one = let pid : ℕ = w * 64 + k in let e : pid / 64 ≡ w = omega arith in let r : pid % 64 ≡ k = omega arith in
+    ap (λ (z : Bool). z && (bit_at (get_or set (pid / 64) 0) (pid % 64) == 1)) (lt-ltb pid 256 (omega arith))
+    ∙ (ap (λ (z : ℕ). bit_at (get_or set z 0) (pid % 64) == 1) e
+    ∙ (ap (λ (z : ℕ). bit_at (get_or set w 0) z == 1) r
+    ∙ (ap (λ (z : ℕ). bit_at z k == 1) is ∙ ap (λ (z : ℕ). z == 1) one)))
+
+pub none_more : (set : List ℕ) (word w : ℕ) → get_or set w 0 ≡ word → word ≡ 0 → NoneBelow w set → NoneBelow (w + 1) set
+none_more set word w is empty before s low = ⊎_elim
+    (λ (lt : s < w * 64). before s lt)
+    (λ (ge : w * 64 ≤ s). no_bit_set set word w s is (omega arith) (ap (λ (z : ℕ). bit_at z (s % 64)) empty ∙ bit_at-zero (s % 64)))
+    (cases_lt s (w * 64))
+
+-- the lowest 1 of the first word that isn't 0 is the least pid
+pub least_word : (set : List ℕ) (word w k : ℕ) → w < 4 → k < 64 → get_or set w 0 ≡ word → bit_at word k ≡ 1
+    → ((i : ℕ) → i < k → bit_at word i ≡ 0) → NoneBelow w set → least set ≡ w * 64 + k
+least_word set word w k low small is one zeros before = least_at set (w * 64 + k) (bit_set set word w k low small is one) (λ s up. ⊎_elim
+    (λ (lt : s < w * 64). before s lt)
+    (λ (ge : w * 64 ≤ s). no_bit_set set word w s is (omega arith) (zeros (s % 64) (omega arith)))
+    (cases_lt s (w * 64)))
+
+pub least_none : (set : List ℕ) (w : ℕ) → 4 ≤ w → NoneBelow w set → least set ≡ 256
+least_none set w all none = dite (ℕ_discrete (least set) 256)
+    (λ e. e)
+    (λ n. let h = least_has set n in let b = has_below set (least set) h in
+    absurd (not_both (has set (least set)) h (none (least set) (omega arith))))
 
 -- one pid more
 pub has_with : (words : List ℕ) (pid s : ℕ) → length words ≡ 4 → pid < 256

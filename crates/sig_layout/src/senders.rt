@@ -1,4 +1,5 @@
-ghost use Rattle.std.specs.Prelude.{◌≡◌, ◌≤◌, ◌<◌, ◌==◌, ◌||◌, ◌↔◌, ℕ, IsTrue};
+ghost use Rattle.std.specs.Prelude.{◌≡◌, ◌≢◌, ◌≤◌, ◌<◌, ◌==◌, ◌||◌, ◌↔◌, ℕ, IsTrue};
+ghost use Rattle.std.specs.Int.{bit_at};
 ghost use Rattle.sig_layout.specs.Sets.{has, least, no_senders, minus, plus};
 
 use sig_terms::Pid;
@@ -20,6 +21,16 @@ impl Model for Senders {
     ghost view = { λ s. s.0 };
 
     ghost inverse = { λ words. record { 0 = words } };
+}
+
+/// The place of the lowest 1 of a word that has one.
+fn lowest_bit(word: u64) -> u64
+    requires { word ≢ 0 }
+    ensures within { result < 64 }
+    ensures one { bit_at word result ≡ 1 }
+    ensures lowest { (k : ℕ) → k < result → bit_at word k ≡ 0 }
+{
+    word.trailing_zeros() as u64
 }
 
 impl Senders {
@@ -73,14 +84,17 @@ impl Senders {
         ])
     }
 
-    /// The least pid of the set, or [`PIDS`] where it has none.
+    /// The least pid of the set, or [`PIDS`] where it has none. Looks at each of the four words at most
+    /// once.
     pub fn least(self) -> u64
         ensures least { result ≡ least self }
         ensures most { result ≤ PIDS }
     {
-        for pid in 0..PIDS {
-            if self.has(Pid(pid)) {
-                return pid as u64;
+        let words = self.0;
+        for at in 0..4usize {
+            let word = words[at];
+            if word != 0 {
+                return at as u64 * 64 + lowest_bit(word);
             }
         }
         PIDS as u64

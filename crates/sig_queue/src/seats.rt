@@ -7,8 +7,7 @@ use crate::kept::Kept;
 use crate::note::Note;
 use crate::qseat::QSeat;
 use crate::sig_queue::SigQueue;
-use crate::words::seat_steps::{cut, merge, tell};
-use crate::words::steps::look_only;
+use crate::words::seat_steps::{cut, merge, merge_note, tell};
 use sig_layout::Senders;
 use std::marker::Brand;
 
@@ -81,9 +80,7 @@ impl SigQueue {
         ensures told { seat.new.knows ≡ record seat.old.knows { told = seat.old.knows.told ++ note.knows.told } }
     {
         let Note { place } = note;
-        let words = &self.words;
-        merge(words, &mut seat.place, place);
-        look_only(words, &mut seat.place);
+        merge_note(&self.words, &mut seat.place, place);
         seat.kept.senders = seat.kept.senders.plus(Senders::none());
         seat.kept.number = seat.kept.senders.least();
     }

@@ -6,9 +6,9 @@ ghost use Rattle.sig_layout.specs.Views.{left_of, right_of, note_of, joined};
 ghost use Rattle.sig_queue.specs.SeatWords.{IsOf, IsSameSeat, table_of};
 
 use super::Words;
-use crate::plays::{Cut, Merge, Share, Tell};
+use crate::plays::{Cut, LookOnly, Merge, Share, Tell};
 use crate::rule::SeatAt;
-use sig_layout::Senders;
+use sig_layout::{OUTER, Senders};
 
 // Splits a seat in two. The last two arguments are for the proof, which picks `G` by them.
 pub(crate) fn cut<G: Share>(words: &Words, place: &mut SeatAt, given: Senders, role: bool) -> SeatAt
@@ -40,4 +40,24 @@ pub(crate) fn merge(words: &Words, place: &mut SeatAt, other: SeatAt)
     ensures both { place.new.me ≡ (joined place.old.me.0 other.me.0, []) }
 {
     words.table.shared.join_seat::<Merge>(place, other);
+}
+
+// A load of OUTER that tells nothing. What it finds isn't given out.
+fn look_only(words: &Words, place: &mut SeatAt)
+    requires table { IsOf place.old words.now }
+    ensures same { IsSameSeat place.new place.old }
+    ensures still { place.new.me ≡ place.old.me }
+{
+    words.table.shared.load::<LookOnly>(place, OUTER);
+}
+
+// Takes a note in, and looks at OUTER.
+pub(crate) fn merge_note(words: &Words, place: &mut SeatAt, note: SeatAt)
+    requires table { IsOf place.old words.now × (note.table_id ≡ table_of words.now) }
+    requires idle { Idle place.old.me.0 × (place.old.me.1 ≡ []) × Idle note.me.0 × (note.me.1 ≡ []) }
+    ensures same { IsSameSeat place.new place.old }
+    ensures both { place.new.me ≡ (joined place.old.me.0 note.me.0, []) }
+{
+    merge(words, place, note);
+    look_only(words, place);
 }

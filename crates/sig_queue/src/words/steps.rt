@@ -12,7 +12,8 @@ ghost use Rattle.sig_layout.specs.Summaries.{due_at, is_install, is_remove};
 ghost use Rattle.sig_layout.specs.Policies.{AllowsMode};
 ghost use Rattle.sig_layout.specs.Core.{Begins, Unmasked};
 ghost use Rattle.sig_layout.specs.Views.{number, IsSomebody, flag, holding, turned_away, saw, saw_under, counted, marked};
-ghost use Rattle.sig_layout.specs.Views.{after_put, after_same, after_fetch, after_remove, switched_on, switched_off, with_bits, given_back};
+ghost use Rattle.sig_layout.specs.Views.{after_put, after_same, after_fetch, after_remove};
+ghost use Rattle.sig_layout.specs.Views.{switched_on, switched_off, with_bits, given_back};
 ghost use Rattle.sig_layout.specs.Outers.{added, emptied, removed};
 ghost use Rattle.sig_queue.specs.Tied.{Foreign, FreshBut, TookCarried, outer_in};
 ghost use Rattle.sig_queue.specs.Parts.{first_part, IsOne};
@@ -21,8 +22,8 @@ ghost use Rattle.sig_queue.specs.SeatWords.{IsOf, IsBufferOf, IsSameSeat, key_of
 use super::Words;
 use crate::outer_box::OuterBox;
 use crate::plays::{
-    LeaveFetch, LeavePut, LeaveRemove, LeaveSame, Leaves, LoadFilled, LoadMode, LoadUnder,
-    LookOnly, Ruled, SetBack, SetBit, StoreOff, StoreOn, TakeBits, TryOuter, Which,
+    LeaveFetch, LeavePut, LeaveRemove, LeaveSame, Leaves, LoadFilled, LoadMode, LoadUnder, Ruled,
+    SetBack, SetBit, StoreOff, StoreOn, TakeBits, TryOuter, Which,
 };
 use crate::rule::SeatAt;
 use crate::slot::Slot;
@@ -217,13 +218,4 @@ pub(crate) fn set_back<G: Which>(words: &Words, place: &mut SeatAt, buffer: usiz
         .table
         .shared
         .fetch_or::<SetBack<G>>(place, FILLED, 1u64 << buffer);
-}
-
-// A load of OUTER that tells nothing.
-pub(crate) fn look_only(words: &Words, place: &mut SeatAt)
-    requires table { IsOf place.old words.now }
-    ensures same { IsSameSeat place.new place.old }
-    ensures still { place.new.me ≡ place.old.me }
-{
-    words.table.shared.load::<LookOnly>(place, OUTER);
 }

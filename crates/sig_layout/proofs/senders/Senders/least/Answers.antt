@@ -1,16 +1,17 @@
-use Rattle.std.proofs.Common.{◌≡◌, ℕ, ◌<◌, ◌+◌, sym, ap, ◌∙◌, Bool, true, false, if◌then◌else◌, suc, arith}
-use Rattle.sig_layout.specs.Sets.{has, least_from}
-use Rattle.sig_layout.proofs.Members.{least_step, least_end}
+use Rattle.std.proofs.Common.{◌≡◌, rules, ap, sym, arith, get_or, List, ℕ}
+use Rattle.sig_layout.proofs.Members.{none_more, least_word, least_none}
 use Rattle.sig_layout.proofs.senders.Senders.least.Goals as goal
 
-pub loop-pid-preserved : goal.loop-pid-preserved
-loop-pid-preserved c = let k : ℕ = c.loop-pid.pid in let low : k < 256 = omega (arith, c.loop-pid-test.true) in let out : has c.args.self k ≡ false = sym c.has.ensures ∙ c.if-has.false in
-    let next : suc k ≡ k + 1 = omega arith in
-    ap (λ (z : ℕ). least_from z c.args.self) (sym next) ∙ (sym (least_step k c.args.self low ∙ ap (λ (b : Bool). if b then k else least_from (suc k) c.args.self) out) ∙ c.loop-pid.invariant)
+pub loop-at-init : goal.loop-at-init
+loop-at-init c s h = absurd (omega arith)
 
-pub returns-then-has-clause-least : goal.returns-then-has-clause-least
-returns-then-has-clause-least c = let k : ℕ = c.loop-pid.pid in let low : k < 256 = omega (arith, c.loop-pid-test.true) in let there : has c.args.self k ≡ true = sym c.has.ensures ∙ c.if-has.true in
-    sym (least_step k c.args.self low ∙ ap (λ (b : Bool). if b then k else least_from (suc k) c.args.self) there) ∙ c.loop-pid.invariant
+pub loop-at-preserved : goal.loop-at-preserved
+loop-at-preserved c = let view : c.self.inside.0 ≡ c.args.self = search rules in
+    none_more c.args.self _ c.loop-at.at (ap (λ (z : List ℕ). get_or z c.loop-at.at 0) (sym view)) c.if-word-ne0.false c.loop-at.invariant
+
+pub returns-then-word-ne0-clause-least : goal.returns-then-word-ne0-clause-least
+returns-then-word-ne0-clause-least c = let view : c.self.inside.0 ≡ c.args.self = search rules in let low = c.lowest_bit.ensures in
+    sym (least_word c.args.self _ c.loop-at.at c.lowest_bit.result c.loop-at-test.true low.within (ap (λ (z : List ℕ). get_or z c.loop-at.at 0) (sym view)) low.one low.lowest c.loop-at.invariant)
 
 pub returns-clause-least : goal.returns-clause-least
-returns-clause-least c = let whole : c.loop-pid.pid ≡ 256 = omega (arith, c.loop-pid-test.false, c.loop-pid.auto.pid-end) in sym (ap (λ (z : ℕ). least_from z c.args.self) whole ∙ least_end c.args.self) ∙ c.loop-pid.invariant
+returns-clause-least c = sym (least_none c.args.self c.loop-at.at c.loop-at-test.false c.loop-at.invariant)

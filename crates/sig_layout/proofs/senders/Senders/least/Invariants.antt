@@ -1,6 +1,5 @@
-use Rattle.std.proofs.Common.{◌≡◌}
-use Rattle.sig_layout.specs.Sets.{least_from, least}
+use Rattle.sig_layout.proofs.Members.{NoneBelow}
 use Rattle.sig_layout.proofs.senders.Senders.least.Given as goal
 
-abbrev pub invariant-loop-pid : goal.invariant-loop-pid
-invariant-loop-pid l = least_from l.pid l.self ≡ least l.self
+abbrev pub invariant-loop-at : goal.invariant-loop-at
+invariant-loop-at l = NoneBelow l.at l.fn.self

@@ -9,6 +9,6 @@ returns-clause-told c =
     let v : Knows = c.seat.inside.place.me.0 in
     let kept : length c.seat.inside.kept.senders ≡ 4 = search rules in
     let four : length v.senders ≡ 4 = ap (λ l. length l) c.seat.invariant.keeps.senders_are ∙ kept in
-    let both : c.look_only.new.place.me.0 ≡ joined v c.note.inside.place.me.0 = search rules in
+    let both : c.merge_note.new.place.me.0 ≡ joined v c.note.inside.place.me.0 = search rules in
     let view : record v { told = v.told ++ c.note.inside.place.me.0.told } ≡ record c.args.seat.now.knows { told = c.args.seat.now.knows.told ++ c.args.note.knows.told } = search rules in
     both ∙ (learned v c.note.inside.place.me four c.note.invariant ∙ view)

@@ -1,0 +1,8 @@
+use Rattle.std.proofs.Common.{◌∙◌}
+use Rattle.sig_queue.proofs.words.seat_steps.merge_note.Goals as goal
+
+pub returns-clause-same : goal.returns-clause-same
+returns-clause-same c = let look = c.look_only.ensures in let both = c.merge.ensures in (look.same.0 ∙ both.same.0, look.same.1 ∙ both.same.1)
+
+pub returns-clause-both : goal.returns-clause-both
+returns-clause-both c = c.look_only.ensures.still ∙ c.merge.ensures.both
