@@ -1,0 +1,12 @@
+//! Processes that make given choices: whether each is possible, and what the processes make of it.
+#![tactic(auto)]
+
+mod arriving;
+mod player;
+mod playing;
+mod waiting;
+
+pub use arriving::arrive;
+pub use player::Player;
+pub use playing::choose;
+pub use waiting::none_of;
