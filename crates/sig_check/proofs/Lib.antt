@@ -1,0 +1,10 @@
+pub mod Orders
+pub mod VerdictLemmas
+pub mod OneVerdict
+pub mod FollowingLemmas
+pub mod OpeningLemmas
+pub mod FewStamps
+pub mod RestLemmas
+pub mod GoingLemmas
+pub mod CheckLemmas
+pub mod ReplayLemmas
