@@ -35,6 +35,8 @@ mod scripts;
 #[cfg(test)]
 mod texts;
 #[cfg(test)]
+mod verdicts;
+#[cfg(test)]
 mod watches;
 #[cfg(test)]
 mod whole;
