@@ -1,0 +1,2 @@
+pub mod CallLineLemmas
+pub mod ExpansionLemmas

@@ -1,0 +1,4 @@
+pub mod CallLine
+pub mod Expansion
+pub mod Expanding
+pub mod CallTexts
