@@ -1,0 +1,5 @@
+pub mod CallTables
+pub mod CallWalk
+pub mod CallAnswers
+pub mod CallMoves
+pub mod CallRuns
