@@ -13,6 +13,7 @@ use Rattle.sig_terms.specs.Names.{Named, process}
 use Rattle.sig_terms.proofs.NameLemmas.{atom_names}
 use Rattle.sig_kinds.specs.declared.signal.Kind.TheVariants as kind
 use Rattle.sig_kinds.specs.LinkRules.{LinkState, is_active, awaited_from, link, unlink, on_link, on_ack}
+use Rattle.sig_kinds.specs.WatchRules.{WatchState, unaliased, unmonitored, watch_ending}
 use Rattle.sig_kinds.specs.SignalNames.{names_of_kind, LinkNames}
 use Rattle.sig_patterns.specs.Inbox.{Inbox, emptied_inbox}
 use Rattle.sig_program.specs.Scripts.{Declared}
@@ -65,6 +66,27 @@ pub record IsMoved (I : Inbox → Type 0) (s : ProcessState) (b : Body) : Type 0
 abbrev pub AnyInbox : Inbox → Type 0
 AnyInbox inbox = Unit {0}
 
+-- whatever the next serial is, and the monitors and aliases
+abbrev pub AnyWatch : ℕ → WatchState → Type 0
+AnyWatch next watch = Unit {0}
+
+-- I holds of the next serial, and of the monitors and aliases, after the event
+abbrev pub IsWatching : (ℕ → WatchState → Type 0) → Body → Type 0
+IsWatching I b = I b.state.counts.next_serial b.state.tables.watch
+
+-- What may be made of the monitors and aliases by a signal, or by an instruction that makes no reference: a monitor of the process or
+-- an alias ends, or both, it bears others, or it ends.
+pub record IsRewatched (I : ℕ → WatchState → Type 0) (next : ℕ) (watch : WatchState) : Type 0 where
+  pub same : I next watch
+  pub demonitored : (r : Ref) → I next (unmonitored watch r)
+  pub dealiased : (r : Ref) → I next (unaliased watch r)
+  pub replied : (r : Ref) → I next (unaliased (unmonitored watch r) r)
+  pub bearing : (borne : List (Ref × ℕ)) → I next (record watch { borne = borne })
+  pub ended : I next (watch_ending watch)
+
+pub any_rewatched : (next : ℕ) (watch : WatchState) → IsRewatched AnyWatch next watch
+any_rewatched next watch = record { same = tt; demonitored = λ r. tt; dealiased = λ r. tt; replied = λ r. tt; bearing = λ borne. tt; ended = tt }
+
 -- how far an event moves the counts: one arrival, one id and one serial at most, and the next serial doesn't fall
 pub record IsNear (before after : ProcessState) : Type 0 where
   pub arrivals : after.tables.inbox.next_arrival ≤ before.tables.inbox.next_arrival + 1
@@ -110,19 +132,22 @@ module _ (L : Shown) where
     pub kept : IsKeptBody L.name L.bounded p s b
     pub sizes : L.sized → BodySizes b
     pub moved : IsMoved L.inbox s b
+    pub watch : IsWatching L.watch b
 
   module _ (p : Declared) (s : ProcessState) where
-    -- the process before the event: what it holds, its place, and what is left of its messages and marks where it ends
+    -- the process before the event: what it holds, its place, what is left of its messages and marks where it ends, and what may be made
+    -- of its monitors and aliases
     pub record IsBefore : Type 0 where
       pub tables : AreKept L s.tables
       pub here : L.bounded → IsAt p s.counts.place
       pub emptied : L.inbox (emptied_inbox s.tables.inbox)
+      pub watch : IsRewatched L.watch s.counts.next_serial s.tables.watch
 
     -- it sends these signals, to each peer at most one more than there are downs fewer to be told
     pub row : (b : Body) → AreKept L b.state.tables → (L.bounded → IsAt p b.state.counts.place) → IsNear s b.state → owner_of b.state.tables ≡ owner_of s.tables
         → All (PostNames L.name) b.posts → (L.sized → All PostSizes b.posts) → ((peer : ℕ) → posts_to peer b.posts + downs_due b.state.tables ≤ downs_due s.tables + 1)
-        → IsTold b.outcome → IsRow p s b
-    row b tables at counts owner names sizes few told = record {
+        → IsTold b.outcome → IsWatching L.watch b → IsRow p s b
+    row b tables at counts owner names sizes few told watch = record {
       kept = record {
         names = record { tables = tables.names; posts = names };
         bounds = λ h. record { first = (at h).0; within = (at h).1; arrivals = counts.arrivals; ids = counts.ids; serials = counts.serials; posts = few };
@@ -130,19 +155,20 @@ module _ (L : Shown) where
       };
       sizes = λ z. record { tables = tables.sizes z; posts = sizes z; outcome = told z };
       moved = record { inbox = tables.inbox; serial = counts.rises };
+      watch = watch;
     }
 
     -- it sends at most one signal to a peer, and owes as many downs
     pub few_row : (b : Body) → AreKept L b.state.tables → (L.bounded → IsAt p b.state.counts.place) → IsNear s b.state → OwesAlike s.tables b.state.tables
-        → ArePosts b.posts → IsTold b.outcome → IsRow p s b
-    few_row b tables at counts alike posts told =
-        row b tables at counts alike.owner posts.names posts.sizes (λ peer. let one : posts_to peer b.posts ≤ 1 = posts.few peer in omega (arith, one, alike.due)) told
+        → ArePosts b.posts → IsTold b.outcome → IsWatching L.watch b → IsRow p s b
+    few_row b tables at counts alike posts told watch =
+        row b tables at counts alike.owner posts.names posts.sizes (λ peer. let one : posts_to peer b.posts ≤ 1 = posts.few peer in omega (arith, one, alike.due)) told watch
 
     -- it leaves the counts of the tables
     pub moving : (b : Body) → AreKept L b.state.tables → (L.bounded → IsAt p b.state.counts.place) → b.state.tables.inbox.next_arrival ≡ s.tables.inbox.next_arrival
         → b.state.tables.links.next_id ≡ s.tables.links.next_id → owner_of b.state.tables ≡ owner_of s.tables → downs_due b.state.tables ≡ downs_due s.tables → b.state.counts.next_serial ≡ s.counts.next_serial
-        → ArePosts b.posts → IsTold b.outcome → IsRow p s b
-    moving b tables at arrivals ids owner due serial posts told = few_row b tables at (near s b.state arrivals ids serial) (record { owner = owner; due = due }) posts told
+        → ArePosts b.posts → IsTold b.outcome → IsWatching L.watch b → IsRow p s b
+    moving b tables at arrivals ids owner due serial posts told watch = few_row b tables at (near s b.state arrivals ids serial) (record { owner = owner; due = due }) posts told watch
 
     module _ (k : IsBefore) where
       -- it changes the links, and goes on at this place
@@ -150,15 +176,15 @@ module _ (L : Shown) where
           → links.next_id ≤ s.tables.links.next_id + 1 → ArePosts posts → IsTold how
           → IsRow p s (record { state = record (relinked s links) { counts = record s.counts { place = place } }; outcome = how; posts = posts })
       relinking place links how posts at h ids sent told =
-          few_row _ (linked L s.tables k.tables links h) at (record { arrivals = omega arith; ids = ids; serials = omega arith; rises = omega arith }) (record { owner = refl; due = refl }) sent told
+          few_row _ (linked L s.tables k.tables links h) at (record { arrivals = omega arith; ids = ids; serials = omega arith; rises = omega arith }) (record { owner = refl; due = refl }) sent told k.watch.same
 
       pub dropping_row : IsRow p s (dropping s)
-      dropping_row = moving (dropping s) k.tables k.here refl refl refl refl refl no_posts (λ z. tt)
+      dropping_row = moving (dropping s) k.tables k.here refl refl refl refl refl no_posts (λ z. tt) k.watch.same
 
       pub ending_row : (reason : Term) → IsBuilt L reason → IsRow p s (ending s reason)
       ending_row reason h =
           row (ending s reason) (ended L s.tables k.tables reason h k.emptied) k.here (near s _ refl refl refl) refl (told_names L.name reason h.names s.tables k.tables.names)
-          (λ z. told_sizes s.tables reason (h.size z)) (told_few s.tables reason) (λ z. small_kept reason (h.size z))
+          (λ z. told_sizes s.tables reason (h.size z)) (told_few s.tables reason) (λ z. small_kept reason (h.size z)) k.watch.ended
 
       -- the reason is an atom
       pub ending_atom : (a : List ℕ) → IsRow p s (ending s (term.Atom a))
