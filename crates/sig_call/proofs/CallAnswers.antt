@@ -5,19 +5,22 @@ use Rattle.std.proofs.lemmas.Bool.{cond_both, ne_eqb, and_right}
 use Rattle.sig_terms.specs.declared.reference.Ref.{Ref}
 use Rattle.sig_terms.specs.declared.term.Term.{Term}
 use Rattle.sig_terms.specs.Nodes.{same_ref}
+use Rattle.sig_terms.proofs.ReferenceLemmas.{same_ref-is}
 use Rattle.sig_kinds.specs.declared.alias_mode.AliasMode.{AliasMode}
 use Rattle.sig_kinds.specs.declared.alias_mode.AliasMode.TheVariants.{Explicit, Reply, ReplyDemonitor}
 use Rattle.sig_kinds.specs.declared.signal.Kind.{Kind}
-use Rattle.sig_kinds.specs.declared.signal.Kind.TheVariants.{Message, AliasMessage, Link, Unlink, UnlinkAck, Monitor, Demonitor, Exit, Down}
+use Rattle.sig_kinds.specs.declared.signal.Kind.TheVariants.{AliasMessage, Down}
 use Rattle.sig_kinds.specs.declared.signal.Signal.{Signal}
 use Rattle.sig_kinds.specs.WatchRules.{WatchState, is_held, mode_of, monitor, alias, unaliased, unmonitored, by_mode, on_down, watch_ending}
 use Rattle.sig_model.specs.ProcessState.{ProcessState, rewatched}
 use Rattle.sig_model.specs.Bodies.{Body, appending, dropping}
 use Rattle.sig_model.specs.Executing.{new_ref}
 use Rattle.sig_model.specs.Handling.{through_alias, told_down, down_message, live_body, ended_body, handling}
+use Rattle.sig_model.proofs.BodyLemmas.{IsRewatched}
+use Rattle.sig_model.proofs.ExecutingLemmas.{IsMaking}
+use Rattle.sig_model.proofs.HandlingLemmas.{handling_watch}
 use Rattle.sig_call.specs.CallLaw.{is_answer, is_kept}
 use Rattle.sig_call.proofs.CallTables.{bit, same_itself, IsCall, IsClear, Falls, alike, falls_alike, falls_clear, falls_then, monitor_alike, alias_alike, ending_clear, unaliased_falls, unmonitored_falls, unmonitored_held, unmonitored_none, unaliased_none, either_ref}
-use Rattle.sig_call.proofs.CallWalk.{IsFallen, IsMaking, handled_holds, live_holds}
 
 module _ (r : Ref) (s : ProcessState) where
   abbrev watch : WatchState
@@ -27,14 +30,14 @@ module _ (r : Ref) (s : ProcessState) where
   abbrev pub Fell : ℕ → WatchState → Type 0
   Fell n w = Falls r watch w × (s.counts.next_serial ≤ n)
 
-  pub fell : IsFallen Fell s
+  pub fell : IsRewatched Fell s.counts.next_serial watch
   fell = record {
     same = (falls_alike r watch watch (alike r watch), omega arith);
-    ended = λ q. (unmonitored_falls r watch q, omega arith);
+    demonitored = λ q. (unmonitored_falls r watch q, omega arith);
     dealiased = λ q. (unaliased_falls r watch q, omega arith);
     replied = λ q. (falls_then r watch (unmonitored watch q) (unaliased (unmonitored watch q) q) (unmonitored_falls r watch q) (unaliased_falls r (unmonitored watch q) q), omega arith);
-    borne = λ b. (falls_alike r watch (record watch { borne = b }) (record { held = refl; mode = refl }), omega arith);
-    emptied = (falls_clear r watch (watch_ending watch) (ending_clear r watch), omega arith);
+    bearing = λ b. (falls_alike r watch (record watch { borne = b }) (record { held = refl; mode = refl }), omega arith);
+    ended = (falls_clear r watch (watch_ending watch) (ending_clear r watch), omega arith);
   }
 
   -- another reference than the next one
@@ -43,7 +46,7 @@ module _ (r : Ref) (s : ProcessState) where
 
   pub fell_making : r.serial ≢ s.counts.next_serial → IsMaking Fell s
   fell_making ne = record {
-    made = (falls_alike r watch watch (alike r watch), omega arith);
+    alone = (falls_alike r watch watch (alike r watch), omega arith);
     monitored = λ target mode. (falls_alike r watch _ (monitor_alike r watch (new_ref s) target mode (another ne)), omega arith);
     aliased = λ reply. (falls_alike r watch _ (alias_alike r watch (new_ref s) (cond reply Reply Explicit) (another ne)), omega arith);
   }
@@ -56,6 +59,18 @@ module _ (r : Ref) (s : ProcessState) where
   pub record Answered (b : Body) (kind : Kind) : Type 0 where
     pub held : count b kind + bit (is_held b.state.tables.watch r) ≤ bit (is_held watch r)
     pub call : IsCall r b.state.tables.watch
+
+  -- an answer is a message through the alias, or the down
+  abbrev IsAnswer : Kind → Type 0
+  IsAnswer kind = ((message : Term) × (kind ≡ AliasMessage r message)) ⊎ ((reason : Term) × (kind ≡ Down r reason))
+
+  an_answer : (kind : Kind) → is_answer r kind ≡ true → IsAnswer kind
+  an_answer (AliasMessage q message) e = inl (message, ap (λ (z : Ref). AliasMessage z message) (sym (same_ref-is r q e)))
+  an_answer (Down q reason) e = inr (reason, ap (λ (z : Ref). Down z reason) (sym (same_ref-is r q e)))
+  an_answer _ e = absurd cc
+
+  pub handled_fell : (pid : ℕ) (x : Signal) → Fell (handling pid s x).state.counts.next_serial (handling pid s x).state.tables.watch
+  handled_fell pid x = handling_watch Fell pid s fell x
 
   one_at_most : (b : Bool) → bit b ≤ 1
   one_at_most true = omega arith
@@ -96,40 +111,19 @@ module _ (r : Ref) (s : ProcessState) where
         (λ e. ended (appending (rewatched s (unmonitored watch r)) (down_message r sender reason)) (Down r reason) e (unmonitored_held r watch) (unmonitored_none r watch call))
         (λ e. dropped (Down r reason))
 
-    live : (pid sender : ℕ) (kind : Kind) → Answered (live_body pid s sender kind) kind
-    live pid sender (AliasMessage q message) = by (either_ref r q)
-      where
-        by : (r ≡ q) ⊎ (same_ref r q ≡ false) → Answered (live_body pid s sender (AliasMessage q message)) (AliasMessage q message)
-        by (inl same) = subst (λ (z : Ref). Answered (live_body pid s sender (AliasMessage z message)) (AliasMessage z message)) same (through message)
-        by (inr other) = no_answer _ (AliasMessage q message) other (live_holds Fell s fell pid sender (AliasMessage q message))
-    live pid sender (Down q reason) = by (either_ref r q)
-      where
-        by : (r ≡ q) ⊎ (same_ref r q ≡ false) → Answered (live_body pid s sender (Down q reason)) (Down q reason)
-        by (inl same) = subst (λ (z : Ref). Answered (live_body pid s sender (Down z reason)) (Down z reason)) same (told sender reason)
-        by (inr other) = no_answer _ (Down q reason) other (live_holds Fell s fell pid sender (Down q reason))
-    live pid sender (Message message) = no_answer _ (Message message) refl (live_holds Fell s fell pid sender (Message message))
-    live pid sender Link = no_answer _ Link refl (live_holds Fell s fell pid sender Link)
-    live pid sender (Unlink id) = no_answer _ (Unlink id) refl (live_holds Fell s fell pid sender (Unlink id))
-    live pid sender (UnlinkAck id) = no_answer _ (UnlinkAck id) refl (live_holds Fell s fell pid sender (UnlinkAck id))
-    live pid sender (Monitor q) = no_answer _ (Monitor q) refl (live_holds Fell s fell pid sender (Monitor q))
-    live pid sender (Demonitor q) = no_answer _ (Demonitor q) refl (live_holds Fell s fell pid sender (Demonitor q))
-    live pid sender (Exit reason linked) = no_answer _ (Exit reason linked) refl (live_holds Fell s fell pid sender (Exit reason linked))
-
-    over : (sender : ℕ) (kind : Kind) → Answered (ended_body s sender kind) kind
-    over sender Link = record { held = omega arith; call = call }
-    over sender (Monitor q) = record { held = omega arith; call = call }
-    over sender (Message message) = dropped (Message message)
-    over sender (AliasMessage q message) = dropped (AliasMessage q message)
-    over sender (Unlink id) = dropped (Unlink id)
-    over sender (UnlinkAck id) = dropped (UnlinkAck id)
-    over sender (Demonitor q) = dropped (Demonitor q)
-    over sender (Exit reason linked) = dropped (Exit reason linked)
-    over sender (Down q reason) = dropped (Down q reason)
+    -- an answer, to a process that has ended or hasn't
+    of_answer : (pid sender : ℕ) (kind : Kind) → IsAnswer kind → Answered (cond (is_some s.tables.end) (ended_body s sender kind) (live_body pid s sender kind)) kind
+    of_answer pid sender kind (inl a) =
+        subst (λ (k : Kind). Answered (cond (is_some s.tables.end) (ended_body s sender k) (live_body pid s sender k)) k) (sym a.1)
+        (cond_both (is_some s.tables.end) (dropping s) (through_alias s r a.0 (by_mode watch r (mode_of watch r))) (λ (b : Body). Answered b (AliasMessage r a.0)) (λ e. dropped (AliasMessage r a.0)) (λ e. through a.0))
+    of_answer pid sender kind (inr d) =
+        subst (λ (k : Kind). Answered (cond (is_some s.tables.end) (ended_body s sender k) (live_body pid s sender k)) k) (sym d.1)
+        (cond_both (is_some s.tables.end) (dropping s) (told_down s r sender d.0 (on_down watch r)) (λ (b : Body). Answered b (Down r d.0)) (λ e. dropped (Down r d.0)) (λ e. told sender d.0))
 
     pub answered : (pid : ℕ) (x : Signal) → Answered (handling pid s x) x.kind
     unfolding handling
-    answered pid x =
-        cond_both (is_some s.tables.end) (ended_body s x.from.0 x.kind) (live_body pid s x.from.0 x.kind) (λ (b : Body). Answered b x.kind) (λ e. over x.from.0 x.kind) (λ e. live pid x.from.0 x.kind)
-
-  pub handled_fell : (pid : ℕ) (x : Signal) → Fell (handling pid s x).state.counts.next_serial (handling pid s x).state.tables.watch
-  handled_fell pid x = handled_holds Fell s fell pid x
+    answered pid x = by (is_answer r x.kind) refl
+      where
+        by : (b : Bool) → is_answer r x.kind ≡ b → Answered (handling pid s x) x.kind
+        by true e = of_answer pid x.from.0 x.kind (an_answer x.kind e)
+        by false e = no_answer (handling pid s x) x.kind e (handled_fell pid x)

@@ -16,10 +16,10 @@ use Rattle.sig_model.specs.declared.event.Event.{Event}
 use Rattle.sig_model.specs.declared.event.Did.{Did}
 use Rattle.sig_model.specs.declared.event.Did.TheVariants.{Exec, From}
 use Rattle.sig_model.specs.ProcessState.{ProcessState}
-use Rattle.sig_model.specs.Executing.{exec_body}
 use Rattle.sig_model.specs.Handling.{handling}
 use Rattle.sig_model.specs.Finishing.{finished_exec}
 use Rattle.sig_model.specs.Machine.{rules_of, rules_with, acted_at, handling_of}
+use Rattle.sig_model.proofs.ExecutingLemmas.{next_body}
 use Rattle.sig_call.specs.CallLaw.{is_answer, is_kept, answer_first, handles_answer, enters}
 use Rattle.sig_call.proofs.CallTables.{bit}
 use Rattle.sig_call.proofs.CallAnswers.{count}
@@ -27,7 +27,7 @@ use Rattle.sig_call.proofs.CallAnswers.{count}
 -- the rules by which a receive's scan begins so: at its mark, or at the oldest message
 abbrev pub execution_by : (ℕ → ℕ) → ℕ → Option Declared → ProcessState → Option (Effect ProcessState Signal Event)
 execution_by begin pid None s = None
-execution_by begin pid (Some p) s = option_map (finished_exec pid s) (exec_body begin p s (slice_get p.instrs (s.counts.place - 1)))
+execution_by begin pid (Some p) s = option_map (finished_exec pid s) (next_body begin p s)
 
 abbrev pub rules_by : (ℕ → ℕ) → Program → Rules ProcessState Signal Event
 rules_by begin script = by_whole (rules_of script) (λ pid s. execution_by begin pid (slice_get script.procs pid) s)

@@ -37,22 +37,22 @@ use Rattle.sig_model.specs.Handling.{handling}
 use Rattle.sig_model.specs.Finishing.{finished_exec}
 use Rattle.sig_model.specs.Machine.{rules_of, rules_with, acted_at, opening_from, opening_of, handling_of}
 use Rattle.sig_model.proofs.Lookups.{mapped_tells}
+use Rattle.sig_model.proofs.BodyLemmas.{IsWatching, IsRewatched}
+use Rattle.sig_model.proofs.ExecutingLemmas.{next_body, IsMaking, next_watch}
 use Rattle.sig_model.proofs.MarkerLemmas.{opened_state}
 use Rattle.sig_call.specs.CallLaw.{is_kept, handles_answer, enters, entries, MakesCall, EnterOnce, CallsEnterOnce}
 use Rattle.sig_call.proofs.CallTables.{bit, IsCall, IsClear, Falls, inserted_here}
-use Rattle.sig_call.proofs.CallWalk.{IsFallen, IsMaking, Holds, body_holds}
 use Rattle.sig_call.proofs.CallAnswers.{Fell, fell, fell_making, Answered, answered, handled_fell, count}
 use Rattle.sig_call.proofs.CallMoves.{execution_by, rules_by, rules, Moves, MakerStep, maker_step}
 use Rattle.sig_call.proofs.CallMoves.Moves.{stays, executes, handles}
 
 -- what is shown of what an instruction does is shown of the effect
-effect_holds : (begin : ℕ → ℕ) (I : ℕ → WatchState → Type 0) (s : ProcessState) → IsFallen I s → IsMaking I s → (pid : ℕ) (o : Option Declared) (effect : Effect ProcessState Signal Event)
+effect_holds : (begin : ℕ → ℕ) (I : ℕ → WatchState → Type 0) (s : ProcessState) → IsRewatched I s.counts.next_serial s.tables.watch → IsMaking I s → (pid : ℕ) (o : Option Declared) (effect : Effect ProcessState Signal Event)
     → execution_by begin pid o s ≡ Some effect → I effect.state.counts.next_serial effect.state.tables.watch
 effect_holds begin I s c k pid None effect e = absurd cc
 effect_holds begin I s c k pid (Some p) effect e =
-    let next : Option Instr = slice_get p.instrs (s.counts.place - 1) in
-    let w : (body : Body) × (exec_body begin p s next ≡ Some body) × (finished_exec pid s body ≡ effect) = mapped_tells (finished_exec pid s) (exec_body begin p s next) effect e in
-    let holds : Holds I w.0 = MatchOption-at_some (Unit {0}) (Holds I) w.0 w.1 (body_holds I s c k begin p next) in
+    let w : (body : Body) × (next_body begin p s ≡ Some body) × (finished_exec pid s body ≡ effect) = mapped_tells (finished_exec pid s) (next_body begin p s) effect e in
+    let holds : IsWatching I w.0 = MatchOption-at_some (Unit {0}) (IsWatching I) w.0 w.1 (next_watch I begin p s c k) in
     subst (λ (f : Effect ProcessState Signal Event). I f.state.counts.next_serial f.state.tables.watch) w.2 holds
 
 -- what an event tells: the place of an execution, and the reference that was set
@@ -110,19 +110,19 @@ module _ (r : Ref) where
   abbrev Unmade : ℕ → WatchState → Type 0
   Unmade n w = n ≤ r.serial → IsClear r w
 
-  unmade_fallen : (s : ProcessState) → Unmade s.counts.next_serial s.tables.watch → IsFallen Unmade s
+  unmade_fallen : (s : ProcessState) → Unmade s.counts.next_serial s.tables.watch → IsRewatched Unmade s.counts.next_serial s.tables.watch
   unmade_fallen s u = record {
     same = u;
-    ended = λ q h. (((fell r s).ended q).0).clear (u h);
+    demonitored = λ q h. (((fell r s).demonitored q).0).clear (u h);
     dealiased = λ q h. (((fell r s).dealiased q).0).clear (u h);
     replied = λ q h. (((fell r s).replied q).0).clear (u h);
-    borne = λ b h. (((fell r s).borne b).0).clear (u h);
-    emptied = λ h. (fell r s).emptied.0.clear (u h);
+    bearing = λ b h. (((fell r s).bearing b).0).clear (u h);
+    ended = λ h. (fell r s).ended.0.clear (u h);
   }
 
   unmade_making : (s : ProcessState) → Unmade s.counts.next_serial s.tables.watch → IsMaking Unmade s
   unmade_making s u = record {
-    made = λ h. u (omega (arith, h));
+    alone = λ h. u (omega (arith, h));
     monitored = λ target mode h. (((fell_making r s (λ e. omega (arith, h, e))).monitored target mode).0).clear (u (omega (arith, h)));
     aliased = λ reply h. (((fell_making r s (λ e. omega (arith, h, e))).aliased reply).0).clear (u (omega (arith, h)));
   }
@@ -131,11 +131,11 @@ module _ (r : Ref) where
   abbrev Rises : ℕ → ℕ → WatchState → Type 0
   Rises least n w = least ≤ n
 
-  rises_fallen : (s : ProcessState) → IsFallen (Rises s.counts.next_serial) s
-  rises_fallen s = record { same = omega arith; ended = λ q. omega arith; dealiased = λ q. omega arith; replied = λ q. omega arith; borne = λ b. omega arith; emptied = omega arith }
+  rises_fallen : (s : ProcessState) → IsRewatched (Rises s.counts.next_serial) s.counts.next_serial s.tables.watch
+  rises_fallen s = record { same = omega arith; demonitored = λ q. omega arith; dealiased = λ q. omega arith; replied = λ q. omega arith; bearing = λ b. omega arith; ended = omega arith }
 
   rises_making : (s : ProcessState) → IsMaking (Rises s.counts.next_serial) s
-  rises_making s = record { made = omega arith; monitored = λ target mode. omega arith; aliased = λ reply. omega arith }
+  rises_making s = record { alone = omega arith; monitored = λ target mode. omega arith; aliased = λ reply. omega arith }
 
   module _ (begin : ℕ → ℕ) (script : Program) where
     -- what the maker does to a reference that it hasn't made
@@ -220,9 +220,8 @@ module _ (r : Ref) where
         subst (λ (o : Option Declared). execution_by begin r.owner.0 o s ≡ Some d.effect) k.its
         (subst (λ (z : ProcessState). execution_by begin r.owner.0 (slice_get script.procs r.owner.0) z ≡ Some d.effect) here
         (subst (λ p. execution_by begin p (slice_get script.procs p) d.state ≡ Some d.effect) k.maker d.defined)) in
-        let next_instr : Option Instr = slice_get k.process.instrs (s.counts.place - 1) in
-        let w : (body : Body) × (exec_body begin k.process s next_instr ≡ Some body) × (finished_exec r.owner.0 s body ≡ d.effect) =
-        mapped_tells (finished_exec r.owner.0 s) (exec_body begin k.process s next_instr) d.effect defined in
+        let w : (body : Body) × (next_body begin k.process s ≡ Some body) × (finished_exec r.owner.0 s body ≡ d.effect) =
+        mapped_tells (finished_exec r.owner.0 s) (next_body begin k.process s) d.effect defined in
         let event : a.event ≡ (finished_exec r.owner.0 s w.0).event = ap (λ (z : Applied ProcessState Signal Event). z.event) d.is ∙ sym (ap (λ (z : Effect ProcessState Signal Event). z.event) w.2) in
         let place : k.place ≡ s.counts.place = sym (ap place_in k.did) ∙ ap (λ (z : Event). place_in z.did) event in
         let told : w.0.outcome ≡ outcome.Set (term.Ref r) = sym (ap (λ (z : Event). z.outcome) event) ∙ k.made in
