@@ -18,7 +18,7 @@ use Rattle.sig_kinds.specs.WatchRules.{WatchState, is_held, mode_of}
 use Rattle.sig_patterns.specs.declared.expression.Expr.{Expr}
 use Rattle.sig_patterns.specs.Building.{value_of, is_small}
 use Rattle.sig_program.specs.declared.instruction.Instr.{Instr}
-use Rattle.sig_program.specs.declared.instruction.Instr.TheVariants as instr
+use Rattle.sig_program.specs.declared.instruction.Instr.TheVariants.{Monitor}
 use Rattle.sig_program.specs.Scripts.{Declared, Program}
 use Rattle.sig_runs.specs.Rules.{Effect, Rules}
 use Rattle.sig_runs.specs.Machine.{Machine, At, Applied, apply, choice, IsRun}
@@ -225,7 +225,7 @@ module _ (r : Ref) where
         let event : a.event ≡ (finished_exec r.owner.0 s w.0).event = ap (λ (z : Applied ProcessState Signal Event). z.event) d.is ∙ sym (ap (λ (z : Effect ProcessState Signal Event). z.event) w.2) in
         let place : k.place ≡ s.counts.place = sym (ap place_in k.did) ∙ ap (λ (z : Event). place_in z.did) event in
         let told : w.0.outcome ≡ outcome.Set (term.Ref r) = sym (ap (λ (z : Event). z.outcome) event) ∙ k.made in
-        let instr : slice_get k.process.instrs (s.counts.place - 1) ≡ Some (instr.Monitor k.var k.target (Some ReplyDemonitor)) = sym (ap (λ n. slice_get k.process.instrs (n - 1)) place) ∙ k.instr in
+        let instr : slice_get k.process.instrs (s.counts.place - 1) ≡ Some (Monitor k.var k.target (Some ReplyDemonitor)) = sym (ap (λ n. slice_get k.process.instrs (n - 1)) place) ∙ k.instr in
         let body : with_value s k.target (λ t. with_pid s t (monitoring s k.var.0 (Some ReplyDemonitor))) ≡ w.0 =
         same_Some (with_value s k.target (λ t. with_pid s t (monitoring s k.var.0 (Some ReplyDemonitor)))) w.0 (sym (ap (exec_body begin k.process s) instr) ∙ w.1) in
         let m : MadeBody r s w.0 = subst (λ (b : Body). b.outcome ≡ outcome.Set (term.Ref r) → MadeBody r s b) body (made_body r s k.var.0 k.target) told in
