@@ -1,5 +1,5 @@
 -- What a signal makes of a call: an answer that enters ends it.
-use Rattle.std.proofs.Common.{◌≡◌, ◌≢◌, ℕ, ◌+◌, ◌≤◌, ◌<◌, List, Bool, true, false, cond, ◌&&◌, Option, Some, None, is_some, refl, sym, ap, subst, ◌∙◌, inl, inr, ◌⊎◌, arith}
+use Rattle.std.proofs.Common.{◌≡◌, ◌≢◌, ℕ, ◌+◌, ◌≤◌, Bool, true, false, cond, ◌&&◌, Option, Some, None, is_some, refl, sym, ap, subst, inl, inr, ◌⊎◌, arith}
 use Rattle.std.specs.Prelude.{◌==◌}
 use Rattle.std.proofs.lemmas.Bool.{cond_both, ne_eqb, and_right}
 use Rattle.sig_terms.specs.declared.reference.Ref.{Ref}
@@ -11,7 +11,7 @@ use Rattle.sig_kinds.specs.declared.alias_mode.AliasMode.TheVariants.{Explicit, 
 use Rattle.sig_kinds.specs.declared.signal.Kind.{Kind}
 use Rattle.sig_kinds.specs.declared.signal.Kind.TheVariants.{AliasMessage, Down}
 use Rattle.sig_kinds.specs.declared.signal.Signal.{Signal}
-use Rattle.sig_kinds.specs.WatchRules.{WatchState, is_held, mode_of, monitor, alias, unaliased, unmonitored, by_mode, on_down, watch_ending}
+use Rattle.sig_kinds.specs.WatchRules.{WatchState, is_held, mode_of, unaliased, unmonitored, by_mode, on_down, watch_ending}
 use Rattle.sig_model.specs.ProcessState.{ProcessState, rewatched}
 use Rattle.sig_model.specs.Bodies.{Body, appending, dropping}
 use Rattle.sig_model.specs.Executing.{new_ref}
@@ -20,7 +20,7 @@ use Rattle.sig_model.proofs.BodyLemmas.{IsRewatched}
 use Rattle.sig_model.proofs.ExecutingLemmas.{IsMaking}
 use Rattle.sig_model.proofs.HandlingLemmas.{handling_watch}
 use Rattle.sig_call.specs.CallLaw.{is_answer, is_kept}
-use Rattle.sig_call.proofs.CallTables.{bit, same_itself, IsCall, IsClear, Falls, alike, falls_alike, falls_clear, falls_then, monitor_alike, alias_alike, ending_clear, unaliased_falls, unmonitored_falls, unmonitored_held, unmonitored_none, unaliased_none, either_ref}
+use Rattle.sig_call.proofs.CallTables.{bit, IsCall, Falls, alike, falls_alike, falls_clear, falls_then, monitor_alike, alias_alike, ending_clear, unaliased_falls, unmonitored_falls, unmonitored_held, unmonitored_none, unaliased_none}
 
 module _ (r : Ref) (s : ProcessState) where
   abbrev watch : WatchState

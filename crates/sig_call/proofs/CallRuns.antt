@@ -1,5 +1,5 @@
 -- The call law.
-use Rattle.std.proofs.Common.{◌≡◌, ◌≢◌, ℕ, zero, suc, ◌+◌, ◌-◌, ◌≤◌, ◌<◌, List, [], ◌∷◌, ◌++◌, length, get_or, Bool, true, false, cond, ◌&&◌, IfSome, Option, Some, None, is_some, refl, sym, ap, subst, ◌∙◌, inl, inr, ◌⊎◌, arith}
+use Rattle.std.proofs.Common.{◌≡◌, ℕ, zero, suc, ◌+◌, ◌-◌, ◌≤◌, ◌<◌, List, [], ◌∷◌, ◌++◌, length, Bool, true, false, ◌&&◌, Option, Some, None, is_some, refl, sym, ap, subst, ◌∙◌, inl, inr, ◌⊎◌, arith}
 use Rattle.std.specs.Prelude.{◌==◌, slice_get, slice_set, option_and_then}
 use Rattle.std.specs.Option.{option_map_or}
 use Rattle.std.specs.List.{Contains}
@@ -17,10 +17,9 @@ use Rattle.sig_kinds.specs.declared.signal.Signal.{Signal}
 use Rattle.sig_kinds.specs.WatchRules.{WatchState, is_held, mode_of}
 use Rattle.sig_patterns.specs.declared.expression.Expr.{Expr}
 use Rattle.sig_patterns.specs.Building.{value_of, is_small}
-use Rattle.sig_program.specs.declared.instruction.Instr.{Instr}
 use Rattle.sig_program.specs.declared.instruction.Instr.TheVariants.{Monitor}
 use Rattle.sig_program.specs.Scripts.{Declared, Program}
-use Rattle.sig_runs.specs.Rules.{Effect, Rules}
+use Rattle.sig_runs.specs.Rules.{Effect}
 use Rattle.sig_runs.specs.Machine.{Machine, At, Applied, apply, choice, IsRun}
 use Rattle.sig_runs.specs.Crew.{opening_machine}
 use Rattle.sig_runs.proofs.Lists.{slice_get-set_same}
@@ -35,13 +34,13 @@ use Rattle.sig_model.specs.Bodies.{Body, ending, system_limit, badarg}
 use Rattle.sig_model.specs.Executing.{with_value, with_pid, new_ref, ref_in, monitoring, exec_body, executing, executing_whole, from_mark, from_oldest}
 use Rattle.sig_model.specs.Handling.{handling}
 use Rattle.sig_model.specs.Finishing.{finished_exec}
-use Rattle.sig_model.specs.Machine.{rules_of, rules_with, acted_at, opening_from, opening_of, handling_of}
+use Rattle.sig_model.specs.Machine.{rules_of, rules_with, acted_at, opening_from, opening_of}
 use Rattle.sig_model.proofs.Lookups.{mapped_tells}
 use Rattle.sig_model.proofs.BodyLemmas.{IsWatching, IsRewatched}
 use Rattle.sig_model.proofs.ExecutingLemmas.{next_body, IsMaking, next_watch}
 use Rattle.sig_model.proofs.MarkerLemmas.{opened_state}
 use Rattle.sig_call.specs.CallLaw.{is_kept, handles_answer, enters, entries, MakesCall, EnterOnce, CallsEnterOnce}
-use Rattle.sig_call.proofs.CallTables.{bit, IsCall, IsClear, Falls, inserted_here}
+use Rattle.sig_call.proofs.CallTables.{bit, IsCall, IsClear, inserted_here}
 use Rattle.sig_call.proofs.CallAnswers.{Fell, fell, fell_making, Answered, answered, handled_fell, count}
 use Rattle.sig_call.proofs.CallMoves.{execution_by, rules_by, rules, Moves, MakerStep, maker_step}
 use Rattle.sig_call.proofs.CallMoves.Moves.{stays, executes, handles}
@@ -217,7 +216,7 @@ module _ (r : Ref) where
         did_execute (rules begin script r) old a.pid (slice_get old.procs a.pid) gives (subst (λ (z : Did). apply (rules begin script r) old (choice a.pid (acted_at z)) ≡ Some gives) k.did h) in
         let here : d.state ≡ s = same_Some d.state s (sym d.at ∙ ap (λ p. slice_get old.procs p) k.maker ∙ at) in
         let defined : execution_by begin r.owner.0 (Some k.process) s ≡ Some d.effect =
-        subst (λ (o : Option Declared). execution_by begin r.owner.0 o s ≡ Some d.effect) k.its
+        subst (λ (o : Option Declared). execution_by begin r.owner.0 o s ≡ Some d.effect) k.part
         (subst (λ (z : ProcessState). execution_by begin r.owner.0 (slice_get script.procs r.owner.0) z ≡ Some d.effect) here
         (subst (λ p. execution_by begin p (slice_get script.procs p) d.state ≡ Some d.effect) k.maker d.defined)) in
         let w : (body : Body) × (next_body begin k.process s ≡ Some body) × (finished_exec r.owner.0 s body ≡ d.effect) =
@@ -290,7 +289,7 @@ module _ (begin : ℕ → ℕ) (script : Program) where
   once : (events : List (At Event)) (end : Machine ProcessState Signal) (run : IsRun (rules_by begin script) opened events end) (r : Ref) (a : At Event) → Contains events a → MakesCall script r a
       → entries (rules_by begin script) r opened events end run ≤ 1
   once events end run r a h k =
-      let o : (s : ProcessState) × (slice_get (opening_of script) r.owner.0 ≡ Some s) = opening_there 0 (length script.procs) script.procs r.owner.0 k.process k.its in
+      let o : (s : ProcessState) × (slice_get (opening_of script) r.owner.0 ≡ Some s) = opening_there 0 (length script.procs) script.procs r.owner.0 k.process k.part in
       let clear : IsClear r (opening_state r.owner.0 (length script.procs)).tables.watch = record { held = ap is_some (get-empty {X = ℕ} ref_cmp r); mode = get-empty {X = AliasMode} ref_cmp r } in
       law r begin script events opened end run o.0 o.1
       (subst (λ (z : ProcessState). Unmade r z.counts.next_serial z.tables.watch) (opened_state script r.owner.0 o.0 o.1) (λ low. clear))

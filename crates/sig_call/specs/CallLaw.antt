@@ -1,5 +1,5 @@
 -- The call law: of the messages through the alias of one monitor made with `reply_demonitor`, and its down, at most one enters the
--- list of its maker (Erlang Reference Manual, Processes, Process Aliases; module `erlang`, `monitor/3`).
+-- mailbox of its maker (Erlang Reference Manual, Processes, Process Aliases; module `erlang`, `monitor/3`).
 use Rattle.std.specs.Prelude.{◌≡◌, ℕ, ◌+◌, ◌-◌, ◌≤◌, ◌==◌, ◌&&◌, Bool, true, false, List, [], ◌∷◌, ◌++◌, Some, slice_get, if◌then◌else◌}
 use Rattle.std.specs.List.{Contains}
 use Rattle.sig_terms.specs.declared.reference.Ref.{Ref}
@@ -26,34 +26,36 @@ use Rattle.sig_model.specs.ProcessState.{ProcessState}
 use Rattle.sig_model.specs.Machine.{rules_of, opening_of}
 use Rattle.sig_model.specs.Marking.{whole_of}
 
--- a message through the alias of r, or the down of its monitor
+-- an answer of r: a message through its alias, or the down of its monitor
 abbrev pub is_answer : Ref → Kind → Bool
 is_answer r (AliasMessage q message) = same_ref r q
 is_answer r (Down q reason) = same_ref r q
 is_answer r _ = false
 
--- the oldest of the signals is one
+-- the oldest of these signals is one
 abbrev pub answer_first : Ref → List Signal → Bool
 answer_first r [] = false
 answer_first r (x ∷ xs) = is_answer r x.kind
 
--- the event handled one, of the signals that were queued
+-- what the process did was to handle one, of the signals that were queued for it by their senders
 abbrev pub handles_answer : Ref → (ℕ → List Signal) → Did → Bool
 handles_answer r queued (Exec place) = false
 handles_answer r queued (From sender number) = answer_first r (queued sender.0)
 
+-- a message came into the mailbox
 abbrev pub is_kept : Outcome → Bool
 is_kept (Kept message) = true
 is_kept _ = false
 
--- at this machine the event is one by which an answer enters the list of the process that made r
+-- at this machine the event is one by which an answer of r enters the mailbox of the process that made r
 abbrev pub enters : Ref → Machine ProcessState Signal → At Event → Bool
 enters r m a = a.pid == r.owner.0 && (is_kept a.event.outcome && handles_answer r (λ sender. m.queued sender a.pid) a.event.did)
 
 -- how many events of a run are
-abbrev pub entries : (rules : Rules ProcessState Signal Event) → Ref → (m : Machine ProcessState Signal) → (events : List (At Event)) → (end : Machine ProcessState Signal) → IsRun rules m events end → ℕ
-entries rules r m [] end run = 0
-entries rules r m (a ∷ later) end run = (if enters r m a then 1 else 0) + entries rules r run.0 later end run.2
+module _ (rules : Rules ProcessState Signal Event) (r : Ref) where
+  abbrev pub entries : (m : Machine ProcessState Signal) (events : List (At Event)) (end : Machine ProcessState Signal) → IsRun rules m events end → ℕ
+  entries m [] end run = 0
+  entries m (a ∷ later) end run = (if enters r m a then 1 else 0) + entries run.0 later end run.2
 
 -- the event made r by `monitor` with `reply_demonitor`
 pub record MakesCall (script : Program) (r : Ref) (a : At Event) : Type 0 where
@@ -62,7 +64,7 @@ pub record MakesCall (script : Program) (r : Ref) (a : At Event) : Type 0 where
   pub var : Var
   pub target : Expr
   pub maker : a.pid ≡ r.owner.0
-  pub its : slice_get script.procs r.owner.0 ≡ Some process
+  pub part : slice_get script.procs r.owner.0 ≡ Some process
   pub did : a.event.did ≡ Exec place
   pub instr : slice_get process.instrs (place - 1) ≡ Some (Monitor var target (Some ReplyDemonitor))
   pub made : a.event.outcome ≡ Set (term.Ref r)
@@ -70,7 +72,8 @@ pub record MakesCall (script : Program) (r : Ref) (a : At Event) : Type 0 where
 -- What the runs of these rules from the script's opening make of the answers of each call.
 pub record EnterOnce (script : Program) (rules : Rules ProcessState Signal Event) : Type 0 where
   -- in a run at most one of them enters
-  pub once : (events : List (At Event)) (end : Machine ProcessState Signal) (run : IsRun rules (opening_machine (opening_of script)) events end)
+  pub once : (events : List (At Event)) (end : Machine ProcessState Signal)
+      (run : IsRun rules (opening_machine (opening_of script)) events end)
       (r : Ref) (a : At Event) → Contains events a → MakesCall script r a →
       entries rules r (opening_machine (opening_of script)) events end run ≤ 1
   -- In a run that is cut in two, at most one enters in both parts together: so none enters behind one that has entered.
