@@ -15,6 +15,7 @@ use Rattle.sig_terms.proofs.NameLemmas.{atom_names}
 use Rattle.sig_kinds.specs.declared.signal.Kind.{Kind}
 use Rattle.sig_kinds.specs.declared.signal.Kind.TheVariants as kind
 use Rattle.sig_kinds.specs.LinkRules.{LinkState, is_active, awaited_from, link, unlink, on_link, on_ack}
+use Rattle.sig_kinds.specs.WatchRules.{WatchState, unaliased, unmonitored, watch_ending}
 use Rattle.sig_kinds.specs.SignalNames.{names_of_kind, LinkNames}
 use Rattle.sig_patterns.specs.Inbox.{Inbox, emptied_inbox}
 use Rattle.sig_program.specs.Scripts.{Declared}
@@ -72,6 +73,27 @@ pub record IsMoved (I : Inbox → Type 0) (s : ProcessState) (b : Body) : Type 0
 -- whatever the messages and marks are
 abbrev pub AnyInbox : Inbox → Type 0
 AnyInbox inbox = Unit {0}
+
+-- whatever the next serial is, and the monitors and aliases
+abbrev pub AnyWatch : ℕ → WatchState → Type 0
+AnyWatch next watch = Unit {0}
+
+-- I holds of the next serial, and of the monitors and aliases, after the event
+abbrev pub IsWatching : (ℕ → WatchState → Type 0) → Body → Type 0
+IsWatching I b = I b.state.counts.next_serial b.state.tables.watch
+
+-- What may be made of the monitors and aliases by a signal, or by an instruction that makes no reference: a monitor of the process or
+-- an alias ends, or both, it bears others, or it ends.
+pub record IsRewatched (I : ℕ → WatchState → Type 0) (next : ℕ) (watch : WatchState) : Type 0 where
+  pub same : I next watch
+  pub demonitored : (r : Ref) → I next (unmonitored watch r)
+  pub dealiased : (r : Ref) → I next (unaliased watch r)
+  pub replied : (r : Ref) → I next (unaliased (unmonitored watch r) r)
+  pub bearing : (borne : List (Ref × ℕ)) → I next (record watch { borne = borne })
+  pub ended : I next (watch_ending watch)
+
+pub any_rewatched : (next : ℕ) (watch : WatchState) → IsRewatched AnyWatch next watch
+any_rewatched next watch = record { same = tt; demonitored = λ r. tt; dealiased = λ r. tt; replied = λ r. tt; bearing = λ borne. tt; ended = tt }
 
 -- how far an event moves the counts: one arrival, one id and one serial at most, and the next serial doesn't fall
 pub record IsNear (before after : ProcessState) : Type 0 where
@@ -148,19 +170,22 @@ module _ (L : Shown) where
     pub sizes : L.sized → BodySizes b
     pub moved : IsMoved L.inbox s b
     pub links : LinkPart x s b
+    pub watch : IsWatching L.watch b
 
-  -- the process before the event: what it holds, its place, and what is left of its messages and marks where it ends
+  -- the process before the event: what it holds, its place, what is left of its messages and marks where it ends, and what may be made
+  -- of its monitors and aliases
   pub record IsBefore (p : Declared) (s : ProcessState) : Type 0 where
     pub tables : AreKept L s.tables
     pub here : L.bounded → IsAt p s.counts.place
     pub emptied : L.inbox (emptied_inbox s.tables.inbox)
+    pub watch : IsRewatched L.watch s.counts.next_serial s.tables.watch
 
   module _ (x : Option Came) (p : Declared) (s : ProcessState) where
     -- it sends these signals, to each peer at most one more than there are downs fewer to be told
     pub row : (b : Body) → AreKept L b.state.tables → (L.bounded → IsAt p b.state.counts.place) → IsNear s b.state → owner_of b.state.tables ≡ owner_of s.tables
         → All (PostNames L.name) b.posts → (L.sized → All PostSizes b.posts) → ((peer : ℕ) → posts_to peer b.posts + downs_due b.state.tables ≤ downs_due s.tables + 1)
-        → IsTold b.outcome → LinkPart x s b → IsRow x p s b
-    row b tables at counts owner names sizes few told links = record {
+        → IsTold b.outcome → LinkPart x s b → IsWatching L.watch b → IsRow x p s b
+    row b tables at counts owner names sizes few told links watch = record {
       kept = record {
         names = record { tables = tables.names; posts = names };
         bounds = λ h. record { first = (at h).0; within = (at h).1; arrivals = counts.arrivals; ids = counts.ids; serials = counts.serials; posts = few };
@@ -169,26 +194,27 @@ module _ (L : Shown) where
       sizes = λ z. record { tables = tables.sizes z; posts = sizes z; outcome = told z };
       moved = record { inbox = tables.inbox; serial = counts.rises };
       links = links;
+      watch = watch;
     }
 
     -- it sends at most one signal to a peer, and owes as many downs
     pub sending : (b : Body) → AreKept L b.state.tables → (L.bounded → IsAt p b.state.counts.place) → IsNear s b.state → OwesAlike s.tables b.state.tables
-        → AreSent b.posts → IsTold b.outcome → LinkPart x s b → IsRow x p s b
-    sending b tables at counts alike posts told links =
-        row b tables at counts alike.owner posts.names posts.sizes (λ peer. let one : posts_to peer b.posts ≤ 1 = posts.few peer in omega (arith, one, alike.due)) told links
+        → AreSent b.posts → IsTold b.outcome → LinkPart x s b → IsWatching L.watch b → IsRow x p s b
+    sending b tables at counts alike posts told links watch =
+        row b tables at counts alike.owner posts.names posts.sizes (λ peer. let one : posts_to peer b.posts ≤ 1 = posts.few peer in omega (arith, one, alike.due)) told links watch
 
     -- and leaves the links
     pub few_row : (b : Body) → AreKept L b.state.tables → (L.bounded → IsAt p b.state.counts.place) → IsNear s b.state → b.state.tables.links ≡ s.tables.links → HearsNothing x s
-        → OwesAlike s.tables b.state.tables → ArePosts b.posts → IsTold b.outcome → IsRow x p s b
-    few_row b tables at counts same idle alike posts told =
-        sending b tables at counts alike posts.sent told (λ alive. idle_moves (heard_from x) s.tables.links b.state.tables.links b.posts same idle posts.silent)
+        → OwesAlike s.tables b.state.tables → ArePosts b.posts → IsTold b.outcome → IsWatching L.watch b → IsRow x p s b
+    few_row b tables at counts same idle alike posts told watch =
+        sending b tables at counts alike posts.sent told (λ alive. idle_moves (heard_from x) s.tables.links b.state.tables.links b.posts same idle posts.silent) watch
 
     -- it leaves the counts of the other tables too
     pub moving : (b : Body) → AreKept L b.state.tables → (L.bounded → IsAt p b.state.counts.place) → b.state.tables.inbox.next_arrival ≡ s.tables.inbox.next_arrival
         → b.state.tables.links ≡ s.tables.links → HearsNothing x s → owner_of b.state.tables ≡ owner_of s.tables → downs_due b.state.tables ≡ downs_due s.tables
-        → b.state.counts.next_serial ≡ s.counts.next_serial → ArePosts b.posts → IsTold b.outcome → IsRow x p s b
-    moving b tables at arrivals same idle owner due serial posts told =
-        few_row b tables at (near s b.state arrivals (ap (λ (l : LinkState). l.next_id) same) serial) same idle (record { owner = owner; due = due }) posts told
+        → b.state.counts.next_serial ≡ s.counts.next_serial → ArePosts b.posts → IsTold b.outcome → IsWatching L.watch b → IsRow x p s b
+    moving b tables at arrivals same idle owner due serial posts told watch =
+        few_row b tables at (near s b.state arrivals (ap (λ (l : LinkState). l.next_id) same) serial) same idle (record { owner = owner; due = due }) posts told watch
 
     module _ (k : IsBefore p s) where
       -- it changes the links, and goes on at this place
@@ -197,15 +223,15 @@ module _ (L : Shown) where
           → IsRow x p s (record { state = record (relinked s links) { counts = record s.counts { place = place } }; outcome = how; posts = posts })
       relinking place links how posts at h ids moves sent told =
           sending _ (linked L s.tables k.tables links h) at (record { arrivals = omega arith; ids = ids; serials = omega arith; rises = omega arith }) (record { owner = refl; due = refl }) sent told
-          (λ alive. moves)
+          (λ alive. moves) k.watch.same
 
       pub dropping_row : HearsNothing x s → IsRow x p s (dropping s)
-      dropping_row idle = moving (dropping s) k.tables k.here refl refl idle refl refl refl no_posts (λ z. tt)
+      dropping_row idle = moving (dropping s) k.tables k.here refl refl idle refl refl refl no_posts (λ z. tt) k.watch.same
 
       pub ending_row : (reason : Term) → IsBuilt L reason → IsRow x p s (ending s reason)
       ending_row reason h =
           row (ending s reason) (ended L s.tables k.tables reason h k.emptied) k.here (near s _ refl refl refl) refl (told_names L.name reason h.names s.tables k.tables.names)
-          (λ z. told_sizes s.tables reason (h.size z)) (told_few s.tables reason) (λ z. small_kept reason (h.size z)) (λ alive. some_none reason alive)
+          (λ z. told_sizes s.tables reason (h.size z)) (told_few s.tables reason) (λ z. small_kept reason (h.size z)) (λ alive. some_none reason alive) k.watch.ended
 
       -- the reason is an atom
       pub ending_atom : (a : List ℕ) → IsRow x p s (ending s (term.Atom a))
