@@ -259,7 +259,7 @@ module _ (L : Shown) (p : Declared) (pid sender : ℕ) (from : L.name (process s
         linking_up_row (on_link s.tables.links sender) (on_link_names L.name s.tables.links k.tables.names.links sender from) (on_link_id s.tables.links sender) (on_link_moves s.tables.links sender)
     live_row (Unlink id) h g =
         unlinking_from_row id (on_unlink s.tables.links sender) (on_unlink_names L.name s.tables.links k.tables.names.links sender) (omega arith)
-        (on_unlink_moves s.tables.links sender id _ (λ q. append-nil (said_by sender (Acks id) q)))
+        (on_unlink_moves s.tables.links sender id (record { to = sender; kind = UnlinkAck id } ∷ []) (λ q. append-nil (said_by sender (Acks id) q)))
     live_row (UnlinkAck id) h g =
         acknowledging_row id (on_ack s.tables.links sender id) (on_ack_names L.name s.tables.links k.tables.names.links sender id) (on_ack_id s.tables.links sender id)
         (on_ack_moves s.tables.links sender id)
