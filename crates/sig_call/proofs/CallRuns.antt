@@ -41,7 +41,7 @@ use Rattle.sig_model.proofs.ExecutingLemmas.{next_body, IsMaking, next_watch}
 use Rattle.sig_model.proofs.MarkerLemmas.{opened_state}
 use Rattle.sig_call.specs.CallLaw.{is_kept, handles_answer, enters, entries, MakesCall, EnterOnce, CallsEnterOnce}
 use Rattle.sig_call.proofs.CallTables.{bit, IsCall, IsClear, inserted_here}
-use Rattle.sig_call.proofs.CallAnswers.{Fell, fell, fell_making, Answered, answered, handled_fell, count}
+use Rattle.sig_call.proofs.CallAnswers.{Fell, fell, fell_making, Answered, answered, handled_fell}
 use Rattle.sig_call.proofs.CallMoves.{execution_by, rules_by, rules, Moves, MakerStep, maker_step}
 use Rattle.sig_call.proofs.CallMoves.Moves.{stays, executes, handles}
 
