@@ -1,2 +1,6 @@
+pub mod CallTables
+pub mod CallAnswers
+pub mod CallMoves
+pub mod CallRuns
 pub mod CallLineLemmas
 pub mod ExpansionLemmas

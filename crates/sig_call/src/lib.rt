@@ -1,11 +1,13 @@
-//! Calls: a request whose one reply, or the end of whom it was sent to, enters the caller's list once.
-//! A text in which they stand as lines is expanded to a script.
+//! Calls: a request to which one reply, or the end of the process that was asked, enters the
+//! caller's list. A text in which calls stand as lines is expanded to a script.
 #![tactic(auto)]
 
+mod call_law;
 mod call_line;
 mod expanded;
 mod expanding;
 mod fault;
 
+pub use call_law::a_call_is_answered_once;
 pub use expanding::expand;
 pub use fault::{CallError, CallFault};

@@ -12,6 +12,7 @@ mod history;
 mod idle;
 mod keeping;
 mod parts;
+mod peers;
 mod plan;
 mod planning;
 mod posting;
