@@ -40,7 +40,7 @@ run_leads script (a ∷ es) m end h = (record { machine = h.0; event = a.event }
 
 pub origins_step : (rules : ModelRules) (before : List (At Event)) (m : ModelMachine) (a : At Event) (later : List (At Event)) (next : Applied ProcessState Signal Event) → apply rules m (choice_of a) ≡ Some next →
     origins_after rules before m (a ∷ later) ≡ origins_at rules before m a ++ origins_after rules (before ++ a ∷ []) next.machine later
-origins_step rules before m a later next e = rw e refl
+origins_step rules before m a later next e = rw (e, origins_after) refl
 
 -- one event more
 pub origins_push : (rules : ModelRules) (es : List (At Event)) (a : At Event) (before : List (At Event)) (m mid : ModelMachine) (next : Applied ProcessState Signal Event) → Leads rules m es mid →

@@ -24,7 +24,7 @@ use Rattle.sig_model.specs.Handling.{handling}
 use Rattle.sig_model.specs.Finishing.{finished, finished_exec}
 use Rattle.sig_model.specs.Machine.{acted_at, rules_of, rules_with, execution, handling_of}
 use Rattle.sig_model.specs.Keeping.{IsToItself, IsArriving}
-use Rattle.sig_model.specs.Running.{Running, advanced, exec_next, handled_one, to_itself}
+use Rattle.sig_model.specs.Running.{Running, advanced, exec_next, handled_one, to_itself, to_others}
 use Rattle.sig_model.specs.SettledRun.{waiting_of}
 use Rattle.sig_model.specs.Accounts.{coming_from}
 use Rattle.sig_model.specs.CrewLaw.{IsLawfulCrew, machine_of}
@@ -123,20 +123,18 @@ module _ (script : Program) (crew : List Running) (p : ℕ) (r : Running) (there
         subst (λ m. HasSent r t (sent_at (rules_of script) m (choice p (acted_at did)))) (sym (clear_machine script crew empty)) (acted_sent_clear did h)
 
 -- signals to itself are of the process and to it
+itself_more : (p : ℕ) (x : Signal) (xs : List Signal) → x.from.0 ≡ p → All (λ (y : Signal). (y.from.0 ≡ p) × (y.to.0 ≡ p)) (to_itself p xs) → All (λ (y : Signal). (y.from.0 ≡ p) × (y.to.0 ≡ p)) (to_itself p (x ∷ xs))
+itself_more p x xs from rest = elim (eqb_tells x.to.0 p) [
+  | inl e ↦
+      subst (All (λ (y : Signal). (y.from.0 ≡ p) × (y.to.0 ≡ p))) (sym (ap (λ c. cond c (x ∷ to_itself p xs) (to_itself p xs)) e.0))
+      (All-cons (λ (y : Signal). (y.from.0 ≡ p) × (y.to.0 ≡ p)) x (to_itself p xs) (from, e.1) rest)
+  | inr e ↦ subst (All (λ (y : Signal). (y.from.0 ≡ p) × (y.to.0 ≡ p))) (sym (ap (λ c. cond c (x ∷ to_itself p xs) (to_itself p xs)) e.0)) rest
+]
+
 itself_own : (p : ℕ) (sends : List Signal) → All (λ (x : Signal). x.from.0 ≡ p) sends → All (λ (x : Signal). (x.from.0 ≡ p) × (x.to.0 ≡ p)) (to_itself p sends)
 itself_own p [] h = All-nil (λ (x : Signal). (x.from.0 ≡ p) × (x.to.0 ≡ p))
-itself_own p (x ∷ xs) h = go (eqb_tells x.to.0 p)
-  where
-    Own : Signal → Type 0
-    Own y = (y.from.0 ≡ p) × (y.to.0 ≡ p)
-
-    rest : All Own (to_itself p xs)
-    rest = itself_own p xs (All-tail (λ (y : Signal). y.from.0 ≡ p) x xs h)
-
-    go : (((x.to.0 == p) ≡ true) × (x.to.0 ≡ p)) ⊎ (((x.to.0 == p) ≡ false) × (x.to.0 ≢ p)) → All Own (to_itself p (x ∷ xs))
-    go (inl e) =
-        subst (All Own) (sym (ap (λ c. cond c (x ∷ to_itself p xs) (to_itself p xs)) e.0)) (All-cons Own x (to_itself p xs) (All-head (λ (y : Signal). y.from.0 ≡ p) x xs h, e.1) rest)
-    go (inr e) = subst (All Own) (sym (ap (λ c. cond c (x ∷ to_itself p xs) (to_itself p xs)) e.0)) rest
+itself_own p (x ∷ xs) h =
+    itself_more p x xs (All-head (λ (y : Signal). y.from.0 ≡ p) x xs h) (itself_own p xs (All-tail (λ (y : Signal). y.from.0 ≡ p) x xs h))
 
 own_told : (p event first : ℕ) (xs : List Signal) → All (λ (x : Signal). (x.from.0 ≡ p) × (x.to.0 ≡ p)) xs → IsCounting first xs → map (origin_of event) xs ≡ own_origins p event first (length xs)
 own_told p event first [] all h = refl
@@ -155,11 +153,11 @@ pub told_origins : (r t : Running) (sends : List Signal) → HasSent r t sends �
     ++ map (origin_of (length t.events)) t.outbox
 told_origins r t sends h empty =
     ap (λ n. origins_in r.pid n sends) (sym h.events)
-    ∙ map-append (origin_of (length t.events)) (to_itself r.pid sends) _
+    ∙ map-append (origin_of (length t.events)) (to_itself r.pid sends) (to_others r.pid sends)
     ∙ ap₂ (λ xs ys. xs ++ ys)
     (own_told r.pid (length t.events) (slice_index r.state.counts.next_numbers r.pid) (to_itself r.pid sends) (itself_own r.pid sends h.from) h.own
     ∙ ap (λ n. own_origins r.pid (length t.events) (slice_index r.state.counts.next_numbers r.pid) n) many)
-    (ap (λ xs. map (origin_of (length t.events)) xs) (sym (h.outbox ∙ ap (λ xs. xs ++ _) empty)))
+    (ap (λ xs. map (origin_of (length t.events)) xs) (sym (h.outbox ∙ ap (λ xs. xs ++ to_others r.pid sends) empty)))
   where
     many : length (to_itself r.pid sends) ≡ slice_index t.state.counts.next_numbers r.pid - slice_index r.state.counts.next_numbers r.pid
     many = omega (arith, h.next)
