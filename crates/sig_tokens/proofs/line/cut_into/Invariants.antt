@@ -1,7 +1,7 @@
 use Rattle.std.proofs.Common.{◌≡◌, ◌-◌, ◌≤◌, drop, length}
 use Rattle.sig_tokens.specs.Tokens.{AreTokens, cut_of}
 use Rattle.sig_tokens.proofs.CutLemmas.{joined}
-use Rattle.sig_tokens.proofs.line.cut_line.Given as goal
+use Rattle.sig_tokens.proofs.line.cut_into.Given as goal
 
 -- the tokens so far, and those of what is left, are those of the line
 abbrev pub invariant-loop-at : goal.invariant-loop-at
