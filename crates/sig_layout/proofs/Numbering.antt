@@ -1,7 +1,9 @@
 -- Numbers in runs of ones.
-use Rattle.std.proofs.Common.{◌≡◌, ℕ, zero, suc, ◌+◌, ◌-◌, ◌<◌, ◌≤◌, List, [], ◌∷◌, ◌++◌, length, replicate, refl, sym, ap, ◌∙◌, arith, Some, None}
+use Rattle.std.proofs.Common.{◌≡◌, ℕ, zero, suc, ◌+◌, ◌-◌, ◌<◌, ◌≤◌, List, [], ◌∷◌, ◌++◌, length, replicate, refl, sym, ap, ◌∙◌, arith, Some, None, drop, get_or}
 use Rattle.std.specs.Prelude.{slice_get}
 use Rattle.std.proofs.lemmas.List.{length-append, length-replicate, append-nil}
+use Rattle.std.proofs.Math.Seq.{drop-cons}
+use Rattle.std.proofs.Math.ListN.{drop_of_length-le}
 use Rattle.sig_layout.specs.declared.run.Run.{Run}
 use Rattle.sig_layout.specs.Runs.{ones_before, listed}
 
@@ -35,6 +37,20 @@ listed_number [] ones n = sym (ones_append ones [] (n ∷ []))
 listed_number (r ∷ rs) ones n =
     ap (λ (z : List ℕ). ones_before r.ones (r.number ∷ z)) (listed_number rs ones n) ∙ sym (ones_append r.ones (r.number ∷ listed rs ones) (n ∷ []))
 
+-- ones alone
+pub of_ones : (rs : List Run) (n : ℕ) → rs ≡ [] → listed rs n ≡ replicate n 1
+of_ones rs n e = ap (λ (z : List Run). listed z n) e ∙ all_ones n
+
+-- how many there are then
+pub pushed_len : (old new : List ℕ) (n len : ℕ) → new ≡ old ++ n ∷ [] → len ≡ length old → len + 1 ≡ length new
+pushed_len old new n len e same = (let l : length new ≡ length old + 1 = ap (λ (z : List ℕ). length z) e ∙ length-append old (n ∷ []) in omega (arith, l, same))
+
+pub padded_len : (old new : List ℕ) (len to : ℕ) → new ≡ old ++ replicate (to - length old) 1 → len ≡ length old → length old ≤ to → to ≡ length new
+padded_len old new len to e same le =
+    (let l : length new ≡ length old + length {A = ℕ} (replicate (to - length old) 1) = ap (λ (z : List ℕ). length z) e ∙ length-append old (replicate (to - length old) 1) in
+    let k : length {A = ℕ} (replicate (to - length old) 1) ≡ to - length old = length-replicate (to - length old) 1 in
+    omega (arith, l, k, le))
+
 -- the ones at the end are some of the numbers
 pub ones_within : (rs : List Run) (ones : ℕ) → ones ≤ length (listed rs ones)
 ones_within [] ones = omega (arith, ones_length ones [])
@@ -53,3 +69,31 @@ pub behind_ones : (n at left : ℕ) (xs : List ℕ) → at ≡ n + left → slic
 behind_ones zero at left xs h = (let e : at ≡ left = omega (arith, h) in ap (slice_get xs) e)
 behind_ones (suc n) zero left xs h = absurd (let f : ⊥ = omega (arith, h) in f)
 behind_ones (suc n) (suc at) left xs h = behind_ones n at left xs (omega (arith, h))
+
+-- the run at this place
+read_run : (rs : List Run) (at : ℕ) (r : Run) → at < length rs → r ≡ get_or rs at r → drop at rs ≡ r ∷ drop (at + 1) rs
+read_run rs at r lt is = drop-cons rs at r lt ∙ ap (λ (z : Run). z ∷ drop (suc at) rs) (sym is)
+    ∙ (let e : suc at ≡ at + 1 = omega arith in ap (λ (k : ℕ). r ∷ drop k rs) e)
+
+module _ (rs : List Run) (ones at left : ℕ) where
+  module _ (r : Run) (lt : at < length rs) (is : r ≡ get_or rs at r) where
+    here : slice_get (listed (drop at rs) ones) left ≡ slice_get (ones_before r.ones (r.number ∷ listed (drop (at + 1) rs) ones)) left
+    here = ap (λ (z : List Run). slice_get (listed z ones) left) (read_run rs at r lt is)
+
+    pub in_run : left < r.ones → slice_get (listed (drop at rs) ones) left ≡ Some 1
+    in_run h = here ∙ among_ones r.ones left (r.number ∷ listed (drop (at + 1) rs) ones) h
+
+    pub at_number : left ≡ r.ones → slice_get (listed (drop at rs) ones) left ≡ Some r.number
+    at_number h = here ∙ behind_ones r.ones left 0 (r.number ∷ listed (drop (at + 1) rs) ones) (omega (arith, h))
+
+    pub past_run : r.ones < left → slice_get (listed (drop at rs) ones) left ≡ slice_get (listed (drop (at + 1) rs) ones) (left - r.ones - 1)
+    past_run h = here ∙ behind_ones r.ones left (suc (left - r.ones - 1)) (r.number ∷ listed (drop (at + 1) rs) ones) (omega (arith, h))
+
+  no_runs : length rs ≤ at → slice_get (listed (drop at rs) ones) left ≡ slice_get (ones_before ones []) left
+  no_runs le = ap (λ (z : List Run). slice_get (listed z ones) left) (drop_of_length-le rs le)
+
+  pub in_last : length rs ≤ at → left < ones → slice_get (listed (drop at rs) ones) left ≡ Some 1
+  in_last le h = no_runs le ∙ among_ones ones left [] h
+
+  pub past_last : length rs ≤ at → ones ≤ left → slice_get (listed (drop at rs) ones) left ≡ None
+  past_last le h = no_runs le ∙ behind_ones ones left (left - ones) [] (omega (arith, h))

@@ -1,4 +1,4 @@
-ghost use Rattle.std.specs.Prelude.{◌≡◌, ◌<◌, ◌≤◌, ◌-◌, [], ◌∷◌, ◌++◌, length, replicate, slice_get, IfOk, OnSome, MatchResult};
+ghost use Rattle.std.specs.Prelude.{◌≡◌, ◌<◌, ◌≤◌, ◌+◌, ◌-◌, ◌^◌, [], ◌∷◌, ◌++◌, length, replicate, slice_get, IfOk, OnSome, MatchResult};
 ghost use Rattle.std.specs.Option.{option_copied};
 ghost use Rattle.sig_lists.specs.Pushing.{IsPushed};
 
@@ -104,15 +104,25 @@ impl Numbers {
             return Err(AllocError);
         }
         if item == 1 {
-            self.ones += 1;
-        } else {
-            let run = Run {
-                ones: self.ones,
-                number: item,
-            };
-            self.runs.push(run)?;
-            self.ones = 0;
+            self.pad(self.len + 1);
+            return Ok(());
         }
+        self.add_run(item)
+    }
+
+    /// Adds a number behind the ones at the end, which are in a run with it then.
+    fn add_run(&mut self, number: u64) -> Result<(), AllocError>
+        requires { length self.old + 1 < 2 ^ 64 }
+        ensures { MatchResult result
+            (λ _. self.new ≡ self.old ++ number ∷ [])
+            (λ _. self.new ≡ self.old) }
+    {
+        let run = Run {
+            ones: self.ones,
+            number,
+        };
+        self.runs.push(run)?;
+        self.ones = 0;
         self.len += 1;
         Ok(())
     }
