@@ -11,10 +11,22 @@ use Rattle.sig_workers.specs.Opening.{numbers_to, AreNumbered}
 use Rattle.sig_workers.specs.Columns.{padded, HasNext, IsColumn}
 use Rattle.sig_workers.proofs.PartLemmas.{many_running, running_at}
 
+abbrev ones : ℕ → List ℕ
+ones k = replicate k 1
+
+ones_more : (k : ℕ) → ones k ++ 1 ∷ [] ≡ ones (k + 1)
+ones_more k = replicate_more k 1
+
+ones_length : (k : ℕ) → length (ones k) ≡ k
+ones_length k = length-replicate k 1
+
+abbrev empties : ℕ → List (List ℕ)
+empties k = replicate k []
+
 padded_length : (n : ℕ) (xs : List ℕ) → length xs ≤ n → length (padded n xs) ≡ n
 padded_length n xs le =
-    (let l : length (padded n xs) ≡ length xs + length {A = ℕ} (replicate (n - length xs) 1) = length-append xs (replicate (n - length xs) 1) in
-    let k : length {A = ℕ} (replicate (n - length xs) 1) ≡ n - length xs = length-replicate {A = ℕ} (n - length xs) 1 in
+    (let l : length (padded n xs) ≡ length xs + length (ones (n - length xs)) = length-append xs (ones (n - length xs)) in
+    let k : length (ones (n - length xs)) ≡ n - length xs = ones_length (n - length xs) in
     omega (arith, l, k, le))
 
 -- a one that is left out
@@ -22,8 +34,8 @@ pub left_one : (at n : ℕ) (xs : List ℕ) → length xs ≤ at → n ≡ 1 →
 left_one at n xs le one = record {
   short = omega (arith, le);
   is = (let e : at + 1 - length xs ≡ (at - length xs) + 1 = omega (arith, le) in
-      ap (λ (k : ℕ). xs ++ replicate k 1) e ∙ ap (λ (z : List ℕ). xs ++ z) (sym (replicate_more (at - length xs) 1))
-      ∙ sym (append_assoc xs (replicate (at - length xs) 1) (1 ∷ [])) ∙ ap (λ (z : ℕ). padded at xs ++ z ∷ []) (sym one));
+      ap (λ (k : ℕ). xs ++ ones k) e ∙ ap (λ (z : List ℕ). xs ++ z) (sym (ones_more (at - length xs)))
+      ∙ sym (append_assoc xs (ones (at - length xs)) (1 ∷ [])) ∙ ap (λ (z : ℕ). padded at xs ++ z ∷ []) (sym one));
 }
 
 -- and a number that is put
@@ -31,7 +43,7 @@ pub put_next : (at n : ℕ) (old new : List ℕ) → length old ≤ at → new �
 put_next at n old new le e =
     (let long : length new ≡ at + 1 = ap (λ (z : List ℕ). length z) e ∙ length-append (padded at old) (n ∷ []) ∙ ap (λ (z : ℕ). z + 1) (padded_length at old le) in
     let none : at + 1 - length new ≡ 0 = omega (arith, long) in
-    record { short = omega (arith, long); is = ap (λ (k : ℕ). new ++ replicate k 1) none ∙ append-nil new ∙ e })
+    record { short = omega (arith, long); is = ap (λ (k : ℕ). new ++ ones k) none ∙ append-nil new ∙ e })
 
 -- outside of the pids to which the process has sent
 pub outside : (low high p : ℕ) (xs : List ℕ) → AreFirstOutside low high xs → 1 ≤ slice_index xs p → p < low → slice_index xs p ≡ 1
@@ -70,7 +82,7 @@ module _ (at : ℕ) (numbers : List ℕ) (start : List (List ℕ)) (short : (p :
       → new ≡ padded at old ++ slice_index numbers to ∷ [] → Added at numbers start (to + 1) (set now to new)
   added_number to now old new within a here is =
       (let low : to < length now = omega (arith, within, a.many) in
-      let there : old ≡ get_or start to [] = here ∙ get_or-any now to old low ∙ a.rest to (omega arith) in
+      let there : old ≡ get_or start to [] = here ∙ get_or_default now to old [] low ∙ a.rest to (omega arith) in
       record {
         many = length-set now to new ∙ a.many;
         done = λ p lt in_all. elim (eqb_tells to p) [
@@ -82,9 +94,6 @@ module _ (at : ℕ) (numbers : List ℕ) (start : List (List ℕ)) (short : (p :
         ];
         rest = λ p le. get_or-set_other now to p new [] (λ q. (let f : ⊥ = omega (arith, q, le) in f)) ∙ a.rest p (omega (arith, le));
       })
-    where
-      get_or-any : (xs : List (List ℕ)) (i : ℕ) (x : List ℕ) → i < length xs → get_or xs i x ≡ get_or xs i []
-      get_or-any xs i x lt = get_or_default xs i x [] lt
 
   pub all_added : (low high to : ℕ) (now : List (List ℕ)) → AreFirstOutside low high numbers → ((p : ℕ) → p < length start → 1 ≤ slice_index numbers p)
       → Added at numbers start to now → ((p : ℕ) → to ≤ p → p < length start → high ≤ p)
@@ -115,8 +124,9 @@ column_more procs at p r old new lt is c h = record {
 }
 
 -- before the first process
-pub empty_column : (n p : ℕ) → p < n → IsColumn 0 p [] (get_or (replicate n []) p [])
-empty_column n p lt = subst (IsColumn 0 p []) (sym (get_or-replicate n p [] [] lt)) (record { short = omega arith; is = refl })
+pub empty_column : (n p : ℕ) → p < n → IsColumn 0 p [] (get_or (empties n) p [])
+empty_column n p lt = (let e : get_or (empties n) p [] ≡ [] = get_or-replicate n p [] [] lt in
+    subst (IsColumn 0 p []) (sym e) (record { short = omega arith; is = refl }))
 
 -- the process at this place numbers its signals from 1 on
 pub row_numbered : (procs : List Standing) (at n : ℕ) (r : Standing) → at < length procs → r ≡ get_or procs at r → AreNumbered (runnings_of procs) → n ≡ length procs
