@@ -110,13 +110,13 @@ onto_clean : (b : ℕ) (lines : List (List ℕ)) → (b == 10) ≡ false → Are
 onto_clean b [] h clean = (rw h refl, tt)
 onto_clean b (line ∷ lines) h clean = (rw h clean.0, clean.1)
 
+byte_clean : (b : ℕ) (lines : List (List ℕ)) (v : Bool) → (b == 10) ≡ v → AreClean lines → AreClean (if v then [] ∷ lines else onto_first b lines)
+byte_clean b lines true is clean = (refl, clean)
+byte_clean b lines false is clean = onto_clean b lines is clean
+
 given_clean : (bytes : List ℕ) → AreClean (lines_of bytes)
 given_clean [] = tt
-given_clean (b ∷ bs) = by_byte (b == 10) refl
-  where
-  by_byte : (v : Bool) → (b == 10) ≡ v → AreClean (if v then [] ∷ lines_of bs else onto_first b (lines_of bs))
-  by_byte true is = (refl, given_clean bs)
-  by_byte false is = onto_clean b (lines_of bs) is (given_clean bs)
+given_clean (b ∷ bs) = byte_clean b (lines_of bs) (b == 10) refl (given_clean bs)
 
 given_plain : (b : ℕ) (bs : List ℕ) → ends_in_feed (b ∷ bs) ≡ false → EndsPlain (b ∷ bs)
 given_plain b [] h = h
@@ -149,32 +149,101 @@ clean_on : (a b : List (List ℕ)) → AreClean a → AreClean b → AreClean (a
 clean_on [] b p q = q
 clean_on (line ∷ lines) b p q = (p.0, clean_on lines b p.1 q)
 
--- what follows for the lines of one given line and those behind
-module _ (n k : ℕ) (line : List ℕ) (lines : List (List ℕ)) (P : List (List ℕ) → Type 0) where
-  both_hold : (said : Option CallLine) (r : Result (List Line) CallError) →
-      ((more : List (List ℕ)) → IfOk r (λ ls. P (bytes_of ls)) → IfOk r (λ ls. P (lines_for k line said ++ bytes_of ls))) →
-      IfOk r (λ ls. P (bytes_of ls)) → IfOk (on_ok (λ more. map (numbered n) (lines_for k line said) ++ more) r) (λ ls. P (bytes_of ls))
-  both_hold said (Err e) f h = tt
-  both_hold said (Ok more) f h = subst P (sym (bytes_on n (lines_for k line said) more)) (f (bytes_of more) h)
-
 less_or : (k : ℕ) (said : Option CallLine) → next_call k said ≤ k + 1
 less_or k None = omega arith
 less_or k (Some c) = omega arith
 
+more_clean : (version : Version) (n k : ℕ) (line : List ℕ) (said : Option CallLine) (r : Result (List Line) CallError) → k < 2 ^ 63 → IsInline line → IfSome said IsInlineCall →
+    IfOk r (λ ls. AreClean (bytes_of ls)) → IfOk (on_ok (λ more. map (numbered n) (lines_for k line said) ++ more) r) (λ ls. AreClean (bytes_of ls))
+more_clean version n k line said (Err e) fits clean h rest = tt
+more_clean version n k line said (Ok more) fits clean h rest =
+    subst AreClean (sym (bytes_on n (lines_for k line said) more))
+    (clean_on (lines_for k line said) (bytes_of more) (lines_for_clean version k line said fits clean h) rest)
+
+said_clean : (version : Version) (n k : ℕ) (line : List ℕ) (lines : List (List ℕ)) (r : Result (Option CallLine) CallFault) → k < 2 ^ 63 → IsInline line → IfOk r (λ said. IfSome said IsInlineCall) →
+    ((j : ℕ) → j ≤ k + 1 → IfOk (expanded version (n + 1) j lines) (λ ls. AreClean (bytes_of ls))) →
+    IfOk (at_line n r >>= λ said. on_ok (λ more. map (numbered n) (lines_for k line said) ++ more) (expanded version (n + 1) (next_call k said) lines)) (λ ls. AreClean (bytes_of ls))
+said_clean version n k line lines (Err kind) fits clean h rest = tt
+said_clean version n k line lines (Ok said) fits clean h rest =
+    more_clean version n k line said (expanded version (n + 1) (next_call k said) lines) fits clean h (rest (next_call k said) (less_or k said))
+
 expanded_clean : (version : Version) (n k : ℕ) (lines : List (List ℕ)) → AreClean lines → k + length lines < 2 ^ 63 → IfOk (expanded version n k lines) (λ ls. AreClean (bytes_of ls))
 unfolding expanded
 expanded_clean version n k [] clean few = tt
-expanded_clean version n k (line ∷ lines) clean few = by_said (said_of version line) (said_inline line clean.0 version)
-  where
-  by_more : (said : Option CallLine) → IfSome said IsInlineCall → (r : Result (List Line) CallError) → IfOk r (λ ls. AreClean (bytes_of ls)) →
-      IfOk (on_ok (λ more. map (numbered n) (lines_for k line said) ++ more) r) (λ ls. AreClean (bytes_of ls))
-  by_more said h (Err e) rest = tt
-  by_more said h (Ok more) rest =
-      subst AreClean (sym (bytes_on n (lines_for k line said) more))
-      (clean_on (lines_for k line said) (bytes_of more) (lines_for_clean version k line said (omega (arith, few)) clean.0 h) rest)
-  by_said : (r : Result (Option CallLine) CallFault) → IfOk r (λ said. IfSome said IsInlineCall) →
-      IfOk (at_line n r >>= λ said. on_ok (λ more. map (numbered n) (lines_for k line said) ++ more) (expanded version (n + 1) (next_call k said) lines)) (λ ls. AreClean (bytes_of ls))
-  by_said (Err kind) h = tt
-  by_said (Ok said) h =
-      by_more said h (expanded version (n + 1) (next_call k said) lines)
-      (expanded_clean version (n + 1) (next_call k said) lines clean.1 (omega (arith, few, less_or k said)))
+expanded_clean version n k (line ∷ lines) clean few =
+    said_clean version n k line lines (said_of version line) (omega (arith, few)) clean.0 (said_inline line clean.0 version)
+    (λ j le. expanded_clean version (n + 1) j lines clean.1 (omega (arith, few, le)))
+
+lines_for_last : (k : ℕ) (line : List ℕ) (said : Option CallLine) → LastHas (line ∷ []) → LastHas (lines_for k line said ++ [])
+lines_for_last k line None h = h
+lines_for_last k line (Some c) h = tt
+
+-- the last line, where it has a byte
+one_last : (n k : ℕ) (line : List ℕ) (r : Result (Option CallLine) CallFault) → LastHas (line ∷ []) →
+    IfOk (at_line n r >>= λ said. on_ok (λ more. map (numbered n) (lines_for k line said) ++ more) (Ok [])) (λ ls. LastHas (bytes_of ls))
+one_last n k line (Err kind) h = tt
+one_last n k line (Ok said) h = subst LastHas (sym (bytes_on n (lines_for k line said) [])) (lines_for_last k line said h)
+
+more_last : (n k : ℕ) (line : List ℕ) (said : Option CallLine) (r : Result (List Line) CallError) → IfOk r (λ ls. LastHas (bytes_of ls)) →
+    IfOk (on_ok (λ more. map (numbered n) (lines_for k line said) ++ more) r) (λ ls. LastHas (bytes_of ls))
+more_last n k line said (Err e) rest = tt
+more_last n k line said (Ok more) rest = subst LastHas (sym (bytes_on n (lines_for k line said) more)) (last_on (lines_for k line said) (bytes_of more) rest)
+
+said_last : (version : Version) (n k : ℕ) (line : List ℕ) (lines : List (List ℕ)) (r : Result (Option CallLine) CallFault) →
+    ((j : ℕ) → IfOk (expanded version (n + 1) j lines) (λ ls. LastHas (bytes_of ls))) →
+    IfOk (at_line n r >>= λ said. on_ok (λ more. map (numbered n) (lines_for k line said) ++ more) (expanded version (n + 1) (next_call k said) lines)) (λ ls. LastHas (bytes_of ls))
+said_last version n k line lines (Err kind) rest = tt
+said_last version n k line lines (Ok said) rest = more_last n k line said (expanded version (n + 1) (next_call k said) lines) (rest (next_call k said))
+
+expanded_last : (version : Version) (n k : ℕ) (lines : List (List ℕ)) → LastHas lines → IfOk (expanded version n k lines) (λ ls. LastHas (bytes_of ls))
+unfolding expanded
+expanded_last version n k [] h = absurd h
+expanded_last version n k (line ∷ []) h = one_last n k line (said_of version line) h
+expanded_last version n k (line ∷ next ∷ lines) h = said_last version n k line (next ∷ lines) (said_of version line) (λ j. expanded_last version (n + 1) j (next ∷ lines) h)
+
+-- ---- the law
+
+last_closes : (lines : List (List ℕ)) → LastHas lines → Closes false lines
+last_closes [] h = tt
+last_closes (line ∷ lines) h = h
+
+stands : (feed : Bool) (r : Result (List Line) CallError) → IfOk r (λ ls. AreClean (bytes_of ls)) → IfOk r (λ ls. Closes feed (bytes_of ls)) →
+    IfOk r (λ ls. lines_of (text_of feed (fed (bytes_of ls))) ≡ bytes_of ls)
+stands feed (Err e) clean h = tt
+stands feed (Ok ls) clean h = text_stands feed (bytes_of ls) clean h
+
+closes_weaker : (r : Result (List Line) CallError) → IfOk r (λ ls. LastHas (bytes_of ls)) → IfOk r (λ ls. Closes false (bytes_of ls))
+closes_weaker (Err e) h = tt
+closes_weaker (Ok ls) h = last_closes (bytes_of ls) h
+
+closes_always : (r : Result (List Line) CallError) → IfOk r (λ ls. Closes true (bytes_of ls))
+closes_always (Err e) = tt
+closes_always (Ok ls) = tt
+
+given_closes : (version : Version) (bytes : List ℕ) (feed : Bool) → ends_in_feed bytes ≡ feed → IfOk (expanded version 1 1 (lines_of bytes)) (λ ls. Closes feed (bytes_of ls))
+unfolding expanded
+given_closes version bytes true is = closes_always (expanded version 1 1 (lines_of bytes))
+given_closes version [] false is = tt
+given_closes version (b ∷ bs) false is =
+    closes_weaker (expanded version 1 1 (lines_of (b ∷ bs))) (expanded_last version 1 1 (lines_of (b ∷ bs)) (given_last b bs (given_plain b bs is)))
+
+-- there are no more lines than bytes
+onto_few : (b : ℕ) (lines : List (List ℕ)) → length (onto_first b lines) ≤ length lines + 1
+onto_few b [] = omega arith
+onto_few b (line ∷ lines) = omega arith
+
+few_lines : (bytes : List ℕ) → length (lines_of bytes) ≤ length bytes
+few_lines [] = omega arith
+few_lines (b ∷ bs) =
+    let rest = few_lines bs in
+    elim (b == 10) as (λ v. length (if v then [] ∷ lines_of bs else onto_first b (lines_of bs)) ≤ length (b ∷ bs)) [
+      | true ↦ omega (arith, rest)
+      | false ↦ omega (arith, rest, onto_few b (lines_of bs))
+    ]
+
+pub lines_stand : (bytes : List ℕ) → LinesStand bytes
+lines_stand bytes short =
+    let version = version_of (first_line bytes) in
+    let few : 1 + length (lines_of bytes) < 2 ^ 63 = omega (arith, short, few_lines bytes) in
+    stands (ends_in_feed bytes) (expanded version 1 1 (lines_of bytes)) (expanded_clean version 1 1 (lines_of bytes) (given_clean bytes) few)
+    (given_closes version bytes (ends_in_feed bytes) refl)
