@@ -1,7 +1,7 @@
 -- No part of a call line has a line feed, so neither has a line of its expansion.
 use Rattle.std.proofs.Common.{◌≡◌, ℕ, zero, suc, ◌+◌, ◌-◌, ◌<◌, ◌^◌, Bool, true, false, ◌&&◌, not, if◌then◌else◌, List, [], ◌∷◌, ◌++◌, length, take, drop, Option, Some, None, Result, Ok, Err, refl, ap, ◌∙◌, arith}
 use Rattle.std.specs.Prelude.{codes, decimal, is_some, IfOk, IfSome, slice_range}
-use Rattle.std.specs.List.{list_all}
+use Rattle.std.specs.List.{concat, list_all}
 use Rattle.std.proofs.lemmas.List.Folds.{list_all-append}
 use Rattle.sig_program.specs.declared.version.Version.{Version}
 use Rattle.sig_terms.proofs.Choices.{both_true}
@@ -128,19 +128,20 @@ arrow_text_inline : (label : Option (List ℕ)) → IsInlineLabel label → IsIn
 arrow_text_inline None h = refl
 arrow_text_inline (Some label) h = inline_on (codes " -> ") label refl h
 
+inline_concat : (parts : List (List ℕ)) → AreClean parts → IsInline (concat parts)
+inline_concat [] h = refl
+inline_concat (part ∷ parts) h = inline_on part (concat parts) h.0 (inline_concat parts h.1)
+
 pub call_lines_clean : (version : Version) (k : ℕ) (c : CallLine) → k < 2 ^ 63 → IsInlineCall c → AreClean (call_lines k c)
 call_lines_clean version k c fits h =
-    let n = (count_word version k fits).clean in (
-      refl,
-      inline_on _ _ (inline_on _ _ (inline_on _ _ (inline_on _ _ refl n) refl) h.target) refl,
-      inline_on _ _ refl n,
-      inline_on _ _ (inline_on _ _ (inline_on _ _ (inline_on _ _ (inline_on _ _ (inline_on _ _ refl h.target) refl) n) refl) h.message) refl,
-      inline_on _ _ refl n,
-      inline_on _ _ (inline_on _ _ (inline_on _ _ (inline_on _ _ refl n) refl) h.var) refl,
-      inline_on _ _ (inline_on _ _ (inline_on _ _ (inline_on _ _ (inline_on _ _ refl n) refl) h.var) refl) (arrow_text_inline c.label h.its_label),
-      refl,
-      tt,
-    )
+    let n : IsInline (decimal k) = (count_word version k fits).clean in
+    let monitor = inline_concat (codes "monitor Call_" ∷ decimal k ∷ codes " " ∷ c.target ∷ codes " reply_demonitor" ∷ []) (refl, (n, (refl, (h.target, (refl, tt))))) in
+    let bind = inline_concat (codes "bind Call_" ∷ decimal k ∷ []) (refl, (n, tt)) in
+    let send = inline_concat (codes "send " ∷ c.target ∷ codes " {call,Call_" ∷ decimal k ∷ codes "," ∷ c.message ∷ codes "}" ∷ []) (refl, (h.target, (refl, (n, (refl, (h.message, (refl, tt))))))) in
+    let receive = inline_concat (codes "receive using Call_" ∷ decimal k ∷ []) (refl, (n, tt)) in
+    let reply = inline_concat (codes "on {^Call_" ∷ decimal k ∷ codes "," ∷ c.var ∷ codes "}" ∷ []) (refl, (n, (refl, (h.var, (refl, tt))))) in
+    let down = inline_concat (codes "on {'DOWN',^Call_" ∷ decimal k ∷ codes ",process,_," ∷ c.var ∷ codes "}" ∷ arrow_text c.label ∷ []) (refl, (n, (refl, (h.var, (refl, (arrow_text_inline c.label h.its_label, tt)))))) in
+    (refl, (monitor, (bind, (send, (receive, (reply, (down, (refl, tt))))))))
 
 pub lines_for_clean : (version : Version) (k : ℕ) (line : List ℕ) (said : Option CallLine) → k < 2 ^ 63 → IsInline line → IfSome said IsInlineCall → AreClean (lines_for k line said)
 lines_for_clean version k line None fits clean h = (clean, tt)

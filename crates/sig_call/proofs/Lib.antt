@@ -4,3 +4,5 @@ pub mod CallMoves
 pub mod CallRuns
 pub mod CallLineLemmas
 pub mod ExpansionLemmas
+pub mod CleanCalls
+pub mod TextLines

@@ -1,6 +1,7 @@
 -- The expansion of calls: the text of a script, in which each call line of the given text is replaced by the lines that make the
 -- call, as `gen_server:call/2` does since OTP 24: a monitor with an alias for one reply.
 use Rattle.std.specs.Prelude.{◌≡◌, ◌≤◌, ℕ, ◌+◌, ◌-◌, List, [], ◌∷◌, ◌++◌, length, take, take_while, map, flat_map, not, ◌==◌, nat_le, codes, decimal, if◌then◌else◌, Bool, Option, Some, None, unwrap_or, Result, Ok, Err, slice_get, IfOk}
+use Rattle.std.specs.List.{concat}
 use Rattle.std.specs.Option.{option_map_or}
 use Rattle.sig_program.specs.declared.version.Version.{Version}
 use Rattle.sig_program.specs.declared.version.Version.TheVariants.{One}
@@ -29,12 +30,12 @@ arrow_text (Some label) = codes " -> " ++ label
 abbrev pub call_lines : ℕ → CallLine → List (List ℕ)
 call_lines k c =
     codes "reserve"
-    ∷ (codes "monitor Call_" ++ decimal k ++ codes " " ++ c.target ++ codes " reply_demonitor")
-    ∷ (codes "bind Call_" ++ decimal k)
-    ∷ (codes "send " ++ c.target ++ codes " {call,Call_" ++ decimal k ++ codes "," ++ c.message ++ codes "}")
-    ∷ (codes "receive using Call_" ++ decimal k)
-    ∷ (codes "on {^Call_" ++ decimal k ++ codes "," ++ c.var ++ codes "}")
-    ∷ (codes "on {'DOWN',^Call_" ++ decimal k ++ codes ",process,_," ++ c.var ++ codes "}" ++ arrow_text c.label)
+    ∷ concat (codes "monitor Call_" ∷ decimal k ∷ codes " " ∷ c.target ∷ codes " reply_demonitor" ∷ [])
+    ∷ concat (codes "bind Call_" ∷ decimal k ∷ [])
+    ∷ concat (codes "send " ∷ c.target ∷ codes " {call,Call_" ∷ decimal k ∷ codes "," ∷ c.message ∷ codes "}" ∷ [])
+    ∷ concat (codes "receive using Call_" ∷ decimal k ∷ [])
+    ∷ concat (codes "on {^Call_" ∷ decimal k ∷ codes "," ∷ c.var ∷ codes "}" ∷ [])
+    ∷ concat (codes "on {'DOWN',^Call_" ∷ decimal k ∷ codes ",process,_," ∷ c.var ∷ codes "}" ∷ arrow_text c.label ∷ [])
     ∷ codes "end"
     ∷ []
 
@@ -109,8 +110,8 @@ abbrev pub LinesStand : List ℕ → Type 0
 LinesStand bytes =
     length bytes ≤ MOST_BYTES →
     IfOk (expansion_of bytes) (λ lines.
-      let texts = map (λ (l : Line). l.bytes) lines in
-      lines_of (text_of (ends_in_feed bytes) (fed texts)) ≡ texts)
+    let texts = map (λ (l : Line). l.bytes) lines in
+    lines_of (text_of (ends_in_feed bytes) (fed texts)) ≡ texts)
 
 -- What a call of this crate returned, seen by view, is what is said, unless memory ran out.
 abbrev pub Stops : {Y : Type 0} → CallError → Result Y CallError → Type 0

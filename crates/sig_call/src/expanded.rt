@@ -1,7 +1,7 @@
 //! The text of the expanded lines.
 
-ghost use Rattle.std.specs.Prelude.{◌≡◌, ◌++◌, ◌<◌, ◌^◌, OnOk, codes, decimal, length};
-ghost use Rattle.std.specs.List.{flat_map};
+ghost use Rattle.std.specs.Prelude.{◌≡◌, ◌++◌, [], ◌∷◌, OnOk, codes};
+ghost use Rattle.std.specs.List.{concat, flat_map};
 ghost use Rattle.sig_call.specs.Expanding.{blank, with_line, with_lines};
 ghost use Rattle.sig_call.specs.Expansion.{arrow_text, call_lines, given_line, lines_for, text_of};
 
@@ -46,6 +46,16 @@ impl ExpandedText {
         }
     }
 
+    /// Appends line `n` of the given text.
+    fn put_given(&mut self, n: u64, line: &[u8]) -> Result<(), AllocError>
+        ensures { OnOk result (self.new ≡ with_line self.old n line.now) }
+    {
+        self.text.extend_from_slice(line)?;
+        self.text.push(b'\n')?;
+        self.from.push(n)?;
+        Ok(())
+    }
+
     /// Appends the line of these parts, which comes from line `n`.
     fn put_line(&mut self, n: u64, parts: &[&[u8]]) -> Result<(), AllocError>
         ensures { OnOk result (self.new ≡ with_line self.old n (flat_map (λ part. part.now) parts.now)) }
@@ -59,7 +69,7 @@ impl ExpandedText {
     /// Appends the clause that takes the down, with the label of the call.
     fn put_down(&mut self, n: u64, k: &[u8], call: &CallLine) -> Result<(), AllocError>
         ensures { OnOk result (self.new ≡ with_line self.old n
-            (codes "on {'DOWN',^Call_" ++ k.now ++ codes ",process,_," ++ call.now.var ++ codes "}" ++ arrow_text call.now.label)) }
+            (concat (codes "on {'DOWN',^Call_" ∷ k.now ∷ codes ",process,_," ∷ call.now.var ∷ codes "}" ∷ arrow_text call.now.label ∷ []))) }
     {
         match call.label {
             None => self.put_line(
@@ -121,7 +131,7 @@ impl ExpandedText {
         ensures { OnOk result (self.new ≡ with_lines self.old n (lines_for k line.now said.now)) }
     {
         match said {
-            None => self.put_line(n, &[line]),
+            None => self.put_given(n, line),
             Some(call) => self.put_call(n, k, call),
         }
     }

@@ -7,7 +7,9 @@ mod call_line;
 mod expanded;
 mod expanding;
 mod fault;
+mod line_law;
 
 pub use call_law::a_call_is_answered_once;
 pub use expanding::expand;
 pub use fault::{CallError, CallFault};
+pub use line_law::the_lines_of_an_expanded_text;
