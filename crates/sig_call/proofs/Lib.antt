@@ -4,5 +4,6 @@ pub mod CallMoves
 pub mod CallRuns
 pub mod CallLineLemmas
 pub mod ExpansionLemmas
+pub mod ScriptLaw
 pub mod CleanCalls
 pub mod TextLines

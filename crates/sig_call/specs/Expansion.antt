@@ -1,6 +1,6 @@
 -- The expansion of calls: the text of a script, in which each call line of the given text is replaced by the lines that make the
 -- call, as `gen_server:call/2` does since OTP 24: a monitor with an alias for one reply.
-use Rattle.std.specs.Prelude.{◌≡◌, ◌≤◌, ℕ, ◌+◌, ◌-◌, List, [], ◌∷◌, ◌++◌, length, take, take_while, map, flat_map, not, ◌==◌, nat_le, codes, decimal, if◌then◌else◌, Bool, Option, Some, None, unwrap_or, Result, Ok, Err, slice_get, IfOk}
+use Rattle.std.specs.Prelude.{◌≡◌, ◌≤◌, ℕ, ◌+◌, ◌-◌, List, [], ◌∷◌, ◌++◌, length, take, take_while, map, flat_map, not, ◌==◌, nat_le, codes, decimal, if◌then◌else◌, Bool, false, Option, Some, None, unwrap_or, Result, Ok, Err, slice_get, IfOk}
 use Rattle.std.specs.List.{concat}
 use Rattle.std.specs.Option.{option_map_or}
 use Rattle.sig_program.specs.declared.version.Version.{Version}
@@ -26,18 +26,26 @@ abbrev pub arrow_text : Option (List ℕ) → List ℕ
 arrow_text None = []
 arrow_text (Some label) = codes " -> " ++ label
 
--- the lines of call k
-abbrev pub call_lines : ℕ → CallLine → List (List ℕ)
-call_lines k c =
+-- the clause that takes the down of the call whose number has these digits
+abbrev pub down_line : List ℕ → CallLine → List ℕ
+down_line digits c = concat (codes "on {'DOWN',^Call_" ∷ digits ∷ codes ",process,_," ∷ c.var ∷ codes "}" ∷ arrow_text c.label ∷ [])
+
+-- the lines of that call
+abbrev pub lines_with : List ℕ → CallLine → List (List ℕ)
+lines_with digits c =
     codes "reserve"
-    ∷ concat (codes "monitor Call_" ∷ decimal k ∷ codes " " ∷ c.target ∷ codes " reply_demonitor" ∷ [])
-    ∷ concat (codes "bind Call_" ∷ decimal k ∷ [])
-    ∷ concat (codes "send " ∷ c.target ∷ codes " {call,Call_" ∷ decimal k ∷ codes "," ∷ c.message ∷ codes "}" ∷ [])
-    ∷ concat (codes "receive using Call_" ∷ decimal k ∷ [])
-    ∷ concat (codes "on {^Call_" ∷ decimal k ∷ codes "," ∷ c.var ∷ codes "}" ∷ [])
-    ∷ concat (codes "on {'DOWN',^Call_" ∷ decimal k ∷ codes ",process,_," ∷ c.var ∷ codes "}" ∷ arrow_text c.label ∷ [])
+    ∷ concat (codes "monitor Call_" ∷ digits ∷ codes " " ∷ c.target ∷ codes " reply_demonitor" ∷ [])
+    ∷ concat (codes "bind Call_" ∷ digits ∷ [])
+    ∷ concat (codes "send " ∷ c.target ∷ codes " {call,Call_" ∷ digits ∷ codes "," ∷ c.message ∷ codes "}" ∷ [])
+    ∷ concat (codes "receive using Call_" ∷ digits ∷ [])
+    ∷ concat (codes "on {^Call_" ∷ digits ∷ codes "," ∷ c.var ∷ codes "}" ∷ [])
+    ∷ down_line digits c
     ∷ codes "end"
     ∷ []
+
+-- the lines of call k
+abbrev pub call_lines : ℕ → CallLine → List (List ℕ)
+call_lines k c = lines_with (decimal k) c
 
 -- the lines that stand for a line: its own, or those of call k
 abbrev pub lines_for : ℕ → List ℕ → Option CallLine → List (List ℕ)

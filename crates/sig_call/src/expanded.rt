@@ -1,9 +1,9 @@
 //! The text of the expanded lines.
 
-ghost use Rattle.std.specs.Prelude.{◌≡◌, ◌++◌, [], ◌∷◌, OnOk, codes};
-ghost use Rattle.std.specs.List.{concat, flat_map};
+ghost use Rattle.std.specs.Prelude.{◌≡◌, ◌++◌, OnOk};
+ghost use Rattle.std.specs.List.{flat_map};
 ghost use Rattle.sig_call.specs.Expanding.{blank, with_line, with_lines};
-ghost use Rattle.sig_call.specs.Expansion.{arrow_text, call_lines, given_line, lines_for, text_of};
+ghost use Rattle.sig_call.specs.Expansion.{call_lines, down_line, given_line, lines_with, text_of};
 
 use crate::call_line::CallLine;
 use itoa::Buffer;
@@ -47,7 +47,7 @@ impl ExpandedText {
     }
 
     /// Appends line `n` of the given text.
-    fn put_given(&mut self, n: u64, line: &[u8]) -> Result<(), AllocError>
+    pub fn put_given(&mut self, n: u64, line: &[u8]) -> Result<(), AllocError>
         ensures { OnOk result (self.new ≡ with_line self.old n line.now) }
     {
         self.text.extend_from_slice(line)?;
@@ -68,8 +68,7 @@ impl ExpandedText {
 
     /// Appends the clause that takes the down, with the label of the call.
     fn put_down(&mut self, n: u64, k: &[u8], call: &CallLine) -> Result<(), AllocError>
-        ensures { OnOk result (self.new ≡ with_line self.old n
-            (concat (codes "on {'DOWN',^Call_" ∷ k.now ∷ codes ",process,_," ∷ call.now.var ∷ codes "}" ∷ arrow_text call.now.label ∷ []))) }
+        ensures { OnOk result (self.new ≡ with_line self.old n (down_line k.now call.now)) }
     {
         match call.label {
             None => self.put_line(
@@ -90,12 +89,10 @@ impl ExpandedText {
         }
     }
 
-    /// Appends the lines of call `k`, which come from line `n`.
-    fn put_call(&mut self, n: u64, k: u64, call: &CallLine) -> Result<(), AllocError>
-        ensures { OnOk result (self.new ≡ with_lines self.old n (call_lines k call.now)) }
+    /// Appends the lines of the call whose number has the digits `k`, which come from line `n`.
+    fn put_lines(&mut self, n: u64, k: &[u8], call: &CallLine) -> Result<(), AllocError>
+        ensures { OnOk result (self.new ≡ with_lines self.old n (lines_with k.now call.now)) }
     {
-        let mut digits = Buffer::new();
-        let k = digits.format(k).as_bytes();
         self.put_line(n, &[b"reserve"])?;
         self.put_line(
             n,
@@ -120,20 +117,12 @@ impl ExpandedText {
         self.put_line(n, &[b"end"])
     }
 
-    /// Appends the lines that stand for line `n`: its own, or those of call `k`.
-    pub fn put_said(
-        &mut self,
-        n: u64,
-        k: u64,
-        line: &[u8],
-        said: &Option<CallLine>,
-    ) -> Result<(), AllocError>
-        ensures { OnOk result (self.new ≡ with_lines self.old n (lines_for k line.now said.now)) }
+    /// Appends the lines of call `k`, which come from line `n`.
+    pub fn put_call(&mut self, n: u64, k: u64, call: &CallLine) -> Result<(), AllocError>
+        ensures { OnOk result (self.new ≡ with_lines self.old n (call_lines k call.now)) }
     {
-        match said {
-            None => self.put_given(n, line),
-            Some(call) => self.put_call(n, k, call),
-        }
+        let mut digits = Buffer::new();
+        self.put_lines(n, digits.format(k).as_bytes(), call)
     }
 
     /// The text of the lines; the last one is without its line feed where `feed` is false.

@@ -2,9 +2,9 @@
 
 ghost use Rattle.std.specs.Prelude.{◌≡◌, ◌+◌, ◌<◌, ◌≤◌, ◌^◌, length, IfOk};
 ghost use Rattle.sig_tokens.specs.Lines.{lines_of};
-ghost use Rattle.sig_call.specs.CallLine.{said_of};
+ghost use Rattle.sig_call.specs.CallLaw.{CallsEnterOnce};
 ghost use Rattle.sig_call.specs.Expanding.{blank, line_expanded, lines_expanded};
-ghost use Rattle.sig_call.specs.Expansion.{Gives, at_given, at_line, ends_in_feed, expansion, first_line, given_line, version_of};
+ghost use Rattle.sig_call.specs.Expansion.{Gives, at_given, ends_in_feed, expansion, first_line, given_line, version_of};
 ghost use Rattle.sig_reader.specs.Grammar.{script_of};
 
 use crate::call_line::read_line;
@@ -51,9 +51,13 @@ fn expand_line(
 {
     let cut = cut_line(alloc, line, version)?;
     match read_line(line, &cut) {
-        Ok(said) => {
-            into.put_said(n, k, line, &said)?;
-            Ok(if said.is_some() { k + 1 } else { k })
+        Ok(None) => {
+            into.put_given(n, line)?;
+            Ok(k)
+        }
+        Ok(Some(call)) => {
+            into.put_call(n, k, &call)?;
+            Ok(k + 1)
         }
         Err(kind) => Err(CallError::Call { line: n, kind }),
     }
@@ -107,9 +111,9 @@ fn read_expanded(alloc: Global, expanded: &ExpandedText, behind: u64) -> Result<
 /// has a variable that begins with `Call_`; `Script` exactly where the expanded text spells no script,
 /// at the line of the given text from which the refused line comes. `Memory` only where memory is
 /// refused. (The language of scripts is this project's own.)
-#[tactic(auto, unfolding(crate::specs::Expansion::expansion))]
 pub fn expand(alloc: Global, bytes: &[u8]) -> Result<Script, CallError>
-    ensures { Gives (λ script. script) result (expansion bytes.now) }
+    ensures expansion { Gives (λ script. script) result (expansion bytes.now) }
+    ensures law { IfOk result CallsEnterOnce }
 {
     if bytes.len() > MOST_BYTES {
         return Err(CallError::TooLong);

@@ -1,7 +1,6 @@
-use Rattle.std.proofs.Common.{◌+◌, ◌-◌, ◌≤◌, length, drop, arith, sym, ◌∙◌, ap, refl}
-use Rattle.sig_tokens.specs.Lines.{lines_of}
+use Rattle.std.proofs.Common.{arith}
 use Rattle.sig_tokens.proofs.LineLemmas.{line-within}
-use Rattle.sig_call.proofs.ExpansionLemmas.{step_expanded, step_stopped, lines_end, count_step, count_end}
+use Rattle.sig_call.proofs.ExpansionLemmas.{err_gives, step_expanded, step_stopped, lines_end, count_step}
 use Rattle.sig_call.proofs.expanding.expand_lines.Goals as goal
 
 pub loop-at-preserved : goal.loop-at-preserved
@@ -16,3 +15,13 @@ loop-at-preserved c =
       whole = step_expanded c.args.version c.loop-at.n c.loop-at.k c.loop-at.at bytes line c.loop-at.into c.expand_line.new.into _ _
           c.loop-at-test.true c.first_line-line.ensures.line c.in_ok-k.ensures.expanded c.loop-at.invariant.whole;
     }
+
+pub returns-in_err-k-clause-lines : goal.returns-in_err-k-clause-lines
+returns-in_err-k-clause-lines c =
+    err_gives _ c.from_residual.result c.in_err-k.field-0.0 _ c.from_residual.ensures.1
+    (step_stopped c.args.version c.loop-at.n c.loop-at.k c.loop-at.at c.args.bytes.now c.first_line-line.result.now c.loop-at.into c.in_err-k.field-0.0 _
+    c.loop-at-test.true c.first_line-line.ensures.line c.in_err-k.ensures.expanded c.loop-at.invariant.whole)
+
+pub returns-clause-lines : goal.returns-clause-lines
+returns-clause-lines c =
+    lines_end c.args.version c.loop-at.n c.loop-at.k c.loop-at.at c.args.bytes.now c.loop-at.into _ c.loop-at-test.false c.loop-at.invariant.whole
