@@ -1,0 +1,4 @@
+pub mod SplitLemmas
+pub mod InputLemmas
+pub mod DueLemmas
+pub mod AnswerLemmas

@@ -1,0 +1,6 @@
+pub mod Statuses
+pub mod Split
+pub mod Commands
+pub mod Inputs
+pub mod Told
+pub mod Answers
