@@ -62,7 +62,7 @@ module _ (turns : ℕ) (part : ℕ → Option Declared) where
       → Moves ws (side_of s.tables.links q) s.tables.links.next_id (side_of b.state.tables.links q) b.state.tables.links.next_id (words_to q b.posts)
       → AreAgreed (side_of s.tables.links q) (side_of t.tables.links p) s.tables.links.next_id t.tables.links.next_id (words_of out) (ws ++ words_of back)
       → AreAgreed (side_of b.state.tables.links q) (side_of t.tables.links p) b.state.tables.links.next_id t.tables.links.next_id
-          (words_of (out ++ addressed (rules_with turns part) q (finished p s executed stamp what b).sends)) (words_of back)
+      (words_of (out ++ addressed (rules_with turns part) q (finished p s executed stamp what b).sends)) (words_of back)
   agreed_pair p q s t executed stamp what b out back ws moves h =
       let sent : List Signal = addressed (rules_with turns part) q (numbered p stamp s.counts.next_numbers b.posts) in
       subst (λ words. AreAgreed (side_of b.state.tables.links q) (side_of t.tables.links p) b.state.tables.links.next_id t.tables.links.next_id words (words_of back))
@@ -113,7 +113,7 @@ module _ (turns : ℕ) (part : ℕ → Option Declared) (exec : ℕ → ProcessS
   -- p handles a signal, of which q says so much
   handled_link : (p q : ℕ) (s t : ProcessState) (x : Signal) (out back : List Signal) (c : Bool) → (x.from.0 == q) ≡ c
       → (s.tables.end ≡ None → t.tables.end ≡ None →
-          AreAgreed (side_of s.tables.links q) (side_of t.tables.links p) s.tables.links.next_id t.tables.links.next_id (words_of out) (words_if c x.kind ++ words_of back))
+      AreAgreed (side_of s.tables.links q) (side_of t.tables.links p) s.tables.links.next_id t.tables.links.next_id (words_of out) (words_if c x.kind ++ words_of back))
       → IsOneLink p q (rules.handle p s x).state t (out ++ addressed rules q (rules.handle p s x).sends) back
   unfolding rules_with
   handled_link p q s t x out back c is h alive lives =

@@ -38,14 +38,14 @@ counting-append n [] ys a b = subst (λ m. IsCounting m ys) (let e : n + 0 ≡ n
 counting-append n (x ∷ xs) ys a b =
     (a.0, counting-append (n + 1) xs ys a.1 (subst (λ m. IsCounting m ys) (let e : n + length (x ∷ xs) ≡ n + 1 + length xs = omega arith in e) b))
 
-length_numbers : (numbers : List ℕ) (posts : List Post) → length (numbers_after numbers posts) ≡ length numbers
+pub length_numbers : (numbers : List ℕ) (posts : List Post) → length (numbers_after numbers posts) ≡ length numbers
 length_numbers numbers [] = refl
 length_numbers numbers (q ∷ posts) = length_numbers (drawn numbers q.to) posts ∙ length-set numbers q.to (slice_index numbers q.to + 1)
 
 -- the signals to p have the numbers from n on, and the next number for p is the one after them
-record Draws (p n : ℕ) (after : List ℕ) (sends : List Signal) : Type 0 where
-  counts : IsCounting n (bound_for p sends)
-  next : slice_index after p ≡ n + length (bound_for p sends)
+pub record Draws (p n : ℕ) (after : List ℕ) (sends : List Signal) : Type 0 where
+  pub counts : IsCounting n (bound_for p sends)
+  pub next : slice_index after p ≡ n + length (bound_for p sends)
 
 draws_more : (pid stamp p n : ℕ) (numbers : List ℕ) (q : Post) (posts : List Post) → p < length numbers → slice_index numbers p ≡ n →
     ((m : ℕ) → slice_index (drawn numbers q.to) p ≡ m → Draws p m (numbers_after (drawn numbers q.to) posts) (numbered pid stamp (drawn numbers q.to) posts)) →
@@ -74,7 +74,7 @@ draws_more pid stamp p n numbers q posts lt at rest = go (eqb_tells q.to p)
         let all : bound_for p (first ∷ tail) ≡ bound_for p tail = ap (λ c. cond c (first ∷ bound_for p tail) (bound_for p tail)) e.0 in
         record { counts = subst (IsCounting n) (sym all) d.counts; next = d.next ∙ ap (λ z. n + length z) (sym all) }
 
-draws : (pid stamp p n : ℕ) (numbers : List ℕ) (posts : List Post) → p < length numbers → slice_index numbers p ≡ n → Draws p n (numbers_after numbers posts) (numbered pid stamp numbers posts)
+pub draws : (pid stamp p n : ℕ) (numbers : List ℕ) (posts : List Post) → p < length numbers → slice_index numbers p ≡ n → Draws p n (numbers_after numbers posts) (numbered pid stamp numbers posts)
 draws pid stamp p n numbers [] lt at = record { counts = tt; next = at ∙ (let e : n ≡ n + 0 = omega arith in e) }
 draws pid stamp p n numbers (q ∷ posts) lt at =
     draws_more pid stamp p n numbers q posts lt at (λ m here. draws pid stamp p m (drawn numbers q.to) posts (subst (λ z. p < z) (sym (length-set numbers q.to (slice_index numbers q.to + 1))) lt) here)

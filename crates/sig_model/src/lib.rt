@@ -6,6 +6,7 @@ mod crew_law;
 mod event;
 mod marker_law;
 mod numbers;
+mod origin;
 mod receives;
 mod settled;
 mod stamps;
@@ -20,6 +21,7 @@ pub use crew_law::{
 pub use event::{Did, Event, Events, Outcome};
 pub use marker_law::{a_run_from_marks_is_a_run, only_processes_of_the_script_are_named};
 pub use numbers::signals_are_numbered;
+pub use origin::{Origin, Origins};
 pub use receives::{a_mark_skips_no_match, only_a_receive_waits};
 pub use settled::one_worker_run_is_settled;
 pub use stamps::stamps_are_kept;
