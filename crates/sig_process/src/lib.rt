@@ -11,6 +11,7 @@ mod handling;
 mod history;
 mod idle;
 mod keeping;
+mod next_numbers;
 mod parts;
 mod plan;
 mod planning;
