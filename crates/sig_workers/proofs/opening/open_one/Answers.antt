@@ -15,7 +15,7 @@ use Rattle.sig_workers.proofs.opening.open_one.Goals as goal
 pub open-requires : goal.open-requires
 open-requires c =
     let many : length (runnings_of c.args.procs.now) ≡ length c.args.procs.now = many_running c.args.procs.now in
-    first_setup c.args.policy c.queue_data.result c.senders_but-senders.result (runnings_of c.args.procs.now) c.args.at _ c.requires.policy c.requires.numbered (subst (λ n. c.args.at < n) (sym many) c.requires.within) (sym many) c.in_ok-first.ensures
+    first_setup c.args.policy c.queue_data.result c.senders_but-senders.result (runnings_of c.args.procs.now) c.args.at _ c.requires.policy c.requires.numbered (subst (λ n. c.args.at < n) (sym many) c.requires.within) (sym many) c.requires.first
     (λ s. subst (λ n. has c.senders_but-senders.result s ≡ (is_in 0 n s && not (s == c.args.at))) (sym many) (part_but c.args.everyone 0 (length c.args.procs.now) c.args.at s (has c.senders_but-senders.result s) (c.requires.everyone s) (c.senders_but-senders.ensures s)))
 
 -- what both clauses on a result say of its value
@@ -35,7 +35,7 @@ returns c =
         receiver = ap (λ (z : Setup). z.opening.receiver.0) own.1;
         count = ap (λ (z : Setup). z.opening.count) own.1 ∙ sym many;
         senders = λ s. ap (λ (z : Setup). has z.senders s) own.1 ∙ subst (λ n. has c.senders_but-senders.result s ≡ (is_in 0 n s && not (s == c.args.at))) (sym many) (part_but c.args.everyone 0 (length c.args.procs.now) c.args.at s (has c.senders_but-senders.result s) (c.requires.everyone s) (c.senders_but-senders.ensures s));
-        first = ap (λ (z : Setup). z.opening.first) own.1 ∙ c.in_ok-first.ensures;
+        first = ap (λ (z : Setup). z.opening.first) own.1 ∙ c.requires.first;
       },
       (λ k. record { queue = own.0 k; knows = (first ∙ ap (λ (z : Setup). first_seat z.senders) (sym own.1)) k }),
     )) c.open.ensures.own c.open.ensures.first
