@@ -1,12 +1,11 @@
 -- What a process sends by a choice, and the origins of these signals.
-use Rattle.std.proofs.Common.{◌≡◌, ℕ, ◌+◌, ◌<◌, ◌≤◌, Bool, true, false, cond, List, [], ◌∷◌, ◌++◌, map, length, Some, refl, sym, ap, ◌∙◌, subst, inl, inr, ◌⊎◌, ◌≢◌, ◌-◌, arith, length-append, append_assoc}
+use Rattle.std.proofs.Common.{◌≡◌, ℕ, ◌+◌, ◌<◌, Bool, true, false, cond, List, [], ◌∷◌, ◌++◌, map, length, Some, refl, sym, ap, ◌∙◌, subst, inl, inr, ◌⊎◌, ◌≢◌, ◌-◌, arith, length-append}
 use Rattle.std.specs.Prelude.{All, ◌==◌, slice_get, slice_index}
 use Rattle.std.specs.Bool.{MatchBool}
 use Rattle.std.proofs.Math.Path.{ap₂}
 use Rattle.std.proofs.lemmas.Bool.{eq-eqb, ne_eqb}
 use Rattle.std.proofs.lemmas.Bool.Decides.{eqb_tells}
-use Rattle.std.proofs.lemmas.List.{map-append, append-nil}
-use Rattle.std.proofs.lemmas.List.FromFn.{map-range_with_len_more}
+use Rattle.std.proofs.lemmas.List.{map-append}
 use Rattle.std.proofs.lemmas.List.Elements.{All-nil, All-cons, All-head, All-tail, All-weaker}
 use Rattle.sig_kinds.specs.declared.signal.Signal.{Signal}
 use Rattle.sig_kinds.specs.Counting.{IsCounting}
@@ -162,25 +161,3 @@ told_origins r t sends h empty =
   where
     many : length (to_itself r.pid sends) ≡ slice_index t.state.counts.next_numbers r.pid - slice_index r.state.counts.next_numbers r.pid
     many = omega (arith, h.next)
-
--- the origins of signals to itself, one number more
-module _ (p event first : ℕ) where
-  pub own_none : (old : List Origin) → old ≡ old ++ own_origins p event first (first - first)
-  own_none old = sym (append-nil old) ∙ ap (λ n. old ++ own_origins p event first n) (let e : 0 ≡ first - first = omega arith in e)
-
-  pub own_more : (number : ℕ) (old now next : List Origin) → first ≤ number → now ≡ old ++ own_origins p event first (number - first) →
-      next ≡ now ++ record { from = record { 0 = p }; to = record { 0 = p }; number = number; event = event } ∷ [] → next ≡ old ++ own_origins p event first (number + 1 - first)
-  own_more number old now next least told more =
-      let last : Origin = record { from = record { 0 = p }; to = record { 0 = p }; number = number; event = event } in
-      let here : first + (number - first) ≡ number = omega (arith, least) in
-      let many : number - first + 1 ≡ number + 1 - first = omega (arith, least) in
-      more
-      ∙ ap (λ os. os ++ last ∷ []) told
-      ∙ append_assoc old (own_origins p event first (number - first)) (last ∷ [])
-      ∙ ap (λ os. old ++ os) (sym (map-range_with_len_more (λ n. record { from = record { 0 = p }; to = record { 0 = p }; number = n; event = event }) first (number - first) number here)
-      ∙ ap (λ n. own_origins p event first n) many)
-
-  pub own_all : (number end : ℕ) (old now : List Origin) → first ≤ number → (number ≡ first) ⊎ (number ≤ end) → end ≤ number → now ≡ old ++ own_origins p event first (number - first) →
-      now ≡ old ++ own_origins p event first (end - first)
-  own_all number end old now least (inl e) done told = told ∙ ap (λ n. old ++ own_origins p event first n) (let f : number - first ≡ end - first = omega (arith, e, done) in f)
-  own_all number end old now least (inr e) done told = told ∙ ap (λ n. old ++ own_origins p event first n) (let f : number - first ≡ end - first = omega (arith, e, done) in f)

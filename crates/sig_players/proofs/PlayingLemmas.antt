@@ -157,6 +157,7 @@ module _ (players : List Player) (at : ℕ) (p : Player) (lt : at < length playe
         }
 
         pub last_moved : (h : IsPosted crew at (crew_of (set mid x.to.0 u2))) × (x.from ≡ h.signal.from) × (x.to ≡ h.signal.to) × (x.number ≡ h.signal.number)
+        unfolding last_posted
         last_moved = (last_posted, refl, refl, refl)
 
 -- what was told of a choice

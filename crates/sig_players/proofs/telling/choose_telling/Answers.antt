@@ -1,5 +1,7 @@
-use Rattle.std.proofs.Common.{◌<◌, length, arith}
+use Rattle.std.proofs.Common.{◌<◌, ◌∙◌, ap, sym, subst, set, length, arith}
+use Rattle.std.proofs.lemmas.List.{length-set}
 use Rattle.std.proofs.lemmas.Grind.{common_steps}
+use Rattle.sig_model.specs.SettledRun.{events_of}
 use Rattle.sig_choices.specs.Choosing.{Acts, Refuses}
 use Rattle.sig_players.specs.Players.{seen}
 use Rattle.sig_players.proofs.PlayingLemmas.{set_ready, choice_refused, choice_made, choice_emptied, choice_told, seen_at, when_true, when_false, acts_pid, acts_count}
@@ -43,6 +45,8 @@ returns-clause-told g c =
     let q = c.act_telling.new.self in
     let lt : c.args.pid < length players = grind (arith, common_steps) in
     let acts = when_true (Acts c.args.did.now (seen p) (seen q)) (Refuses c.args.did.now (seen p)) c.in_ok-made.made c.if-not-made.false c.in_ok-made.ensures.made in
+    let still : c.args.pid < length (set players c.args.pid q) = subst (λ n. c.args.pid < n) (sym (length-set players c.args.pid q)) lt in
     λ script law made.
     choice_told players c.args.pid p lt c.index_mut.ensures.value c.requires.empty script law c.requires.ready c.args.did.now q acts _ c.args.origins.now _ _
-    ? (c.in_ok-made.ensures.told c.if-not-made.false) c.in_ok-post_telling.ensures.told
+    (c.len-event.ensures ∙ ap (λ es. length es) c.events.ensures ∙ ap (λ o. length (events_of o)) (sym (seen_at (set players c.args.pid q) c.args.pid c.index.result.now still c.index.ensures)))
+    (c.in_ok-made.ensures.told c.if-not-made.false) c.in_ok-post_telling.ensures.told

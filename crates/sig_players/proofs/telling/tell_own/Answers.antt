@@ -1,5 +1,5 @@
 use Rattle.std.proofs.Common.{inl, inr, refl, arith}
-use Rattle.sig_choices.proofs.Sending.{own_none, own_more, own_all}
+use Rattle.sig_players.proofs.TellingLemmas.{own_none, own_more, own_all}
 use Rattle.sig_players.proofs.telling.tell_own.Goals as goal
 
 pub loop-number-init : goal.loop-number-init
