@@ -1,5 +1,5 @@
 -- A replay of the record of a settled run has come to rest.
-use Rattle.std.proofs.Common.{◌≡◌, ℕ, List, All, map, Option, Some, None, IfSome, slice_get, refl, sym, ◌∙◌, subst}
+use Rattle.std.proofs.Common.{◌≡◌, List, All, map, Option, Some, None, IfSome, slice_get, refl, sym, ◌∙◌, subst}
 use Rattle.sig_kinds.specs.declared.signal.Signal.{Signal}
 use Rattle.sig_program.specs.Scripts.{Program, IsWithin}
 use Rattle.sig_runs.specs.Machine.{Machine, At, IsRun}

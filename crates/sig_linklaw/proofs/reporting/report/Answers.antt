@@ -1,4 +1,4 @@
-use Rattle.std.proofs.Common.{◌≡◌, ◌<◌, ◌↔◌, ℕ, List, rules, sym, subst}
+use Rattle.std.proofs.Common.{◌<◌, ◌↔◌, ℕ, List, rules, sym, subst}
 use Rattle.std.specs.List.{Contains, AllPairs}
 use Rattle.sig_model.specs.Running.{Running}
 use Rattle.sig_process.specs.Standing.{runnings_of}
