@@ -5,7 +5,7 @@ pub mod Rows
 pub mod Merged
 pub mod Index
 pub mod Reached
-pub mod Itself
+pub mod Deciding
 pub mod ListParts
 pub mod OneEvent
 pub mod RunTraces
