@@ -5,6 +5,7 @@ pub mod Rows
 pub mod Merged
 pub mod Index
 pub mod Reached
+pub mod CountSteps
 pub mod Deciding
 pub mod ListParts
 pub mod OneEvent

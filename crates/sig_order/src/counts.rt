@@ -6,7 +6,6 @@ ghost use Rattle.sig_order.specs.Counting.{no_rows, last_row, row_at, count_at, 
 use crate::at::At;
 use sig_lists::Sequence;
 use std::alloc::{AllocError, Global};
-use std::cmp::max;
 
 /// The counts of a process's events. An event that handles no signal of another process changes no
 /// count but the one of its own process, which is its number; so rows are kept for the others alone.
@@ -116,7 +115,7 @@ fn new_row(alloc: Global, rows: &[Rows], at: At, sender: At) -> Result<Sequence<
     };
     let mut counts = Vec::with_capacity(alloc, rows.len())?;
     for q in 0..rows.len() {
-        let n = max(count(rows, last, q), count(rows, sender, q));
+        let n = count(rows, last, q).max(count(rows, sender, q));
         counts.push(n)?;
     }
     Ok(Sequence::from_vec(counts))

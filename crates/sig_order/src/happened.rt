@@ -137,9 +137,10 @@ impl Happened {
         ensures chain { IsTrue result ↔ HappenedBefore self.now.reports self.now.origins first second }
         ensures stamps { IsTrue result → stamp_of self.now.reports first < stamp_of self.now.reports second }
     {
+        let before = count(self.rows.as_slice(), second, first.pid as usize);
         if first == second {
             return false;
         }
-        first.event <= count(self.rows.as_slice(), second, first.pid as usize)
+        first.event <= before
     }
 }

@@ -1,10 +1,11 @@
-use Rattle.std.proofs.Common.{◌≡◌, ℕ, List, length, get_or, IfSome, sym, subst, arith}
+use Rattle.std.proofs.Common.{◌≡◌, ℕ, List, length, get_or, replicate, IfSome, sym, ap, subst, ◌∙◌, arith}
 use Rattle.sig_model.specs.declared.event.Event.{Event}
 use Rattle.sig_record.specs.declared.report.Report.{Report}
 use Rattle.sig_record.specs.declared.merging.MergedAt.{MergedAt}
 use Rattle.sig_record.specs.Merging.{IsMerged, event_at}
-use Rattle.sig_order.specs.Counting.{AddsCounts}
-use Rattle.sig_order.proofs.Reached.{IsReached, process_within, reached_by, counted}
+use Rattle.sig_order.specs.declared.counts.Rows.{Rows}
+use Rattle.sig_order.specs.Counting.{no_rows, AddsCounts}
+use Rattle.sig_order.proofs.Reached.{IsReached, reached_none, process_within, reached_by, counted}
 use Rattle.sig_order.proofs.happened.count_all.Goals as goal
 
 pub count_event-requires : goal.count_event-requires
@@ -27,3 +28,8 @@ returns c =
     let end : c.loop-at.at-index ≡ length c.as_slice-at-items.result.now = omega (arith, c.loop-at-test.false, c.loop-at.auto.at-index-end) in
     counted c.args.given.now c.args.origins.now c.as_slice-at-items.result.now c.requires merged c.loop-at.rows.items (record { pid = record { 0 = 0 }; place = 0 })
     (subst (λ n. IsReached c.args.given.now c.args.origins.now c.as_slice-at-items.result.now n c.loop-at.rows.items) end c.loop-at.invariant)
+
+pub loop-at-init : goal.loop-at-init
+loop-at-init c =
+    subst (λ (rows : List Rows). IsReached c.args.given.now c.args.origins.now c.as_slice-at-items.result.now 0 rows) (sym (c.in_ok-rows.ensures ∙ ap (λ (rs : List Report). replicate (length rs) no_rows) c.reports-reports.ensures.reports))
+    (reached_none c.args.given.now c.args.origins.now c.as_slice-at-items.result.now)
