@@ -18,15 +18,14 @@ use std::thread::Threads;
 use std::time::Clock;
 
 // For all pids that a sender can have. Each sender's numbers are from 1 on.
-fn opening(alloc: Global) -> Result<Opening, AllocError>
-    ensures { IfOk result (λ o. (o.receiver ≡ receiver) × (o.count ≡ 256) × (o.first ≡ replicate 256 1)) }
+fn opening(alloc: Global) -> Opening
+    ensures { (result.receiver ≡ receiver) × (result.count ≡ 256) × (result.first ≡ replicate 256 1) }
 {
-    let first = vec![in alloc; 1u64; 256]?;
-    Ok(Opening {
+    Opening {
         receiver: RECEIVER,
         count: 256,
-        first: Numbers::from_vec(first),
-    })
+        first: Numbers::ones(alloc, 256),
+    }
 }
 
 // Adds a sender.
@@ -91,7 +90,7 @@ fn opened(alloc: Global, policy: Policy, pids: Senders) -> Result<(SigQueue, QSe
     requires { IsPolicy policy }
     ensures { IfOk result (λ r. IsFresh r.0 pids r.1) }
 {
-    let opening = opening(alloc)?;
+    let opening = opening(alloc);
     SigQueue::open(alloc, policy, QueueData::OffHeap, pids, &opening)
 }
 

@@ -181,7 +181,7 @@ pub fn relay<R: Threads + Wait + Sync>(
         (first_of (setup_of policy QueueData.OffHeap senders opening.now) from.0) (take r.sent serials.now)) }
 {
     let (queue, mut seat) = SigQueue::open(alloc, policy, QueueData::OffHeap, senders, opening)?;
-    let first = opening.first.as_slice()[from.0 as usize];
+    let first = opening.first_of(from);
     let line = Line {
         from,
         to: opening.receiver,

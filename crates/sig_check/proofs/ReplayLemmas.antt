@@ -1,5 +1,5 @@
 -- The choices of a record, made once more.
-use Rattle.std.proofs.Common.{◌≡◌, ℕ, ◌+◌, Bool, true, false, cond, List, [], ◌∷◌, ◌++◌, take, length, Some, None, refl, sym, ap, ◌∙◌, subst}
+use Rattle.std.proofs.Common.{◌≡◌, ℕ, ◌+◌, Bool, true, false, cond, List, [], ◌∷◌, ◌++◌, take, length, Some, None, refl, sym, ap, ◌∙◌, subst, append_assoc}
 use Rattle.std.specs.Prelude.{◌==◌, slice_get}
 use Rattle.std.specs.Bool.{MatchBool}
 use Rattle.std.proofs.Math.Path.{ap₂}
@@ -10,9 +10,11 @@ use Rattle.sig_runs.specs.Machine.{Machine, At, Applied, IsRun, apply, choice}
 use Rattle.sig_runs.specs.Crew.{opening_machine}
 use Rattle.sig_runs.specs.Order.{events_by}
 use Rattle.sig_model.specs.declared.event.Event.{Event}
+use Rattle.sig_model.specs.declared.origin.Origin.{Origin}
 use Rattle.sig_model.specs.ProcessState.{ProcessState}
 use Rattle.sig_model.specs.Machine.{acted_at, rules_of, opening_of}
 use Rattle.sig_model.specs.Running.{Running}
+use Rattle.sig_model.specs.SettledRun.{events_of}
 use Rattle.sig_model.specs.CrewLaw.{IsLawfulCrew, machine_of}
 use Rattle.sig_model.proofs.MarkedRuns.{from_mark}
 use Rattle.sig_record.specs.declared.report.Report.{Report}
@@ -24,7 +26,9 @@ use Rattle.sig_record.proofs.RunLemmas.{all_within, record_alike}
 use Rattle.sig_choices.specs.Choosing.{AreEmptied, HasMade}
 use Rattle.sig_choices.specs.Following.{HasFollowed}
 use Rattle.sig_choices.proofs.Clear.{clear_machine}
+use Rattle.sig_choices.specs.Origins.{sent_at, origins_in, origins_of}
 use Rattle.sig_choices.proofs.FollowLemmas.{by_more, told_did}
+use Rattle.sig_choices.proofs.OriginLemmas.{Leads, origins_push}
 use Rattle.sig_check.specs.Replays.{Makes, HasRetraced, StopsAt}
 use Rattle.sig_check.proofs.FollowingLemmas.{one_more, all_split}
 use Rattle.sig_check.proofs.Orders.{one_order}
@@ -47,6 +51,33 @@ module _ (script : Program) where
       (sym h.4 ∙ ap (λ d. apply (rules_of script) m (choice a.pid d)) (sym (told_did script a.event)) ∙ run.1) in
       let w : (h.1 ≡ es) × (far ≡ end) = makes_same es h.1 run.0 end far run.2 (subst (λ z. Makes script z es h.1 far) (ap (λ (z : Applied ProcessState Signal Event). z.machine) same) h.5) in
       (h.3 ∙ ap₂ (λ (e : Event) (xs : List (At Event)). record { pid = a.pid; event = e } ∷ xs) (ap (λ (z : Applied ProcessState Signal Event). z.event) same) w.0, w.1)
+
+  -- the choices are possible, and each makes an event of the process whose choice it is
+  makes_leads : (given made : List (At Event)) (m end : Machine ProcessState Signal) → Makes script m given made end → Leads (rules_of script) m given end
+  makes_leads [] made m end h = h.1
+  makes_leads (a ∷ given) made m end h = (record { machine = h.2; event = h.0 }, h.4, makes_leads given h.1 h.2 end h.5)
+
+  makes_many : (q : ℕ) (given made : List (At Event)) (m end : Machine ProcessState Signal) → Makes script m given made end → length (events_by q made) ≡ length (events_by q given)
+  makes_many q [] made m end h = ap (λ es. length (events_by q es)) h.0
+  makes_many q (a ∷ given) made m end h =
+      ap (λ es. length (events_by q es)) h.3
+      ∙ elim (a.pid == q) as (λ c. length (cond c (h.0 ∷ events_by q h.1) (events_by q h.1)) ≡ length (cond c (a.event ∷ events_by q given) (events_by q given))) [
+        | true ↦ ap (λ n. n + 1) (makes_many q given h.1 h.2 end h.5)
+        | false ↦ makes_many q given h.1 h.2 end h.5
+      ]
+
+  -- the origins of one choice more
+  module _ (given : List (At Event)) (a : At Event) (crew : List Running) (f : HasRetraced script given crew) where
+    abbrev sent : List Signal
+    sent = sent_at (rules_of script) (machine_of script crew) (choice a.pid (acted_at a.event.did))
+
+    told_more : (e : Event) (end : Machine ProcessState Signal) → apply (rules_of script) (machine_of script crew) (choice a.pid (acted_at a.event.did)) ≡ Some (record { machine = end; event = e }) →
+        origins_of script (given ++ a ∷ []) ≡ origins_of script given ++ origins_in a.pid (length (events_of (slice_get crew a.pid)) + 1) sent
+    told_more e end step =
+        origins_push (rules_of script) given a [] (opening_machine (opening_of script)) (machine_of script crew) (record { machine = end; event = e })
+        (makes_leads given f.made (opening_machine (opening_of script)) (machine_of script crew) f.run) step
+        ∙ ap (λ n. origins_of script given ++ origins_in a.pid (n + 1) sent)
+        (sym (makes_many a.pid given f.made (opening_machine (opening_of script)) (machine_of script crew) f.run) ∙ ap (λ es. length es) (f.told a.pid))
 
   split_run : (xs ys : List (At Event)) (m end : Machine ProcessState Signal) → IsRun (rules_of script) m (xs ++ ys) end → (mid : Machine ProcessState Signal) × IsRun (rules_of script) m xs mid × IsRun (rules_of script) mid ys end
   split_run [] ys m end h = (m, refl, h)
@@ -109,6 +140,19 @@ module _ (reports : List Report) (order : List MergedAt) (k : ℕ) (a : MergedAt
             ∙ ap (λ z. cond (a.pid.0 == q) (z ++ m.event ∷ []) z) (f.told q)
             ∙ sym (m.events q);
       })
+
+  -- and so are its origins
+  pub tells_on : (script : Program) (crew after : List Running) (old so new : List Origin) → HasRetraced script so_far crew → (made : Bool) → made ≡ true → Chosen script crew after made →
+      so ≡ old ++ origins_of script so_far →
+      new ≡ so ++ origins_in a.pid.0 (length (events_of (slice_get crew a.pid.0)) + 1) (sent_at (rules_of script) (machine_of script crew) (choice a.pid.0 (acted_at e.did))) →
+      new ≡ old ++ origins_of script (events_listed reports (take (k + 1) order))
+  tells_on script crew after old so new f false right h before more = cc
+  tells_on script crew after old so new f true right h before more =
+      let m : HasMade script crew a.pid.0 (choice a.pid.0 (acted_at e.did)) after = h f.lawful in
+      let last : List Origin = origins_in a.pid.0 (length (events_of (slice_get crew a.pid.0)) + 1) (sent_at (rules_of script) (machine_of script crew) (choice a.pid.0 (acted_at e.did))) in
+      more ∙ ap (λ os. os ++ last) before ∙ append_assoc old (origins_of script so_far) last
+      ∙ ap (λ os. old ++ os) (sym (told_more script so_far next crew f m.event (machine_of script after) m.step))
+      ∙ ap (λ es. old ++ origins_of script es) (sym (one_more reports order k a there e here))
 
   pub stops_there : (script : Program) (crew after : List Running) (count : ℕ) → count ≡ length so_far → HasRetraced script so_far crew → (made : Bool) → made ≡ false → Chosen script crew after made → StopsAt script (events_listed reports order) count
   stops_there script crew after count many f true wrong h = cc

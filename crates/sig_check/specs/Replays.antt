@@ -6,12 +6,14 @@ use Rattle.sig_runs.specs.Machine.{Machine, At, apply, choice}
 use Rattle.sig_runs.specs.Crew.{opening_machine}
 use Rattle.sig_runs.specs.Order.{events_by}
 use Rattle.sig_model.specs.declared.event.Event.{Event}
+use Rattle.sig_model.specs.declared.origin.Origin.{Origin}
 use Rattle.sig_model.specs.ProcessState.{ProcessState}
 use Rattle.sig_model.specs.Machine.{acted_at, rules_of, opening_of}
 use Rattle.sig_model.specs.Running.{Running}
 use Rattle.sig_model.specs.OneWorker.{IsClear}
 use Rattle.sig_model.specs.SettledRun.{events_of}
 use Rattle.sig_model.specs.CrewLaw.{IsLawfulCrew, machine_of}
+use Rattle.sig_choices.specs.Origins.{origins_of}
 use Rattle.sig_process.specs.Standing.{runnings_of}
 use Rattle.sig_record.specs.declared.report.Report.{Report}
 use Rattle.sig_check.specs.declared.replaying.Replaying.{Replaying}
@@ -48,11 +50,12 @@ pub record StopsAt (script : Program) (given : List (At Event)) (count : ℕ) : 
   pub run : Makes script (opening_machine (opening_of script)) before made machine
   pub none : apply (rules_of script) machine (choice next.pid (acted_at next.event.did)) ≡ None
 
--- the crew has made the choices of the record's events in their order, and its outboxes are empty
-pub record IsReplayed (script : Program) (reports : List Report) (crew : List Running) : Type 0 where
+-- the crew has made the choices of the record's events in their order, its outboxes are empty, and these are the origins of that run
+pub record IsReplayed (script : Program) (reports : List Report) (crew : List Running) (origins : List Origin) : Type 0 where
   pub order : List MergedAt
   pub merged : IsMerged reports order
   pub retraced : HasRetraced script (events_listed reports order) crew
+  pub told : origins ≡ origins_of script (events_listed reports order)
   pub clear : IsClear crew
 
 -- the choices of the events before this one, from 1, are possible, and its own isn't then
@@ -65,9 +68,9 @@ pub record IsStopped (script : Program) (reports : List Report) (event : ℕ) : 
 
 abbrev pub IsReplay : Program → List Report → Replaying → Type 0
 IsReplay script reports (Stopped event) = IsStopped script reports event
-IsReplay script reports (Replayed crew) = IsReplayed script reports (runnings_of crew)
+IsReplay script reports (Replayed crew origins) = IsReplayed script reports (runnings_of crew) origins
 
 -- it doesn't stop, and the crew's record is this one
 abbrev pub GivesAgain : List Report → Replaying → Type 0
 GivesAgain reports (Stopped event) = ⊥
-GivesAgain reports (Replayed crew) = record_of (runnings_of crew) ≡ reports
+GivesAgain reports (Replayed crew origins) = record_of (runnings_of crew) ≡ reports

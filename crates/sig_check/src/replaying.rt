@@ -10,7 +10,8 @@ ghost use Rattle.sig_check.specs.Replays.{IsReplay, GivesAgain};
 use crate::opening::{close, open};
 use crate::retracing::retrace;
 use sig_base::Steps;
-use sig_model::LAST_STAMP;
+use sig_lists::Sequence;
+use sig_model::{LAST_STAMP, Origins};
 use sig_process::Crew;
 use sig_program::Script;
 use sig_record::Record;
@@ -23,8 +24,9 @@ use std::sync::ledger::{Blank, Ledger};
 pub enum Replaying {
     /// The choice of this event, counted from 1, isn't possible after those before it.
     Stopped { event: u64 },
-    /// All choices were made, by this crew, whose outboxes are empty.
-    Replayed { crew: Crew },
+    /// All choices were made, by this crew, whose outboxes are empty; and these are the origins of the
+    /// signals that were sent.
+    Replayed { crew: Crew, origins: Origins },
 }
 
 /// The same, with the steps counted from this blank.
@@ -44,8 +46,15 @@ fn replay_counted<L: Ledger>(
     let order = given.merge(alloc)?;
     let reports = given.reports();
     let mut players = open(alloc, script)?;
+    let mut origins = Sequence::new(alloc);
     let mut steps: Steps<L> = Steps::open(blank);
-    let way = retrace(&mut players, reports, order.as_slice(), &mut steps)?;
+    let way = retrace(
+        &mut players,
+        reports,
+        order.as_slice(),
+        &mut origins,
+        &mut steps,
+    )?;
     let made = way.made;
     if LAST_STAMP <= made {
         return Err(AllocError);
@@ -57,12 +66,17 @@ fn replay_counted<L: Ledger>(
     let procs = close(alloc, players)?;
     Ok(Replaying::Replayed {
         crew: Crew { procs },
+        origins,
     })
 }
 
 /// Makes the choices of the record's events in their order, and looks at nothing else of the record.
-/// Of the record of a run it gives a crew with this record, so that `gather` of the crew gives it.
-/// The error is want of memory; a record of 2^62 events, which lies in no memory, has it too.
+/// With the crew it gives the origins of the run that was made: which event of its sender sent each
+/// signal, where the events of each process are counted from 1. They stand in the order of these
+/// events; of one event those of the signals to its own process come first, and else they stand in the
+/// order of sending. Of the record of a run it gives a crew with this record, so that `gather` of the
+/// crew gives it. The error is want of memory; a record of 2^62 events, which lies in no memory, has
+/// it too.
 pub fn replay(alloc: Global, script: &Script, given: &Record) -> Result<Replaying, AllocError>
     ensures replay { IfOk result (IsReplay script.now given.now) }
     ensures again { (machine : Machine ProcessState Signal) → IsRecordOfRun script.now machine given.now →

@@ -1,6 +1,6 @@
 //! The processes make the choices of a record's events once more.
 
-ghost use Rattle.std.specs.Prelude.{◌≡◌, ℕ, ◌≤◌, List, [], IfOk, length, true};
+ghost use Rattle.std.specs.Prelude.{◌≡◌, ℕ, ◌≤◌, ◌++◌, List, [], IfOk, length, true};
 ghost use Rattle.std.specs.Bool.{MatchBool};
 ghost use Rattle.sig_kinds.specs.declared.signal.Signal.{Signal};
 ghost use Rattle.sig_program.specs.Scripts.{Program};
@@ -15,12 +15,14 @@ ghost use Rattle.sig_record.specs.RunRecord.{events_listed, IsRecordOfRun};
 ghost use Rattle.sig_players.specs.Players.{crew_of, AreReady};
 ghost use Rattle.sig_choices.specs.Choosing.{AreEmptied};
 ghost use Rattle.sig_choices.specs.Following.{HasFollowed};
+ghost use Rattle.sig_choices.specs.Origins.{origins_of};
 ghost use Rattle.sig_model.specs.CrewLaw.{IsLawfulCrew};
 ghost use Rattle.sig_check.specs.Replays.{HasRetraced, StopsAt};
 
 use crate::following::{Way, event_at};
 use sig_base::Steps;
-use sig_players::{Player, choose};
+use sig_model::Origins;
+use sig_players::{Player, choose_telling};
 use sig_record::{MergedAt, Report};
 use std::alloc::AllocError;
 use std::sync::ledger::Ledger;
@@ -38,12 +40,14 @@ pub fn a_retraced_crew_has_the_record()
         StopsAt script (events_listed reports order) count → ⊥ }
 {}
 
-/// Makes the choices of the events of a record in this order, up to the first that isn't possible.
-/// Which events they make isn't looked at. The error is want of memory.
+/// Makes the choices of the events of a record in this order, up to the first that isn't possible,
+/// and adds the origins of what they send. Which events they make isn't looked at. The error is want
+/// of memory.
 pub(crate) fn retrace<L: Ledger>(
     players: &mut Vec<Player>,
     reports: &[Report],
     order: &[MergedAt],
+    origins: &mut Origins,
     steps: &mut Steps<L>,
 ) -> Result<Way, AllocError>
     requires ready { AreReady players.old.items }
@@ -54,11 +58,13 @@ pub(crate) fn retrace<L: Ledger>(
     ensures retraced { (script : Program) → HasFollowed script [] (crew_of players.old.items) → IfOk result (λ way. MatchBool way.whole
         (HasRetraced script (events_listed reports.now order.now) (crew_of players.new.items))
         (StopsAt script (events_listed reports.now order.now) way.made)) }
+    ensures told { (script : Program) → HasFollowed script [] (crew_of players.old.items) → IfOk result (λ way. way.whole ≡ true →
+        origins.new ≡ origins.old ++ origins_of script (events_listed reports.now order.now)) }
 {
     let mut made = 0;
     for at in order {
         if let Some(event) = event_at(reports, *at) {
-            let done = choose(players, at.pid.0, &event.did, steps)?;
+            let done = choose_telling(players, at.pid.0, &event.did, origins, steps)?;
             if !done {
                 return Ok(Way { made, whole: false });
             }

@@ -21,7 +21,7 @@ use Rattle.sig_model.specs.CrewLaw.{outbox_of, whole_member, machine_of}
 use Rattle.sig_choices.specs.Choosing.{oldest, may_handle, AreEmptied}
 use Rattle.sig_choices.proofs.Reordering.{CrewMember, crew_member}
 
-abbrev M : Program → List Running → Machine ProcessState Signal
+abbrev pub M : Program → List Running → Machine ProcessState Signal
 M script crew = crew_machine (rules_of script) (map whole_member crew)
 
 -- with empty outboxes the machine is the crew's
@@ -58,7 +58,7 @@ module _ (script : Program) (crew : List Running) (p : ℕ) where
       ∙ ap (λ z. option_map (λ (n : CrewMember). n.local.state) z) (slice_get-map whole_member crew p ∙ ap (λ z. crew_member z) at)
 
   -- what is queued of s waits at the process
-  queued_is : (r : Running) → slice_get crew p ≡ Some r → (s : ℕ) → m.queued s p ≡ waiting_of s p r
+  pub queued_is : (r : Running) → slice_get crew p ≡ Some r → (s : ℕ) → m.queued s p ≡ waiting_of s p r
   unfolding rules_with
   queued_is r at s = ap (λ o. queued_at (rules_of script) s p o) (slice_get-map whole_member crew p ∙ ap (λ o. crew_member o) at)
 
@@ -70,13 +70,13 @@ module _ (script : Program) (crew : List Running) (p : ℕ) where
   none_handles s at = ap (λ o. handle (rules_of script) m p s o (m.queued s p)) (state_is None at)
 
   module _ (r : Running) (there : slice_get crew p ≡ Some r) (w : IsProcessOf script p r) where
-    state_at : slice_get m.procs p ≡ Some r.state
+    pub state_at : slice_get m.procs p ≡ Some r.state
     state_at = state_is (Some r) there
 
     own_at : m.queued p p ≡ r.own
     own_at = queued_is r there p ∙ ap (λ c. cond c r.own (filter (λ (x : Signal). x.from.0 == p) r.taken_in)) (eq-eqb p p refl)
 
-    part_is : execution_of p (slice_get script.procs p) r.state ≡ execution r.pid r.proc r.state
+    pub part_is : execution_of p (slice_get script.procs p) r.state ≡ execution r.pid r.proc r.state
     part_is = ap (λ o. execution_of p o r.state) w.proc ∙ ap (λ q. execution q r.proc r.state) (sym w.pid)
 
     abbrev went : ℕ → List Signal → Option (Effect ProcessState Signal Event) → Option (Applied ProcessState Signal Event)

@@ -6,3 +6,5 @@ pub mod Handling
 pub mod Posting
 pub mod Choices
 pub mod FollowLemmas
+pub mod Sending
+pub mod OriginLemmas

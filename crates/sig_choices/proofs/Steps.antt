@@ -66,11 +66,11 @@ module _ (script : Program) (crew : List Running) (p : ℕ) (r t : Running) (the
     unfolding rules_with
     handled_event x = refl
 
-    first_is : (mine : Bool) (own taken rest : List Signal) (x y : Signal) → MatchBool mine (own ≡ x ∷ rest) ((own ≡ []) × (taken ≡ x ∷ rest)) → next_of own taken ≡ Some y → x ≡ y
+    pub first_is : (mine : Bool) (own taken rest : List Signal) (x y : Signal) → MatchBool mine (own ≡ x ∷ rest) ((own ≡ []) × (taken ≡ x ∷ rest)) → next_of own taken ≡ Some y → x ≡ y
     first_is true own taken rest x y h n = same_Some x y (sym (ap (λ o. next_of o taken) h) ∙ n)
     first_is false own taken rest x y h n = same_Some x y (sym (ap (λ o. next_of o taken) h.0 ∙ ap (λ o. next_of [] o) h.1) ∙ n)
 
-    from_s : (s : ℕ) (h : HasHandledOf s r t) → h.signal.from.0 ≡ s
+    pub from_s : (s : ℕ) (h : HasHandledOf s r t) → h.signal.from.0 ≡ s
     from_s s h = go h.from
       where
         go : (h.signal.from.0 ≡ s) ⊎ ((s ≡ r.pid) × ((rest : List Signal) × (r.own ≡ h.signal ∷ rest))) → h.signal.from.0 ≡ s

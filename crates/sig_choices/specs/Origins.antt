@@ -1,7 +1,9 @@
 -- Which event sent each signal of a run (Erlang Reference Manual, Processes, Signals and Delivery of Signals). That the signals of a pair
 -- and the events of a process are numbered is this project's own.
-use Rattle.std.specs.Prelude.{ℕ, ◌+◌, List, [], ◌∷◌, ◌++◌, map, length, Option, Some, None, slice_get}
+use Rattle.std.specs.Prelude.{◌≡◌, ℕ, ◌+◌, List, [], ◌∷◌, ◌++◌, map, length, All, Option, Some, None, slice_get, slice_index}
+use Rattle.std.specs.List.{range_with_len}
 use Rattle.sig_kinds.specs.declared.signal.Signal.{Signal}
+use Rattle.sig_kinds.specs.Counting.{IsCounting}
 use Rattle.sig_program.specs.Scripts.{Program}
 use Rattle.sig_runs.specs.Rules.{Effect, Rules}
 use Rattle.sig_runs.specs.Machine.{Machine, Choice, At, apply, choice}
@@ -12,7 +14,7 @@ use Rattle.sig_model.specs.declared.event.Event.{Event}
 use Rattle.sig_model.specs.declared.origin.Origin.{Origin}
 use Rattle.sig_model.specs.ProcessState.{ProcessState}
 use Rattle.sig_model.specs.Machine.{acted_at, rules_of, opening_of}
-use Rattle.sig_model.specs.Running.{to_itself, to_others}
+use Rattle.sig_model.specs.Running.{Running, to_itself, to_others}
 
 -- what is sent by an execution, where one is defined
 abbrev pub sent_in : Option (Effect ProcessState Signal Event) → List Signal
@@ -57,3 +59,16 @@ origins_after rules before m (a ∷ later) =
 -- the origins of a run of the script, from its opening on: for each signal the event that sent it
 abbrev pub origins_of : Program → List (At Event) → List Origin
 origins_of script events = origins_after (rules_of script) [] (opening_machine (opening_of script)) events
+
+-- The process, which was r, has sent these signals by one event: those to others lie in its outbox, and those to itself have the next
+-- numbers.
+pub record HasSent (r t : Running) (sends : List Signal) : Type 0 where
+  pub from : All (λ (x : Signal). x.from.0 ≡ r.pid) sends
+  pub outbox : t.outbox ≡ r.outbox ++ to_others r.pid sends
+  pub own : IsCounting (slice_index r.state.counts.next_numbers r.pid) (to_itself r.pid sends)
+  pub next : slice_index t.state.counts.next_numbers r.pid ≡ slice_index r.state.counts.next_numbers r.pid + length (to_itself r.pid sends)
+  pub events : length t.events ≡ length r.events + 1
+
+-- the origins of n signals of the process p to itself, with the numbers from `first` on
+abbrev pub own_origins : ℕ → ℕ → ℕ → ℕ → List Origin
+own_origins p event first n = map (λ number. record { from = record { 0 = p }; to = record { 0 = p }; number = number; event = event }) (range_with_len first n)

@@ -5,6 +5,7 @@ pub mod Summaries
 pub mod Policies
 pub mod Outers
 pub mod Openings
+pub mod Runs
 pub mod Views
 pub mod Core
 pub mod Agree

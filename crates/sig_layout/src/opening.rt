@@ -1,11 +1,8 @@
-ghost use Rattle.std.specs.Prelude.{◌≡◌, IfOk};
+ghost use Rattle.std.specs.Prelude.{◌≡◌, IfOk, slice_index_or};
 
-use sig_lists::Sequence;
+use crate::numbers::Numbers;
 use sig_terms::Pid;
 use std::alloc::{AllocError, Global};
-
-/// A list of numbers.
-pub type Numbers = Sequence<u64>;
 
 /// What the signals of a queue have in common.
 #[derive(Debug, Drop)]
@@ -19,16 +16,24 @@ pub struct Opening {
 }
 
 impl Opening {
+    /// The number of this sender's first signal, or 0 where there is none.
+    pub fn first_of(&self, sender: Pid) -> u64
+        ensures { result ≡ slice_index_or self.now.first sender.0 0 }
+    {
+        match self.first.get(sender.0 as usize) {
+            Some(number) => *number,
+            None => 0,
+        }
+    }
+
     /// An equal opening.
     pub fn copy(&self, alloc: Global) -> Result<Opening, AllocError>
         ensures { IfOk result (λ o. o ≡ self.now) }
     {
-        let mut numbers = Vec::new(alloc);
-        numbers.extend_from_slice(self.first.as_slice())?;
         Ok(Opening {
             receiver: self.receiver,
             count: self.count,
-            first: Sequence::from_vec(numbers),
+            first: self.first.copy(alloc)?,
         })
     }
 }

@@ -1,6 +1,6 @@
--- What is shown of each instruction: one case for each row of the table of instructions gives the whole bundle, of names, bounds, sizes
--- and marks. The laws of names, of marks and of sizes are parts of it, so that a new instruction has its case here alone.
-use Rattle.std.proofs.Common.{◌≡◌, ℕ, suc, ◌+◌, ◌-◌, ◌≤◌, ◌<◌, List, [], ◌∷◌, length, drop, Bool, true, false, All, IfSome, Option, Some, None, slice_get, codes, refl, sym, subst, arith}
+-- What is shown of each instruction: one case for each row of the table of instructions gives the whole bundle, of names, bounds,
+-- sizes, marks, monitors and links. The laws of each are parts of it, so that a new instruction has its case here alone.
+use Rattle.std.proofs.Common.{◌≡◌, ℕ, suc, ◌+◌, ◌-◌, ◌≤◌, ◌<◌, List, [], ◌∷◌, length, drop, Bool, true, false, cond, All, IfSome, Option, Some, None, slice_get, codes, refl, sym, subst, arith}
 use Rattle.std.specs.Prelude.{remove}
 use Rattle.std.specs.Option.{option_map_or}
 use Rattle.std.specs.FinMap.{insert}
@@ -41,6 +41,7 @@ use Rattle.sig_model.specs.declared.event.Outcome.TheVariants as outcome
 use Rattle.sig_model.specs.ProcessState.{ProcessState, owner_of, Post, rewatched, InboxNames, TableNames}
 use Rattle.sig_model.specs.Bodies.{Body, at_next, place_after, going_on, ending, system_limit}
 use Rattle.sig_model.specs.Executing.{with_value, with_pid, with_ref, with_target, sending, setting, linked_by, unlink_posts, unlinked_by, new_ref, making, monitored_by, monitoring, aliasing, flushed_into, demonitoring, unaliasing, reserving, ref_in, ref_of_var, marked_by, at_marker, binding, clearing, marked_start, from_mark, hit_from, receiving, exec_body, executing}
+use Rattle.sig_model.specs.LinkPair.{side_of}
 use Rattle.sig_model.specs.Bounds.{IsBounded}
 use Rattle.sig_model.specs.Names.{ScriptNames}
 use Rattle.sig_model.specs.TermSizes.{IsKeptTerm, TableSizes, BodySizes}
@@ -50,7 +51,8 @@ use Rattle.sig_model.proofs.ValueNames.{ExprNames, var_names, value_names}
 use Rattle.sig_model.proofs.TermSizeLemmas.{AreWithin, small_tells, small_kept, ref_small}
 use Rattle.sig_model.proofs.MatchParts.{HitValues, hit_values, name_parts, size_parts}
 use Rattle.sig_model.proofs.TableLemmas.{OfRef, AllMessages, any_tables, BearsAlike, same_watch, owes_alike, Shown, IsBuilt, held, rebound, valued, watched, messaged}
-use Rattle.sig_model.proofs.BodyLemmas.{IsAt, IsKeptBody, IsMoved, AnyInbox, near, IsTold, ArePosts, no_posts, one_post, demonitor_sent, IsRow, IsBefore, few_row, moving, relinking, ending_row, ending_atom, link_id, unlink_id}
+use Rattle.sig_model.proofs.LinkMoves.{LinkMoves, silence, nothing_idle, link_moves, unlink_moves}
+use Rattle.sig_model.proofs.BodyLemmas.{IsAt, IsKeptBody, IsMoved, AnyInbox, AnyWatch, IsWatching, IsRewatched, any_rewatched, near, LinkPart, HearsNothing, IsTold, AreSent, none_sent, one_sent, ArePosts, no_posts, one_post, demonitor_sent, IsRow, IsBefore, few_row, moving, relinking, ending_row, ending_atom, link_id, unlink_id}
 
 -- the rules for the calls leave the monitors that are borne
 monitor_alike : (watch : WatchState) (r : Ref) (target : ℕ) (mode : Option AliasMode) → BearsAlike watch (monitor watch r target mode).1
@@ -126,6 +128,10 @@ bound_marks owner inbox r None = record { messages = refl; arrivals = refl }
 bound_marks owner inbox r (Some reserve) =
     cond_both (is_made_since owner reserve r) _ _ (λ (answer : Bool × Inbox). OnlyMarks inbox answer.1) (λ e. record { messages = refl; arrivals = refl }) (λ e. record { messages = refl; arrivals = refl })
 
+-- the next instruction, where the scan of a receive begins so
+abbrev pub next_body : (ℕ → ℕ) → Declared → ProcessState → Option Body
+next_body begin p s = exec_body begin p s (slice_get p.instrs (s.counts.place - 1))
+
 -- what may be made of the messages and marks by an instruction
 pub record IsExecuted (I : Inbox → Type 0) (s : ProcessState) : Type 0 where
   pub same : I s.tables.inbox
@@ -138,10 +144,19 @@ pub record IsExecuted (I : Inbox → Type 0) (s : ProcessState) : Type 0 where
 pub any_executed : (s : ProcessState) → IsExecuted AnyInbox s
 any_executed s = record { same = tt; without = λ at. tt; emptied = tt; reserve = tt; bound = λ r. tt; cleared = λ r. tt }
 
-module _ (L : Shown) (p : Declared) (s : ProcessState) (k : IsBefore L p s) (c : IsExecuted L.inbox s) where
+-- what is made of the monitors and aliases, and of the next serial, by an instruction that makes a reference
+pub record IsMaking (I : ℕ → WatchState → Type 0) (s : ProcessState) : Type 0 where
+  pub alone : I (s.counts.next_serial + 1) s.tables.watch
+  pub monitored : (target : ℕ) (mode : Option AliasMode) → I (s.counts.next_serial + 1) (monitor s.tables.watch (new_ref s) target mode).1
+  pub aliased : (reply : Bool) → I (s.counts.next_serial + 1) (alias s.tables.watch (new_ref s) reply)
+
+pub any_making : (s : ProcessState) → IsMaking AnyWatch s
+any_making s = record { alone = tt; monitored = λ target mode. tt; aliased = λ reply. tt }
+
+module _ (L : Shown) (p : Declared) (s : ProcessState) (k : IsBefore L p s) (c : IsExecuted L.inbox s) (m : IsMaking L.watch s) where
   -- the bundle of a row; where it makes a reference, what holds of every name has to hold of that too
   abbrev Row : Body → Type 0
-  Row b = (s.counts.next_serial < b.state.counts.next_serial → L.name (reference (new_ref s))) → IsRow L p s b
+  Row b = (s.counts.next_serial < b.state.counts.next_serial → L.name (reference (new_ref s))) → IsRow L None p s b
 
   names : TableNames L.name s.tables
   names = k.tables.names
@@ -149,8 +164,12 @@ module _ (L : Shown) (p : Declared) (s : ProcessState) (k : IsBefore L p s) (c :
   sizes : L.sized → TableSizes s.tables
   sizes = k.tables.sizes
 
+  -- an execution hears nothing
+  idle : HearsNothing None s
+  idle q = nothing_idle (side_of s.tables.links q)
+
   ended : (a : List ℕ) → Row (ending s (term.Atom a))
-  ended a n = ending_atom L p s k a
+  ended a n = ending_atom L None p s k a
 
   -- rows begin with values of expressions
   with_value_row : (e : Expr) (go : Term → Body) → ExprNames L.name e → ((t : Term) → IsBuilt L t → Row (go t)) → Row (with_value s e go)
@@ -189,97 +208,98 @@ module _ (L : Shown) (p : Declared) (s : ProcessState) (k : IsBefore L p s) (c :
 
     -- a row that leaves the tables: it goes on behind with these signals, or at a place
     stepping : (traps : Bool) (how : Outcome) (posts : List Post) → ArePosts L posts → IsTold L how → Row (record { state = record (at_next s) { traps = traps }; outcome = how; posts = posts })
-    stepping traps how posts sent told n = moving L p s _ k.tables behind refl refl refl refl refl sent told
+    stepping traps how posts sent told n = moving L None p s _ k.tables behind refl refl idle refl refl refl sent told k.watch.same
 
     going_row : (place : ℕ) (how : Outcome) → (L.bounded → IsAt p place) → IsTold L how → Row (going_on s place how)
-    going_row place how at told n = moving L p s _ k.tables at refl refl refl refl refl (no_posts L) told
+    going_row place how at told n = moving L None p s _ k.tables at refl refl idle refl refl refl (no_posts L) told k.watch.same
 
     sending_row : (t message : Term) → IsBuilt L t → IsBuilt L message → Row (with_target s t (sending s message))
     sending_row (term.Pid q) message g h =
-        stepping _ _ _ (one_post L _ (pid_tells L.name q g.names) h.names h.size) (λ z. (small_kept (term.Pid q) (g.size z), small_kept message (h.size z)))
+        stepping _ _ _ (one_post L _ (pid_tells L.name q g.names) h.names h.size (λ b. refl)) (λ z. (small_kept (term.Pid q) (g.size z), small_kept message (h.size z)))
     sending_row (term.Ref r) message g h =
         let tells : L.name (reference r) × L.name (process r.owner.0) = ref_tells L.name r g.names in
-        stepping _ _ _ (one_post L _ tells.1 (All-append L.name (names_of_ref r) (names_of message) (all_of_ref L.name r tells.0 tells.1) h.names) h.size)
+        stepping _ _ _ (one_post L _ tells.1 (All-append L.name (names_of_ref r) (names_of message) (all_of_ref L.name r tells.0 tells.1) h.names) h.size (λ b. refl))
         (λ z. (small_kept (term.Ref r) (g.size z), small_kept message (h.size z)))
     sending_row _ message g h = ended (codes "badarg")
 
     setting_row : (var : List ℕ) (value : Term) → IsBuilt L value → Row (setting s var value)
     setting_row var value h n =
-        moving L p s _ (valued L s.tables k.tables var value (held L value h)) behind refl refl refl refl refl (no_posts L) (λ z. small_kept value (h.size z))
+        moving L None p s _ (valued L s.tables k.tables var value (held L value h)) behind refl refl idle refl refl refl (no_posts L) (λ z. small_kept value (h.size z)) k.watch.same
 
     linked_by_row : (peer : Pid) (answer : Bool × LinkState) → L.name (process peer.0) → LinkNames L.name answer.1
-        → answer.1.next_id ≤ s.tables.links.next_id + 1 → Row (linked_by s peer answer)
-    linked_by_row peer (sends, links) g h ids n =
-        relinking L p s k _ links _ _ behind h ids
-        (cond_both sends (record { to = peer.0; kind = kind.Link } ∷ []) [] (ArePosts L) (λ e. one_post L _ g (All-nil L.name) (λ z. tt)) (λ e. no_posts L)) (λ z. tt)
+        → answer.1.next_id ≤ s.tables.links.next_id + 1 → LinkMoves silence s.tables.links answer.1 (cond answer.0 (record { to = peer.0; kind = kind.Link } ∷ []) []) → Row (linked_by s peer answer)
+    linked_by_row peer (sends, links) g h ids moves n =
+        relinking L None p s k _ links _ _ behind h ids moves
+        (cond_both sends (record { to = peer.0; kind = kind.Link } ∷ []) [] (AreSent L) (λ e. one_sent L _ g (All-nil L.name) (λ z. tt)) (λ e. none_sent L)) (λ z. tt)
 
-    unlink_sent : (peer : Pid) (id : Option ℕ) → L.name (process peer.0) → ArePosts L (unlink_posts peer id)
-    unlink_sent peer None g = no_posts L
-    unlink_sent peer (Some id) g = one_post L (record { to = peer.0; kind = kind.Unlink id }) g (All-nil L.name) (λ z. tt)
+    unlink_sent : (peer : Pid) (id : Option ℕ) → L.name (process peer.0) → AreSent L (unlink_posts peer id)
+    unlink_sent peer None g = none_sent L
+    unlink_sent peer (Some id) g = one_sent L (record { to = peer.0; kind = kind.Unlink id }) g (All-nil L.name) (λ z. tt)
 
     unlinked_by_row : (peer : Pid) (answer : Option ℕ × LinkState) → L.name (process peer.0) → LinkNames L.name answer.1
-        → answer.1.next_id ≤ s.tables.links.next_id + 1 → Row (unlinked_by s peer answer)
-    unlinked_by_row peer (id, links) g h ids n = relinking L p s k _ links _ _ behind h ids (unlink_sent peer id g) (λ z. tt)
+        → answer.1.next_id ≤ s.tables.links.next_id + 1 → LinkMoves silence s.tables.links answer.1 (unlink_posts peer answer.0) → Row (unlinked_by s peer answer)
+    unlinked_by_row peer (id, links) g h ids moves n = relinking L None p s k _ links _ _ behind h ids moves (unlink_sent peer id g) (λ z. tt)
 
     -- a row that makes a reference
     making_row : (var : List ℕ) (watch : WatchState) (posts : List Post) → (OfRef L.name (new_ref s) → WatchNames L.name watch) → BearsAlike s.tables.watch watch
-        → (OfRef L.name (new_ref s) → ArePosts L posts) → Row (making s var watch posts)
-    making_row var watch posts h alike sent n =
+        → (OfRef L.name (new_ref s) → ArePosts L posts) → L.watch (s.counts.next_serial + 1) watch → Row (making s var watch posts)
+    making_row var watch posts h alike sent made_watch n =
         let r : Ref = new_ref s in
         let fresh : L.name (reference r) = n (omega arith) in
         let made : OfRef L.name r = all_of_ref L.name r fresh names.watch.owner in
         let value : IsBuilt L (term.Ref r) = record { names = ref_names L.name r fresh names.watch.owner; size = λ z. ref_small r } in
-        few_row L p s _
+        few_row L None p s _
         (watched L (record s.tables { env = insert s.tables.env var (term.Ref r) }) (valued L s.tables k.tables var (term.Ref r) (held L (term.Ref r) value)) watch (h made))
-        behind (record { arrivals = omega arith; ids = omega arith; serials = omega arith; rises = omega arith }) (owes_alike s.tables _ _ _ alike) (sent made) (λ z. small_kept (term.Ref r) (value.size z))
+        behind (record { arrivals = omega arith; ids = omega arith; serials = omega arith; rises = omega arith }) refl idle (owes_alike s.tables _ _ _ alike) (sent made) (λ z. small_kept (term.Ref r) (value.size z)) made_watch
 
     monitored_row : (var : List ℕ) (target : Pid) (answer : Bool × WatchState) → L.name (process target.0) → (OfRef L.name (new_ref s) → WatchNames L.name answer.1)
-        → BearsAlike s.tables.watch answer.1 → Row (monitored_by s var target answer)
-    monitored_row var target (sends, watch) g h alike =
+        → BearsAlike s.tables.watch answer.1 → L.watch (s.counts.next_serial + 1) answer.1 → Row (monitored_by s var target answer)
+    monitored_row var target (sends, watch) g h alike made =
         making_row var watch _ h alike
-        (λ r. cond_both sends (record { to = target.0; kind = kind.Monitor (new_ref s) } ∷ []) [] (ArePosts L) (λ e. one_post L _ g r (λ z. tt)) (λ e. no_posts L))
+        (λ r. cond_both sends (record { to = target.0; kind = kind.Monitor (new_ref s) } ∷ []) [] (ArePosts L) (λ e. one_post L _ g r (λ z. tt) (λ b. refl)) (λ e. no_posts L)) made
 
     monitoring_row : (var : List ℕ) (mode : Option AliasMode) (target : Pid) → L.name (process target.0) → Row (monitoring s var mode target)
     monitoring_row var mode target g =
         monitored_row var target (monitor s.tables.watch (new_ref s) target.0 mode) g (λ r. monitor_names L.name s.tables.watch names.watch (new_ref s) target.0 mode r g)
-        (monitor_alike s.tables.watch (new_ref s) target.0 mode)
+        (monitor_alike s.tables.watch (new_ref s) target.0 mode) (m.monitored target.0 mode)
 
     aliasing_row : (var : List ℕ) (reply : Bool) → Row (aliasing s var reply)
     aliasing_row var reply =
-        making_row var (alias s.tables.watch (new_ref s) reply) [] (λ r. alias_names L.name s.tables.watch names.watch (new_ref s) reply r) (record { owner = refl; borne = refl }) (λ r. no_posts L)
+        making_row var (alias s.tables.watch (new_ref s) reply) [] (λ r. alias_names L.name s.tables.watch names.watch (new_ref s) reply r) (record { owner = refl; borne = refl }) (λ r. no_posts L) (m.aliased reply)
 
     -- a row that changes the monitors and aliases: it ends a monitor, or an alias
     rewatching : (watch : WatchState) (how : Outcome) (posts : List Post) → WatchNames L.name watch → BearsAlike s.tables.watch watch → ArePosts L posts → IsTold L how
-        → IsRow L p s (record { state = rewatched (at_next s) watch; outcome = how; posts = posts })
-    rewatching watch how posts h alike sent told = few_row L p s _ (watched L s.tables k.tables watch h) behind (near s _ refl refl refl) (owes_alike s.tables _ _ _ alike) sent told
+        → L.watch s.counts.next_serial watch → IsRow L None p s (record { state = rewatched (at_next s) watch; outcome = how; posts = posts })
+    rewatching watch how posts h alike sent told left =
+        few_row L None p s _ (watched L s.tables k.tables watch h) behind (near s _ refl refl refl) refl idle (owes_alike s.tables _ _ _ alike) sent told left
 
     flushing_row : (watch : WatchState) (posts : List Post) (at : Option ℕ) → WatchNames L.name watch → BearsAlike s.tables.watch watch → ArePosts L posts
-        → Row (flushed_into (record { state = rewatched (at_next s) watch; outcome = outcome.Done; posts = posts }) (option_map_or {U = Bool × Inbox} (λ (i : ℕ). (true, without_message s.tables.inbox i)) at (false, s.tables.inbox)))
-    flushing_row watch posts None h alike sent n = rewatching watch _ posts h alike sent (λ z. tt)
-    flushing_row watch posts (Some i) h alike sent n =
-        few_row L p s _
+        → L.watch s.counts.next_serial watch → Row (flushed_into (record { state = rewatched (at_next s) watch; outcome = outcome.Done; posts = posts }) (option_map_or {U = Bool × Inbox} (λ (i : ℕ). (true, without_message s.tables.inbox i)) at (false, s.tables.inbox)))
+    flushing_row watch posts None h alike sent left n = rewatching watch _ posts h alike sent (λ z. tt) left
+    flushing_row watch posts (Some i) h alike sent left n =
+        few_row L None p s _
         (messaged L (record s.tables { watch = watch }) (watched L s.tables k.tables watch h) (without_message s.tables.inbox i) (left_names L.name s.tables.inbox names.inbox i)
         (λ z. left_messages s.tables.inbox.messages i (sizes z).messages) (c.without i))
-        behind (near s _ refl refl refl) (owes_alike s.tables _ _ _ alike) sent (λ z. tt)
+        behind (near s _ refl refl refl) refl idle (owes_alike s.tables _ _ _ alike) sent (λ z. tt) left
 
     demonitoring_row : (flush : Bool) (r : Ref) → OfRef L.name r → Row (demonitoring s flush r)
     demonitoring_row false r h n =
         let watch : WatchState = s.tables.watch in
         rewatching (unmonitored watch r) _ _ (unmonitored_names L.name watch names.watch r) (unmonitored_alike watch r)
-        (demonitor_sent L r (told_of watch r) h (told_names L.name watch names.watch r)) (λ z. tt)
+        (demonitor_sent L r (told_of watch r) h (told_names L.name watch names.watch r)) (λ z. tt) (k.watch.demonitored r)
     demonitoring_row true r h n =
         let watch : WatchState = s.tables.watch in
         flushing_row (unmonitored watch r) _ (down_place s.tables.inbox r) (unmonitored_names L.name watch names.watch r) (unmonitored_alike watch r)
-        (demonitor_sent L r (told_of watch r) h (told_names L.name watch names.watch r)) n
+        (demonitor_sent L r (told_of watch r) h (told_names L.name watch names.watch r)) (k.watch.demonitored r) n
 
     unaliasing_row : (r : Ref) → Row (unaliasing s r)
     unaliasing_row r n =
-        rewatching (unaliased s.tables.watch r) _ [] (unaliased_names L.name s.tables.watch names.watch r) (record { owner = refl; borne = refl }) (no_posts L) (λ z. tt)
+        rewatching (unaliased s.tables.watch r) _ [] (unaliased_names L.name s.tables.watch names.watch r) (record { owner = refl; borne = refl }) (no_posts L) (λ z. tt) (k.watch.dealiased r)
 
     -- a row that changes the reserve and the marks
     marked_row : (answer : Bool × Inbox) → InboxNames L.name answer.1 → OnlyMarks s.tables.inbox answer.1 → L.inbox answer.1 → Row (marked_by s answer)
     marked_row (is, inbox) h only moved n =
-        moving L p s _ (messaged L s.tables k.tables inbox h (λ z. subst AllMessages (sym only.messages) (sizes z).messages) moved) behind only.arrivals refl refl refl refl (no_posts L) (λ z. tt)
+        moving L None p s _ (messaged L s.tables k.tables inbox h (λ z. subst AllMessages (sym only.messages) (sizes z).messages) moved) behind only.arrivals refl idle refl refl refl (no_posts L) (λ z. tt) k.watch.same
 
     marking_row : (rule : Ref → Bool × Inbox) → ((r : Ref) → OfRef L.name r → InboxNames L.name (rule r).1) → ((r : Ref) → OnlyMarks s.tables.inbox (rule r).1) → ((r : Ref) → L.inbox (rule r).1)
         → (o : Option Ref) → IfSome o (OfRef L.name) → Row (at_marker s rule o)
@@ -288,9 +308,9 @@ module _ (L : Shown) (p : Declared) (s : ProcessState) (k : IsBefore L p s) (c :
 
     reserving_row : Row (reserving s)
     reserving_row n =
-        moving L p s _
+        moving L None p s _
         (messaged L s.tables k.tables (reserved s.tables.inbox s.counts.next_serial) (record { messages = names.inbox.messages; marks = names.inbox.marks }) (λ z. (sizes z).messages) c.reserve)
-        behind refl refl refl refl refl (no_posts L) (λ z. tt)
+        behind refl refl idle refl refl refl (no_posts L) (λ z. tt) k.watch.same
 
     named_by : (x : Var) → IfSome (ref_of_var s.tables.env x) (OfRef L.name)
     named_by x = ref_in_names L.name (value_of_var s.tables.env x.0) (var_names L.name s.tables.env names.env x.0)
@@ -311,77 +331,97 @@ module _ (L : Shown) (p : Declared) (s : ProcessState) (k : IsBefore L p s) (c :
     receiving_row : (after : Option After) (start from : ℕ) (o : Option Hit) → IfSome o (HitValues (AllNames L.name)) → (L.sized → IfSome o (HitValues IsKeptTerm))
         → IfSome (receiving p s after start from o) Row
     receiving_row after start from (Some h) g small = λ n.
-        moving L p s _
+        moving L None p s _
         (messaged L (record s.tables { env = h.env }) (rebound L s.tables k.tables h.env g.env (λ z. (small z).env)) (without_message s.tables.inbox (from + h.at))
         (left_names L.name s.tables.inbox names.inbox (from + h.at)) (λ z. left_messages s.tables.inbox.messages (from + h.at) (sizes z).messages) (c.without (from + h.at)))
-        (target_place h.target) refl refl refl refl refl (no_posts L) (λ z. (small z).message)
+        (target_place h.target) refl refl idle refl refl refl (no_posts L) (λ z. (small z).message) k.watch.same
     receiving_row (Some after) start from None g small = going_row _ _ (target_place after.target) (λ z. tt)
     receiving_row None start from None g small = tt
 
-    scanning_row : (after : Option After) (start : ℕ) (clauses : List Clause) → IfSome (receiving p s after start start (hit_from start clauses s)) Row
-    scanning_row after start clauses =
+    scanning_row : (after : Option After) (start from : ℕ) (clauses : List Clause) → IfSome (receiving p s after start from (hit_from from clauses s)) Row
+    scanning_row after start from clauses =
         let messages : List (ℕ × Term) = s.tables.inbox.messages in
-        receiving_row after start start (hit_from start clauses s)
-        (hit_values (AllNames L.name) (All (AllNames L.name)) (name_parts L.name) s.tables.env names.env clauses (drop start (terms_of messages))
-        (All-drop (AllNames L.name) start (terms_of messages) (All-map (AllNames L.name) (λ (m : ℕ × Term). m.1) messages names.inbox.messages)))
-        (λ z. hit_values IsKeptTerm (AreWithin READ_NODES READ_DEPTH) size_parts s.tables.env (sizes z).env clauses (drop start (terms_of messages))
-        (All-drop IsKeptTerm start (terms_of messages) (All-map IsKeptTerm (λ (m : ℕ × Term). m.1) messages (sizes z).messages)))
+        receiving_row after start from (hit_from from clauses s)
+        (hit_values (AllNames L.name) (All (AllNames L.name)) (name_parts L.name) s.tables.env names.env clauses (drop from (terms_of messages))
+        (All-drop (AllNames L.name) from (terms_of messages) (All-map (AllNames L.name) (λ (m : ℕ × Term). m.1) messages names.inbox.messages)))
+        (λ z. hit_values IsKeptTerm (AreWithin READ_NODES READ_DEPTH) size_parts s.tables.env (sizes z).env clauses (drop from (terms_of messages))
+        (All-drop IsKeptTerm from (terms_of messages) (All-map IsKeptTerm (λ (m : ℕ × Term). m.1) messages (sizes z).messages)))
 
-    -- one case for each instruction
-    instr_row : (i : Instr) → InstrNames L.name i → IfSome (exec_body from_mark p s (Some i)) Row
-    instr_row (instr.Send to message) h =
+    -- one case for each instruction, wherever the scan of a receive begins
+    instr_row : (begin : ℕ → ℕ) (i : Instr) → InstrNames L.name i → IfSome (exec_body begin p s (Some i)) Row
+    instr_row begin (instr.Send to message) h =
         with_value_row to _ (first L.name to message h) (λ t g. with_value_row message _ (second L.name to message h) (λ m f. sending_row t m g f))
-    instr_row (instr.Set var value) h = with_value_row value _ (only L.name value h) (setting_row var.0)
-    instr_row (instr.MakeRef var) h = making_row var.0 s.tables.watch [] (λ r. names.watch) (same_watch s.tables.watch) (λ r. no_posts L)
-    instr_row (instr.Link peer) h =
-        with_peer_row peer _ (only L.name peer h) (λ q g. linked_by_row q (link s.tables.links q.0) g (link_names L.name s.tables.links names.links q.0 g) (link_id s.tables.links q.0))
-    instr_row (instr.Unlink peer) h =
-        with_peer_row peer _ (only L.name peer h) (λ q g. unlinked_by_row q (unlink s.tables.links q.0) g (unlink_names L.name s.tables.links names.links q.0 g) (unlink_id s.tables.links q.0))
-    instr_row (instr.Monitor var target mode) h = with_peer_row target _ (only L.name target h) (monitoring_row var.0 mode)
-    instr_row (instr.Demonitor e flush) h = with_reference_row e _ (only L.name e h) (demonitoring_row flush)
-    instr_row (instr.Alias var reply) h = aliasing_row var.0 reply
-    instr_row (instr.Unalias e) h = with_reference_row e _ (only L.name e h) (λ r named. unaliasing_row r)
-    instr_row (instr.Exit reason) h = with_value_row reason _ (only L.name reason h) (λ t g n. ending_row L p s k t g)
-    instr_row (instr.ExitTo target reason) h =
+    instr_row begin (instr.Set var value) h = with_value_row value _ (only L.name value h) (setting_row var.0)
+    instr_row begin (instr.MakeRef var) h = making_row var.0 s.tables.watch [] (λ r. names.watch) (same_watch s.tables.watch) (λ r. no_posts L) m.alone
+    instr_row begin (instr.Link peer) h =
+        with_peer_row peer _ (only L.name peer h) (λ q g. linked_by_row q (link s.tables.links q.0) g (link_names L.name s.tables.links names.links q.0 g) (link_id s.tables.links q.0) (link_moves s.tables.links q.0))
+    instr_row begin (instr.Unlink peer) h =
+        with_peer_row peer _ (only L.name peer h) (λ q g. unlinked_by_row q (unlink s.tables.links q.0) g (unlink_names L.name s.tables.links names.links q.0 g) (unlink_id s.tables.links q.0) (unlink_moves s.tables.links q))
+    instr_row begin (instr.Monitor var target mode) h = with_peer_row target _ (only L.name target h) (monitoring_row var.0 mode)
+    instr_row begin (instr.Demonitor e flush) h = with_reference_row e _ (only L.name e h) (demonitoring_row flush)
+    instr_row begin (instr.Alias var reply) h = aliasing_row var.0 reply
+    instr_row begin (instr.Unalias e) h = with_reference_row e _ (only L.name e h) (λ r named. unaliasing_row r)
+    instr_row begin (instr.Exit reason) h = with_value_row reason _ (only L.name reason h) (λ t g n. ending_row L None p s k t g)
+    instr_row begin (instr.ExitTo target reason) h =
         with_value_row target _ (first L.name target reason h) (λ t g. with_value_row reason _ (second L.name target reason h)
-        (λ r f. with_pid_row t _ g (λ q e. stepping _ _ _ (one_post L _ e f.names f.size) (λ z. tt))))
-    instr_row (instr.Trap on) h = stepping on _ [] (no_posts L) (λ z. tt)
-    instr_row (instr.Goto label) h = going_row _ _ (target_place (Some label)) (λ z. tt)
-    instr_row instr.Stop h = ended (codes "normal")
-    instr_row instr.Reserve h = reserving_row
-    instr_row (instr.Bind var) h = binding_row var
-    instr_row (instr.Clear var) h = clearing_row var
-    instr_row (instr.Receive r) h = scanning_row r.after (marked_start s r.using) r.clauses
+        (λ r f. with_pid_row t _ g (λ q e. stepping _ _ _ (one_post L _ e f.names f.size (λ b. refl)) (λ z. tt))))
+    instr_row begin (instr.Trap on) h = stepping on _ [] (no_posts L) (λ z. tt)
+    instr_row begin (instr.Goto label) h = going_row _ _ (target_place (Some label)) (λ z. tt)
+    instr_row begin instr.Stop h = ended (codes "normal")
+    instr_row begin instr.Reserve h = reserving_row
+    instr_row begin (instr.Bind var) h = binding_row var
+    instr_row begin (instr.Clear var) h = clearing_row var
+    instr_row begin (instr.Receive r) h = scanning_row r.after (marked_start s r.using) (begin (marked_start s r.using)) r.clauses
 
-  body_row : (L.bounded → IsWithin p) → (o : Option Instr) → slice_get p.instrs (s.counts.place - 1) ≡ o → IfSome o (InstrNames L.name) → IfSome (exec_body from_mark p s o) Row
-  body_row w None e h = ended (codes "normal")
-  body_row w (Some i) e h =
-      let lt : s.counts.place - 1 < length p.instrs = slice_get_within p.instrs (s.counts.place - 1) i e in instr_row w (λ j. omega (arith, lt, (k.here j).0)) i h
+  body_row : (begin : ℕ → ℕ) → (L.bounded → IsWithin p) → (o : Option Instr) → slice_get p.instrs (s.counts.place - 1) ≡ o → IfSome o (InstrNames L.name) → IfSome (exec_body begin p s o) Row
+  body_row begin w None e h = ended (codes "normal")
+  body_row begin w (Some i) e h =
+      let lt : s.counts.place - 1 < length p.instrs = slice_get_within p.instrs (s.counts.place - 1) i e in instr_row w (λ j. omega (arith, lt, (k.here j).0)) begin i h
 
   -- what the next instruction does, where it can be executed
+  next_row : (begin : ℕ → ℕ) → (L.bounded → IsWithin p) → ScriptNames L.name p → IfSome (next_body begin p s) Row
+  next_row begin w h = body_row begin w (slice_get p.instrs (s.counts.place - 1)) refl (at_place (InstrNames L.name) p.instrs (s.counts.place - 1) h)
+
   executing_row : (L.bounded → IsWithin p) → ScriptNames L.name p → IfSome (executing p s) Row
   unfolding executing
-  executing_row w h = body_row w (slice_get p.instrs (s.counts.place - 1)) refl (at_place (InstrNames L.name) p.instrs (s.counts.place - 1) h)
+  executing_row w h = next_row from_mark w h
 
--- the bundle's parts, each a law of its own: names and bounds, messages and marks, and sizes
+-- the bundle's parts, each a law of its own: names and bounds, messages and marks, sizes, monitors and aliases, and links
 pub executing_kept : (P : Named → Type 0) (H : Type 0) (p : Declared) (s : ProcessState) → TableNames P s.tables → (H → IsBounded p s) → (H → IsWithin p) → ScriptNames P p
     → IfSome (executing p s) (IsKeptMade P H p s)
 executing_kept P H p s k b w h =
-    let L : Shown = record { name = P; bounded = H; sized = ⊥; inbox = AnyInbox } in
-    let before : IsBefore L p s = record { tables = record { names = k; sizes = λ z. absurd z; inbox = tt }; here = λ j. ((b j).first, (b j).within); emptied = tt } in
-    IfSome_then (executing p s) (executing_row L p s before (any_executed s) w h) (λ body g n. (g n).kept)
+    let L : Shown = record { name = P; bounded = H; sized = ⊥; inbox = AnyInbox; watch = AnyWatch } in
+    let before : IsBefore L p s =
+    record { tables = record { names = k; sizes = λ z. absurd z; inbox = tt }; here = λ j. ((b j).first, (b j).within); emptied = tt; watch = any_rewatched _ _ } in
+    IfSome_then (executing p s) (executing_row L p s before (any_executed s) (any_making s) w h) (λ body g n. (g n).kept)
 
 pub executing_moved : (I : Inbox → Type 0) (p : Declared) (s : ProcessState) → IsExecuted I s → IfSome (executing p s) (IsMoved I s)
 executing_moved I p s c =
-    let L : Shown = record { name = Any; bounded = ⊥; sized = ⊥; inbox = I } in
-    let before : IsBefore L p s = record { tables = record { names = any_tables s.tables; sizes = λ z. absurd z; inbox = c.same }; here = λ j. absurd j; emptied = c.emptied } in
-    IfSome_then (executing p s) (executing_row L p s before c (λ j. absurd j) (any_script p)) (λ body g. (g (λ n. tt)).moved)
+    let L : Shown = record { name = Any; bounded = ⊥; sized = ⊥; inbox = I; watch = AnyWatch } in
+    let before : IsBefore L p s =
+    record { tables = record { names = any_tables s.tables; sizes = λ z. absurd z; inbox = c.same }; here = λ j. absurd j; emptied = c.emptied; watch = any_rewatched _ _ } in
+    IfSome_then (executing p s) (executing_row L p s before c (any_making s) (λ j. absurd j) (any_script p)) (λ body g. (g (λ n. tt)).moved)
 
 pub executing_sizes : (p : Declared) (s : ProcessState) → TableSizes s.tables → IfSome (executing p s) BodySizes
 executing_sizes p s k =
-    let L : Shown = record { name = Any; bounded = ⊥; sized = Unit {0}; inbox = AnyInbox } in
-    let before : IsBefore L p s = record { tables = record { names = any_tables s.tables; sizes = λ z. k; inbox = tt }; here = λ j. absurd j; emptied = tt } in
-    IfSome_then (executing p s) (executing_row L p s before (any_executed s) (λ j. absurd j) (any_script p)) (λ body g. (g (λ n. tt)).sizes tt)
+    let L : Shown = record { name = Any; bounded = ⊥; sized = Unit {0}; inbox = AnyInbox; watch = AnyWatch } in
+    let before : IsBefore L p s =
+    record { tables = record { names = any_tables s.tables; sizes = λ z. k; inbox = tt }; here = λ j. absurd j; emptied = tt; watch = any_rewatched _ _ } in
+    IfSome_then (executing p s) (executing_row L p s before (any_executed s) (any_making s) (λ j. absurd j) (any_script p)) (λ body g. (g (λ n. tt)).sizes tt)
+
+pub next_watch : (I : ℕ → WatchState → Type 0) (begin : ℕ → ℕ) (p : Declared) (s : ProcessState) → IsRewatched I s.counts.next_serial s.tables.watch → IsMaking I s → IfSome (next_body begin p s) (IsWatching I)
+next_watch I begin p s c m =
+    let L : Shown = record { name = Any; bounded = ⊥; sized = ⊥; inbox = AnyInbox; watch = I } in
+    let before : IsBefore L p s =
+    record { tables = record { names = any_tables s.tables; sizes = λ z. absurd z; inbox = tt }; here = λ j. absurd j; emptied = tt; watch = c } in
+    IfSome_then (next_body begin p s) (next_row L p s before (any_executed s) m begin (λ j. absurd j) (any_script p)) (λ body g. (g (λ n. tt)).watch)
+
+pub next_links : (begin : ℕ → ℕ) (p : Declared) (s : ProcessState) → IfSome (next_body begin p s) (LinkPart None s)
+next_links begin p s =
+    let L : Shown = record { name = Any; bounded = ⊥; sized = ⊥; inbox = AnyInbox; watch = AnyWatch } in
+    let before : IsBefore L p s =
+    record { tables = record { names = any_tables s.tables; sizes = λ z. absurd z; inbox = tt }; here = λ j. absurd j; emptied = tt; watch = any_rewatched _ _ } in
+    IfSome_then (next_body begin p s) (next_row L p s before (any_executed s) (any_making s) begin (λ j. absurd j) (any_script p)) (λ body g. (g (λ n. tt)).links)
 
 -- a script that names processes of the script alone
 pub script_names : (count : ℕ) (p : Declared) → IsProcBelow count p → ScriptNames (IsNameBelow count) p

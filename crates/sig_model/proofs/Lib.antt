@@ -6,6 +6,8 @@ pub mod ValueNames
 pub mod TermSizeLemmas
 pub mod MatchParts
 pub mod TableLemmas
+pub mod SideLemmas
+pub mod LinkMoves
 pub mod BodyLemmas
 pub mod ExecutingLemmas
 pub mod HandlingLemmas

@@ -110,12 +110,14 @@ module _ (t : Tables) (reason : Term) where
       ap length (filter-append (λ (q : Post). q.to == peer) (exits_to (active_after t.links None) reason) (downs_to t.watch.borne reason)) ∙ length-append _ _ in
       omega (arith, both, peers_told_once t.links reason peer, downs_few t.watch.borne reason peer)
 
--- What is to be shown: this of every name; bounds, where this holds; sizes, where this holds; and this of the messages and marks.
+-- What is to be shown: this of every name; bounds, where this holds; sizes, where this holds; this of the messages and marks; and this
+-- of the next serial with the monitors and aliases.
 pub record Shown : Type 1 where
   pub name : Named → Type 0
   pub bounded : Type 0
   pub sized : Type 0
   pub inbox : Inbox → Type 0
+  pub watch : ℕ → WatchState → Type 0
 
 module _ (L : Shown) where
   -- a term that was built, as those in signals were, and one that a process holds

@@ -1,7 +1,7 @@
 -- Handling one signal: one equation for each cell of the table of handling, a live and an ended receiver for each kind
 -- (Erlang Reference Manual, Processes, Signals, Delivery of Signals, Links, Receiving Exit Signals,
 -- Monitors and Process Aliases).
-use Rattle.std.specs.Prelude.{ℕ, Bool, true, false, [], ◌∷◌, is_some, if◌then◌else◌, codes}
+use Rattle.std.specs.Prelude.{ℕ, Bool, true, false, List, [], ◌∷◌, is_some, if◌then◌else◌, codes}
 use Rattle.sig_terms.specs.declared.reference.Ref.{Ref}
 use Rattle.sig_terms.specs.declared.term.Term.{Term}
 use Rattle.sig_terms.specs.declared.term.Term.TheVariants as term
@@ -17,6 +17,8 @@ use Rattle.sig_model.specs.ProcessState.{ProcessState, relinked, rewatched}
 use Rattle.sig_model.specs.Bodies.{Body, appending, dropping, noproc}
 use Rattle.sig_model.specs.ExitRule.{plain_exit, linked_exit}
 use Rattle.sig_model.specs.Executing.{demonitor_posts}
+use Rattle.sig_model.specs.LinkPair.{Word}
+use Rattle.sig_model.specs.LinkPair.Word.{Links, Unlinks, Acks, Exits}
 
 -- by the rule for a link signal; its answer is whether the link is set up
 abbrev pub linking_up : ProcessState → Bool × LinkState → Body
@@ -97,3 +99,12 @@ ended_body s sender _ = dropping s
 unfoldable pub handling : ℕ → ProcessState → Signal → Body
 handling pid s signal =
     if is_some s.tables.end then ended_body s signal.from.0 signal.kind else live_body pid s signal.from.0 signal.kind
+
+-- What a signal of this kind tells its receiver of the link to the sender: a word, or nothing. Where it isn't between these two, it
+-- tells nothing.
+abbrev pub words_if : Bool → Kind → List Word
+words_if between Link = if between then Links ∷ [] else []
+words_if between (Unlink id) = if between then Unlinks id ∷ [] else []
+words_if between (UnlinkAck id) = if between then Acks id ∷ [] else []
+words_if between (Exit reason true) = if between then Exits ∷ [] else []
+words_if between _ = []

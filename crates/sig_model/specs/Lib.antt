@@ -2,6 +2,7 @@ pub mod ProcessState
 pub mod Bodies
 pub mod Executing
 pub mod ExitRule
+pub mod LinkPair
 pub mod Handling
 pub mod Finishing
 pub mod Machine

@@ -1,5 +1,5 @@
 -- How a process stands at the end of a run (this project's own).
-use Rattle.std.specs.Prelude.{Bool, true, false, ◌||◌, nat_le, Option, Some, None}
+use Rattle.std.specs.Prelude.{Bool, true, false, ◌&&◌, ◌||◌, not, nat_le, Option, Some, None, is_none}
 use Rattle.std.specs.List.{list_any}
 use Rattle.sig_terms.specs.declared.term.Term.{Term}
 use Rattle.sig_kinds.specs.declared.signal.Signal.{Signal}
@@ -25,3 +25,7 @@ state_of None false = Waiting
 -- ended where it has ended, else cut where it is cut or late, else waiting
 abbrev pub printed_state : Running → State
 printed_state r = state_of r.state.tables.end (is_cut r.turns r.state || is_late r)
+
+-- it waits: it is neither ended, nor cut, nor late
+abbrev pub is_waiting : Running → Bool
+is_waiting r = is_none r.state.tables.end && not (is_cut r.turns r.state || is_late r)

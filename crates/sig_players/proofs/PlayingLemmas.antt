@@ -1,6 +1,7 @@
 -- Players at their places, as a crew.
-use Rattle.std.proofs.Common.{◌≡◌, ◌≢◌, ℕ, ◌<◌, List, zero, suc, [], ◌∷◌, ◌++◌, length, Some, None, Bool, true, false, ◌≤◌, refl, sym, ap, ◌∙◌, subst, get_or, set}
-use Rattle.std.specs.Prelude.{All, Vec, slice_get, slice_set}
+use Rattle.std.proofs.Common.{◌≡◌, ◌≢◌, ℕ, ◌<◌, ◌+◌, ◌-◌, List, zero, suc, [], ◌∷◌, ◌++◌, length, map, Option, Some, None, is_none, Bool, true, false, ◌≤◌, refl, sym, ap, ◌∙◌, subst, get_or, set, append_assoc}
+use Rattle.std.specs.Prelude.{All, Vec, MatchOption, slice_get, slice_set, slice_index}
+use Rattle.std.proofs.Math.Path.{ap₂}
 use Rattle.std.specs.Global.{Global}
 use Rattle.std.specs.Option.{option_map}
 use Rattle.std.proofs.lemmas.List.{length-map, map-set, length-set}
@@ -8,7 +9,8 @@ use Rattle.std.proofs.lemmas.List.Elements.{All-head, All-tail, All-cons, All-ni
 use Rattle.std.proofs.lemmas.Option.{slice_get-get_or, slice_get-map, slice_get_past, same_Some}
 use Rattle.sig_kinds.specs.declared.signal.Signal.{Signal}
 use Rattle.sig_kinds.specs.SignalList.{SignalList}
-use Rattle.sig_runs.proofs.Lists.{slice_get-set_other}
+use Rattle.sig_runs.proofs.Lists.{slice_get-set_same, slice_get-set_other}
+use Rattle.sig_terms.specs.declared.pid.Pid.{Pid}
 use Rattle.sig_model.specs.Keeping.{IsArriving, IsLeaving, IsPlaced}
 use Rattle.sig_model.specs.Running.{Running}
 use Rattle.std.specs.Bool.{MatchBool}
@@ -16,17 +18,22 @@ use Rattle.sig_program.specs.Scripts.{Program}
 use Rattle.sig_runs.specs.Machine.{Choice, apply, choice}
 use Rattle.sig_model.specs.declared.event.Did.{Did}
 use Rattle.sig_model.specs.declared.event.Did.TheVariants.{Exec, From}
+use Rattle.sig_model.specs.declared.origin.Origin.{Origin}
 use Rattle.sig_model.proofs.Guards.{exec_next_tells, handle_next_tells}
 use Rattle.sig_model.specs.Machine.{acted_at, rules_of}
+use Rattle.sig_model.specs.SettledRun.{events_of}
 use Rattle.sig_model.specs.CrewLaw.{outbox_of, IsLawfulCrew, machine_of}
 use Rattle.sig_model.proofs.Lookups.{at_set}
 use Rattle.sig_model.proofs.ReachLemmas.{set_here}
 use Rattle.sig_process.specs.Standing.{Standing}
 use Rattle.sig_players.specs.declared.player.Player.{Player}
+use Rattle.sig_players.specs.declared.playing.Posted.{Posted}
 use Rattle.sig_choices.specs.Waiting.{of_sender, joined}
 use Rattle.sig_players.specs.Players.{seen, crew_of, IsReady, IsGiven, AreReady, HasNothing}
 use Rattle.sig_choices.specs.Choosing.{Acts, Refuses, AreEmptied, HasMade, IsPosted, HasPosted}
-use Rattle.sig_choices.proofs.Posting.{post_posted, post_shorter, posted_then}
+use Rattle.sig_choices.specs.Origins.{origin_of, origins_in, own_origins, sent_at}
+use Rattle.sig_choices.proofs.Posting.{post_left, post_posted, posted_then}
+use Rattle.sig_choices.proofs.Sending.{acted_sent, told_origins}
 use Rattle.sig_choices.proofs.Choices.{acted_made, refused_none, absent_none, made_posted, posted_emptied}
 use Rattle.sig_choices.proofs.Lists.{joined_arriving}
 
@@ -158,12 +165,46 @@ pub when_false : (A B : Type 0) (made : Bool) → made ≡ false → MatchBool m
 when_false A B false e h = h
 when_false A B true e h = cc
 
--- one more is handed over, or there is none
-pub one_posted : (crew mid after : List Running) (at : ℕ) (moved : Bool) (B : Type 0) → HasPosted crew at mid → moved ≡ true → MatchBool moved (IsPosted mid at after) B → HasPosted crew at after
-one_posted crew mid after at moved B h e g = posted_then crew mid after at h (post_posted mid at after (when_true (IsPosted mid at after) B moved e g))
+-- a signal was handed over, or there was none
+pub some_moved : {X : Type 0} (A : Type 0) (B : X → Type 0) (o : Option X) → is_none o ≡ false → MatchOption o A B → (x : X) × B x
+some_moved A B None e h = cc
+some_moved A B (Some x) e h = (x, h)
 
-pub one_shorter : (mid after : List Running) (at : ℕ) (moved : Bool) (B : Type 0) → moved ≡ true → MatchBool moved (IsPosted mid at after) B → length (outbox_of (slice_get after at)) < length (outbox_of (slice_get mid at))
-one_shorter mid after at moved B e g = post_shorter mid at after (when_true (IsPosted mid at after) B moved e g)
+pub none_moved : {X : Type 0} (A : Type 0) (B : X → Type 0) (o : Option X) → is_none o ≡ true → MatchOption o A B → A
+none_moved A B None e h = h
+none_moved A B (Some x) e h = cc
+
+-- the signal that is named so was handed over
+abbrev pub Moved : List Running → ℕ → List Running → Posted → Type 0
+Moved crew at after named = (h : IsPosted crew at after) × (named.from ≡ h.signal.from) × (named.to ≡ h.signal.to) × (named.number ≡ h.signal.number)
+
+pub one_posted : (crew mid after : List Running) (at : ℕ) → HasPosted crew at mid → IsPosted mid at after → HasPosted crew at after
+one_posted crew mid after at h g = posted_then crew mid after at h (post_posted mid at after g)
+
+-- its origin is that of the oldest signal in the outbox
+module _ (event : ℕ) (mid after : List Running) (at : ℕ) (named : Posted) (h : Moved mid at after named) where
+  told_is : record { from = named.from; to = named.to; number = named.number; event = event } ≡ origin_of event h.0.signal
+  told_is =
+      ap (λ (f : Pid). record { from = f; to = named.to; number = named.number; event = event }) h.1
+      ∙ ap (λ (t : Pid). record { from = h.0.signal.from; to = t; number = named.number; event = event }) h.2
+      ∙ ap (λ (n : ℕ). record { from = h.0.signal.from; to = h.0.signal.to; number = n; event = event }) h.3
+
+  pub one_told : (origins : List Origin) →
+      (origins ++ record { from = named.from; to = named.to; number = named.number; event = event } ∷ []) ++ map (origin_of event) (outbox_of (slice_get after at))
+      ≡ origins ++ map (origin_of event) (outbox_of (slice_get mid at))
+  one_told origins =
+      append_assoc origins (record { from = named.from; to = named.to; number = named.number; event = event } ∷ []) (map (origin_of event) (outbox_of (slice_get after at)))
+      ∙ ap₂ (λ (o : Origin) (xs : List Signal). origins ++ o ∷ map (origin_of event) xs) told_is (post_left mid at after h.0)
+      ∙ ap (λ xs. origins ++ map (origin_of event) xs) (sym (ap (λ o. outbox_of o) h.0.there ∙ h.0.oldest))
+
+-- the process is the same
+pub acts_pid : (did : Did) (r t : Running) → Acts did r t → t.pid ≡ r.pid
+acts_pid (Exec place) r t h = ap (λ (z : Running). z.pid) (sym (exec_next_tells r t h).is)
+acts_pid (From sender number) r t h = ap (λ (z : Running). z.pid) (sym (handle_next_tells (record r { taken_in = h.waits }) t h.handled).is)
+
+pub acts_count : (did : Did) (r t : Running) → Acts did r t → t.count ≡ r.count
+acts_count (Exec place) r t h = ap (λ (z : Running). z.count) (sym (exec_next_tells r t h).is)
+acts_count (From sender number) r t h = ap (λ (z : Running). z.count) (sym (handle_next_tells (record r { taken_in = h.waits }) t h.handled).is)
 
 -- a choice of the process at a place
 module _ (players : List Player) (at : ℕ) (p : Player) (lt : at < length players) (is : p ≡ get_or players at p) (empty : AreEmptied (crew_of players)) (script : Program) (law : IsLawfulCrew script (crew_of players)) where
@@ -179,6 +220,42 @@ module _ (players : List Player) (at : ℕ) (p : Player) (lt : at < length playe
       (acted_made script (crew_of players) law at (seen p) (seen q) (seen_at players at p lt is) did h)
       (subst (λ z. HasPosted z at after) (map-set seen players at q) posted)
 
+  -- the origins of what it sends, told by its numbers before and after, and by its outbox
+  pub choice_told : AreReady players → (did : Did) (q : Player) → Acts did (seen p) (seen q) → (first event : ℕ) (old own all : List Origin) →
+      first ≡ slice_index p.process.running.state.counts.next_numbers at → event ≡ length q.process.running.events →
+      own ≡ old ++ own_origins q.process.running.pid (length q.process.running.events) first (slice_index q.process.running.state.counts.next_numbers q.process.running.pid - first) →
+      all ≡ own ++ map (origin_of event) (outbox_of (slice_get (crew_of (set players at q)) at)) →
+      all ≡ old ++ origins_in at (length (events_of (slice_get (crew_of players) at)) + 1) (sent_at (rules_of script) (machine_of script (crew_of players)) (c did))
+  choice_told ready did q acts first event old own all is_first is_event more_own more_all =
+      let crew : List Running = crew_of players in
+      let there : slice_get crew at ≡ Some (seen p) = seen_at players at p lt is in
+      let r : Running = p.process.running in
+      let t : Running = q.process.running in
+      let sends : List Signal = sent_at (rules_of script) (machine_of script crew) (c did) in
+      let pid : r.pid ≡ at = (placed_at players at p lt is ready).0 in
+      let same : t.pid ≡ r.pid = acts_pid did (seen p) (seen q) acts in
+      let none : r.outbox ≡ [] = sym (ap (λ o. outbox_of o) there) ∙ empty at in
+      let here : slice_get (crew_of (set players at q)) at ≡ Some (seen q) =
+      ap (λ z. slice_get z at) (map-set seen players at q) ∙ slice_get-set_same crew at (seen q) (seen p) there in
+      let all_is : origins_in r.pid (length r.events + 1) sends
+      ≡ own_origins r.pid (length t.events) (slice_index r.state.counts.next_numbers r.pid) (slice_index t.state.counts.next_numbers r.pid - slice_index r.state.counts.next_numbers r.pid)
+      ++ map (origin_of (length t.events)) t.outbox =
+      told_origins (seen p) (seen q) sends (acted_sent script crew at (seen p) there law (seen q) empty did acts) none in
+      let own_is : own_origins t.pid (length t.events) first (slice_index t.state.counts.next_numbers t.pid - first)
+      ≡ own_origins r.pid (length t.events) (slice_index r.state.counts.next_numbers r.pid) (slice_index t.state.counts.next_numbers r.pid - slice_index r.state.counts.next_numbers r.pid) =
+      ap (λ n. own_origins n (length t.events) first (slice_index t.state.counts.next_numbers n - first)) same
+      ∙ ap (λ f. own_origins r.pid (length t.events) f (slice_index t.state.counts.next_numbers r.pid - f)) (is_first ∙ ap (λ n. slice_index r.state.counts.next_numbers n) (sym pid)) in
+      let others_are : map (origin_of event) (outbox_of (slice_get (crew_of (set players at q)) at)) ≡ map (origin_of (length t.events)) t.outbox =
+      ap₂ (λ n o. map (origin_of n) (outbox_of o)) is_event here in
+      more_all
+      ∙ ap (λ os. os ++ map (origin_of event) (outbox_of (slice_get (crew_of (set players at q)) at))) more_own
+      ∙ append_assoc old _ _
+      ∙ ap (λ os. old ++ os)
+      (ap₂ (λ xs ys. xs ++ ys) own_is others_are
+      ∙ sym all_is
+      ∙ ap (λ n. origins_in n (length r.events + 1) sends) pid
+      ∙ ap (λ o. origins_in at (length (events_of o) + 1) sends) (sym there))
+
 pub choice_emptied : (players : List Player) (at : ℕ) (q : Player) (after : List Running) → AreEmptied (crew_of players) → HasPosted (crew_of (set players at q)) at after → outbox_of (slice_get after at) ≡ [] → AreEmptied after
 choice_emptied players at q after empty posted last =
     posted_emptied (crew_of players) at (seen q) after empty (subst (λ z. HasPosted z at after) (map-set seen players at q) posted) last
@@ -186,15 +263,6 @@ choice_emptied players at q after empty posted last =
 pub choice_absent : (players : List Player) (at : ℕ) → length players ≤ at → AreEmptied (crew_of players) → (script : Program) → IsLawfulCrew script (crew_of players) → (did : Did) →
     apply (rules_of script) (machine_of script (crew_of players)) (choice at (acted_at did)) ≡ None
 choice_absent players at le empty script law did = absent_none script (crew_of players) law at empty (past players at le) did
-
--- the process is the same
-pub acts_pid : (did : Did) (r t : Running) → Acts did r t → t.pid ≡ r.pid
-acts_pid (Exec place) r t h = ap (λ (z : Running). z.pid) (sym (exec_next_tells r t h).is)
-acts_pid (From sender number) r t h = ap (λ (z : Running). z.pid) (sym (handle_next_tells (record r { taken_in = h.waits }) t h.handled).is)
-
-pub acts_count : (did : Did) (r t : Running) → Acts did r t → t.count ≡ r.count
-acts_count (Exec place) r t h = ap (λ (z : Running). z.count) (sym (exec_next_tells r t h).is)
-acts_count (From sender number) r t h = ap (λ (z : Running). z.count) (sym (handle_next_tells (record r { taken_in = h.waits }) t h.handled).is)
 
 -- a process for which nothing waits
 none_joined : (lists : List SignalList) → All (λ (q : SignalList). q.items ≡ []) lists → joined lists ≡ []

@@ -4,9 +4,11 @@
 mod arriving;
 mod player;
 mod playing;
+mod telling;
 mod waiting;
 
 pub use arriving::arrive;
 pub use player::Player;
 pub use playing::choose;
+pub use telling::choose_telling;
 pub use waiting::none_of;

@@ -1,6 +1,6 @@
 //! The processes of a script make the choices of a record.
 
-ghost use Rattle.std.specs.Prelude.{◌≡◌, ◌<◌, [], true, false, Some, None, IfOk, OnOk, slice_get, vec_len};
+ghost use Rattle.std.specs.Prelude.{◌≡◌, ◌<◌, [], true, false, Some, None, IfOk, OnOk, MatchOption, slice_get, vec_len};
 ghost use Rattle.std.specs.Bool.{MatchBool};
 ghost use Rattle.sig_program.specs.Scripts.{Program};
 ghost use Rattle.sig_runs.specs.Machine.{apply, choice};
@@ -12,24 +12,43 @@ ghost use Rattle.sig_choices.specs.Choosing.{AreEmptied, HasMade, HasPosted, IsP
 use crate::player::Player;
 use sig_base::Steps;
 use sig_model::Did;
+use sig_terms::Pid;
 use std::alloc::AllocError;
 use std::sync::ledger::Ledger;
 
+/// Which signal was handed over.
+#[derive(Clone, Copy)]
+pub(crate) struct Posted {
+    /// Its sender.
+    pub(crate) from: Pid,
+    /// Its receiver.
+    pub(crate) to: Pid,
+    /// Its number among those of this sender to this receiver.
+    pub(crate) number: u64,
+}
+
 /// The oldest signal in the outbox of the process at this place joins those that wait for its
-/// receiver. Tells whether there was one. The error is want of memory.
-fn post_one(players: &mut Vec<Player>, at: usize) -> Result<bool, AllocError>
+/// receiver. Tells which one, and `None` where there was none. The error is want of memory.
+pub(crate) fn post_one(players: &mut Vec<Player>, at: usize) -> Result<Option<Posted>, AllocError>
     requires within { at < vec_len players.old }
     requires ready { AreReady players.old.items }
     ensures ready { OnOk result (AreReady players.new.items) }
     ensures len { vec_len players.new ≡ vec_len players.old }
-    ensures posted { IfOk result (λ moved. MatchBool moved (IsPosted (crew_of players.old.items) at (crew_of players.new.items))
-        ((crew_of players.new.items ≡ crew_of players.old.items) × (outbox_of (slice_get (crew_of players.old.items) at) ≡ []))) }
+    ensures posted { IfOk result (λ moved. MatchOption moved
+        ((crew_of players.new.items ≡ crew_of players.old.items) × (outbox_of (slice_get (crew_of players.old.items) at) ≡ []))
+        (λ named. (h : IsPosted (crew_of players.old.items) at (crew_of players.new.items))
+        × (named.from ≡ h.signal.from) × (named.to ≡ h.signal.to) × (named.number ≡ h.signal.number))) }
 {
     match players[at].next_out() {
-        None => Ok(false),
+        None => Ok(None),
         Some(signal) => {
+            let posted = Posted {
+                from: signal.from,
+                to: signal.to,
+                number: signal.number,
+            };
             players[signal.to.0 as usize].give(signal)?;
-            Ok(true)
+            Ok(Some(posted))
         }
     }
 }
@@ -46,7 +65,7 @@ fn post_all(players: &mut Vec<Player>, at: usize) -> Result<(), AllocError>
 {
     loop {
         let moved = post_one(players, at)?;
-        if !moved {
+        if moved.is_none() {
             return Ok(());
         }
     }

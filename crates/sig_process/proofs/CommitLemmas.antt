@@ -60,14 +60,14 @@ module _ (pid : ℕ) (x : Execution) (old bound_one gone after : Progress) where
 
   -- the signals are sent, and the changes made
   pub record HasGoneOn : Type 0 where
-    pub state : state_of gone ≡ gone_on (changed (after_obeying (state_of bound_one) x.plan.obeyed) x.plan.change) stamp bound_one.counts.next_numbers.items posts
+    pub state : state_of gone ≡ gone_on (changed (after_obeying (state_of bound_one) x.plan.obeyed) x.plan.change) stamp bound_one.counts.next_numbers posts
     pub executed : gone.counts.executed ≡ bound_one.counts.executed
     pub owner : gone.tables.inner.queue.owner ≡ bound_one.tables.inner.queue.owner
     pub events : gone.events ≡ bound_one.events
     pub handled : gone.handled ≡ bound_one.handled
-    pub own : gone.own.items ≡ bound_one.own.items ++ to_itself pid (numbered pid stamp bound_one.counts.next_numbers.items posts)
+    pub own : gone.own.items ≡ bound_one.own.items ++ to_itself pid (numbered pid stamp bound_one.counts.next_numbers posts)
     pub taken_in : gone.taken_in ≡ bound_one.taken_in
-    pub outbox : gone.outbox.items ≡ bound_one.outbox.items ++ to_others pid (numbered pid stamp bound_one.counts.next_numbers.items posts)
+    pub outbox : gone.outbox.items ≡ bound_one.outbox.items ++ to_others pid (numbered pid stamp bound_one.counts.next_numbers posts)
 
   -- the messages and markers are changed, and what a scan left is forgotten
   pub record HasArranged : Type 0 where
@@ -76,7 +76,7 @@ module _ (pid : ℕ) (x : Execution) (old bound_one gone after : Progress) where
     pub rest : after ≡ record gone { tables = record gone.tables { inner = after.tables.inner }; counts = record gone.counts { place = x.place; executed = gone.counts.executed + 1 } }
 
   module _ {n : ℕ} {w : Growing} (b : HasBound n w x.binding old bound_one x.plan.outcome) (g : HasGoneOn) (f : HasArranged) (own : old.tables.inner.queue.owner ≡ old.tables.watch.watch.owner) where
-    same_numbers : bound_one.counts.next_numbers.items ≡ old.counts.next_numbers.items
+    same_numbers : bound_one.counts.next_numbers ≡ old.counts.next_numbers
     same_numbers = ap (λ (s : ProcessState). s.counts.next_numbers) b.state
 
     same_executed : gone.counts.executed ≡ old.counts.executed
@@ -102,12 +102,12 @@ module _ (pid : ℕ) (x : Execution) (old bound_one gone after : Progress) where
         ap state_of f.rest
         ∙ ap with_inbox same_inbox
         ∙ ap (settled (state_of gone)) same_executed
-        ∙ ap (λ (t : ProcessState). settled t old.counts.executed) (g.state ∙ ap (λ t. all t bound_one.counts.next_numbers.items) b.state ∙ ap (all s) same_numbers)
+        ∙ ap (λ (t : ProcessState). settled t old.counts.executed) (g.state ∙ ap (λ t. all t bound_one.counts.next_numbers) b.state ∙ ap (all s) same_numbers)
 
-    sent_from : (field : Progress → List Signal) (part : List Signal → List Signal) → field gone ≡ field bound_one ++ part (numbered pid stamp bound_one.counts.next_numbers.items posts) →
-        field bound_one ≡ field old → field after ≡ field gone → field after ≡ field old ++ part (numbered pid stamp old.counts.next_numbers.items posts)
+    sent_from : (field : Progress → List Signal) (part : List Signal → List Signal) → field gone ≡ field bound_one ++ part (numbered pid stamp bound_one.counts.next_numbers posts) →
+        field bound_one ≡ field old → field after ≡ field gone → field after ≡ field old ++ part (numbered pid stamp old.counts.next_numbers posts)
     sent_from field part e same rest =
-        rest ∙ e ∙ ap (λ (l : List Signal). l ++ part (numbered pid stamp bound_one.counts.next_numbers.items posts)) same
+        rest ∙ e ∙ ap (λ (l : List Signal). l ++ part (numbered pid stamp bound_one.counts.next_numbers posts)) same
         ∙ ap (λ (numbers : List ℕ). field old ++ part (numbered pid stamp numbers posts)) same_numbers
 
     pub executed_so : HasAdvanced pid old after (finished_exec pid (state_of old) (executed_body (state_of old) x))

@@ -36,7 +36,7 @@ pub record IsCommittable (posts : List Outgoing) (p : Progress) : Type 0 where
   pub stamp : p.counts.stamp < LAST_STAMP
   pub arrivals : p.tables.inner.queue.inbox.next_arrival < 2 ^ 63
   pub ids : p.tables.links.links.next_id < 2 ^ 63
-  pub numbers : (peer : ℕ) → slice_index p.counts.next_numbers.items peer + posts_to peer (map post_of posts) < 2 ^ 63
+  pub numbers : (peer : ℕ) → slice_index p.counts.next_numbers peer + posts_to peer (map post_of posts) < 2 ^ 63
 
 -- the inner queue after a change
 abbrev pub queue_after : InnerQueue → Change → InnerQueue

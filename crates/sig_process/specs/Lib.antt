@@ -2,6 +2,7 @@ pub mod Standing
 pub mod Plans
 pub mod Planning
 pub mod Values
+pub mod SentTo
 pub mod Progressing
 pub mod Committing
 pub mod KeptMessage

@@ -40,7 +40,7 @@ state_of p = record {
     executed = p.counts.executed;
     stamp = p.counts.stamp;
     next_serial = p.counts.next_serial;
-    next_numbers = p.counts.next_numbers.items;
+    next_numbers = p.counts.next_numbers;
   };
 }
 

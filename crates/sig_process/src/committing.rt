@@ -53,7 +53,7 @@ impl Progress {
         requires room { HasRoom (length (outgoing_of posts)) (growing change) self.old }
         requires committable { IsCommittable (outgoing_of posts) self.old }
         ensures state { state_of self.new ≡ gone_on (changed (after_obeying (state_of self.old) obeyed) change) stamp
-            self.old.counts.next_numbers.items (map post_of (outgoing_of posts)) }
+            self.old.counts.next_numbers (map post_of (outgoing_of posts)) }
         ensures env { self.new.tables.env ≡ self.old.tables.env }
         ensures counts { self.new.counts ≡ record self.old.counts { stamp = stamp; next_numbers = self.new.counts.next_numbers } }
         ensures queue { self.new.tables.inner.queue ≡ queue_after self.old.tables.inner.queue change }
@@ -61,10 +61,10 @@ impl Progress {
         ensures events { self.new.events ≡ self.old.events }
         ensures handled { self.new.handled ≡ self.old.handled }
         ensures own { self.new.own.items ≡ self.old.own.items
-            ++ to_itself pid.0 (numbered pid.0 stamp self.old.counts.next_numbers.items (map post_of (outgoing_of posts))) }
+            ++ to_itself pid.0 (numbered pid.0 stamp self.old.counts.next_numbers (map post_of (outgoing_of posts))) }
         ensures taken_in { self.new.taken_in ≡ self.old.taken_in }
         ensures outbox { self.new.outbox.items ≡ self.old.outbox.items
-            ++ to_others pid.0 (numbered pid.0 stamp self.old.counts.next_numbers.items (map post_of (outgoing_of posts))) }
+            ++ to_others pid.0 (numbered pid.0 stamp self.old.counts.next_numbers (map post_of (outgoing_of posts))) }
     {
         // The link of an exit signal ends first: a process that ends doesn't tell the peer that told it.
         self.obey(obeyed);

@@ -73,6 +73,13 @@ impl Crew {
         Ok(Crew { procs })
     }
 
+    /// The process of this pid, to be read. `None` exactly where there is none.
+    pub fn get(&self, pid: Pid) -> Option<&Process>
+        ensures { MatchOption result (length self.now ≤ pid.0) (λ p. slice_get self.now pid.0 ≡ Some p.now) }
+    {
+        self.procs.get(pid.0 as usize)
+    }
+
     /// The process of this pid. `None` exactly where there is none.
     pub fn get_mut(&mut self, pid: Pid) -> Option<&mut Process>
         ensures* lends { sem 𝓛 (LendsProcess self.entry pid.0 result) }

@@ -60,7 +60,8 @@ fn state_of(end: Option<Term>, cut: bool) -> State
 }
 
 impl Process {
-    fn has_late(&self) -> bool
+    /// Whether a signal waits for it whose stamp is at least 2^62.
+    pub(crate) fn has_late(&self) -> bool
         ensures { result ≡ is_late self.now.running }
     {
         any_late(&self.progress.own) || any_late(&self.progress.taken_in)

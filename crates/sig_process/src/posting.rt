@@ -6,25 +6,10 @@ ghost use Rattle.sig_model.specs.Finishing.{drawn, numbers_after, numbered};
 ghost use Rattle.sig_model.specs.Running.{to_itself, to_others};
 ghost use Rattle.sig_process.specs.Plans.{post_of, outgoing_of};
 
+use crate::next_numbers::NextNumbers;
 use crate::plan::{Outgoing, Posts};
 use sig_kinds::{Signal, Signals};
 use sig_terms::Pid;
-
-/// Draws the next number for this peer.
-fn draw(numbers: &mut Vec<u64>, peer: Pid) -> u64
-    requires { slice_index numbers.old.items peer.0 < 2 ^ 63 }
-    ensures number { result ≡ slice_index numbers.old.items peer.0 }
-    ensures drawn { numbers.new.items ≡ drawn numbers.old.items peer.0 }
-{
-    match numbers.get_mut(peer.0 as usize) {
-        None => 0,
-        Some(next) => {
-            let number = *next;
-            *next = number + 1;
-            number
-        }
-    }
-}
 
 /// A signal that the process sends: to itself, or to another.
 fn put(pid: Pid, signal: Signal, own: &mut Signals, outbox: &mut Signals)
@@ -47,20 +32,20 @@ fn send_one(
     pid: Pid,
     stamp: u64,
     post: Outgoing,
-    numbers: &mut Vec<u64>,
+    numbers: &mut NextNumbers,
     own: &mut Signals,
     outbox: &mut Signals,
 )
-    requires number { slice_index numbers.old.items post.to.0 < 2 ^ 63 }
+    requires number { slice_index numbers.old post.to.0 < 2 ^ 63 }
     requires own { 0 < own.old.spare }
     requires outbox { 0 < outbox.old.spare }
-    ensures numbers { numbers.new.items ≡ drawn numbers.old.items post.to.0 }
-    ensures own { own.new.items ≡ own.old.items ++ to_itself pid.0 (numbered pid.0 stamp numbers.old.items (post_of post ∷ [])) }
-    ensures outbox { outbox.new.items ≡ outbox.old.items ++ to_others pid.0 (numbered pid.0 stamp numbers.old.items (post_of post ∷ [])) }
+    ensures numbers { numbers.new ≡ drawn numbers.old post.to.0 }
+    ensures own { own.new.items ≡ own.old.items ++ to_itself pid.0 (numbered pid.0 stamp numbers.old (post_of post ∷ [])) }
+    ensures outbox { outbox.new.items ≡ outbox.old.items ++ to_others pid.0 (numbered pid.0 stamp numbers.old (post_of post ∷ [])) }
     ensures own_spare { own.old.spare ≤ own.new.spare + 1 }
     ensures outbox_spare { outbox.old.spare ≤ outbox.new.spare + 1 }
 {
-    let number = draw(numbers, post.to);
+    let number = numbers.draw(post.to);
     let signal = Signal {
         from: pid,
         to: post.to,
@@ -77,17 +62,17 @@ fn send_each(
     pid: Pid,
     stamp: u64,
     posts: Vec<Outgoing>,
-    numbers: &mut Vec<u64>,
+    numbers: &mut NextNumbers,
     own: &mut Signals,
     outbox: &mut Signals,
 )
-    requires numbers { (peer : ℕ) → slice_index numbers.old.items peer + posts_to peer (map post_of posts.items) < 2 ^ 63 }
+    requires numbers { (peer : ℕ) → slice_index numbers.old peer + posts_to peer (map post_of posts.items) < 2 ^ 63 }
     requires own { length posts.items ≤ own.old.spare }
     requires outbox { length posts.items ≤ outbox.old.spare }
-    ensures numbers { numbers.new.items ≡ numbers_after numbers.old.items (map post_of posts.items) }
-    ensures own { own.new.items ≡ own.old.items ++ to_itself pid.0 (numbered pid.0 stamp numbers.old.items (map post_of posts.items)) }
+    ensures numbers { numbers.new ≡ numbers_after numbers.old (map post_of posts.items) }
+    ensures own { own.new.items ≡ own.old.items ++ to_itself pid.0 (numbered pid.0 stamp numbers.old (map post_of posts.items)) }
     ensures outbox { outbox.new.items ≡ outbox.old.items
-        ++ to_others pid.0 (numbered pid.0 stamp numbers.old.items (map post_of posts.items)) }
+        ++ to_others pid.0 (numbered pid.0 stamp numbers.old (map post_of posts.items)) }
 {
     for post in posts {
         send_one(pid, stamp, post, numbers, own, outbox);
@@ -100,18 +85,18 @@ pub(crate) fn send_all(
     pid: Pid,
     stamp: u64,
     posts: Posts,
-    numbers: &mut Vec<u64>,
+    numbers: &mut NextNumbers,
     own: &mut Signals,
     outbox: &mut Signals,
 )
-    requires numbers { (peer : ℕ) → slice_index numbers.old.items peer + posts_to peer (map post_of (outgoing_of posts)) < 2 ^ 63 }
+    requires numbers { (peer : ℕ) → slice_index numbers.old peer + posts_to peer (map post_of (outgoing_of posts)) < 2 ^ 63 }
     requires own { length (outgoing_of posts) ≤ own.old.spare }
     requires outbox { length (outgoing_of posts) ≤ outbox.old.spare }
-    ensures numbers { numbers.new.items ≡ numbers_after numbers.old.items (map post_of (outgoing_of posts)) }
+    ensures numbers { numbers.new ≡ numbers_after numbers.old (map post_of (outgoing_of posts)) }
     ensures own { own.new.items ≡ own.old.items
-        ++ to_itself pid.0 (numbered pid.0 stamp numbers.old.items (map post_of (outgoing_of posts))) }
+        ++ to_itself pid.0 (numbered pid.0 stamp numbers.old (map post_of (outgoing_of posts))) }
     ensures outbox { outbox.new.items ≡ outbox.old.items
-        ++ to_others pid.0 (numbered pid.0 stamp numbers.old.items (map post_of (outgoing_of posts))) }
+        ++ to_others pid.0 (numbered pid.0 stamp numbers.old (map post_of (outgoing_of posts))) }
 {
     match posts {
         Posts::Nothing => {}

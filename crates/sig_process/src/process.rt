@@ -11,6 +11,7 @@ ghost use Rattle.sig_process.specs.Tests.{most_tests};
 
 use crate::executing::Exec;
 use crate::history::History;
+use crate::next_numbers::NextNumbers;
 use crate::progress::{Counts, Progress, Tables};
 use crate::waiting::next_signal;
 use sig_base::Steps;
@@ -61,9 +62,9 @@ impl Model for Process {
 }
 
 /// A process that has done nothing, with these tables and first numbers.
-fn before_all(alloc: Global, tables: Tables, next_numbers: Vec<u64>) -> Progress
+fn before_all(alloc: Global, tables: Tables, next_numbers: NextNumbers) -> Progress
     ensures running { (pid count turns : ℕ) (proc : Declared) → tables_of tables ≡ opening_tables pid
-        → next_numbers.items ≡ replicate count 1 → running_of pid count turns proc result ≡ opened pid count turns proc }
+        → next_numbers ≡ replicate count 1 → running_of pid count turns proc result ≡ opened pid count turns proc }
     ensures tables { result.tables ≡ tables }
 {
     let counts = Counts {
@@ -92,7 +93,7 @@ fn beginning(alloc: Global, pid: Pid, count: u32) -> Result<Progress, AllocError
         → running_of pid.0 count turns proc p ≡ opened pid.0 count turns proc) }
     ensures queue { IfOk result (λ p. p.tables.inner.queue ≡ no_queue pid.0) }
 {
-    let numbers = vec![in alloc; 1; count as usize]?;
+    let numbers = NextNumbers::first(alloc, count)?;
     let tables = Tables::open(alloc, pid)?;
     Ok(before_all(alloc, tables, numbers))
 }

@@ -8,6 +8,7 @@ ghost use Rattle.sig_process.specs.Progressing.{tables_of, state_of, HaveRoom};
 
 use crate::changing::Growing;
 use crate::history::History;
+use crate::next_numbers::NextNumbers;
 use crate::plan::Outgoing;
 use crate::telling::{Tells, tell_all};
 use sig_inner::Inner;
@@ -96,7 +97,7 @@ pub(crate) struct Counts {
     /// The serial of the next reference that it makes.
     pub next_serial: u64,
     /// The next number for each peer, by pid.
-    pub next_numbers: Vec<u64>,
+    pub next_numbers: NextNumbers,
 }
 
 /// The part of a process that its events change.

@@ -4,6 +4,7 @@ ghost use Rattle.std.specs.Prelude.{◌≡◌, ◌++◌, [], ◌∷◌, length, 
 ghost use Rattle.sig_model.specs.Accounts.{Continues};
 ghost use Rattle.sig_model.specs.Keeping.{IsArriving, IsLeaving};
 ghost use Rattle.sig_process.specs.Arrivals.{IsArrival};
+ghost use Rattle.sig_process.specs.SentTo.{AreFirstOutside};
 
 use crate::process::Process;
 use sig_kinds::{Push, Signal, Signals};
@@ -30,10 +31,15 @@ impl Process {
     pub fn next_number(&self, to: Pid) -> u64
         ensures { result ≡ slice_index self.now.running.state.counts.next_numbers to.0 }
     {
-        match self.progress.counts.next_numbers.get(to.0 as usize) {
-            None => 0,
-            Some(next) => *next,
-        }
+        self.progress.counts.next_numbers.get(to)
+    }
+
+    /// Two pids. The next signal to each process below the first, and to each from the second on, has
+    /// the number 1.
+    pub fn sent_between(&self) -> (usize, usize)
+        ensures { AreFirstOutside result.0 result.1 self.now.running.state.counts.next_numbers }
+    {
+        self.progress.counts.next_numbers.sent_between()
     }
 
     /// A signal of another process joins those that wait for this one. Where there is no memory for

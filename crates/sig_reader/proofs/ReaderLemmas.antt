@@ -12,11 +12,7 @@ use Rattle.sig_tokens.specs.Faults.{Fault}
 use Rattle.sig_tokens.specs.Lines.{lines_of}
 use Rattle.sig_tokens.specs.Tokens.{tokens_of}
 use Rattle.sig_reader.specs.Grammar.{at_line, finished, line_taken, body, header_of, script_behind, script_of_lines}
-use Rattle.sig_tokens.proofs.LineLemmas.{first_of, rest_at, lines-step, lines-whole, nonempty}
-
-front : (at : ℕ) (bytes line : List ℕ) → at < length bytes → line ≡ first_of (rest_at at bytes) →
-    lines_of (drop at bytes) ≡ line ∷ lines_of (drop (at + (length line + 1)) bytes)
-front at bytes line lt is = lines-step at bytes lt ∙ ap (λ (xs : List ℕ). xs ∷ lines_of (drop (at + (length xs + 1)) bytes)) (sym is)
+use Rattle.sig_tokens.proofs.LineLemmas.{first_of, rest_at, line-front, lines-whole, nonempty}
 
 -- a line that is taken
 pub step_taken : (known : Known) (n at : ℕ) (bytes line : List ℕ) (d e : Draft) (v : Result Program Fault) →
@@ -26,7 +22,7 @@ unfolding body
 step_taken known n at bytes line d e v lt is taken whole =
     let next : List (List ℕ) = lines_of (drop (at + (length line + 1)) bytes) in
     let one : body known n d (line ∷ next) ≡ body known (n + 1) e next = rw taken refl in
-    sym one ∙ ap (λ (ls : List (List ℕ)). body known n d ls) (sym (front at bytes line lt is)) ∙ whole
+    sym one ∙ ap (λ (ls : List (List ℕ)). body known n d ls) (sym (line-front at bytes line lt is)) ∙ whole
 
 -- a line that is refused
 pub step_refused : (known : Known) (n at : ℕ) (bytes line : List ℕ) (d : Draft) (kind : FaultKind) (v : Result Program Fault) →
@@ -36,7 +32,7 @@ unfolding body
 step_refused known n at bytes line d kind v lt is taken whole =
     let next : List (List ℕ) = lines_of (drop (at + (length line + 1)) bytes) in
     let one : body known n d (line ∷ next) ≡ at_line n kind = rw taken refl in
-    sym (sym one ∙ ap (λ (ls : List (List ℕ)). body known n d ls) (sym (front at bytes line lt is)) ∙ whole)
+    sym (sym one ∙ ap (λ (ls : List (List ℕ)). body known n d ls) (sym (line-front at bytes line lt is)) ∙ whole)
 
 -- no line is left
 pub lines_end : (known : Known) (n at : ℕ) (bytes : List ℕ) (d : Draft) (v : Result Program Fault) → length bytes ≤ at →

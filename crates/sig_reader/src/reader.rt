@@ -25,8 +25,8 @@ use sig_lists::Sequence;
 use sig_program::{Proc, Procs, Script, Version};
 use sig_terms::bytes::equal_bytes;
 use sig_tokens::{
-    DraftScript, FaultKind, Known, Line, ProcTable, Stop, TokenKind, first_line, read_tokens,
-    spells_one, spells_two,
+    DraftScript, FaultKind, Known, Line, ProcTable, Stop, TokenKind, check_cut, cut_line,
+    first_line, spells_one, spells_two,
 };
 use std::alloc::{AllocError, Global};
 use std::error::Error;
@@ -138,15 +138,15 @@ fn read_version(line: &Line) -> Option<Version>
     }
 }
 
-/// The version that the line tells. `None` exactly where it isn't the header.
-fn read_header(alloc: Global, text: &[u8]) -> Result<Option<Version>, AllocError>
+/// The version that the first line of a script tells. `None` exactly where the line isn't the header.
+/// The only error is want of memory. (The language of scripts is this project's own.)
+pub fn read_header(alloc: Global, text: &[u8]) -> Result<Option<Version>, AllocError>
     ensures { IfOk result (λ version. version ≡ header_of (tokens_of One text.now) text.now) }
 {
-    let mut tokens = Sequence::new(alloc);
-    match read_tokens(alloc, Version::One, &mut tokens, text) {
-        Ok(()) => Ok(read_version(&Line::new(text, tokens.as_slice()))),
-        Err(Stop::Fault(_)) => Ok(None),
-        Err(Stop::Memory) => Err(AllocError),
+    let cut = cut_line(alloc, text, Version::One)?;
+    match check_cut(text, cut) {
+        Ok(tokens) => Ok(read_version(&Line::new(text, tokens.as_slice()))),
+        Err(_) => Ok(None),
     }
 }
 

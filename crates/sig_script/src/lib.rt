@@ -10,5 +10,5 @@ pub use sig_program::{
     After, DEFAULT_TURNS, Instr, Instrs, Label, Labels, MOST_PROCESSES, MOST_TURNS, Proc, Procs,
     Script, Version,
 };
-pub use sig_reader::{MOST_BYTES, ScriptError, read_script};
-pub use sig_tokens::FaultKind;
+pub use sig_reader::{MOST_BYTES, ScriptError, read_header, read_script};
+pub use sig_tokens::{Cut, FaultKind, Sign, Token, TokenKind, Tokens, cut_line, expression_end};

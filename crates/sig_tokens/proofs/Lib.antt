@@ -6,3 +6,5 @@ pub mod LineLemmas
 pub mod PlaceLemmas
 pub mod PhraseLemmas
 pub mod NestLemmas
+pub mod OrderLemmas
+pub mod SkipLemmas

@@ -66,6 +66,11 @@ lines-step at bytes lt =
     let whole : Q (drop at bytes) = front ∙ ap (λ (xs : List ℕ). first_of (drop at bytes) ∷ lines_of xs) (drop-drop (length (first_of (drop at bytes)) + 1) at bytes) in
     subst Q (sym (take_rest bytes at)) whole
 
+-- a line at the front of the rest, and the lines behind it
+pub line-front : (at : ℕ) (bytes line : List ℕ) → at < length bytes → line ≡ first_of (rest_at at bytes) →
+    lines_of (drop at bytes) ≡ line ∷ lines_of (drop (at + (length line + 1)) bytes)
+line-front at bytes line lt is = lines-step at bytes lt ∙ ap (λ (xs : List ℕ). xs ∷ lines_of (drop (at + (length xs + 1)) bytes)) (sym is)
+
 -- a line with its line feed
 pub line-within : (at : ℕ) (line bytes : List ℕ) → at < length bytes → length line ≤ length (rest_at at bytes) → at + (length line + 1) ≤ length bytes + 1
 line-within at line bytes lt le = omega (arith, le, ap length (take_rest bytes at), length-drop {A = ℕ} at bytes)

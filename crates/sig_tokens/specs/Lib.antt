@@ -6,6 +6,7 @@ pub mod Signs
 pub mod Names
 pub mod Phrases
 pub mod Expressions
+pub mod Skipping
 pub mod PatternTexts
 pub mod NamePlaces
 pub mod FaultWords

@@ -1,5 +1,5 @@
 -- The tokens of a line, cut from left to right, each as long as possible.
-use Rattle.std.specs.Prelude.{◌≡◌, ◌≤◌, ℕ, zero, suc, ◌+◌, ◌-◌, List, [], ◌∷◌, length, take_while, Bool, true, ◌||◌, nat_le, ◌==◌, if◌then◌else◌, Option, Some, None, is_some, Result, Ok, Err, drop, slice_range}
+use Rattle.std.specs.Prelude.{◌≡◌, ◌≤◌, ℕ, zero, suc, ◌+◌, ◌-◌, List, [], ◌∷◌, length, take_while, Bool, true, ◌||◌, nat_le, ◌==◌, if◌then◌else◌, Option, Some, None, is_some, Result, Ok, Err, drop, slice_range, AllPairs}
 use Rattle.std.specs.List.{list_all}
 use Rattle.sig_terms.specs.Words.{is_lower, is_upper, is_digit, is_name_byte, is_variable_byte, is_atom_byte, is_token, is_name, is_variable, is_atom}
 use Rattle.sig_tokens.specs.declared.fault.FaultKind.{FaultKind}
@@ -164,6 +164,10 @@ IsToken line t = (t.start ≤ t.end) × (t.end ≤ length line) × IsSpelled t.k
 abbrev pub AreTokens : List ℕ → List Token → Type 0
 AreTokens line [] = Unit {0}
 AreTokens line (t ∷ ts) = IsToken line t × AreTokens line ts
+
+-- no token begins before one that stands to its left
+abbrev pub AreRising : List Token → Type 0
+AreRising tokens = AllPairs (λ (t u : Token). t.start ≤ u.start) tokens
 
 -- a token that isn't refused by itself
 abbrev pub IsWellSpelled : List ℕ → Token → Type 0

@@ -11,7 +11,7 @@ ghost use Rattle.std.specs.Prelude.{
 };
 ghost use Rattle.std.specs.List.{list_all};
 ghost use Rattle.sig_tokens.specs.Faults.{Gives};
-ghost use Rattle.sig_tokens.specs.Tokens.{AreTokens, IsToken, AreWellSpelled, Splits, is_token_in_range, cut_of, text, tokens_of};
+ghost use Rattle.sig_tokens.specs.Tokens.{AreTokens, IsToken, AreWellSpelled, AreRising, Splits, checked, is_token_in_range, cut_of, text, tokens_of};
 
 use crate::fault::{FaultKind, Stop};
 use crate::number::fits_in_range;
@@ -105,7 +105,7 @@ pub fn first_line(bytes: &[u8]) -> &[u8]
 }
 
 /// The tokens of a line up to the first place at which none stands, in the room of an empty list.
-fn cut_line(version: Version, room: Tokens, line: &[u8]) -> Result<Cut, AllocError>
+fn cut_into(version: Version, room: Tokens, line: &[u8]) -> Result<Cut, AllocError>
     requires { room ≡ [] }
     ensures cut { IfOk result (λ cut. cut ≡ cut_of version 0 0 line.now) }
     ensures known { IfOk result (λ cut. AreTokens line.now cut.tokens) }
@@ -137,7 +137,22 @@ fn cut_line(version: Version, room: Tokens, line: &[u8]) -> Result<Cut, AllocErr
     Ok(Cut { tokens, stop: None })
 }
 
-fn text_of(line: &[u8], token: Token) -> &[u8]
+/// The tokens of a line of a script of this version, up to the first place at which no token stands. An
+/// integer outside 64 bits is a token too. The only error is want of memory. (The tokens are this
+/// project's own.)
+pub fn cut_line(alloc: Global, line: &[u8], version: Version) -> Result<Cut, AllocError>
+    ensures cut { IfOk result (λ cut. cut ≡ cut_of version 0 0 line.now) }
+    ensures known { IfOk result (λ cut. AreTokens line.now cut.tokens) }
+    ensures rising { IfOk result (λ cut. AreRising cut.tokens) }
+{
+    cut_into(version, Sequence::new(alloc), line)
+}
+
+/// The bytes of a token.
+///
+/// Asks that the token lies in the line and is spelled as its kind says, as those that [`cut_line`]
+/// gives.
+pub fn text_of(line: &[u8], token: Token) -> &[u8]
     requires { IsToken line.now token }
     ensures { result.now ≡ text line.now token }
 {
@@ -168,6 +183,24 @@ fn all_fit(line: &[u8], tokens: &[Token]) -> bool
     true
 }
 
+/// The tokens of a cut, or what is wrong with them.
+///
+/// Asks that each token lies in the line and is spelled as its kind says, as those that [`cut_line`]
+/// gives.
+pub fn check_cut(line: &[u8], cut: Cut) -> Result<Tokens, FaultKind>
+    requires { AreTokens line.now cut.tokens }
+    ensures tokens { result ≡ checked line.now cut }
+    ensures spelled { IfOk result (λ tokens. AreWellSpelled line.now tokens) }
+{
+    if !all_fit(line, cut.tokens.as_slice()) {
+        return Err(FaultKind::IntRange);
+    }
+    if cut.stop.is_some() {
+        return Err(FaultKind::Syntax);
+    }
+    Ok(cut.tokens)
+}
+
 /// The tokens of a line of a script of this version, or what is wrong with them. They replace those
 /// in the list, whose room is used again.
 pub fn read_tokens(
@@ -181,13 +214,12 @@ pub fn read_tokens(
 {
     let mut room = replace(into, Sequence::new(alloc)).into_vec();
     room.clear();
-    let cut = cut_line(version, Sequence::from_vec(room), line)?;
-    if !all_fit(line, cut.tokens.as_slice()) {
-        return Err(Stop::Fault(FaultKind::IntRange));
+    let cut = cut_into(version, Sequence::from_vec(room), line)?;
+    match check_cut(line, cut) {
+        Ok(tokens) => {
+            *into = tokens;
+            Ok(())
+        }
+        Err(kind) => Err(Stop::Fault(kind)),
     }
-    if cut.stop.is_some() {
-        return Err(Stop::Fault(FaultKind::Syntax));
-    }
-    *into = cut.tokens;
-    Ok(())
 }

@@ -24,3 +24,4 @@ pub mod Begins
 pub mod RoundsLemmas
 pub mod CloseLemmas
 pub mod Sends
+pub mod ColumnLemmas

@@ -12,7 +12,7 @@ use Rattle.sig_layout.specs.declared.opening.Opening.{Opening}
 use Rattle.sig_layout.specs.declared.knows.Knows.{Knows}
 use Rattle.sig_layout.specs.Policies.{ruled, IsPolicy}
 use Rattle.sig_layout.specs.Openings.{IsSetup}
-use Rattle.sig_layout.specs.Sets.{has}
+use Rattle.sig_layout.specs.Sets.{has, minus}
 use Rattle.sig_layout.specs.Sent.{putter, keep}
 use Rattle.sig_layout.specs.Views.{left_of, right_of}
 use Rattle.sig_layout.proofs.Members.{has_minus}
@@ -57,37 +57,24 @@ in_one first s = elim (eqb_tells first s) [
     stop true y h = h refl
     stop false y h = refl
 
--- one more process, which is not the one left out
-pub more_in : (first at but s : ℕ) (has more : Bool) → has ≡ (is_in first at s && not (s == but)) → more ≡ (has || (first + at == s)) → first + at ≢ but → more ≡ (is_in first (at + 1) s && not (s == but))
-more_in first at but s has more h m ne =
-    m ∙ ap (λ z. z || (first + at == s)) h ∙ step (is_in first at s) (first + at == s) (not (s == but)) (other (eqb_tells (first + at) s))
-    ∙ ap (λ z. z && not (s == but)) (sym (in_both first at 1 s ∙ ap (λ z. is_in first at s || z) (in_one (first + at) s)))
-  where
-    other : (((first + at == s) ≡ true) × (first + at ≡ s)) ⊎ (((first + at == s) ≡ false) × (first + at ≢ s)) → (first + at == s) ≡ true → not (s == but) ≡ true
-    other (inl e) q = ap (λ z. not z) (ne_eqb s but (λ k. ne (e.1 ∙ k)))
-    other (inr e) q = (let f : true ≡ false = sym q ∙ e.0 in absurd cc)
+pub eqb_sym : (a b : ℕ) → (a == b) ≡ (b == a)
+eqb_sym a b = elim (eqb_tells a b) [
+  | inl e ↦ e.0 ∙ sym (eq-eqb b a (sym e.1))
+  | inr e ↦ e.0 ∙ sym (ne_eqb b a (λ q. e.1 (sym q)))
+]
 
-    step : (a b c : Bool) → (b ≡ true → c ≡ true) → ((a && c) || b) ≡ ((a || b) && c)
-    step true true c h = rw (h refl) refl
-    step true false true h = refl
-    step true false false h = refl
-    step false true c h = sym (h refl)
-    step false false c h = refl
+-- one more process
+pub more_in : (first at s : ℕ) (has more : Bool) → has ≡ is_in first at s → more ≡ (has || (s == first + at)) → more ≡ is_in first (at + 1) s
+more_in first at s has more h m =
+    m ∙ ap (λ z. z || (s == first + at)) h ∙ ap (λ z. is_in first at s || z) (eqb_sym s (first + at) ∙ sym (in_one (first + at) s)) ∙ sym (in_both first at 1 s)
 
--- the one that is left out
-pub left_out : (first at but s : ℕ) (has : Bool) → has ≡ (is_in first at s && not (s == but)) → first + at ≡ but → has ≡ (is_in first (at + 1) s && not (s == but))
-left_out first at but s has h e =
-    h ∙ step (is_in first at s) (first + at == s) (not (s == but)) (mine (eqb_tells (first + at) s))
-    ∙ ap (λ z. z && not (s == but)) (sym (in_both first at 1 s ∙ ap (λ z. is_in first at s || z) (in_one (first + at) s)))
-  where
-    mine : (((first + at == s) ≡ true) × (first + at ≡ s)) ⊎ (((first + at == s) ≡ false) × (first + at ≢ s)) → (first + at == s) ≡ true → not (s == but) ≡ false
-    mine (inl k) q = ap (λ z. not z) (eq-eqb s but (sym k.1 ∙ e))
-    mine (inr k) q = (let f : true ≡ false = sym q ∙ k.0 in absurd cc)
+-- a set less one
+pub all_but : (set one : List ℕ) (but s : ℕ) → has one s ≡ (s == but) → has (minus set one) s ≡ (has set s && not (s == but))
+all_but set one but s h = has_minus set one s ∙ ap (λ z. has set s && not z) h
 
-    step : (a b c : Bool) → (b ≡ true → c ≡ false) → (a && c) ≡ ((a || b) && c)
-    step true b c h = refl
-    step false true c h = sym (h refl)
-    step false false c h = refl
+-- processes but for one
+pub part_but : (set : List ℕ) (first count but s : ℕ) (given : Bool) → has set s ≡ is_in first count s → given ≡ (has set s && not (s == but)) → given ≡ (is_in first count s && not (s == but))
+part_but set first count but s given h g = g ∙ ap (λ z. z && not (s == but)) h
 
 -- what is split off is part of what there is
 pub in_tail : (first count s : ℕ) → is_in first count s ≡ true → is_in 0 (first + count) s ≡ true
@@ -191,12 +178,6 @@ module _ (q : Queue) (first count p : ℕ) (given : List ℕ) (role : Bool) (v w
     put = ap (λ (z : Knows). z.put) l ∙ ap (λ z. keep putter (has given) z) f.put;
     taken = ap (λ (z : Knows). z.taken) l ∙ none_given _ role v.knows.taken f.taken;
   }
-
-pub eqb_sym : (a b : ℕ) → (a == b) ≡ (b == a)
-eqb_sym a b = elim (eqb_tells a b) [
-  | inl e ↦ e.0 ∙ sym (eq-eqb b a (sym e.1))
-  | inr e ↦ e.0 ∙ sym (ne_eqb b a (λ q. e.1 (sym q)))
-]
 
 pub some_at : {X : Type 0} (xs : List X) (p : ℕ) → p < length xs → (x : X) × (slice_get xs p ≡ Some x)
 some_at [] p h = absurd (let f : ⊥ = omega (arith, h) in f)

@@ -5,6 +5,7 @@ pub mod Visits
 pub mod Acting
 pub mod Parts
 pub mod Opening
+pub mod Columns
 pub mod Rows
 pub mod Closing
 pub mod Rounds

@@ -1,11 +1,13 @@
 //! A crew and its seats are cut into the workers' parts.
-ghost use Rattle.std.specs.Prelude.{◌≡◌, ◌≤◌, ◌<◌, ◌+◌, ◌-◌, length, take, drop, vec_len, Some, All, IfOk, OnOk};
+ghost use Rattle.std.specs.Prelude.{◌≡◌, ◌≤◌, ◌<◌, ◌+◌, ◌-◌, ℕ, length, take, drop, vec_len, Some, All, IfOk, OnOk};
+ghost use Rattle.sig_layout.specs.Sets.{has};
 ghost use Rattle.sig_workers.specs.Parts.{is_in};
 ghost use Rattle.sig_workers.specs.Opening.{IsFreshSeat, AreFresh};
 ghost use Rattle.sig_workers.specs.Rows.{FreshRow};
 
-use crate::opening::senders_but;
+use crate::opening::{senders_but, senders_of};
 use crate::part::{Base, Part};
+use sig_layout::Senders;
 use sig_process::Process;
 use sig_queue::{QSeat, SigQueue};
 use std::alloc::{AllocError, Global};
@@ -21,15 +23,24 @@ fn has_process(first: u32, count: u32, pid: u32) -> bool
     (first <= pid) & (pid < first + count)
 }
 
-/// Splits the processes from this one on off from a seat that has all.
-fn cut_one(queue: &SigQueue, seat: &mut QSeat, first: u32, count: u32, at: u32) -> QSeat
+/// Splits the processes from this one on off from a seat that has all. The set has their pids.
+fn cut_one(
+    queue: &SigQueue,
+    seat: &mut QSeat,
+    part: Senders,
+    first: u32,
+    count: u32,
+    at: u32,
+) -> QSeat
     requires few { first + count ≤ 256 }
+    requires part { (s : ℕ) → has part s ≡ is_in first count s }
+    requires within { at < 256 }
     requires fresh { IsFreshSeat queue.now 0 (first + count) at seat.old }
     ensures left { IsFreshSeat queue.now 0 first at seat.new }
     ensures right { IsFreshSeat queue.now first count at result }
 {
     let receiver = has_process(first, count, at);
-    queue.split(seat, senders_but(first, count, at), receiver)
+    queue.split(seat, senders_but(part, at), receiver)
 }
 
 /// Splits the processes from this one on off from the seats that have all. The error is want of
@@ -47,9 +58,10 @@ pub(crate) fn cut_seats(
     ensures left { OnOk result (AreFresh queues.now 0 first seats.new.items) }
     ensures right { IfOk result (λ others. AreFresh queues.now first count others.items) }
 {
+    let part = senders_of(first, count);
     let mut others = Vec::new(alloc);
     for at in 0..queues.len() {
-        let other = cut_one(&queues[at], &mut seats[at], first, count, at as u32);
+        let other = cut_one(&queues[at], &mut seats[at], part, first, count, at as u32);
         others.push(other)?;
     }
     Ok(others)

@@ -3,6 +3,7 @@
 
 mod arriving;
 mod closing;
+mod columns;
 mod cutting;
 mod fetching;
 mod first;

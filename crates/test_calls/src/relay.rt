@@ -21,15 +21,14 @@ use std::thread;
 use std::thread::Threads;
 
 // Four processes, the first of which receives, and each sender's numbers are from 1 on.
-fn opening(alloc: Global) -> Result<Opening, AllocError>
-    ensures { IfOk result (λ o. IsOfFour o) }
+fn opening(alloc: Global) -> Opening
+    ensures { IsOfFour result }
 {
-    let first = vec![in alloc; 1u64, 1, 1, 1]?;
-    Ok(Opening {
+    Opening {
         receiver: Pid(0),
         count: 4,
-        first: Numbers::from_vec(first),
-    })
+        first: Numbers::ones(alloc, 4),
+    }
 }
 
 // A queue for these processes, and its first seat.
@@ -38,7 +37,7 @@ fn opened(alloc: Global, policy: Policy, senders: Senders) -> Result<(SigQueue, 
     requires senders { (s : ℕ) → has senders s ≡ true → s < 4 }
     ensures { IfOk result (λ r. IsFresh r.0 senders r.1) }
 {
-    let opening = opening(alloc)?;
+    let opening = opening(alloc);
     SigQueue::open(alloc, policy, QueueData::OffHeap, senders, &opening)
 }
 
@@ -47,7 +46,7 @@ fn opened_on_heap(alloc: Global, senders: Senders) -> Result<(SigQueue, QSeat), 
     requires { (s : ℕ) → has senders s ≡ true → s < 4 }
     ensures { IfOk result (λ r. IsFresh r.0 senders r.1) }
 {
-    let opening = opening(alloc)?;
+    let opening = opening(alloc);
     SigQueue::open(alloc, Policy::Always, QueueData::OnHeap, senders, &opening)
 }
 
@@ -102,7 +101,7 @@ fn two_threads<R: Threads + Wait + Sync>(
 ) -> Result<bool, AllocError>
     requires { IsPolicy policy }
 {
-    let opening = opening(alloc)?;
+    let opening = opening(alloc);
     let three = Pid(3);
     let serials = hundred_serials();
     let relayed = relay(

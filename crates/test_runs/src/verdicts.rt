@@ -1,7 +1,10 @@
 //! The verdict on records, and their choices made once more.
 
 use crate::runs::{ONE_MESSAGE, ONE_MESSAGE_RECORD};
+use crate::watches::WATCHES;
+use crate::whole::text_of;
 use sig_check::{Replaying, Verdict, check, replay};
+use sig_model::{Origin, Origins};
 use sig_record::{Record, read_record};
 use sig_script::read_script;
 use std::alloc::Global;
@@ -35,7 +38,7 @@ fn record_again(alloc: Global) -> Option<Record> {
     let script = read_script(alloc, ONE_MESSAGE).ok()?;
     let record = read_record(alloc, ONE_MESSAGE_RECORD).ok()?;
     match replay(alloc, &script, &record).ok()? {
-        Replaying::Replayed { crew } => Record::gather(alloc, crew).ok(),
+        Replaying::Replayed { crew, .. } => Record::gather(alloc, crew).ok(),
         Replaying::Stopped { .. } => None,
     }
 }
@@ -48,6 +51,79 @@ fn is_replayed(alloc: Global) -> bool {
     }
 }
 
+/// Which event sent each signal of the script of one message.
+const ONE_MESSAGE_SENT: &[[u64; 4]] = &[[0, 1, 1, 1]];
+
+/// A process with two messages to itself, and its record.
+const OWN: (&[u8], &[u8]) = (
+    b"process r\nsend @r a\nsend @r b\nreceive\non b\non a\nend\n",
+    b"process 0 r\n1 exec 1 sent <0> a\n2 from 0 1 kept a\n3 exec 2 sent <0> b\n4 from 0 2 kept b\n\
+      5 exec 3 took 2 1 a\n6 exec 4 ended normal\nstate ended normal\n",
+);
+
+const OWN_SENT: &[[u64; 4]] = &[[0, 0, 1, 1], [0, 0, 2, 3]];
+
+/// Places of examples of monitors and aliases, and which event sent each of their signals: its sender,
+/// its receiver, its number and the event.
+static SENT: [(usize, &[[u64; 4]]); 3] = [
+    // A reply alias is sent to twice.
+    (0, &[[0, 1, 1, 2], [1, 0, 1, 3], [1, 0, 2, 4]]),
+    // The monitor is the first signal, and given up when the reply is handled.
+    (2, &[[0, 1, 1, 1], [0, 1, 2, 2], [1, 0, 1, 4], [0, 1, 3, 3]]),
+    // Who ends tells of a link and of two monitors at one event.
+    (
+        4,
+        &[
+            [1, 0, 1, 2],
+            [1, 0, 2, 3],
+            [1, 0, 3, 4],
+            [0, 1, 1, 8],
+            [0, 1, 2, 8],
+            [0, 1, 3, 8],
+        ],
+    ),
+];
+
+/// Whether the origin is of these numbers.
+fn is_of(origin: &Origin, numbers: &[u64; 4]) -> bool {
+    let [from, to, number, event] = *numbers;
+    origin.from.0 as u64 == from
+        && origin.to.0 as u64 == to
+        && origin.number == number
+        && origin.event == event
+}
+
+/// Whether the origins are these.
+fn are_these(origins: &Origins, sent: &[[u64; 4]]) -> bool {
+    if origins.len() != sent.len() {
+        return false;
+    }
+    for (origin, numbers) in origins.as_slice().iter().zip(sent) {
+        if !is_of(origin, numbers) {
+            return false;
+        }
+    }
+    true
+}
+
+/// Whether a replay of this record of this script tells these origins.
+fn are_told(alloc: Global, script: &[u8], record: &[u8], sent: &[[u64; 4]]) -> Option<bool> {
+    let script = read_script(alloc, script).ok()?;
+    let record = read_record(alloc, record).ok()?;
+    match replay(alloc, &script, &record).ok()? {
+        Replaying::Replayed { origins, .. } => Some(are_these(&origins, sent)),
+        Replaying::Stopped { .. } => None,
+    }
+}
+
+/// The same of a script and a record without their first lines.
+fn are_told_of(alloc: Global, example: (&[u8], &[u8]), sent: &[[u64; 4]]) -> Option<bool> {
+    let (script, record) = example;
+    let script = text_of(alloc, &[(b"sigscript 1\n", 1), (script, 1)]).ok()?;
+    let record = text_of(alloc, &[(b"sigrecord 1\n", 1), (record, 1)]).ok()?;
+    are_told(alloc, script.as_slice(), record.as_slice(), sent)
+}
+
 #[test]
 fn records_have_their_verdicts(rt: HostRuntime) {
     for (text, verdict) in &VERDICTS {
@@ -56,4 +132,17 @@ fn records_have_their_verdicts(rt: HostRuntime) {
     }
     let replayed = is_replayed(rt.alloc());
     assert!(rt; replayed);
+}
+
+#[test]
+fn signals_have_their_origins(rt: HostRuntime) {
+    let alloc = rt.alloc();
+    let one = are_told(alloc, ONE_MESSAGE, ONE_MESSAGE_RECORD, ONE_MESSAGE_SENT);
+    assert!(rt; one == Some(true));
+    let own = are_told_of(alloc, OWN, OWN_SENT);
+    assert!(rt; own == Some(true));
+    for (at, sent) in &SENT {
+        let told = are_told_of(alloc, WATCHES[*at], sent);
+        assert!(rt; told == Some(true), "{at}");
+    }
 }

@@ -13,10 +13,10 @@ invariant-loop-post l =
     let rest = map post_of (into_iter_items l.post-iterator) in
     let all = map post_of l.fn.posts.items in
     record {
-      numbers : numbers_after l.numbers.items rest ≡ numbers_after l.fn.numbers.items all;
-      low : (peer : ℕ) → slice_index l.numbers.items peer + posts_to peer rest < 2 ^ 63;
-      own : l.own.items ++ to_itself l.pid.0 (numbered l.pid.0 l.stamp l.numbers.items rest) ≡ l.fn.own.items ++ to_itself l.pid.0 (numbered l.pid.0 l.stamp l.fn.numbers.items all);
-      outbox : l.outbox.items ++ to_others l.pid.0 (numbered l.pid.0 l.stamp l.numbers.items rest) ≡ l.fn.outbox.items ++ to_others l.pid.0 (numbered l.pid.0 l.stamp l.fn.numbers.items all);
+      numbers : numbers_after l.numbers rest ≡ numbers_after l.fn.numbers all;
+      low : (peer : ℕ) → slice_index l.numbers peer + posts_to peer rest < 2 ^ 63;
+      own : l.own.items ++ to_itself l.pid.0 (numbered l.pid.0 l.stamp l.numbers rest) ≡ l.fn.own.items ++ to_itself l.pid.0 (numbered l.pid.0 l.stamp l.fn.numbers all);
+      outbox : l.outbox.items ++ to_others l.pid.0 (numbered l.pid.0 l.stamp l.numbers rest) ≡ l.fn.outbox.items ++ to_others l.pid.0 (numbered l.pid.0 l.stamp l.fn.numbers all);
       own_room : length (into_iter_items l.post-iterator) ≤ l.own.spare;
       outbox_room : length (into_iter_items l.post-iterator) ≤ l.outbox.spare;
     }

@@ -9,6 +9,9 @@ use Rattle.sig_layout.specs.Views.{table_from}
 use Rattle.sig_layout.proofs.Putting.{length_table}
 use Rattle.sig_queue.specs.Tied.{list_or}
 use Rattle.sig_queue.proofs.Ending.{at_or, table_more, no_table, emptied_set}
+use Rattle.sig_layout.specs.declared.layout.TheConstants.{BUFFERS}
+use Rattle.sig_queue.proofs.Bodies.{Keeps, up_to}
+use Rattle.sig_queue.proofs.close.take_lists.Code as code
 use Rattle.sig_queue.proofs.close.take_lists.Goals as goal
 
 pub loop-buffer-init : goal.loop-buffer-init
@@ -43,3 +46,6 @@ loop-buffer-preserved c = let inv = c.loop-buffer.invariant in let t = c.take_on
       lists = pushed ∙ (ap (λ (l : List (List Signal)). l ++ c.take_one-list.result ∷ []) inv.lists ∙ (ap (λ (x : List Signal). table_from 1 b f ++ x ∷ []) is ∙ (table_more 1 b f ∙ ap (λ (n : ℕ). table_from 1 n f) (let e : suc b ≡ b + 1 = omega arith in e))));
       room = search rules;
     }
+
+code_keeps : Keeps (up_to BUFFERS ∷ []) code.function
+code_keeps = (refl, refl)

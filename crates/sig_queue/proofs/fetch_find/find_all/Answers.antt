@@ -1,9 +1,12 @@
-use Rattle.std.proofs.Common.{rules, ℕ, ◌+◌, ap, sym, ◌∙◌, subst, refl, Some}
+use Rattle.std.proofs.Common.{rules, ℕ, ◌+◌, ap, sym, ◌∙◌, subst, refl, Some, [], ◌∷◌}
 use Rattle.sig_layout.specs.declared.knows.Knows.{Knows}
 use Rattle.sig_queue.specs.declared.fetch_find.Caught.{Caught}
 use Rattle.sig_queue.specs.Tied.{Held}
 use Rattle.sig_queue.specs.Fetching.{Finding}
 use Rattle.sig_queue.proofs.Fetches.{finding_starts, finding_past}
+use Rattle.sig_layout.specs.declared.layout.TheConstants.{BUFFERS}
+use Rattle.sig_queue.proofs.Bodies.{Keeps, up_to}
+use Rattle.sig_queue.proofs.fetch_find.find_all.Code as code
 use Rattle.sig_queue.proofs.fetch_find.find_all.Goals as goal
 use Rattle.sig_queue.proofs.fetch_find.find_all.Goals.{then-has_bit, else-has_bit}
 
@@ -27,3 +30,6 @@ loop-buffer-preserved c = let inv = c.loop-buffer.invariant in let b = c.require
     found = subst (λ (t : Held × Caught). Finding v c.args.bits (k + 1) t.0 t.1) (λ i. ((sym w.place-is i).me, sym w.found-is i)) f;
   }
 ]
+
+code_keeps : Keeps (up_to BUFFERS ∷ []) code.function
+code_keeps = (refl, refl)

@@ -1,4 +1,4 @@
-use Rattle.std.proofs.Common.{◌≡◌, ℕ, ◌+◌, ◌∷◌, List, length, ap, sym, ◌∙◌, subst, arith, refl}
+use Rattle.std.proofs.Common.{◌≡◌, ℕ, ◌+◌, ◌∷◌, List, length, ap, sym, ◌∙◌, subst, arith, refl, []}
 use Rattle.std.specs.Prelude.{IfSome}
 use Rattle.atomic_table.specs.Table.{rest}
 use Rattle.sig_queue.specs.declared.slot.Slot.{Slot}
@@ -8,6 +8,8 @@ use Rattle.sig_layout.specs.declared.knows.Knows.{Knows}
 use Rattle.sig_queue.specs.Tied.{Held}
 use Rattle.sig_queue.specs.Fetching.{all_of}
 use Rattle.sig_queue.proofs.Fetches.{finding_apart, finding_few, finding_held, finding_skipped, same_front, total_more}
+use Rattle.sig_queue.proofs.Bodies.{Keeps}
+use Rattle.sig_queue.proofs.fetch_find.find_one.Code as code
 use Rattle.sig_queue.proofs.fetch_find.find_one.Goals as goal
 
 pub try_buffer-requires-clause-apart : goal.try_buffer-requires-clause-apart
@@ -34,3 +36,6 @@ returns-clause-finding c v n f bit blind = let t = c.try_buffer.ensures.took c.i
     let total = total_more c.args.found.now.total c.plus-found.result c.measure-length.result (length (all_of c.args.place.now.me.0.parts)) c.plus-found.ensures f.total in
     finding_held v n c.args.buffer c.args.place.now.me c.args.found.now f c.requires.table.2 t.0 _ _ bit (c.measure-length.ensures.still ∙ t.1) refl refl refl
     (subst (λ (x : ℕ). IfSome c.plus-found.result (λ s. s ≡ length (all_of c.args.place.now.me.0.parts) + x)) (m.2 ∙ ap length same) total) t.2
+
+code_keeps : Keeps [] code.function
+code_keeps = (refl, refl)

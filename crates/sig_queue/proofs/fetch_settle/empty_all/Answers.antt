@@ -1,10 +1,13 @@
-use Rattle.std.proofs.Common.{rules, ℕ, ◌+◌, sym, ◌∙◌, subst, arith}
+use Rattle.std.proofs.Common.{rules, ℕ, ◌+◌, sym, ◌∙◌, subst, arith, refl, [], ◌∷◌}
 use Rattle.sig_queue.specs.declared.slot.Slot.{Slot}
 use Rattle.sig_layout.specs.declared.knows.Knows.{Knows}
 use Rattle.sig_queue.specs.Tied.{Held}
 use Rattle.sig_queue.specs.Fetching.{Standing, Emptying}
 use Rattle.atomic_table.specs.declared.Seat.{Seat}
 use Rattle.sig_queue.proofs.Fetches.{front_of, standing_past}
+use Rattle.sig_layout.specs.declared.layout.TheConstants.{BUFFERS}
+use Rattle.sig_queue.proofs.Bodies.{Keeps, up_to}
+use Rattle.sig_queue.proofs.fetch_settle.empty_all.Code as code
 use Rattle.sig_queue.proofs.fetch_settle.empty_all.Goals as goal
 use Rattle.sig_queue.proofs.fetch_settle.empty_all.Goals.{then-has_bit, else-has_bit}
 
@@ -32,3 +35,6 @@ loop-buffer-preserved c = let inv = c.loop-buffer.invariant in let k : ℕ = c.l
     room = search rules;
   }
 ]
+
+code_keeps : Keeps (up_to BUFFERS ∷ []) code.function
+code_keeps = (refl, refl)

@@ -1,9 +1,11 @@
-use Rattle.std.proofs.Common.{ℕ, List, ◌++◌, ap, sym, ◌∙◌, subst, false, set}
+use Rattle.std.proofs.Common.{ℕ, List, ◌++◌, ap, sym, ◌∙◌, subst, false, set, refl, []}
 use Rattle.sig_kinds.specs.declared.signal.Signal.{Signal}
 use Rattle.sig_layout.specs.declared.knows.Knows.{Knows}
 use Rattle.sig_queue.specs.Tied.{Held}
 use Rattle.sig_queue.specs.Fetching.{all_of}
 use Rattle.sig_queue.proofs.Fetches.{front_of, standing_next, emptying_next, first_now, out_now, list_found, left_part_one, fits_one, room_one, moved_one}
+use Rattle.sig_queue.proofs.Bodies.{Keeps}
+use Rattle.sig_queue.proofs.fetch_settle.empty_one.Code as code
 use Rattle.sig_queue.proofs.fetch_settle.empty_one.Goals as goal
 
 pub bring_front-requires : goal.bring_front-requires
@@ -29,3 +31,6 @@ returns-clause-moved c = let s = c.requires.standing in let low = c.requires.tab
 
 pub returns-clause-room : goal.returns-clause-room
 returns-clause-room c = let s = c.requires.standing in let low = c.requires.table.2 in let me : Held = c.args.place.now.me in let k : ℕ = c.args.buffer in let f = front_of c.args.held k me c.args.count s.0 low s.1 in let m : Held = c.bring_front.new.place.me in let is = c.bring_front.ensures.round in let l : List Signal = c.take_list-list.result in let found = list_found me m k c.args.count f is l c.take_list-list.ensures.list in let t = left_part_one me m k c.args.count f is _ _ _ _ c.take_list-list.ensures.taken c.put_list.ensures.back c.leave_part.ensures.left in room_one me m k c.args.count f is l _ _ _ found (ap (λ (x : Held). x.0.parts) t) c.requires.room c.pour_into.ensures.room
+
+code_keeps : Keeps [] code.function
+code_keeps = (refl, refl)

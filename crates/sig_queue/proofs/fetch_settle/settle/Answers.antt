@@ -1,9 +1,11 @@
-use Rattle.std.proofs.Common.{◌≡◌, ◌∙◌, ◌+◌, ◌++◌, List, Some, length, length-append, append_assoc, ap, sym}
+use Rattle.std.proofs.Common.{◌≡◌, ◌∙◌, ◌+◌, ◌++◌, List, Some, length, length-append, append_assoc, ap, sym, refl, []}
 use Rattle.sig_kinds.specs.declared.signal.Signal.{Signal}
 use Rattle.sig_layout.specs.declared.outer.Outer.{Outer}
 use Rattle.sig_layout.specs.Outers.{emptied}
 use Rattle.sig_layout.specs.Views.{signals_of}
 use Rattle.sig_queue.specs.Fetching.{all_of}
+use Rattle.sig_queue.proofs.Bodies.{Keeps}
+use Rattle.sig_queue.proofs.fetch_settle.settle.Code as code
 use Rattle.sig_queue.proofs.fetch_settle.settle.Goals as goal
 
 pub finish-taken-requires-clause-standing : goal.finish-taken-requires-clause-standing
@@ -35,3 +37,6 @@ returns-clause-settled c =
       c.finish-taken.ensures.count ∙ c.in-Ok.ensures.count ∙ ap (λ n. length c.args.outer.signals + n) total ∙ sym (length-append c.args.outer.signals parts) ∙ ap (λ (z : List Signal). length (z ++ parts)) outer,
       c.finish-taken.ensures.finished,
     )
+
+code_keeps : Keeps [] code.function
+code_keeps = (refl, refl)

@@ -1,7 +1,9 @@
-use Rattle.std.proofs.Common.{◌≡◌, ◌+◌, sym, subst, inr}
+use Rattle.std.proofs.Common.{◌≡◌, ◌+◌, sym, subst, inr, refl, []}
 use Rattle.sig_layout.specs.declared.knows.Knows.{Knows}
 use Rattle.sig_layout.specs.Views.{number, IsSomebody}
 use Rattle.sig_queue.proofs.Offering.{offered_to_outer, no_buffer}
+use Rattle.sig_queue.proofs.Bodies.{Keeps}
+use Rattle.sig_queue.proofs.offer.offer_at.Code as code
 use Rattle.sig_queue.proofs.offer.offer_at.Goals as goal
 
 pub returns-in-Off-clause-offered : goal.returns-in-Off-clause-offered
@@ -18,3 +20,6 @@ returns-in-Busy-clause-offered c = let o = c.in-Busy.ensures.offered in (o.0, o.
 
 pub returns-in-Memory-clause-offered : goal.returns-in-Memory-clause-offered
 returns-in-Memory-clause-offered c = let o = c.in-Memory.ensures.offered in (o.0, inr o.1)
+
+code_keeps : Keeps [] code.function
+code_keeps = (refl, refl)

@@ -9,6 +9,8 @@ use Rattle.sig_queue.specs.declared.slot.Slot.TheVariants as slot
 use Rattle.sig_queue.specs.Parts.{first_part, IsOne}
 use Rattle.sig_queue.specs.Tied.{Held, list_in}
 use Rattle.sig_queue.specs.SeatWords.{key_of}
+use Rattle.sig_queue.proofs.Bodies.{Keeps}
+use Rattle.sig_queue.proofs.to_buffer.leave_filled.Code as code
 use Rattle.sig_queue.proofs.to_buffer.leave_filled.Goals as goal
 
 pub set_bit-requires-clause-one : goal.set_bit-requires-clause-one
@@ -26,3 +28,6 @@ leave_buffer_put-requires-clause-out c =
 
 pub returns-clause-left : goal.returns-clause-left
 returns-clause-left c = c.leave_buffer_put.ensures.left ∙ ap (λ (m : Held). let r : Held = (put_to_buffer m.0 (list_in m.1), rest m.1) in r) c.set_bit.ensures.set
+
+code_keeps : Keeps [] code.function
+code_keeps = (refl, refl)

@@ -1,9 +1,11 @@
-use Rattle.std.proofs.Common.{◌≡◌, ◌+◌, ap, ◌∙◌, subst, true}
+use Rattle.std.proofs.Common.{◌≡◌, ◌+◌, ap, ◌∙◌, subst, true, refl, []}
 use Rattle.sig_layout.specs.declared.knows.Knows.{Knows}
 use Rattle.sig_layout.specs.Views.{saw, gains, turned_away_at}
 use Rattle.sig_queue.specs.Tied.{Held, Foreign}
 use Rattle.sig_queue.specs.Calls.{Under}
 use Rattle.sig_queue.proofs.Offering.{to_buffer_busy, to_buffer_off, to_buffer_under}
+use Rattle.sig_queue.proofs.Bodies.{Keeps}
+use Rattle.sig_queue.proofs.to_buffer.offer_to_buffer.Code as code
 use Rattle.sig_queue.proofs.to_buffer.offer_to_buffer.Goals as goal
 
 pub returns-then-found-ne0-clause-offered : goal.returns-then-found-ne0-clause-offered
@@ -16,3 +18,6 @@ returns-clause-offered c = let v : Knows = c.args.place.now.me.0 in let on : c.l
 
 pub returns-then-not-load_mode-clause-offered : goal.returns-then-not-load_mode-clause-offered
 returns-then-not-load_mode-clause-offered c = to_buffer_off c.args.buffer c.args.signal c.args.place.now.me.0 c.load_mode.new.place.me.0 (ap (λ (m : Held). m.0) c.if-not-load_mode.ensures.saw)
+
+code_keeps : Keeps [] code.function
+code_keeps = (refl, refl)

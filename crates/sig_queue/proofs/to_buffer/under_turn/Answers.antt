@@ -1,4 +1,4 @@
-use Rattle.std.proofs.Common.{◌≡◌, ℕ, List, ◌+◌, ◌++◌, ◌∷◌, [], true, ap, sym, ◌∙◌, subst}
+use Rattle.std.proofs.Common.{◌≡◌, ℕ, List, ◌+◌, ◌++◌, ◌∷◌, [], true, ap, sym, ◌∙◌, subst, refl}
 use Rattle.atomic_table.specs.Table.{rest}
 use Rattle.sig_kinds.specs.declared.signal.Signal.{Signal}
 use Rattle.sig_layout.specs.declared.knows.Knows.{Knows}
@@ -13,6 +13,8 @@ use Rattle.sig_queue.specs.Parts.{first_part}
 use Rattle.sig_queue.specs.SeatWords.{key_of}
 use Rattle.sig_queue.proofs.Fetches.{same_front}
 use Rattle.sig_queue.proofs.Offering.{put_under}
+use Rattle.sig_queue.proofs.Bodies.{Keeps}
+use Rattle.sig_queue.proofs.to_buffer.under_turn.Code as code
 use Rattle.sig_queue.proofs.to_buffer.under_turn.Goals as goal
 
 pub take_list-list-requires-clause-out : goal.take_list-list-requires-clause-out
@@ -43,3 +45,6 @@ returns-clause-offered c = let x : Signal = c.args.signal in let v : Knows = c.a
     let list : c.take_list-list.result ≡ p.list = same_front (c.args.buffer + 1) c.take_list-list.result p.list _ _ c.load_under.new.place.me.1 c.take_list-list.ensures.list (ap (λ (h : Held). h.1) saw ∙ c.requires.out) in
     let slots = ap (λ (h : Held). list_in h.1) c.put_list-2.ensures.back in
     ap (λ (h : Held). h.0) c.leave_filled.ensures.left ∙ ((λ k. put_to_buffer (marked (seat k) (first_part (seat k).parts)) (slots k)) ∙ put_under x v p c.push.new.self c.requires.one.0 (c.in_default.ensures.ok ∙ (λ j. list j ++ x ∷ [])))
+
+code_keeps : Keeps [] code.function
+code_keeps = (refl, refl)

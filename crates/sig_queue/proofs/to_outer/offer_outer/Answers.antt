@@ -1,4 +1,4 @@
-use Rattle.std.proofs.Common.{ℕ, List, ◌∷◌, refl, ap, sym, ◌∙◌, subst}
+use Rattle.std.proofs.Common.{ℕ, List, ◌∷◌, refl, ap, sym, ◌∙◌, subst, []}
 use Rattle.sig_layout.specs.declared.knows.Knows.{Knows}
 use Rattle.sig_layout.specs.Core.{Begins, some_refused}
 use Rattle.sig_queue.specs.declared.slot.Slot.{Slot}
@@ -6,6 +6,8 @@ use Rattle.sig_queue.specs.declared.slot.Slot.TheVariants as slot
 use Rattle.sig_queue.specs.Calls.{PutHeld}
 use Rattle.sig_queue.specs.Tied.{Held}
 use Rattle.sig_queue.proofs.Offering.{out_held}
+use Rattle.sig_queue.proofs.Bodies.{Keeps}
+use Rattle.sig_queue.proofs.to_outer.offer_outer.Code as code
 use Rattle.sig_queue.proofs.to_outer.offer_outer.Goals as goal
 
 pub try_outer-found-requires-clause-idle : goal.try_outer-found-requires-clause-idle
@@ -34,3 +36,6 @@ pub returns-clause-offered : goal.returns-clause-offered
 returns-clause-offered c = let t = c.try_outer-found.ensures.took c.if-found-ne0.false in
     out_held c.args.signal c.args.place.now.me.0 c.put_held.new.place.me.0 t.0 c.put_held.result c.requires.idle.0
     (subst (λ (m : Held). PutHeld c.args.signal m.0 c.put_held.result c.put_held.new.place.me.0) t.1 c.put_held.ensures.offered)
+
+code_keeps : Keeps [] code.function
+code_keeps = (refl, refl)

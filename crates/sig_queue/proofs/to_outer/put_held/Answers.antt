@@ -1,4 +1,4 @@
-use Rattle.std.proofs.Common.{◌≡◌, ◌++◌, ◌∷◌, [], length, drop, false, None, ap, sym, ◌∙◌, subst}
+use Rattle.std.proofs.Common.{◌≡◌, ◌++◌, ◌∷◌, [], length, drop, false, None, ap, sym, ◌∙◌, subst, refl}
 use Rattle.std.proofs.Math.Seq.{drop-append_seam}
 use Rattle.atomic_table.specs.Table.{rest}
 use Rattle.sig_layout.specs.Sets.{has}
@@ -14,6 +14,8 @@ use Rattle.sig_layout.specs.Summaries.{due_at, is_install}
 use Rattle.sig_queue.specs.Tied.{Held, outer_in}
 use Rattle.sig_queue.specs.SeatWords.{key_of}
 use Rattle.sig_queue.proofs.Settling.{same_outer}
+use Rattle.sig_queue.proofs.Bodies.{Keeps}
+use Rattle.sig_queue.proofs.to_outer.put_held.Code as code
 use Rattle.sig_queue.proofs.to_outer.put_held.Goals as goal
 
 pub install_if-requires-clause-begins : goal.install_if-requires-clause-begins
@@ -54,3 +56,6 @@ returns-in-Ok-clause-offered c = let b = c.requires.begins in let v : Knows = c.
 
 pub returns-in-Ok-clause-refused : goal.returns-in-Ok-clause-refused
 returns-in-Ok-clause-refused c = sym (ap (λ (x : Held). some_refused x.0.refused) c.leave_put.ensures.put)
+
+code_keeps : Keeps [] code.function
+code_keeps = (refl, refl)

@@ -1,8 +1,10 @@
-use Rattle.std.proofs.Common.{rules, ◌≡◌, ℕ, List, length, get_or, set, sym, ap, ◌∙◌, subst, arith}
+use Rattle.std.proofs.Common.{rules, ◌≡◌, ℕ, List, length, get_or, set, sym, ap, ◌∙◌, subst, arith, refl, [], ◌∷◌}
 use Rattle.std.specs.Prelude.{vec_len}
 use Rattle.sig_queue.specs.declared.account.Account.{Account}
 use Rattle.sig_queue.specs.Accounts.{MayFollow, EachMayFollow, all_followed, followed}
 use Rattle.sig_queue.proofs.Following.{Following, starts, ends, within, may_follow, goes_on, none_left}
+use Rattle.sig_queue.proofs.Bodies.{Keeps, each}
+use Rattle.sig_queue.proofs.receipts.Receipts.follow.Code as code
 use Rattle.sig_queue.proofs.receipts.Receipts.follow.Goals as goal
 
 pub loop-receipt-init : goal.loop-receipt-init
@@ -25,3 +27,6 @@ loop-receipt-preserved c = let now : List Account = c.loop-receipt.self-inside.i
 pub returns : goal.returns
 returns c = let none : length c.loop-receipt.items.items ≡ 0 = search rules in
     ends _ _ _ (subst (λ (l : List Account). Following c.self.inside.items.items c.later.inside.items.items c.loop-receipt.self-inside.items.items l) (none_left c.loop-receipt.items.items none) c.loop-receipt.invariant) ∙ (λ i. all_followed (c.self.view_is i) (c.later.view_is i))
+
+code_keeps : Keeps (each "std_alloc::vec::Vec::pop" ∷ []) code.function
+code_keeps = (refl, refl)

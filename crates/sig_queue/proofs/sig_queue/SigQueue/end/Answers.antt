@@ -1,4 +1,4 @@
-use Rattle.std.proofs.Common.{◌≡◌, List, ap, sym, ◌∙◌, subst}
+use Rattle.std.proofs.Common.{◌≡◌, List, ap, sym, ◌∙◌, subst, refl, []}
 use mathlib.Core.Option.{some-injective}
 use lib.ListN.{get_elem?}
 use Rattle.sig_layout.specs.declared.setup.Setup.{Setup}
@@ -10,6 +10,8 @@ use Rattle.sig_queue.specs.Seats.{Queue}
 use Rattle.sig_queue.specs.SeatWords.{key_of}
 use Rattle.sig_queue.specs.Ends.{EndsAs}
 use Rattle.sig_queue.proofs.Ending.{ends, ended_as}
+use Rattle.sig_queue.proofs.Bodies.{Keeps}
+use Rattle.sig_queue.proofs.sig_queue.SigQueue.end.Code as code
 use Rattle.sig_queue.proofs.sig_queue.SigQueue.end.Goals as goal
 
 pub take_lists-requires-clause-held : goal.take_lists-requires-clause-held
@@ -25,3 +27,6 @@ returns c = let same = ap (λ (x : Queue). x.setup) c.self.view_is in let e = en
     let at : slot.Outer e.outer ≡ c.take-slot.result = some-injective _ _ (sym (ap (λ (xs : List Slot). get_elem? xs 0) c.take_lists.ensures.same.0 ∙ e.at_outer) ∙ c.take-slot.ensures.value) in
     let is : c.into_outer-signals.result ≡ e.outer = c.into_outer-signals.ensures ∙ sym (ap outer_or (at ∙ c.in-Outer.is)) in
     record { ends = subst (λ (y : Setup). EndsAs y c.args.place.me.0 c.new.result c.into_outer-signals.result.journal) same (ended_as _ c.args.place.me.0 _ e c.into_outer-signals.result c.take_lists.new.lists.items c.new.result is c.take_lists.ensures.lists c.new.ensures) }
+
+code_keeps : Keeps [] code.function
+code_keeps = (refl, refl)

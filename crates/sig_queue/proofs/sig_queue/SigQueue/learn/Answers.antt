@@ -1,7 +1,9 @@
-use Rattle.std.proofs.Common.{rules, ◌≡◌, ◌∙◌, ◌++◌, length, ap}
+use Rattle.std.proofs.Common.{rules, ◌≡◌, ◌∙◌, ◌++◌, length, ap, refl, []}
 use Rattle.sig_layout.specs.declared.knows.Knows.{Knows}
 use Rattle.sig_layout.specs.Views.{joined}
 use Rattle.sig_queue.proofs.Learning.{learned}
+use Rattle.sig_queue.proofs.Bodies.{Keeps}
+use Rattle.sig_queue.proofs.sig_queue.SigQueue.learn.Code as code
 use Rattle.sig_queue.proofs.sig_queue.SigQueue.learn.Goals as goal
 
 pub returns-clause-told : goal.returns-clause-told
@@ -12,3 +14,6 @@ returns-clause-told c =
     let both : c.merge_note.new.place.me.0 ≡ joined v c.note.inside.place.me.0 = search rules in
     let view : record v { told = v.told ++ c.note.inside.place.me.0.told } ≡ record c.args.seat.now.knows { told = c.args.seat.now.knows.told ++ c.args.note.knows.told } = search rules in
     both ∙ (learned v c.note.inside.place.me four c.note.invariant ∙ view)
+
+code_keeps : Keeps [] code.function
+code_keeps = (refl, refl)

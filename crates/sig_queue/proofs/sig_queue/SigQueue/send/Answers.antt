@@ -1,8 +1,10 @@
-use Rattle.std.proofs.Common.{◌∙◌, subst, arith}
+use Rattle.std.proofs.Common.{◌∙◌, subst, arith, refl, [], ◌∷◌}
 use Rattle.sig_kinds.specs.declared.signal.Signal.{Signal}
 use Rattle.sig_layout.proofs.Sending.{prefix_through}
 use Rattle.sig_queue.specs.Calls.{PutBy}
 use Rattle.sig_queue.proofs.Sendings.{tried_more, tried_free, sent_by, same_next, refused_list, free_list, refused_count, free_count, put_list, put_count}
+use Rattle.sig_queue.proofs.Bodies.{Keeps, each}
+use Rattle.sig_queue.proofs.sig_queue.SigQueue.send.Code as code
 use Rattle.sig_queue.proofs.sig_queue.SigQueue.send.Goals as goal
 
 pub offer-requires-clause-next : goal.offer-requires-clause-next
@@ -34,3 +36,6 @@ loop-preserved g c = let inv = c.loop.invariant in let o = c.in-Busy.ensures.off
   tries = prefix_through _ _ _ inv.tries (refused_list c.loop.signal c.loop.seat.knows c.offer.new.seat.knows c.in-Busy.found o.2);
   refused = let more = refused_count c.loop.signal c.loop.seat.knows c.offer.new.seat.knows c.in-Busy.found o.2 in omega (arith, more, inv.refused);
 }
+
+code_keeps : Keeps (each "core::sync::endless::ForeverIterator::next" ∷ []) code.function
+code_keeps = (refl, refl)

@@ -1,9 +1,11 @@
-use Rattle.std.proofs.Common.{Bool, ap, sym, ◌∙◌, subst}
+use Rattle.std.proofs.Common.{Bool, ap, sym, ◌∙◌, subst, refl, []}
 use Rattle.sig_queue.specs.Tied.{Held}
 use Rattle.sig_queue.specs.Seats.{Queue, Seated, IsSeat}
 use Rattle.sig_queue.specs.SeatWords.{key_of}
 use Rattle.sig_queue.specs.Calls.{FetchedHeld, Fetched}
 use Rattle.sig_queue.proofs.Settling.{fetched_by, seat_fetched}
+use Rattle.sig_queue.proofs.Bodies.{Keeps}
+use Rattle.sig_queue.proofs.sig_queue.SigQueue.try_fetch.Code as code
 use Rattle.sig_queue.proofs.sig_queue.SigQueue.try_fetch.Goals as goal
 
 pub returns-clause-fetched : goal.returns-clause-fetched
@@ -18,3 +20,6 @@ invariant_of-seat-2 c = let t = c.try_outer-found.ensures.took c.if-found-ne0.fa
     (seat_fetched (key_of c.self.inside.words) c.args.into.now.items f.new.into.items s.place.me.0 f.new.place.me.0 t.0 i.idle s.kept i.keeps f.new.place.me.1 f.ensures.bare
     (ap (λ (x : Seated). x.knows.due) c.seat.view_is ∙ c.requires.not_due) f.result
     (subst (λ (m : Held). FetchedHeld (key_of c.self.inside.words) c.args.into.now.items f.new.into.items m.0 f.result f.new.place.me.0) t.1 f.ensures.fetched))
+
+code_keeps : Keeps [] code.function
+code_keeps = (refl, refl)

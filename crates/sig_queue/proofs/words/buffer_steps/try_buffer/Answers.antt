@@ -1,5 +1,7 @@
 use Rattle.std.proofs.Common.{rules, refl}
 use Rattle.sig_queue.proofs.Ties.{takes_buffer, word_is}
+use Rattle.sig_queue.proofs.Bodies.{OneStep}
+use Rattle.sig_queue.proofs.words.buffer_steps.try_buffer.Code as code
 use Rattle.sig_queue.proofs.words.buffer_steps.try_buffer.Goals as goal
 
 pub compare_exchange-requires : goal.compare_exchange-requires
@@ -10,3 +12,6 @@ returns-clause-took c = (c.compare_exchange.ensures.2 c.args.buffer (word_is c.a
 
 pub returns-clause-refused : goal.returns-clause-refused
 returns-clause-refused c = (c.compare_exchange.ensures.2 c.args.buffer (word_is c.args.buffer refl)).1
+
+one_step : OneStep code.function
+one_step = (refl, refl, refl)

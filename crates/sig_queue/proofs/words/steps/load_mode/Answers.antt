@@ -1,9 +1,11 @@
-use Rattle.std.proofs.Common.{rules, ◌==◌, Bool, ap, ◌∙◌, subst}
+use Rattle.std.proofs.Common.{rules, ◌==◌, Bool, ap, ◌∙◌, subst, refl}
 use Rattle.sig_layout.specs.declared.policy.Policy.{Policy}
 use Rattle.sig_layout.specs.Policies.{AllowsMode}
 use Rattle.sig_layout.specs.Views.{saw}
 use Rattle.sig_queue.specs.Tied.{Held}
 use Rattle.sig_queue.proofs.Ties.{loads_mode, word_on}
+use Rattle.sig_queue.proofs.Bodies.{OneStep}
+use Rattle.sig_queue.proofs.words.steps.load_mode.Code as code
 use Rattle.sig_queue.proofs.words.steps.load_mode.Goals as goal
 
 pub load-requires : goal.load-requires
@@ -14,3 +16,6 @@ returns-clause-saw g c = let t = c.load.ensures.2 in t.2 ∙ ap (λ (on : Bool).
 
 pub returns-clause-allowed : goal.returns-clause-allowed
 returns-clause-allowed g c = let t = c.load.ensures.2 in subst (λ (p : Policy). AllowsMode p (c.load.result == 1)) c.requires.picked (subst (λ (on : Bool). AllowsMode g.G.Ruled.policy on) (word_on t.0 c.load.result t.1) t.3)
+
+one_step : OneStep code.function
+one_step = (refl, refl, refl)

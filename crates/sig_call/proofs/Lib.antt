@@ -1,0 +1,4 @@
+pub mod CallTables
+pub mod CallAnswers
+pub mod CallMoves
+pub mod CallRuns

@@ -1,0 +1,5 @@
+pub mod PairLemmas
+pub mod LawLemmas
+pub mod CrewLemmas
+pub mod ReportLemmas
+pub mod OrderLemmas

@@ -1,0 +1,6 @@
+use Rattle.std.proofs.Common.{refl, []}
+use Rattle.sig_queue.proofs.Bodies.{Keeps}
+use Rattle.sig_queue.proofs.remove.remove_held.Code as code
+
+code_keeps : Keeps [] code.function
+code_keeps = (refl, refl)

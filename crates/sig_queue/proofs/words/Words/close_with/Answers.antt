@@ -1,0 +1,6 @@
+use Rattle.std.proofs.Common.{refl}
+use Rattle.sig_queue.proofs.Bodies.{OneStep}
+use Rattle.sig_queue.proofs.words.Words.close_with.Code as code
+
+one_step : OneStep code.function
+one_step = (refl, refl, refl)
