@@ -43,7 +43,7 @@ module _ (script : Program) where
       (h.0, h.1 ++ record { pid = a.pid; event = e } ∷ [], h.2, ap (λ xs. xs ++ record { pid = a.pid; event = e } ∷ []) h.3, h.4, makes_more given a h.1 e h.2 mid end h.5 step)
 
   -- the choices of a run's events make these events
-  makes_same : (es made : List (At Event)) (m end far : Machine ProcessState Signal) → IsRun (rules_of script) m es end → Makes script m es made far → (made ≡ es) × (far ≡ end)
+  pub makes_same : (es made : List (At Event)) (m end far : Machine ProcessState Signal) → IsRun (rules_of script) m es end → Makes script m es made far → (made ≡ es) × (far ≡ end)
   makes_same [] made m end far run h = (h.0, sym h.1 ∙ run)
   makes_same (a ∷ es) made m end far run h =
       let same : record { machine = h.2; event = h.0 } ≡ record { machine = run.0; event = a.event } =

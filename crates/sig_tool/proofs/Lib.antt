@@ -1,0 +1,5 @@
+pub mod SplitLemmas
+pub mod InputLemmas
+pub mod DueLemmas
+pub mod AnswerLemmas
+pub mod LinkLemmas
