@@ -32,8 +32,11 @@ no_script text line kind a p q = cc
 
 one_refusal : (text : List ℕ) (m n : ℕ) (j k : FaultKind) → IsRefused m j text → IsRefused n k text → BadScript m j ≡ BadScript n k
 one_refusal text m n j k p q =
-    let same : ◌≡◌ {A = Result Program Fault} (Err (record { line = m; kind = j })) (Err (record { line = n; kind = k })) = sym p ∙ q in
-    cc
+    let a : Fault = record { line = m; kind = j } in
+    let b : Fault = record { line = n; kind = k } in
+    let same : ◌≡◌ {A = Result Program Fault} (Err a) (Err b) = sym p ∙ q in
+    let one : a ≡ b = cc in
+    ap (λ (f : Fault). BadScript f.line f.kind) one
 
 module _ (bytes : List ℕ) where
   -- what the bytes spell has this verdict

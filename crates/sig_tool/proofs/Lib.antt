@@ -1,4 +1,5 @@
 pub mod SplitLemmas
+pub mod ScriptLines
 pub mod InputLemmas
 pub mod DueLemmas
 pub mod AnswerLemmas

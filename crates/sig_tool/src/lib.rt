@@ -5,6 +5,7 @@
 mod checking;
 mod command;
 mod given;
+mod joining;
 mod linking;
 mod replaying;
 mod splitting;
@@ -15,6 +16,7 @@ mod top;
 
 pub use command::Command;
 pub use given::MOST_INPUT;
+pub use joining::a_record_is_cut_from_its_script;
 pub use standard::program;
 pub use status::ToolStatus;
 pub use top::tool;
