@@ -139,8 +139,9 @@ impl Happened {
     {
         let before = count(self.rows.as_slice(), second, first.pid as usize);
         if first == second {
-            return false;
+            false
+        } else {
+            first.event <= before
         }
-        first.event <= before
     }
 }
