@@ -4,3 +4,5 @@ pub mod InputLemmas
 pub mod DueLemmas
 pub mod AnswerLemmas
 pub mod LinkLemmas
+pub mod NumberLemmas
+pub mod OrderLemmas

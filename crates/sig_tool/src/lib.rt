@@ -7,6 +7,8 @@ mod command;
 mod given;
 mod joining;
 mod linking;
+mod numbers;
+mod ordering;
 mod replaying;
 mod splitting;
 mod standard;
