@@ -1,5 +1,5 @@
 -- What the command `before` writes (this project's own).
-use Rattle.std.specs.Prelude.{◌≡◌, ◌⊎◌, ℕ, List, true, codes, Result, Ok, Err, Vec, ⊤}
+use Rattle.std.specs.Prelude.{◌≡◌, ◌⊎◌, ℕ, List, Bool, true, codes, if◌then◌else◌, Result, Ok, Err, Vec, ⊤}
 use Rattle.std.specs.Global.{Global}
 use Rattle.sig_program.specs.Scripts.{Program}
 use Rattle.sig_choices.specs.Origins.{origins_of}
@@ -22,6 +22,9 @@ abbrev pub LacksOne : List Report → At → At → Type 0
 LacksOne reports first second = HasBoth reports first second → ⊥
 
 -- `yes` where it is so, `no` where it isn't
+abbrev pub said : Bool → List ℕ
+said so = if so then codes "yes\n" else codes "no\n"
+
 abbrev pub SaysWhether : Type 0 → List ℕ → Type 0
 SaysWhether so text = ((text ≡ codes "yes\n") × so) ⊎ ((text ≡ codes "no\n") × (so → ⊥))
 

@@ -1,11 +1,11 @@
 //! The command `before`.
 
-ghost use Rattle.std.specs.Prelude.{IfOk};
+ghost use Rattle.std.specs.Prelude.{◌≡◌, IfOk};
 ghost use Rattle.sig_edge.specs.Streams.{reading};
 ghost use Rattle.sig_check.specs.Verdicts.{IsOfSettledRun};
 ghost use Rattle.sig_tool.specs.declared.command.Command.TheVariants.{Before};
 ghost use Rattle.sig_tool.specs.Inputs.{IsTextRead};
-ghost use Rattle.sig_tool.specs.Ordering.{IsAnswered, IsOrderOf};
+ghost use Rattle.sig_tool.specs.Ordering.{said, IsAnswered, IsOrderOf};
 
 use crate::given::{Given, read_checked};
 use crate::status::ToolStatus;
@@ -32,6 +32,13 @@ fn order_of(alloc: Global, given: &Given) -> Result<Happened, AllocError>
     }
 }
 
+/// `yes` where it is so, `no` where it isn't, and a line feed.
+fn word(so: bool) -> &'static [u8]
+    ensures { result.now ≡ said so }
+{
+    if so { SO } else { NOT_SO }
+}
+
 /// Whether the first event happened before the second, in words; `NoEvent` where the record lacks one.
 fn answer(alloc: Global, order: &Happened, first: At, second: At) -> Result<Vec<u8>, ToolStatus>
     ensures { IsAnswered order.now first second result }
@@ -42,12 +49,8 @@ fn answer(alloc: Global, order: &Happened, first: At, second: At) -> Result<Vec<
     if !order.has(second) {
         return Err(ToolStatus::NoEvent);
     }
-    let words = if order.before(first, second) {
-        SO
-    } else {
-        NOT_SO
-    };
-    let text = Vec::from_slice(alloc, words)?;
+    let so = order.before(first, second);
+    let text = Vec::from_slice(alloc, word(so))?;
     Ok(text)
 }
 
