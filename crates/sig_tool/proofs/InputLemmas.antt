@@ -6,11 +6,12 @@ use Rattle.sig_base.specs.Reading.{IsRead}
 use Rattle.sig_base.specs.declared.reading.ReadAll.TheVariants as read
 use Rattle.sig_edge.specs.Streams.{Reading, reading}
 use Rattle.sig_edge.proofs.ReadLemmas.{to_end}
+use Rattle.sig_tool.specs.declared.command.Command.{Command}
 use Rattle.sig_tool.specs.declared.given.Given.{Given}
 use Rattle.sig_tool.specs.declared.given.TheConstants.{MOST_INPUT}
 use Rattle.sig_tool.specs.declared.status.ToolStatus.{ToolStatus}
-use Rattle.sig_tool.specs.declared.status.ToolStatus.TheVariants.{Done, BadScript, Usage, ReadFault, WriteFault, Memory, No, BadRecord, TooLong}
-use Rattle.sig_tool.specs.Inputs.{ArePartsOf, IsApproved, IsChecked, IsInput, IsPair, IsUnfit, IsWhole}
+use Rattle.sig_tool.specs.declared.status.ToolStatus.TheVariants.{Done, BadScript, Usage, ReadFault, WriteFault, Memory, No, BadRecord, TooLong, NoEvent}
+use Rattle.sig_tool.specs.Inputs.{ArePartsOf, IsApproved, IsChecked, IsInput, IsPair, IsUnfit, IsUnfitFor, IsWhole}
 
 -- all of the source was read
 pub whole : (left rest : Option (List ℕ)) (before after : ℕ) (into : List ℕ) → IsRead left rest before after MOST_INPUT into read.Whole → IsWhole (reading left rest before after) into
@@ -26,6 +27,7 @@ no_input r Memory h = h
 no_input r (No event) h = absurd h
 no_input r (BadRecord line) h = absurd h
 no_input r TooLong h = h
+no_input r NoEvent h = absurd h
 
 module _ (r : Reading) (bytes : List ℕ) (all : IsWhole r bytes) where
   pub no_parts : (status : ToolStatus) → ArePartsOf bytes (Err status) → IsUnfit r status
@@ -38,6 +40,7 @@ module _ (r : Reading) (bytes : List ℕ) (all : IsWhole r bytes) where
   no_parts (No event) h = (bytes, all, h)
   no_parts (BadRecord line) h = (bytes, all, h)
   no_parts TooLong h = absurd h
+  no_parts NoEvent h = absurd h
 
   pub checked : (given : Given) (result : Result Given ToolStatus) → IsPair bytes given.script given.told → IsApproved given result → IsChecked r result
   checked given (Ok same) pair h =
@@ -51,3 +54,17 @@ module _ (r : Reading) (bytes : List ℕ) (all : IsWhole r bytes) where
   checked given (Err (No event)) pair h = (bytes, all, (given.script, given.told, pair, h))
   checked given (Err (BadRecord line)) pair h = absurd h
   checked given (Err TooLong) pair h = absurd h
+  checked given (Err NoEvent) pair h = absurd h
+
+-- where there is no pair of a script and a settled record, no command has anything to write
+pub unfit_for : (command : Command) (r : Reading) (status : ToolStatus) → IsUnfit r status → IsUnfitFor command r status
+unfit_for command r Done h = h
+unfit_for command r (BadScript line kind) h = h
+unfit_for command r Usage h = h
+unfit_for command r ReadFault h = h
+unfit_for command r WriteFault h = h
+unfit_for command r Memory h = h
+unfit_for command r (No event) h = h
+unfit_for command r (BadRecord line) h = h
+unfit_for command r TooLong h = h
+unfit_for command r NoEvent h = absurd h.2

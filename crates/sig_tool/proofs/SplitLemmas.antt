@@ -9,16 +9,18 @@ use Rattle.sig_tokens.proofs.LineLemmas.{first_of, rest_at, lines-step}
 use Rattle.sig_tool.specs.Split.{is_before, script_length, script_part, record_part}
 
 -- how many bytes these lines have before the first that is `sigrecord 1`
-abbrev counted : List (List ℕ) → ℕ
+abbrev pub counted : List (List ℕ) → ℕ
 counted lines = sum_by (λ (line : List ℕ). length line + 1) (take_while is_before lines)
 
-counted_on : (line : List ℕ) (lines : List (List ℕ)) → bytes_eq line (codes "sigrecord 1") ≡ false → counted (line ∷ lines) ≡ (length line + 1) + counted lines
+pub counted_on : (line : List ℕ) (lines : List (List ℕ)) → bytes_eq line (codes "sigrecord 1") ≡ false → counted (line ∷ lines) ≡ (length line + 1) + counted lines
 counted_on line lines other =
-    ap (sum_by (λ (l : List ℕ). length l + 1)) (take_while-cons is_before line lines ∙ rw other refl)
-    ∙ sum_by-cons (λ (l : List ℕ). length l + 1) line (take_while is_before lines)
+    let first : take_while is_before (line ∷ lines) ≡ line ∷ take_while is_before lines = take_while-cons is_before line lines ∙ rw other refl in
+    ap (sum_by (λ (l : List ℕ). length l + 1)) first ∙ sum_by-cons (λ (l : List ℕ). length l + 1) line (take_while is_before lines)
 
-counted_at : (line : List ℕ) (lines : List (List ℕ)) → bytes_eq line (codes "sigrecord 1") ≡ true → counted (line ∷ lines) ≡ 0
-counted_at line lines is = ap (sum_by (λ (l : List ℕ). length l + 1)) (take_while-cons is_before line lines ∙ rw is refl)
+pub counted_at : (line : List ℕ) (lines : List (List ℕ)) → bytes_eq line (codes "sigrecord 1") ≡ true → counted (line ∷ lines) ≡ 0
+counted_at line lines is =
+    let first : take_while is_before (line ∷ lines) ≡ [] = take_while-cons is_before line lines ∙ rw is refl in
+    ap (sum_by (λ (l : List ℕ). length l + 1)) first
 
 front : (at : ℕ) (bytes line : List ℕ) → at < length bytes → line ≡ first_of (rest_at at bytes) →
     lines_of (drop at bytes) ≡ line ∷ lines_of (drop (at + (length line + 1)) bytes)

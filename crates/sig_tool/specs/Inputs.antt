@@ -15,8 +15,8 @@ use Rattle.sig_tool.specs.declared.command.Command.{Command}
 use Rattle.sig_tool.specs.declared.given.Given.{Given}
 use Rattle.sig_tool.specs.declared.given.TheConstants.{MOST_INPUT}
 use Rattle.sig_tool.specs.declared.status.ToolStatus.{ToolStatus}
-use Rattle.sig_tool.specs.declared.status.ToolStatus.TheVariants.{Done, BadScript, Usage, ReadFault, WriteFault, Memory, No, BadRecord, TooLong}
-use Rattle.sig_tool.specs.Commands.{IsTextOf}
+use Rattle.sig_tool.specs.declared.status.ToolStatus.TheVariants.{Done, BadScript, Usage, ReadFault, WriteFault, Memory, No, BadRecord, TooLong, NoEvent}
+use Rattle.sig_tool.specs.Commands.{IsTextOf, LacksEvent}
 use Rattle.sig_tool.specs.Split.{script_part, record_part}
 
 -- ---- of the bytes
@@ -108,6 +108,15 @@ IsChecked r (Err status) = IsUnfit r status
 abbrev pub IsTextFor : Command → Reading → List ℕ → Type 0
 IsTextFor command r text = (script : Program) × (reports : List Report) × IsSettledPair r script reports × IsTextOf command script reports text
 
+-- the same, where the record lacks an event of which the command asks
+abbrev pub HasNoSuchEvent : Command → Reading → Type 0
+HasNoSuchEvent command r = (script : Program) × (reports : List Report) × IsSettledPair r script reports × LacksEvent command reports
+
+-- why there is nothing that the command could write
+abbrev pub IsUnfitFor : Command → Reading → ToolStatus → Type 0
+IsUnfitFor command r NoEvent = HasNoSuchEvent command r
+IsUnfitFor command r status = IsUnfit r status
+
 abbrev pub IsTextRead : Command → Reading → Result (Vec ℕ Global) ToolStatus → Type 0
 IsTextRead command r (Ok text) = IsTextFor command r text.items
-IsTextRead command r (Err status) = IsUnfit r status
+IsTextRead command r (Err status) = IsUnfitFor command r status

@@ -5,7 +5,7 @@ use Rattle.sig_reader.specs.declared.reader.ScriptError.TheVariants as unread
 use Rattle.sig_record.specs.declared.refusal.RecordError.{RecordError}
 use Rattle.sig_record.specs.declared.refusal.RecordError.TheVariants as wrong
 use Rattle.sig_tool.specs.declared.status.ToolStatus.{ToolStatus}
-use Rattle.sig_tool.specs.declared.status.ToolStatus.TheVariants.{Done, BadScript, Usage, ReadFault, WriteFault, Memory, No, BadRecord, TooLong}
+use Rattle.sig_tool.specs.declared.status.ToolStatus.TheVariants.{Done, BadScript, Usage, ReadFault, WriteFault, Memory, No, BadRecord, TooLong, NoEvent}
 
 abbrev pub number_of : ToolStatus → ℕ
 number_of Done = 0
@@ -17,6 +17,7 @@ number_of Memory = 5
 number_of (No event) = 6
 number_of (BadRecord line) = 7
 number_of TooLong = 8
+number_of NoEvent = 9
 
 abbrev pub of_script_error : ScriptError → ToolStatus
 of_script_error (unread.Fault line kind) = BadScript line kind

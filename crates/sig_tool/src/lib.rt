@@ -5,7 +5,10 @@
 mod checking;
 mod command;
 mod given;
+mod joining;
 mod linking;
+mod numbers;
+mod ordering;
 mod replaying;
 mod splitting;
 mod standard;
@@ -15,6 +18,7 @@ mod top;
 
 pub use command::Command;
 pub use given::MOST_INPUT;
+pub use joining::a_record_is_cut_from_its_script;
 pub use standard::program;
 pub use status::ToolStatus;
 pub use top::tool;

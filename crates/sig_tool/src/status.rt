@@ -26,6 +26,8 @@ pub enum ToolStatus {
     /// The record's part of the input is no record: this line, counted from its first, is the first
     /// that can't stand there.
     BadRecord { line: u64 },
+    /// The record is that of a settled run, and lacks an event of which `before` asks.
+    NoEvent,
     /// The input has more than [`MOST_INPUT`](crate::MOST_INPUT) bytes.
     TooLong,
 }
@@ -45,6 +47,7 @@ impl ToolStatus {
             ToolStatus::No { event: _ } => 6,
             ToolStatus::BadRecord { line: _ } => 7,
             ToolStatus::TooLong => 8,
+            ToolStatus::NoEvent => 9,
         }
     }
 }

@@ -17,7 +17,7 @@ use sig_edge::{
 const PROGRAM: &str = "sigtool";
 
 /// How the command is called.
-const USAGE: &[u8] = b"usage: sigtool check|replay|links\n";
+const USAGE: &[u8] = b"usage: sigtool check|replay|links|before P I Q J\n";
 
 /// Writes these words and a number, behind the program's name.
 fn tell_number<E: Sink>(err: &mut E, words: &str, number: u64) -> Result<(), Untold>
@@ -52,6 +52,7 @@ fn tell_status<E: Sink>(err: &mut E, status: ToolStatus) -> Result<(), Untold>
         ToolStatus::Memory => tell_memory(err, PROGRAM),
         ToolStatus::No { event } => tell_number(err, "no at event", event),
         ToolStatus::BadRecord { line } => tell_number(err, "record line", line),
+        ToolStatus::NoEvent => tell_pieces(err, &[PROGRAM.as_bytes(), b": no such event\n"]),
         ToolStatus::TooLong => tell_pieces(err, &[PROGRAM.as_bytes(), b": too long\n"]),
     }
 }

@@ -1,6 +1,7 @@
 ghost use Rattle.std.specs.Prelude.{◌≡◌, ◌⊎◌, ℕ, List, map, string_bytes};
 ghost use Rattle.sig_base.specs.Flow.{Rose, Adds};
 ghost use Rattle.sig_edge.specs.Streams.{reading, writing};
+ghost use Rattle.sig_tool.specs.declared.command.Command.{Command as Asked};
 ghost use Rattle.sig_tool.specs.declared.status.ToolStatus.{ToolStatus};
 ghost use Rattle.sig_tool.specs.Answers.{IsAnswer, IsDue, IsRanSo, IsWellGiven};
 ghost use Rattle.sig_tool.specs.Inputs.{IsTextRead};
@@ -9,6 +10,7 @@ ghost use Rattle.sig_tool.specs.Told.{told_text};
 use crate::checking::check_text;
 use crate::command::Command;
 use crate::linking::links_text;
+use crate::ordering::before_text;
 use crate::replaying::replay_text;
 use crate::status::ToolStatus;
 use crate::telling::tell;
@@ -23,6 +25,7 @@ fn text_of<S: Source>(alloc: Global, command: Command, input: &mut S) -> Result<
         Command::Check => check_text(alloc, input),
         Command::Replay => replay_text(alloc, input),
         Command::Links => links_text(alloc, input),
+        Command::Before { first, second } => before_text(alloc, first, second, input),
     }
 }
 
@@ -65,10 +68,13 @@ fn run_words<S: Source, O: Sink>(
 
 /// Reads a script with a record behind it to the input's end, and writes to `out` what the command
 /// says of them. The record begins at the first line that is exactly `sigrecord 1`; where there is
-/// none, its part of the input is empty. The words are one: `check` writes `yes` and a line feed where
+/// none, its part of the input is empty. The words may be one: `check` writes `yes` and a line feed where
 /// the record is that of a settled run of the script; `replay` then writes the record, as it is gathered
 /// from processes that made its choices; `links` writes a line `link P Q` for each two processes that
-/// wait at its end with a link between them, by ascending pids, P below Q.
+/// wait at its end with a link between them, by ascending pids, P below Q. Or they are five: `before P I
+/// Q J`, with four numbers of one decimal digit or more, writes `yes` and a line feed where the event I
+/// of the process P happened before the event J of the process Q, and else `no` and a line feed; the
+/// events of a process are counted from 1.
 ///
 /// Of causes that stand together the first in this order is told:
 ///
@@ -82,6 +88,7 @@ fn run_words<S: Source, O: Sink>(
 /// - `No`: exactly where the record isn't that of a settled run of the script; with the first event, of
 ///   all processes in the order of their stamps and counted from 1, with which the events are no run,
 ///   or one more than there are where they are one.
+/// - `NoEvent`: exactly where the record is that of a settled run, and lacks one of the two events.
 /// - `WriteFault`: only where a write to `out` failed, which has taken the beginning of the text.
 /// - `Done`: `out` has taken the whole text.
 ///
@@ -100,8 +107,8 @@ pub fn tool<S: Source, O: Sink, E: Sink>(
         (writing (O.held out.old) (O.held out.new) (O.faults out.old) (O.faults out.new)) result }
     ensures told { (Rose (E.faults err.old) (E.faults err.new) → ⊥) → Adds (E.held err.old) (E.held err.new) (told_text result) }
     // What is due for the input is answered, where nothing fails and there is memory.
-    ensures complete { (bytes : List ℕ) (due : ToolStatus) → IsDue bytes due →
-        IsWellGiven (map string_bytes words.now) bytes due
+    ensures complete { (command : Asked) (bytes : List ℕ) (due : ToolStatus) → IsDue command bytes due →
+        IsWellGiven command (map string_bytes words.now) bytes due
         (reading (S.left input.old) (S.left input.new) (S.faults input.old) (S.faults input.new))
         (writing (O.held out.old) (O.held out.new) (O.faults out.old) (O.faults out.new))
         → (result ≡ due) ⊎ (result ≡ ToolStatus.Memory) }

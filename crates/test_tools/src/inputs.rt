@@ -113,7 +113,7 @@ fn are_refused(alloc: Global, words: &[&str]) -> Result<bool, AllocError> {
     Ok(called.is(
         ToolStatus::Usage,
         b"",
-        b"usage: sigtool check|replay|links\n",
+        b"usage: sigtool check|replay|links|before P I Q J\n",
     ))
 }
 

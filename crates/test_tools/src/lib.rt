@@ -15,4 +15,6 @@ mod large;
 #[cfg(test)]
 mod links;
 #[cfg(test)]
+mod order;
+#[cfg(test)]
 mod rows;
