@@ -1,5 +1,5 @@
 -- The choices of a record, made once more.
-use Rattle.std.proofs.Common.{◌≡◌, ℕ, ◌+◌, Bool, true, false, cond, List, [], ◌∷◌, ◌++◌, take, length, Some, None, refl, sym, ap, ◌∙◌, subst, append_assoc}
+use Rattle.std.proofs.Common.{◌≡◌, ℕ, suc, ◌+◌, Bool, true, false, cond, List, [], ◌∷◌, ◌++◌, take, length, Some, None, refl, sym, ap, ◌∙◌, subst, append_assoc}
 use Rattle.std.specs.Prelude.{◌==◌, slice_get}
 use Rattle.std.specs.Bool.{MatchBool}
 use Rattle.std.proofs.Math.Path.{ap₂}
@@ -62,7 +62,7 @@ module _ (script : Program) where
   makes_many q (a ∷ given) made m end h =
       ap (λ es. length (events_by q es)) h.3
       ∙ elim (a.pid == q) as (λ c. length (cond c (h.0 ∷ events_by q h.1) (events_by q h.1)) ≡ length (cond c (a.event ∷ events_by q given) (events_by q given))) [
-        | true ↦ ap (λ n. n + 1) (makes_many q given h.1 h.2 end h.5)
+        | true ↦ ap suc (makes_many q given h.1 h.2 end h.5)
         | false ↦ makes_many q given h.1 h.2 end h.5
       ]
 
