@@ -151,6 +151,7 @@ fn statuses_have_their_numbers(rt: HostRuntime) {
         ToolStatus::No { event: 1 }.number(),
         NO_RECORD.number(),
         ToolStatus::TooLong.number(),
+        ToolStatus::NoEvent.number(),
     ];
-    assert!(rt; numbers == [0, 1, 2, 3, 4, 5, 6, 7, 8]);
+    assert!(rt; numbers == [0, 1, 2, 3, 4, 5, 6, 7, 8, 9]);
 }
