@@ -199,12 +199,31 @@ module _ (r : Ref) where
     made_in (b ∷ es) a (zero, lt, e) k = inl (subst (λ (z : At Event). MakesCall script r z) (sym e) k)
     made_in (b ∷ es) a (suc i, lt, e) k = inr (made_in es a (i, omega (arith, lt), e) k)
 
+    -- what the effect of the instruction makes of the maker
+    record Makes (s t : ProcessState) : Type 0 where
+      serial : s.counts.next_serial ≡ r.serial
+      made : Made t
+
+    makes : (s : ProcessState) (a : At Event) (k : MakesCall script r a) (body : Body) → next_body begin k.process s ≡ Some body → a.event ≡ (finished_exec r.owner.0 s body).event → Makes s (finished_exec r.owner.0 s body).state
+    makes s a k body can is =
+        let place : k.place ≡ s.counts.place = sym (ap place_in k.did) ∙ ap (λ (z : Event). place_in z.did) is in
+        let told : body.outcome ≡ outcome.Set (term.Ref r) = sym (ap (λ (z : Event). z.outcome) is) ∙ k.made in
+        let instr : slice_get k.process.instrs (s.counts.place - 1) ≡ Some (Monitor k.var k.target (Some ReplyDemonitor)) = sym (ap (λ n. slice_get k.process.instrs (n - 1)) place) ∙ k.instr in
+        let same : with_value s k.target (λ t. with_pid s t (monitoring s k.var.0 (Some ReplyDemonitor))) ≡ body =
+        same_Some (with_value s k.target (λ t. with_pid s t (monitoring s k.var.0 (Some ReplyDemonitor)))) body (sym (ap (exec_body begin k.process s) instr) ∙ can) in
+        let m : MadeBody r s body = subst (λ (b : Body). b.outcome ≡ outcome.Set (term.Ref r) → MadeBody r s b) same (made_body r s k.var.0 k.target) told in
+        record { serial = m.serial; made = record { made = omega (arith, m.serial, m.next); call = inr (m.mode, m.held) } }
+
+    makes_by : (s : ProcessState) (a : At Event) (k : MakesCall script r a) (effect : Effect ProcessState Signal Event) → execution_by begin r.owner.0 (Some k.process) s ≡ Some effect → a.event ≡ effect.event → Makes s effect.state
+    makes_by s a k effect e is =
+        let w : (body : Body) × (next_body begin k.process s ≡ Some body) × (finished_exec r.owner.0 s body ≡ effect) = mapped_tells (finished_exec r.owner.0 s) (next_body begin k.process s) effect e in
+        subst (λ (f : Effect ProcessState Signal Event). a.event ≡ f.event → Makes s f.state) w.2 (makes s a k w.0 w.1) is
+
     -- the event by which the call is made
     record Making (m next : Machine ProcessState Signal) (a : At Event) (s : ProcessState) : Type 0 where
       after : ProcessState
       at : At_maker next after
-      serial : s.counts.next_serial ≡ r.serial
-      made : Made after
+      makes : Makes s after
       none : bit (enters r m a) ≡ 0
 
     making : (m next : Machine ProcessState Signal) (a : At Event) (s : ProcessState) → At_maker m s → MakesCall script r a → apply (rules begin script r) m (choice a.pid ((rules begin script r).did a.event)) ≡ Some (record { machine = next; event = a.event })
@@ -219,23 +238,12 @@ module _ (r : Ref) where
         subst (λ (o : Option Declared). execution_by begin r.owner.0 o s ≡ Some d.effect) k.part
         (subst (λ (z : ProcessState). execution_by begin r.owner.0 (slice_get script.procs r.owner.0) z ≡ Some d.effect) here
         (subst (λ p. execution_by begin p (slice_get script.procs p) d.state ≡ Some d.effect) k.maker d.defined)) in
-        let w : (body : Body) × (next_body begin k.process s ≡ Some body) × (finished_exec r.owner.0 s body ≡ d.effect) =
-        mapped_tells (finished_exec r.owner.0 s) (next_body begin k.process s) d.effect defined in
-        let event : a.event ≡ (finished_exec r.owner.0 s w.0).event = ap (λ (z : Applied ProcessState Signal Event). z.event) d.is ∙ sym (ap (λ (z : Effect ProcessState Signal Event). z.event) w.2) in
-        let place : k.place ≡ s.counts.place = sym (ap place_in k.did) ∙ ap (λ (z : Event). place_in z.did) event in
-        let told : w.0.outcome ≡ outcome.Set (term.Ref r) = sym (ap (λ (z : Event). z.outcome) event) ∙ k.made in
-        let instr : slice_get k.process.instrs (s.counts.place - 1) ≡ Some (Monitor k.var k.target (Some ReplyDemonitor)) = sym (ap (λ n. slice_get k.process.instrs (n - 1)) place) ∙ k.instr in
-        let body : with_value s k.target (λ t. with_pid s t (monitoring s k.var.0 (Some ReplyDemonitor))) ≡ w.0 =
-        same_Some (with_value s k.target (λ t. with_pid s t (monitoring s k.var.0 (Some ReplyDemonitor)))) w.0 (sym (ap (exec_body begin k.process s) instr) ∙ w.1) in
-        let m : MadeBody r s w.0 = subst (λ (b : Body). b.outcome ≡ outcome.Set (term.Ref r) → MadeBody r s b) body (made_body r s k.var.0 k.target) told in
-        let state : (finished_exec r.owner.0 s w.0).state ≡ d.effect.state = ap (λ (z : Effect ProcessState Signal Event). z.state) w.2 in
         record {
           after = d.effect.state;
           at = ap (λ (z : Applied ProcessState Signal Event). slice_get z.machine.procs r.owner.0) d.is
               ∙ ap (λ p. slice_get (slice_set old.procs p d.effect.state) r.owner.0) k.maker
               ∙ slice_get-set_same old.procs r.owner.0 d.effect.state s at;
-          serial = m.serial;
-          made = subst (λ (z : ProcessState). Made z) state (record { made = omega (arith, m.serial, m.next); call = inr (m.mode, m.held) });
+          makes = makes_by s a k d.effect defined (ap (λ (z : Applied ProcessState Signal Event). z.event) d.is);
           none = ap bit (and_right (a.pid == r.owner.0) (is_kept a.event.outcome && handles_answer r (λ sender. old.queued sender a.pid) a.event.did)
               (and_right (is_kept a.event.outcome) (handles_answer r (λ sender. old.queued sender a.pid) a.event.did) (ap (handles_answer r (λ sender. old.queued sender a.pid)) k.did)));
         }
@@ -243,7 +251,7 @@ module _ (r : Ref) where
     -- before it is made the next serial isn't above it
     unmade_before : (es : List (At Event)) (m end : Machine ProcessState Signal) (run : IsRun (rules begin script r) m es end) (s : ProcessState) → At_maker m s → MadeIn es → s.counts.next_serial ≤ r.serial
     unmade_before [] m end run s at h = absurd h
-    unmade_before (a ∷ later) m end run s at (inl k) = let w : Making m run.0 a s = making m run.0 a s at k run.1 in omega (arith, w.serial)
+    unmade_before (a ∷ later) m end run s at (inl k) = let w : Making m run.0 a s = making m run.0 a s at k run.1 in omega (arith, w.makes.serial)
     unmade_before (a ∷ later) m end run s at (inr h) =
         let step : MakerStep begin script r m run.0 a s = maker_step begin script r m run.0 a s at run.1 in
         omega (arith, rises_moves s step.after (bit (enters r m a)) step.moves, unmade_before later run.0 end run.2 step.after step.at h)
@@ -257,7 +265,7 @@ module _ (r : Ref) where
     law [] m end run s at u h = absurd h
     law (a ∷ later) m end run s at u (inl k) =
         let w : Making m run.0 a s = making m run.0 a s at k run.1 in
-        let rest : entries (rules begin script r) r run.0 later end run.2 ≤ bit (is_held w.after.tables.watch r) = after_made later run.0 end run.2 w.after w.at w.made in
+        let rest : entries (rules begin script r) r run.0 later end run.2 ≤ bit (is_held w.after.tables.watch r) = after_made later run.0 end run.2 w.after w.at w.makes.made in
         omega (arith, rest, w.none, one_at_most (is_held w.after.tables.watch r))
     law (a ∷ later) m end run s at u (inr h) =
         let step : MakerStep begin script r m run.0 a s = maker_step begin script r m run.0 a s at run.1 in

@@ -174,9 +174,9 @@ pub err_gives : {X Y : Type 0} (view : X → Y) (r : Result X CallError) (e : Ca
 err_gives view (Ok x) e said h s = absurd h
 err_gives view (Err x) e said h s = subst (λ y. Stops y said) (sym h) s
 
-on_this : {E : Type 0} {x y z : ExpandedText} → x ≡ y → (r : Result (Unit {0}) E) → OnOk r (z ≡ x) → OnOk r (z ≡ y)
-on_this same (Ok u) is = is ∙ same
-on_this same (Err w) is = tt
+on_this : {E : Type 0} (x y z : ExpandedText) → x ≡ y → (r : Result (Unit {0}) E) → OnOk r (z ≡ x) → OnOk r (z ≡ y)
+on_this x y z same (Ok u) is = is ∙ same
+on_this x y z same (Err w) is = tt
 
 -- eight lines, one behind the other
 pub eight : {E : Type 0} (n : ℕ) (a b c d e f g h : List ℕ) (x y₁ y₂ y₃ y₄ y₅ y₆ y₇ z : ExpandedText) (r : Result (Unit {0}) E) →
@@ -186,4 +186,4 @@ eight n a b c d e f g h x y₁ y₂ y₃ y₄ y₅ y₆ y₇ z r p₁ p₂ p₃ 
     let more : List ℕ → ExpandedText → ExpandedText = λ line t. with_line t n line in
     let all : with_line y₇ n h ≡ with_lines x n (a ∷ b ∷ c ∷ d ∷ e ∷ f ∷ g ∷ h ∷ []) =
     ap (more h) (p₇ ∙ ap (more g) (p₆ ∙ ap (more f) (p₅ ∙ ap (more e) (p₄ ∙ ap (more d) (p₃ ∙ ap (more c) (p₂ ∙ ap (more b) p₁)))))) in
-    on_this all r done
+    on_this _ _ z all r done

@@ -1,5 +1,5 @@
 -- The choices of a record, made once more.
-use Rattle.std.proofs.Common.{◌≡◌, ℕ, ◌+◌, Bool, true, false, cond, List, [], ◌∷◌, ◌++◌, take, length, Some, None, refl, sym, ap, ◌∙◌, subst, append_assoc}
+use Rattle.std.proofs.Common.{◌≡◌, ℕ, suc, ◌+◌, Bool, true, false, cond, List, [], ◌∷◌, ◌++◌, take, length, Some, None, refl, sym, ap, ◌∙◌, subst, append_assoc}
 use Rattle.std.specs.Prelude.{◌==◌, slice_get}
 use Rattle.std.specs.Bool.{MatchBool}
 use Rattle.std.proofs.Math.Path.{ap₂}
@@ -43,7 +43,7 @@ module _ (script : Program) where
       (h.0, h.1 ++ record { pid = a.pid; event = e } ∷ [], h.2, ap (λ xs. xs ++ record { pid = a.pid; event = e } ∷ []) h.3, h.4, makes_more given a h.1 e h.2 mid end h.5 step)
 
   -- the choices of a run's events make these events
-  makes_same : (es made : List (At Event)) (m end far : Machine ProcessState Signal) → IsRun (rules_of script) m es end → Makes script m es made far → (made ≡ es) × (far ≡ end)
+  pub makes_same : (es made : List (At Event)) (m end far : Machine ProcessState Signal) → IsRun (rules_of script) m es end → Makes script m es made far → (made ≡ es) × (far ≡ end)
   makes_same [] made m end far run h = (h.0, sym h.1 ∙ run)
   makes_same (a ∷ es) made m end far run h =
       let same : record { machine = h.2; event = h.0 } ≡ record { machine = run.0; event = a.event } =
@@ -62,7 +62,7 @@ module _ (script : Program) where
   makes_many q (a ∷ given) made m end h =
       ap (λ es. length (events_by q es)) h.3
       ∙ elim (a.pid == q) as (λ c. length (cond c (h.0 ∷ events_by q h.1) (events_by q h.1)) ≡ length (cond c (a.event ∷ events_by q given) (events_by q given))) [
-        | true ↦ ap (λ n. n + 1) (makes_many q given h.1 h.2 end h.5)
+        | true ↦ ap suc (makes_many q given h.1 h.2 end h.5)
         | false ↦ makes_many q given h.1 h.2 end h.5
       ]
 

@@ -29,7 +29,7 @@ use Rattle.sig_check.proofs.FewStamps.{none_late}
 
 module _ (script : Program) (within : All IsWithin script.procs) (m : Machine ProcessState Signal) (sound : AllMarksSound marking m) where
   -- what is at rest over the whole list is at rest from the marks
-  settled_marked : IsSettled (whole_rules script) m → IsSettled (rules_of script) m
+  pub settled_marked : IsSettled (whole_rules script) m → IsSettled (rules_of script) m
   settled_marked settled p s at = go (settled p s at)
     where
       late : IsLate (whole_rules script) m p → IsLate (rules_of script) m p

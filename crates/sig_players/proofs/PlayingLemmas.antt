@@ -4,7 +4,7 @@ use Rattle.std.specs.Prelude.{All, Vec, MatchOption, slice_get, slice_set, slice
 use Rattle.std.proofs.Math.Path.{ap₂}
 use Rattle.std.specs.Global.{Global}
 use Rattle.std.specs.Option.{option_map}
-use Rattle.std.proofs.lemmas.List.{length-map, map-set, length-set}
+use Rattle.std.proofs.lemmas.List.{length-map, map-set, length-set, append-nil}
 use Rattle.std.proofs.lemmas.List.Elements.{All-head, All-tail, All-cons, All-nil}
 use Rattle.std.proofs.lemmas.Option.{slice_get-get_or, slice_get-map, slice_get_past, same_Some}
 use Rattle.sig_kinds.specs.declared.signal.Signal.{Signal}
@@ -156,6 +156,10 @@ module _ (players : List Player) (at : ℕ) (p : Player) (lt : at < length playe
               ∙ ap (λ (z : Standing). slice_set (slice_set crew at (record (seen p) { outbox = p1.process.running.outbox })) x.to.0 (record z.running { taken_in = joined u2.waiting.items })) given.process;
         }
 
+        pub last_moved : (h : IsPosted crew at (crew_of (set mid x.to.0 u2))) × (x.from ≡ h.signal.from) × (x.to ≡ h.signal.to) × (x.number ≡ h.signal.number)
+        unfolding last_posted
+        last_moved = (last_posted, refl, refl, refl)
+
 -- what was told of a choice
 pub when_true : (A B : Type 0) (made : Bool) → made ≡ true → MatchBool made A B → A
 when_true A B true e h = h
@@ -170,7 +174,11 @@ pub some_moved : {X : Type 0} (A : Type 0) (B : X → Type 0) (o : Option X) →
 some_moved A B None e h = cc
 some_moved A B (Some x) e h = (x, h)
 
-pub none_moved : {X : Type 0} (A : Type 0) (B : X → Type 0) (o : Option X) → is_none o ≡ true → MatchOption o A B → A
+pub this_moved : {X : Type 0} (A : Type 0) (B : X → Type 0) (o : Option X) (x : X) → o ≡ Some x → MatchOption o A B → B x
+this_moved A B None x e h = cc
+this_moved A B (Some y) x e h = subst B (same_Some y x e) h
+
+pub none_moved : {X : Type 0} (A : Type 0) (B : X → Type 0) (o : Option X) → o ≡ None → MatchOption o A B → A
 none_moved A B None e h = h
 none_moved A B (Some x) e h = cc
 
@@ -197,6 +205,10 @@ module _ (event : ℕ) (mid after : List Running) (at : ℕ) (named : Posted) (h
       ∙ ap₂ (λ (o : Origin) (xs : List Signal). origins ++ o ∷ map (origin_of event) xs) told_is (post_left mid at after h.0)
       ∙ ap (λ xs. origins ++ map (origin_of event) xs) (sym (ap (λ o. outbox_of o) h.0.there ∙ h.0.oldest))
 
+-- all are told
+pub all_told : (event : ℕ) (o : Option Running) (origins told : List Origin) → outbox_of o ≡ [] → origins ++ map (origin_of event) (outbox_of o) ≡ told → origins ≡ told
+all_told event o origins told none h = sym (append-nil origins) ∙ ap (λ xs. origins ++ map (origin_of event) xs) (sym none) ∙ h
+
 -- the process is the same
 pub acts_pid : (did : Did) (r t : Running) → Acts did r t → t.pid ≡ r.pid
 acts_pid (Exec place) r t h = ap (λ (z : Running). z.pid) (sym (exec_next_tells r t h).is)
@@ -221,38 +233,32 @@ module _ (players : List Player) (at : ℕ) (p : Player) (lt : at < length playe
       (subst (λ z. HasPosted z at after) (map-set seen players at q) posted)
 
   -- the origins of what it sends, told by its numbers before and after, and by its outbox
-  pub choice_told : AreReady players → (did : Did) (q : Player) → Acts did (seen p) (seen q) → (first event : ℕ) (old own all : List Origin) →
-      first ≡ slice_index p.process.running.state.counts.next_numbers at → event ≡ length q.process.running.events →
-      own ≡ old ++ own_origins q.process.running.pid (length q.process.running.events) first (slice_index q.process.running.state.counts.next_numbers q.process.running.pid - first) →
+  pub choice_told : AreReady players → (did : Did) (q : Player) → Acts did (seen p) (seen q) → (event : ℕ) (old own all : List Origin) →
+      event ≡ length (events_of (slice_get (crew_of (set players at q)) at)) →
+      own ≡ old ++ own_origins p.process.running.pid (length q.process.running.events) (slice_index p.process.running.state.counts.next_numbers p.process.running.pid)
+      (slice_index q.process.running.state.counts.next_numbers p.process.running.pid - slice_index p.process.running.state.counts.next_numbers p.process.running.pid) →
       all ≡ own ++ map (origin_of event) (outbox_of (slice_get (crew_of (set players at q)) at)) →
       all ≡ old ++ origins_in at (length (events_of (slice_get (crew_of players) at)) + 1) (sent_at (rules_of script) (machine_of script (crew_of players)) (c did))
-  choice_told ready did q acts first event old own all is_first is_event more_own more_all =
+  choice_told ready did q acts event old own all is_event more_own more_all =
       let crew : List Running = crew_of players in
       let there : slice_get crew at ≡ Some (seen p) = seen_at players at p lt is in
       let r : Running = p.process.running in
       let t : Running = q.process.running in
       let sends : List Signal = sent_at (rules_of script) (machine_of script crew) (c did) in
       let pid : r.pid ≡ at = (placed_at players at p lt is ready).0 in
-      let same : t.pid ≡ r.pid = acts_pid did (seen p) (seen q) acts in
       let none : r.outbox ≡ [] = sym (ap (λ o. outbox_of o) there) ∙ empty at in
       let here : slice_get (crew_of (set players at q)) at ≡ Some (seen q) =
       ap (λ z. slice_get z at) (map-set seen players at q) ∙ slice_get-set_same crew at (seen q) (seen p) there in
-      let all_is : origins_in r.pid (length r.events + 1) sends
-      ≡ own_origins r.pid (length t.events) (slice_index r.state.counts.next_numbers r.pid) (slice_index t.state.counts.next_numbers r.pid - slice_index r.state.counts.next_numbers r.pid)
-      ++ map (origin_of (length t.events)) t.outbox =
+      let its : List Origin = own_origins r.pid (length t.events) (slice_index r.state.counts.next_numbers r.pid) (slice_index t.state.counts.next_numbers r.pid - slice_index r.state.counts.next_numbers r.pid) in
+      let all_is : origins_in r.pid (length r.events + 1) sends ≡ its ++ map (origin_of (length t.events)) t.outbox =
       told_origins (seen p) (seen q) sends (acted_sent script crew at (seen p) there law (seen q) empty did acts) none in
-      let own_is : own_origins t.pid (length t.events) first (slice_index t.state.counts.next_numbers t.pid - first)
-      ≡ own_origins r.pid (length t.events) (slice_index r.state.counts.next_numbers r.pid) (slice_index t.state.counts.next_numbers r.pid - slice_index r.state.counts.next_numbers r.pid) =
-      ap (λ n. own_origins n (length t.events) first (slice_index t.state.counts.next_numbers n - first)) same
-      ∙ ap (λ f. own_origins r.pid (length t.events) f (slice_index t.state.counts.next_numbers r.pid - f)) (is_first ∙ ap (λ n. slice_index r.state.counts.next_numbers n) (sym pid)) in
       let others_are : map (origin_of event) (outbox_of (slice_get (crew_of (set players at q)) at)) ≡ map (origin_of (length t.events)) t.outbox =
-      ap₂ (λ n o. map (origin_of n) (outbox_of o)) is_event here in
+      ap₂ (λ n o. map (origin_of n) (outbox_of o)) (is_event ∙ ap (λ o. length (events_of o)) here) here in
       more_all
-      ∙ ap (λ os. os ++ map (origin_of event) (outbox_of (slice_get (crew_of (set players at q)) at))) more_own
-      ∙ append_assoc old _ _
+      ∙ ap₂ (λ os xs. os ++ xs) more_own others_are
+      ∙ append_assoc old its (map (origin_of (length t.events)) t.outbox)
       ∙ ap (λ os. old ++ os)
-      (ap₂ (λ xs ys. xs ++ ys) own_is others_are
-      ∙ sym all_is
+      (sym all_is
       ∙ ap (λ n. origins_in n (length r.events + 1) sends) pid
       ∙ ap (λ o. origins_in at (length (events_of o) + 1) sends) (sym there))
 

@@ -1,21 +1,20 @@
 //! The processes of a script make the choices of a record, and the origins of what they send are told.
 
-ghost use Rattle.std.specs.Prelude.{◌≡◌, ◌<◌, ◌-◌, ◌+◌, ◌++◌, [], true, Some, None, IfOk, OnOk, map, length, slice_get, slice_index, vec_len};
+ghost use Rattle.std.specs.Prelude.{◌≡◌, ◌<◌, ◌-◌, ◌+◌, ◌++◌, [], true, None, IfOk, OnOk, map, length, slice_get, slice_index, vec_len};
 ghost use Rattle.std.specs.Bool.{MatchBool};
 ghost use Rattle.sig_program.specs.Scripts.{Program};
 ghost use Rattle.sig_runs.specs.Machine.{apply, choice};
 ghost use Rattle.sig_model.specs.Machine.{acted_at, rules_of};
 ghost use Rattle.sig_model.specs.SettledRun.{events_of};
 ghost use Rattle.sig_model.specs.CrewLaw.{IsLawfulCrew, outbox_of, machine_of};
-ghost use Rattle.sig_players.specs.Players.{crew_of, AreReady};
-ghost use Rattle.sig_choices.specs.Choosing.{AreEmptied, HasMade, HasPosted};
+ghost use Rattle.sig_players.specs.Players.{seen, crew_of, IsReady, AreReady};
+ghost use Rattle.sig_choices.specs.Choosing.{Acts, Refuses, AreEmptied, HasMade, HasPosted};
 ghost use Rattle.sig_choices.specs.Origins.{origin_of, origins_in, own_origins, sent_at};
 
 use crate::player::Player;
 use crate::playing::post_one;
 use sig_base::Steps;
 use sig_model::{Did, Origin, Origins};
-use sig_process::Process;
 use sig_terms::Pid;
 use std::alloc::AllocError;
 use std::sync::ledger::Ledger;
@@ -39,7 +38,8 @@ fn post_telling(
         ≡ origins.old ++ map (origin_of event) (outbox_of (slice_get (crew_of players.old.items) at))) }
 {
     loop {
-        let Some(posted) = post_one(players, at)? else {
+        let moved = post_one(players, at)?;
+        let Some(posted) = moved else {
             return Ok(());
         };
         origins.add(Origin {
@@ -51,16 +51,18 @@ fn post_telling(
     }
 }
 
-/// Adds the origins of the signals that the process sent to itself by its last event, the first of
-/// which has this number. The error is want of memory.
-fn tell_own(process: &Process, first: u64, origins: &mut Origins) -> Result<(), AllocError>
-    ensures { OnOk result (origins.new ≡ origins.old
-        ++ own_origins process.now.running.pid (length process.now.running.events) first
-        (slice_index process.now.running.state.counts.next_numbers process.now.running.pid - first)) }
+/// Adds the origins of the signals of this process to itself with the numbers from the first to below
+/// the end, which the event with this number sent. The error is want of memory.
+fn tell_own(
+    pid: Pid,
+    event: u64,
+    first: u64,
+    end: u64,
+    origins: &mut Origins,
+) -> Result<(), AllocError>
+    ensures { OnOk result (origins.new ≡ origins.old ++ own_origins pid.0 event first (end - first)) }
 {
-    let pid = process.pid();
-    let event = process.events().len() as u64;
-    for number in first..process.next_number(pid) {
+    for number in first..end {
         origins.add(Origin {
             from: pid,
             to: pid,
@@ -69,6 +71,40 @@ fn tell_own(process: &Process, first: u64, origins: &mut Origins) -> Result<(), 
         })?;
     }
     Ok(())
+}
+
+impl Player {
+    /// Does what an event did, where that may be, and tells whether it did; then the origins of what it
+    /// sends to itself are added. After `false` the player is of no more use. The error is want of
+    /// memory.
+    fn act_telling<L: Ledger>(
+        &mut self,
+        did: &Did,
+        origins: &mut Origins,
+        steps: &mut Steps<L>,
+    ) -> Result<bool, AllocError>
+        requires { IsReady self.old }
+        ensures ready { IfOk result (λ made. made ≡ true → IsReady self.new) }
+        ensures made { IfOk result (λ made. MatchBool made
+            (Acts did.now (seen self.old) (seen self.new))
+            (Refuses did.now (seen self.old))) }
+        ensures told { IfOk result (λ made. made ≡ true → origins.new ≡ origins.old
+            ++ own_origins self.old.process.running.pid (length self.new.process.running.events)
+            (slice_index self.old.process.running.state.counts.next_numbers self.old.process.running.pid)
+            (slice_index self.new.process.running.state.counts.next_numbers self.old.process.running.pid
+            - slice_index self.old.process.running.state.counts.next_numbers self.old.process.running.pid)) }
+    {
+        let pid = self.process.pid();
+        let first = self.process.next_number(pid);
+        let made = self.act(did, steps)?;
+        if !made {
+            return Ok(false);
+        }
+        let event = self.process.events().len() as u64;
+        let end = self.process.next_number(pid);
+        tell_own(pid, event, first, end, origins)?;
+        Ok(true)
+    }
 }
 
 /// Makes this choice as [`crate::choose`] does, and adds the origin of each signal that is sent by it: first
@@ -99,14 +135,11 @@ pub fn choose_telling<L: Ledger>(
     if players.len() <= at {
         return Ok(false);
     }
-    let first = players[at].process.next_number(Pid(pid));
-    let made = players[at].act(did, steps)?;
+    let made = players[at].act_telling(did, origins, steps)?;
     if !made {
         return Ok(false);
     }
-    let process = &players[at].process;
-    let event = process.events().len() as u64;
-    tell_own(process, first, origins)?;
+    let event = players[at].process.events().len() as u64;
     post_telling(players, at, event, origins)?;
     Ok(true)
 }

@@ -1,9 +1,10 @@
 -- The numbers of the next signals, row by row.
-use Rattle.std.proofs.Common.{◌≡◌, ◌≢◌, ℕ, zero, suc, ◌+◌, ◌-◌, ◌<◌, ◌≤◌, List, [], ◌∷◌, ◌++◌, length, replicate, take, get_or, set, refl, sym, ap, ◌∙◌, subst, arith, inl, inr, ⊎_elim, append_assoc, append-nil, length-append, length-set}
+use Rattle.std.proofs.Common.{◌≡◌, ◌≢◌, ℕ, zero, suc, ◌+◌, ◌-◌, ◌<◌, ◌≤◌, List, [], ◌∷◌, ◌++◌, length, replicate, take, get_or, set, refl, sym, ap, ◌∙◌, subst, min, arith, inl, inr, ⊎_elim, append_assoc, append-nil, length-append, length-set}
 use Rattle.std.specs.Prelude.{slice_get, slice_index}
 use Rattle.std.proofs.lemmas.Bool.{cases_lt}
+use Rattle.std.proofs.Math.Nat.{min-eq_left, min-eq_right}
 use Rattle.std.proofs.lemmas.Bool.Decides.{eqb_tells}
-use Rattle.std.proofs.lemmas.List.{length-replicate, replicate_more, take_more, get_or-set_same, get_or-set_other, get_or-replicate, get_or_default}
+use Rattle.std.proofs.lemmas.List.{length-replicate, replicate_more, take_more, take_all, get_or-set_same, get_or-set_other, get_or-replicate, get_or_default}
 use Rattle.sig_model.specs.Running.{Running}
 use Rattle.sig_process.specs.Standing.{Standing, runnings_of}
 use Rattle.sig_process.specs.SentTo.{AreFirstOutside}
@@ -104,6 +105,13 @@ module _ (at : ℕ) (numbers : List ℕ) (start : List (List ℕ)) (short : (p :
       (left_one at (slice_index numbers p) (get_or start p []) (short p in_all) (outside_behind low high p numbers f (one p in_all) (end p ge in_all))))
       (cases_lt p to)
 
+-- behind the last of the lists at which it was looked
+pub behind_all : (high len end to p : ℕ) → end ≡ min high len → end ≤ to → to ≤ p → p < len → high ≤ p
+behind_all high len end to p e a b c = ⊎_elim
+    (λ (lt : len < high). (let m : min high len ≡ len = min-eq_right (omega (arith, lt)) in absurd (let f : ⊥ = omega (arith, m, e, a, b, c) in f)))
+    (λ (ge : high ≤ len). (let m : min high len ≡ high = min-eq_left ge in omega (arith, m, e, a, b)))
+    (cases_lt len high)
+
 -- one process more
 pub numbers_more : (procs : List Standing) (at p : ℕ) (r : Standing) → at < length procs → r ≡ get_or procs at r
     → numbers_to p (runnings_of (take (at + 1) procs)) ≡ numbers_to p (runnings_of (take at procs)) ++ slice_index r.running.state.counts.next_numbers p ∷ []
@@ -123,10 +131,20 @@ column_more procs at p r old new lt is c h = record {
   is = h.is ∙ ap (λ (z : List ℕ). z ++ slice_index r.running.state.counts.next_numbers p ∷ []) c.is ∙ sym (numbers_more procs at p r lt is);
 }
 
+-- behind the last process
+pub whole_column : (procs : List Standing) (at p : ℕ) (xs : List ℕ) → at ≡ length procs → IsColumn at p (runnings_of (take at procs)) xs → IsColumn (length procs) p (runnings_of procs) xs
+whole_column procs at p xs e c =
+    (let all : take at procs ≡ procs = take_all at procs (omega (arith, e)) in
+    subst (λ (n : ℕ). IsColumn n p (runnings_of procs) xs) e (subst (λ (z : List Standing). IsColumn at p (runnings_of z) xs) all c))
+
 -- before the first process
-pub empty_column : (n p : ℕ) → p < n → IsColumn 0 p [] (get_or (empties n) p [])
+empty_column : (n p : ℕ) → p < n → IsColumn 0 p [] (get_or (empties n) p [])
 empty_column n p lt = (let e : get_or (empties n) p [] ≡ [] = get_or-replicate n p [] [] lt in
     subst (IsColumn 0 p []) (sym e) (record { short = omega arith; is = refl }))
+
+pub empty_columns : (n : ℕ) (columns : List (List ℕ)) → columns ≡ replicate n [] → (length columns ≡ n) × ((p : ℕ) → p < n → IsColumn 0 p [] (get_or columns p []))
+empty_columns n columns e =
+    (ap (λ (z : List (List ℕ)). length z) e ∙ length-replicate n [], λ p lt. subst (λ (z : List (List ℕ)). IsColumn 0 p [] (get_or z p [])) (sym e) (empty_column n p lt))
 
 -- the process at this place numbers its signals from 1 on
 pub row_numbered : (procs : List Standing) (at n : ℕ) (r : Standing) → at < length procs → r ≡ get_or procs at r → AreNumbered (runnings_of procs) → n ≡ length procs

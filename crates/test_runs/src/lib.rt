@@ -7,6 +7,8 @@ mod arguments;
 #[cfg(test)]
 mod calls;
 #[cfg(test)]
+mod crossing;
+#[cfg(test)]
 mod documents;
 #[cfg(test)]
 mod exits;

@@ -1,6 +1,6 @@
 use Rattle.std.proofs.Common.{◌≡◌, ◌≤◌, length, arith}
 use Rattle.sig_reader.specs.declared.reader.TheConstants.{MOST_BYTES}
-use Rattle.sig_call.proofs.ExpansionLemmas.{err_gives, expansion_read, expansion_stops}
+use Rattle.sig_call.proofs.ExpansionLemmas.{err_gives, expansion_read, expansion_stops, too_long}
 use Rattle.sig_call.proofs.ScriptLaw.{all_once}
 use Rattle.sig_call.proofs.expanding.expand.Goals as goal
 
@@ -21,3 +21,6 @@ returns-clause-expansion c =
 
 pub returns-clause-law : goal.returns-clause-law
 returns-clause-law c = all_once c.read_expanded.result
+
+pub returns-then-bytes-gt-MOST_BYTES-clause-expansion : goal.returns-then-bytes-gt-MOST_BYTES-clause-expansion
+returns-then-bytes-gt-MOST_BYTES-clause-expansion c = too_long c.args.bytes.now c.if-bytes-gt-MOST_BYTES.true

@@ -5,8 +5,8 @@ use Rattle.sig_choices.specs.Choosing.{HasPosted}
 use Rattle.sig_choices.specs.Origins.{origin_of}
 use Rattle.sig_players.proofs.telling.post_telling.Given as goal
 
-abbrev pub invariant-loop-post_one : goal.invariant-loop-post_one
-invariant-loop-post_one l = record {
+abbrev pub invariant-loop-moved : goal.invariant-loop-moved
+invariant-loop-moved l = record {
   ready : AreReady l.players.items;
   len : vec_len l.players ≡ vec_len l.fn.players;
   posted : HasPosted (crew_of l.fn.players.items) l.at (crew_of l.players.items);
@@ -14,5 +14,5 @@ invariant-loop-post_one l = record {
       ≡ l.fn.origins ++ map (origin_of l.event) (outbox_of (slice_get (crew_of l.fn.players.items) l.at));
 }
 
-abbrev pub decreases-loop-post_one : goal.decreases-loop-post_one
-decreases-loop-post_one l = length (outbox_of (slice_get (crew_of l.players.items) l.at))
+abbrev pub decreases-loop-moved : goal.decreases-loop-moved
+decreases-loop-moved l = length (outbox_of (slice_get (crew_of l.players.items) l.at))

@@ -14,8 +14,8 @@ pad-requires c =
     (first_column (length c.args.procs.now) c.loop-at.at (runnings_of c.args.procs.now) c.loop-at.columns.items c.take_first-first.new.list.items c.take_first-first.result
     c.take_first-first.ensures c.loop-at.invariant.columns c.loop-at-test.true).short
 
-pub open_one-queue-requires-clause-first : goal.open_one-queue-requires-clause-first
-open_one-queue-requires-clause-first c =
+pub open_one-requires-clause-first : goal.open_one-requires-clause-first
+open_one-requires-clause-first c =
     column_numbers (length c.args.procs.now) c.loop-at.at (runnings_of c.args.procs.now) c.take_first-first.result _
     (first_column (length c.args.procs.now) c.loop-at.at (runnings_of c.args.procs.now) c.loop-at.columns.items c.take_first-first.new.list.items c.take_first-first.result
     c.take_first-first.ensures c.loop-at.invariant.columns c.loop-at-test.true) c.pad.ensures
