@@ -1,5 +1,5 @@
 -- No part of a call line has a line feed, so neither has a line of its expansion.
-use Rattle.std.proofs.Common.{◌≡◌, ℕ, zero, suc, ◌+◌, ◌-◌, ◌<◌, ◌^◌, Bool, true, false, ◌&&◌, not, if◌then◌else◌, List, [], ◌∷◌, ◌++◌, length, take, drop, Option, Some, None, Result, Ok, Err, refl, ap, ◌∙◌, arith}
+use Rattle.std.proofs.Common.{◌≡◌, ℕ, zero, suc, ◌-◌, ◌<◌, ◌^◌, Bool, true, false, ◌&&◌, not, if◌then◌else◌, List, [], ◌∷◌, ◌++◌, take, drop, Option, Some, None, Result, Ok, Err, refl, ◌∙◌}
 use Rattle.std.specs.Prelude.{codes, decimal, is_some, IfOk, IfSome, slice_range}
 use Rattle.std.specs.List.{concat, list_all}
 use Rattle.std.proofs.lemmas.List.Folds.{list_all-append}
@@ -15,9 +15,8 @@ use Rattle.sig_tokens.specs.Skipping.{expression_end}
 use Rattle.sig_tokens.specs.Tokens.{cut_of, text}
 use Rattle.sig_canon.proofs.CleanLines.{AreClean}
 use Rattle.sig_canon.proofs.WordTexts.{is_inline, count_word}
-use Rattle.sig_call.specs.declared.fault.CallFault.{CallFault}
 use Rattle.sig_call.specs.declared.fault.CallFault.TheVariants.{Form, Reserved}
-use Rattle.sig_call.specs.CallLine.{CallLine, call_in, call_of, expression_at, has_reserved, is_call, label_at, label_word, other_in, said_by, said_of, spanned, spanned_to, variable_at, variable_word}
+use Rattle.sig_call.specs.CallLine.{CallLine, call_in, call_of, expression_at, has_reserved, is_call, label_at, label_word, other_in, said_of, spanned_to, variable_at, variable_word}
 use Rattle.sig_call.specs.Expansion.{arrow_text, call_lines, lines_for}
 
 -- no byte is a line feed

@@ -4,7 +4,6 @@ use Rattle.std.specs.Prelude.{IsErrAnd, OnOk}
 use Rattle.std.proofs.lemmas.Bool.Decides.{nat_tests}
 use Rattle.std.proofs.lemmas.List.{drop_all}
 use Rattle.sig_program.specs.declared.version.Version.{Version}
-use Rattle.sig_program.specs.Scripts.{Program}
 use Rattle.sig_tokens.specs.Faults.{◌>>=◌, on_ok}
 use Rattle.sig_tokens.specs.declared.token.Cut.{Cut}
 use Rattle.sig_tokens.specs.Lines.{lines_of}

@@ -13,7 +13,7 @@ use Rattle.sig_canon.proofs.WordTexts.{is_inline}
 use Rattle.sig_call.specs.declared.fault.CallError.{CallError}
 use Rattle.sig_call.specs.declared.fault.CallFault.{CallFault}
 use Rattle.sig_call.specs.CallLine.{CallLine, said_of}
-use Rattle.sig_call.specs.Expansion.{Line, LinesStand, at_line, call_lines, ends_in_feed, expanded, expansion_of, fed, first_line, lines_for, next_call, text_of, version_of}
+use Rattle.sig_call.specs.Expansion.{Line, LinesStand, at_line, ends_in_feed, expanded, fed, first_line, lines_for, next_call, text_of, version_of}
 use Rattle.sig_call.proofs.CleanCalls.{IsInline, IsInlineCall, said_inline, lines_for_clean}
 
 -- the text ends, and not with a line feed

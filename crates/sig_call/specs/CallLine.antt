@@ -1,6 +1,6 @@
 -- What a line of a text of calls says: it is a call, `call X T M` or `call X T M -> L`, or a line of a script. (The language of
 -- scripts is this project's own; a call is `gen_server:call/2` of Erlang's module `gen_server`.)
-use Rattle.std.specs.Prelude.{ℕ, ◌-◌, List, [], ◌∷◌, drop, Bool, true, false, ◌&&◌, not, is_some, slice_get, slice_range, codes, if◌then◌else◌, Option, Some, None, Result, Ok, Err, take}
+use Rattle.std.specs.Prelude.{ℕ, ◌-◌, List, [], ◌∷◌, drop, Bool, false, ◌&&◌, not, is_some, slice_get, slice_range, codes, if◌then◌else◌, Option, Some, None, Result, Ok, Err, take}
 use Rattle.std.specs.List.{list_any}
 use Rattle.std.specs.Option.{option_map_or}
 use Rattle.std.specs.Str.{bytes_eq}

@@ -1,9 +1,9 @@
 -- The expansion line by line: the text so far, and from which given lines it comes.
-use Rattle.std.specs.Prelude.{ℕ, ◌+◌, List, [], ◌∷◌, ◌++◌, Option, Result, Ok, Err}
+use Rattle.std.specs.Prelude.{ℕ, ◌+◌, List, [], ◌∷◌, ◌++◌, Result, Ok}
 use Rattle.sig_program.specs.declared.version.Version.{Version}
 use Rattle.sig_tokens.specs.Faults.{◌>>=◌, on_ok}
 use Rattle.sig_call.specs.declared.fault.CallError.{CallError}
-use Rattle.sig_call.specs.CallLine.{CallLine, said_of}
+use Rattle.sig_call.specs.CallLine.{said_of}
 use Rattle.sig_call.specs.Expansion.{at_line, lines_for, next_call}
 
 -- the bytes of the lines so far, each with a line feed behind it, and the numbers of the given lines that they come from

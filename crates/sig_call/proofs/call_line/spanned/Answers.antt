@@ -1,4 +1,4 @@
-use Rattle.std.proofs.Common.{◌≡◌, ◌-◌, ◌<◌, ◌≤◌, length, get_or, Some, refl, arith}
+use Rattle.std.proofs.Common.{◌≡◌, ◌-◌, get_or, Some, refl, arith}
 use Rattle.std.specs.Prelude.{slice_get}
 use Rattle.std.proofs.lemmas.Option.{slice_get-get_or}
 use Rattle.sig_tokens.specs.declared.token.Token.{Token}

@@ -1,4 +1,4 @@
-use Rattle.std.proofs.Common.{◌≡◌, ◌≤◌, length, arith}
+use Rattle.std.proofs.Common.{◌≤◌, length, arith}
 use Rattle.sig_reader.specs.declared.reader.TheConstants.{MOST_BYTES}
 use Rattle.sig_call.proofs.ExpansionLemmas.{err_gives, expansion_read, expansion_stops, too_long}
 use Rattle.sig_call.proofs.ScriptLaw.{all_once}

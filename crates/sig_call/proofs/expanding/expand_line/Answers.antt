@@ -1,5 +1,4 @@
-use Rattle.std.proofs.Common.{◌≡◌, ◌+◌, Option, Some, None, Ok, Err, sym, ◌∙◌, ap}
-use Rattle.sig_call.specs.CallLine.{said_of}
+use Rattle.std.proofs.Common.{◌+◌, Some, None, Ok, Err, sym, ◌∙◌, ap}
 use Rattle.sig_call.specs.Expanding.{ExpandedText}
 use Rattle.sig_call.proofs.ExpansionLemmas.{said_is, given_expanded, call_expanded, line_refused}
 use Rattle.sig_call.proofs.expanding.expand_line.Goals as goal
