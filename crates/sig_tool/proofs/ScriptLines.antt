@@ -28,7 +28,9 @@ use Rattle.sig_record.specs.ReadableRecord.{IsReadableRecord}
 use Rattle.sig_check.specs.Verdicts.{IsOfSettledRun}
 use Rattle.sig_tool.specs.declared.given.TheConstants.{MOST_INPUT}
 use Rattle.sig_tool.specs.declared.status.ToolStatus.TheVariants.{Done}
+use Rattle.sig_tool.specs.declared.command.Command.{Command}
 use Rattle.sig_tool.specs.Answers.{IsDue}
+use Rattle.sig_tool.specs.Commands.{HasEvents}
 use Rattle.sig_tool.specs.Split.{script_length, script_part, record_part}
 use Rattle.sig_tool.proofs.SplitLemmas.{counted, counted_at, counted_on}
 
@@ -193,8 +195,9 @@ module _ (text front : List ℕ) (ends : text ≡ front ++ codes "\n") (script :
   record_cut = ap (λ (n : ℕ). drop n (text ++ record_text reports)) parts_length ∙ drop_at text (record_text reports) (length text) refl
 
 pub whole_due : (text front : List ℕ) (script : Program) (reports : List Report) → text ≡ front ++ codes "\n" → script_of text ≡ Ok script →
-    IsReadableRecord reports → IsOfSettledRun script reports → length (text ++ record_text reports) ≤ MOST_INPUT → IsDue (text ++ record_text reports) Done
-whole_due text front script reports ends spelled readable settled short = (
+    IsReadableRecord reports → IsOfSettledRun script reports → length (text ++ record_text reports) ≤ MOST_INPUT →
+    (command : Command) → HasEvents command reports → IsDue command (text ++ record_text reports) Done
+whole_due text front script reports ends spelled readable settled short command has = (
   script,
   reports,
   record {
@@ -204,4 +207,5 @@ whole_due text front script reports ends spelled readable settled short = (
     printed = record_cut text front ends script spelled reports;
   },
   settled,
+  has,
 )

@@ -5,7 +5,7 @@ use Rattle.std.specs.Str.{bytes_eq}
 use Rattle.std.proofs.lemmas.List.{drop_all, take_all}
 use Rattle.std.proofs.lemmas.List.Sums.{sum_by-cons, take_while-cons}
 use Rattle.sig_tokens.specs.Lines.{lines_of}
-use Rattle.sig_tokens.proofs.LineLemmas.{first_of, rest_at, lines-step}
+use Rattle.sig_tokens.proofs.LineLemmas.{first_of, rest_at, line-front}
 use Rattle.sig_tool.specs.Split.{is_before, script_length, script_part, record_part}
 
 -- how many bytes these lines have before the first that is `sigrecord 1`
@@ -22,10 +22,6 @@ counted_at line lines is =
     let first : take_while is_before (line ∷ lines) ≡ [] = take_while-cons is_before line lines ∙ rw is refl in
     ap (sum_by (λ (l : List ℕ). length l + 1)) first
 
-front : (at : ℕ) (bytes line : List ℕ) → at < length bytes → line ≡ first_of (rest_at at bytes) →
-    lines_of (drop at bytes) ≡ line ∷ lines_of (drop (at + (length line + 1)) bytes)
-front at bytes line lt is = lines-step at bytes lt ∙ ap (λ (xs : List ℕ). xs ∷ lines_of (drop (at + (length xs + 1)) bytes)) (sym is)
-
 module _ (at : ℕ) (bytes line : List ℕ) (lt : at < length bytes) (is : line ≡ first_of (rest_at at bytes)) (so_far : script_length bytes ≡ at + script_length (drop at bytes)) where
   -- one line more
   pub line_on : bytes_eq line (codes "sigrecord 1") ≡ false →
@@ -33,7 +29,7 @@ module _ (at : ℕ) (bytes line : List ℕ) (lt : at < length bytes) (is : line 
   unfolding script_length
   line_on other =
       let more : counted (lines_of (drop at bytes)) ≡ (length line + 1) + counted (lines_of (drop (at + (length line + 1)) bytes)) =
-      ap counted (front at bytes line lt is) ∙ counted_on line (lines_of (drop (at + (length line + 1)) bytes)) other in
+      ap counted (line-front at bytes line lt is) ∙ counted_on line (lines_of (drop (at + (length line + 1)) bytes)) other in
       so_far ∙ ap (λ (n : ℕ). at + n) more ∙ sym (add_assoc at (length line + 1) (counted (lines_of (drop (at + (length line + 1)) bytes))))
 
   -- the record begins here
@@ -41,7 +37,7 @@ module _ (at : ℕ) (bytes line : List ℕ) (lt : at < length bytes) (is : line 
   unfolding script_length
   found head =
       let none : counted (lines_of (drop at bytes)) ≡ 0 =
-      ap counted (front at bytes line lt is) ∙ counted_at line (lines_of (drop (at + (length line + 1)) bytes)) head in
+      ap counted (line-front at bytes line lt is) ∙ counted_at line (lines_of (drop (at + (length line + 1)) bytes)) head in
       omega (arith, so_far, none)
 
 -- no line is left

@@ -5,6 +5,8 @@
 #[cfg(test)]
 mod arguments;
 #[cfg(test)]
+mod calls;
+#[cfg(test)]
 mod crossing;
 #[cfg(test)]
 mod documents;
