@@ -1,17 +1,27 @@
 -- What is known of an input that was read, and of why there is none.
-use Rattle.std.proofs.Common.{◌≡◌, ℕ, List, Option, Result, Ok, Err, sym, subst}
-use Rattle.std.specs.Prelude.{Vec}
+use Rattle.std.proofs.Common.{◌≡◌, ◌≢◌, ℕ, List, Option, Result, Ok, Err, refl, sym, subst}
+use Rattle.std.specs.Prelude.{IsErrOf, Vec}
 use Rattle.std.specs.Global.{Global}
 use Rattle.sig_base.specs.Reading.{IsRead}
 use Rattle.sig_base.specs.declared.reading.ReadAll.TheVariants as read
 use Rattle.sig_edge.specs.Streams.{Reading, reading}
 use Rattle.sig_edge.proofs.ReadLemmas.{to_end}
 use Rattle.sig_tool.specs.declared.command.Command.{Command}
+use Rattle.sig_program.specs.Scripts.{Program}
+use Rattle.sig_reader.specs.Grammar.{script_of}
+use Rattle.sig_record.specs.declared.refusal.RecordError.{RecordError}
+use Rattle.sig_record.specs.declared.refusal.RecordError.TheVariants as wrong
+use Rattle.sig_record.specs.declared.report.Report.{Report}
+use Rattle.sig_record.specs.FaultLine.{IsFaultLine}
+use Rattle.sig_record.specs.ReadableRecord.{IsReadableRecord}
+use Rattle.sig_record.specs.RecordText.{record_text}
 use Rattle.sig_tool.specs.declared.given.Given.{Given}
 use Rattle.sig_tool.specs.declared.given.TheConstants.{MOST_INPUT}
 use Rattle.sig_tool.specs.declared.status.ToolStatus.{ToolStatus}
 use Rattle.sig_tool.specs.declared.status.ToolStatus.TheVariants.{Done, BadScript, Usage, ReadFault, WriteFault, Memory, No, BadRecord, TooLong, NoEvent}
-use Rattle.sig_tool.specs.Inputs.{ArePartsOf, IsApproved, IsChecked, IsInput, IsPair, IsUnfit, IsUnfitFor, IsWhole}
+use Rattle.sig_tool.specs.Inputs.{ArePartsOf, IsApproved, IsChecked, IsInput, IsNoRecord, IsPair, IsShort, IsUnfit, IsUnfitFor, IsWhole}
+use Rattle.sig_tool.specs.Split.{script_part, record_part}
+use Rattle.sig_tool.specs.Statuses.{of_record_error}
 
 -- all of the source was read
 pub whole : (left rest : Option (List ℕ)) (before after : ℕ) (into : List ℕ) → IsRead left rest before after MOST_INPUT into read.Whole → IsWhole (reading left rest before after) into
@@ -28,6 +38,14 @@ no_input r (No event) h = absurd h
 no_input r (BadRecord line) h = absurd h
 no_input r TooLong h = h
 no_input r NoEvent h = absurd h
+
+-- the record's part is refused behind a script
+pub told_fault : (bytes part : List ℕ) (e : RecordError) (script : Program) → IsShort bytes → part ≡ record_part bytes → script_of (script_part bytes) ≡ Ok script
+    → ((line : ℕ) → IsErrOf {T = List Report} (Err e) (wrong.BadRecord line) → (reports : List Report) → IsReadableRecord reports → part ≢ record_text reports)
+    → ((line : ℕ) → IsErrOf {T = List Report} (Err e) (wrong.BadRecord line) → IsFaultLine part line) → ArePartsOf bytes (Err (of_record_error e))
+told_fault bytes part (wrong.BadRecord line) script short is spelled bad first =
+    (short, (script, spelled), subst (λ (p : List ℕ). IsNoRecord p line) is (record { none = bad line refl; first = first line refl }))
+told_fault bytes part wrong.Memory script short is spelled bad first = tt
 
 module _ (r : Reading) (bytes : List ℕ) (all : IsWhole r bytes) where
   pub no_parts : (status : ToolStatus) → ArePartsOf bytes (Err status) → IsUnfit r status

@@ -6,3 +6,4 @@ pub mod AnswerLemmas
 pub mod LinkLemmas
 pub mod NumberLemmas
 pub mod OrderLemmas
+pub mod AgainLemmas

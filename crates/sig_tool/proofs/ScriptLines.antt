@@ -13,6 +13,7 @@ use Rattle.sig_tokens.specs.declared.token.Token.{Token}
 use Rattle.sig_tokens.specs.declared.token.TokenKind.TheVariants as kind
 use Rattle.sig_tokens.specs.Faults.{Fault, ◌>>=◌}
 use Rattle.sig_tokens.specs.Lines.{lines_of, onto_first}
+use Rattle.sig_tokens.specs.Numbers.{number_after}
 use Rattle.sig_tokens.specs.Tokens.{cut_of, tokens_of}
 use Rattle.sig_program.specs.Scripts.{Program}
 use Rattle.sig_program.specs.declared.version.Version.{Version}
@@ -43,7 +44,7 @@ abbrev its_tokens : List Token
 its_tokens = record { kind = kind.Name; start = 0; end = 9 } ∷ record { kind = kind.Integer; start = 10; end = 11 } ∷ []
 
 cut_head : (v : Version) → tokens_of v head ≡ Ok its_tokens
-unfolding cut_of
+unfolding cut_of number_after
 cut_head One = refl
 cut_head Two = refl
 

@@ -19,7 +19,8 @@ fn record_again(alloc: Global, given: &Given) -> Result<Record, AllocError>
     requires { IsOfSettledRun given.now.script given.now.told }
     ensures { IfOk result (λ r. r ≡ given.now.told) }
 {
-    match replay(alloc, &given.script, &given.told)? {
+    let replayed = replay(alloc, &given.script, &given.told)?;
+    match replayed {
         Replaying::Replayed { crew, .. } => Record::gather(alloc, crew),
         Replaying::Stopped { event: _ } => unreachable!(),
     }
