@@ -1,5 +1,7 @@
--- A replay of the record of a settled run has come to rest.
-use Rattle.std.proofs.Common.{◌≡◌, List, All, map, Option, Some, None, IfSome, slice_get, refl, sym, ◌∙◌, subst}
+-- A replay of the record of a settled run has come to rest, and gives the text of its links.
+use Rattle.std.proofs.Common.{◌≡◌, ℕ, List, [], All, map, Option, Some, None, IfSome, slice_get, Result, Ok, Err, refl, sym, ap, ◌∙◌, subst}
+use Rattle.std.specs.Prelude.{IfOk, Vec}
+use Rattle.std.specs.Global.{Global}
 use Rattle.sig_kinds.specs.declared.signal.Signal.{Signal}
 use Rattle.sig_program.specs.Scripts.{Program, IsWithin}
 use Rattle.sig_runs.specs.Machine.{Machine, At, IsRun}
@@ -20,13 +22,16 @@ use Rattle.sig_choices.proofs.Clear.{clear_machine}
 use Rattle.sig_record.specs.declared.report.Report.{Report}
 use Rattle.sig_record.specs.declared.merging.MergedAt.{MergedAt}
 use Rattle.sig_record.specs.Merging.{IsMerged}
+use Rattle.sig_record.specs.RecordOf.{record_of}
 use Rattle.sig_record.specs.RunRecord.{events_listed}
 use Rattle.sig_record.proofs.RunLemmas.{all_within}
 use Rattle.sig_check.specs.Replays.{HasRetraced}
 use Rattle.sig_check.specs.Verdicts.{IsOfSettledRun}
 use Rattle.sig_check.proofs.ReplayLemmas.{makes_same, its_run}
 use Rattle.sig_check.proofs.RestLemmas.{settled_marked}
-use Rattle.sig_linklaw.specs.LinkReport.{HasComeToRest}
+use Rattle.sig_linklaw.specs.declared.pair.Pair.{Pair}
+use Rattle.sig_linklaw.specs.LinkReport.{HasComeToRest, linked_pairs}
+use Rattle.sig_tool.specs.Linking.{link_lines, IsLinksText}
 
 emptied_at : (o : Option Running) → IfSome o (λ (r : Running). r.outbox ≡ []) → outbox_of o ≡ []
 emptied_at None h = refl
@@ -63,3 +68,8 @@ module _ (script : Program) (reports : List Report) (crew : List Running) (order
     clear = clear;
     settled = subst (λ m. IsSettled (rules_of script) m) same (settled_marked script within w.machine sound w.settled);
   }
+
+  pub text_so : {E : Type 0} (pairs : List Pair) (result : Result (Vec ℕ Global) E) → record_of crew ≡ reports → pairs ≡ linked_pairs crew →
+      IfOk result (λ text. text.items ≡ link_lines pairs) → IfOk result (λ text. IsLinksText script reports text.items)
+  text_so pairs (Ok text) again equal h = (crew, comes_to_rest, again, h ∙ ap link_lines equal)
+  text_so pairs (Err e) again equal h = tt
