@@ -1,9 +1,11 @@
-//! The edge of a program that reads a script: what was read and written, as contracts see it, and
-//! what is told on the stream for errors when the program can't go on.
+//! The edge of a program that reads a script: its arguments, what was read and written, as contracts
+//! see it, and what is told on the stream for errors when the program can't go on.
 #![tactic(auto)]
 
+mod called;
 mod telling;
 
+pub use called::arguments;
 pub use telling::{
-    Untold, tell_memory, tell_piece, tell_read_fault, tell_refusal, tell_write_fault,
+    Untold, tell_memory, tell_piece, tell_pieces, tell_read_fault, tell_refusal, tell_write_fault,
 };

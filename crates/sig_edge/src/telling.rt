@@ -23,8 +23,9 @@ pub fn tell_piece<E: Sink>(err: &mut E, piece: &[u8]) -> Result<(), Untold>
     }
 }
 
-/// Writes the pieces, one behind the other.
-fn tell_pieces<E: Sink>(err: &mut E, pieces: &[&[u8]]) -> Result<(), Untold>
+/// Writes the pieces of what there is to tell, one behind the other. `Untold` only where a write
+/// failed, and then the beginning of them was written.
+pub fn tell_pieces<E: Sink>(err: &mut E, pieces: &[&[u8]]) -> Result<(), Untold>
     ensures told { IsTold (writing (E.held err.old) (E.held err.new) (E.faults err.old) (E.faults err.new))
         (flat_map (λ piece. piece.now) pieces.now) result }
     ensures count { E.faults err.old ≤ E.faults err.new }

@@ -5,24 +5,14 @@ use crate::host::run;
 use crate::status::Status;
 use crate::telling::tell;
 use sig_base::{OpenGate, Sink, StdSink, StdSource};
+use sig_edge::arguments;
 use std::alloc::Global;
+use std::io;
 use std::io::{Read, Write};
 use std::process::ExitCode;
 use std::rt::Env;
 use std::sync::Wait;
 use std::thread::Threads;
-use std::{env, io};
-
-/// The arguments after the program's name.
-fn arguments<R: Env + Alloc<A = Global>>(rt: &R) -> io::Result<Vec<String>> {
-    let mut arguments = Vec::new(rt.alloc());
-    for (i, argument) in env::args(rt)?.enumerate() {
-        if i > 0 {
-            arguments.push(argument)?;
-        }
-    }
-    Ok(arguments)
-}
 
 /// The status where the arguments can't be had, told on standard error. Nothing was run.
 fn refuse<E: Sink>(err: &mut E, fault: io::Error) -> Status {

@@ -1,7 +1,7 @@
 //! The examples of README.md and docs/, through the top call. tools/examples compares them with the documents.
 
 /// Each script that a document shows, and the record that it shows for it, as they stand there.
-pub(crate) static EXAMPLES: [(&[u8], &[u8]); 16] = [
+pub(crate) static EXAMPLES: [(&[u8], &[u8]); 17] = [
     (
         br"sigscript 1
 process worker
@@ -649,6 +649,46 @@ process 0 a
 7 exec 4 took 1 2 x
 8 exec 5 took 1 1 5
 9 exec 6 ended normal
+state ended normal
+",
+    ),
+    (
+        br"sigscript 1
+process server
+receive
+on {call,Ref,Value}
+end
+send Ref {Ref,Value}
+send Ref {Ref,late}
+process client
+reserve
+monitor Call_1 @server reply_demonitor
+bind Call_1
+send @server {call,Call_1,7}
+receive using Call_1
+on {^Call_1,Answer}
+on {'DOWN',^Call_1,process,_,Answer}
+end
+",
+        br"sigrecord 1
+process 0 server
+3 from 1 1 watched
+5 from 1 2 kept {call,#Ref<1.1>,7}
+6 exec 1 took 1 1 {call,#Ref<1.1>,7}
+7 exec 2 sent #Ref<1.1> {#Ref<1.1>,7}
+9 from 1 3 unwatched
+10 exec 3 sent #Ref<1.1> {#Ref<1.1>,late}
+11 exec 4 ended normal
+state ended normal
+process 1 client
+1 exec 1 done
+2 exec 2 set #Ref<1.1>
+3 exec 3 answered true
+4 exec 4 sent <0> {call,#Ref<1.1>,7}
+8 from 0 1 kept {#Ref<1.1>,7}
+9 exec 5 took 1 1 {#Ref<1.1>,7}
+11 from 0 2 dropped
+12 exec 6 ended normal
 state ended normal
 ",
     ),

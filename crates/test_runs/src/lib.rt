@@ -5,6 +5,10 @@
 #[cfg(test)]
 mod arguments;
 #[cfg(test)]
+mod calls;
+#[cfg(test)]
+mod crossing;
+#[cfg(test)]
 mod documents;
 #[cfg(test)]
 mod exits;

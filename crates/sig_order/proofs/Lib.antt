@@ -1,0 +1,14 @@
+pub mod Ats
+pub mod Chains
+pub mod Right
+pub mod Rows
+pub mod Merged
+pub mod Index
+pub mod Reached
+pub mod CountSteps
+pub mod Deciding
+pub mod ListParts
+pub mod OneEvent
+pub mod RunTraces
+pub mod TracedRuns
+pub mod OriginsTraced

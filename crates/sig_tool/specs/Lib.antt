@@ -1,0 +1,9 @@
+pub mod Statuses
+pub mod Split
+pub mod Linking
+pub mod Numbers
+pub mod Ordering
+pub mod Commands
+pub mod Inputs
+pub mod Told
+pub mod Answers

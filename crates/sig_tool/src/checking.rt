@@ -1,0 +1,22 @@
+//! The command `check`.
+
+ghost use Rattle.sig_edge.specs.Streams.{reading};
+ghost use Rattle.sig_tool.specs.declared.command.Command.TheVariants.{Check};
+ghost use Rattle.sig_tool.specs.Inputs.{IsTextRead};
+
+use crate::given::read_checked;
+use crate::status::ToolStatus;
+use sig_base::Source;
+use std::alloc::Global;
+
+/// What is written where the verdict is yes.
+const YES: &[u8] = b"yes\n";
+
+/// The text of `check`: `yes` and a line feed.
+pub(crate) fn check_text<S: Source>(alloc: Global, input: &mut S) -> Result<Vec<u8>, ToolStatus>
+    ensures { IsTextRead Check (reading (S.left input.old) (S.left input.new) (S.faults input.old) (S.faults input.new)) result }
+{
+    let _ = read_checked(alloc, input)?;
+    let text = Vec::from_slice(alloc, YES)?;
+    Ok(text)
+}

@@ -1,0 +1,59 @@
+//! Numbers of the arguments, and the events that they name.
+
+ghost use Rattle.std.specs.Prelude.{◌≡◌};
+ghost use Rattle.std.specs.Char.{is_ascii_digit};
+ghost use Rattle.std.specs.List.{list_all};
+ghost use Rattle.sig_tool.specs.Numbers.{event_named, narrow, number_in, pid_in};
+
+use sig_order::At;
+
+/// Whether each byte of the text is a decimal digit.
+fn are_digits(text: &str) -> bool
+    ensures { result ≡ list_all is_ascii_digit text.now }
+{
+    text.as_bytes().iter().all(|byte| byte.is_ascii_digit())
+}
+
+/// The number that the text spells in one decimal digit or more, where 64 bits hold it.
+fn number_in(text: &str) -> Option<u64>
+    ensures { result ≡ number_in text.now }
+{
+    if !are_digits(text) {
+        return None;
+    }
+    match text.parse::<u64>() {
+        Ok(number) => Some(number),
+        Err(_) => None,
+    }
+}
+
+/// The number, where 32 bits hold it.
+fn narrow(number: u64) -> Option<u32>
+    ensures { result ≡ narrow number }
+{
+    if number < 1 << 32 {
+        Some(number as u32)
+    } else {
+        None
+    }
+}
+
+/// The pid that the text spells.
+fn pid_in(text: &str) -> Option<u32>
+    ensures { result ≡ pid_in text.now }
+{
+    match number_in(text) {
+        Some(number) => narrow(number),
+        None => None,
+    }
+}
+
+/// The event that these texts name, its process and its number.
+pub(crate) fn event_named(pid: &str, event: &str) -> Option<At>
+    ensures { result ≡ event_named pid.now event.now }
+{
+    match (pid_in(pid), number_in(event)) {
+        (Some(pid), Some(event)) => Some(At { pid, event }),
+        _ => None,
+    }
+}

@@ -1,0 +1,48 @@
+//! The command `replay`.
+
+ghost use Rattle.std.specs.Prelude.{◌≡◌, IfOk};
+ghost use Rattle.sig_edge.specs.Streams.{reading};
+ghost use Rattle.sig_check.specs.Verdicts.{IsOfSettledRun};
+ghost use Rattle.sig_record.specs.RecordText.{record_text};
+ghost use Rattle.sig_tool.specs.declared.command.Command.TheVariants.{Replay};
+ghost use Rattle.sig_tool.specs.Inputs.{IsTextRead};
+
+use crate::given::{Given, read_checked};
+use crate::status::ToolStatus;
+use sig_base::Source;
+use sig_check::{Replaying, replay};
+use sig_record::{Record, print_record};
+use std::alloc::{AllocError, Global};
+
+/// The record of the processes that made the choices of the given one.
+fn record_again(alloc: Global, given: &Given) -> Result<Record, AllocError>
+    requires { IsOfSettledRun given.now.script given.now.told }
+    ensures { IfOk result (λ r. r ≡ given.now.told) }
+{
+    let replayed = replay(alloc, &given.script, &given.told)?;
+    match replayed {
+        Replaying::Replayed { crew, .. } => Record::gather(alloc, crew),
+        Replaying::Stopped { event: _ } => unreachable!(),
+    }
+}
+
+/// The text of that record.
+fn text_again(alloc: Global, given: &Given) -> Result<Vec<u8>, AllocError>
+    requires { IsOfSettledRun given.now.script given.now.told }
+    ensures { IfOk result (λ text. text.items ≡ record_text given.now.told) }
+{
+    let told = record_again(alloc, given)?;
+    let mut text = Vec::new(alloc);
+    print_record(&told, &mut text)?;
+    Ok(text)
+}
+
+/// The text of `replay`: that of the record that is gathered from processes which made the given
+/// record's choices. It is the given record's.
+pub(crate) fn replay_text<S: Source>(alloc: Global, input: &mut S) -> Result<Vec<u8>, ToolStatus>
+    ensures { IsTextRead Replay (reading (S.left input.old) (S.left input.new) (S.faults input.old) (S.faults input.new)) result }
+{
+    let given = read_checked(alloc, input)?;
+    let text = text_again(alloc, &given)?;
+    Ok(text)
+}

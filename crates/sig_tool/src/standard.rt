@@ -1,0 +1,47 @@
+ghost use Rattle.std.specs.Prelude.{◌≤◌};
+
+use crate::status::ToolStatus;
+use crate::telling::tell;
+use crate::top::tool;
+use sig_base::{Sink, StdSink, StdSource};
+use sig_edge::arguments;
+use std::alloc::Global;
+use std::io;
+use std::io::{Read, Write};
+use std::process::ExitCode;
+use std::rt::Env;
+
+/// The status where the arguments can't be had, told on standard error. Nothing was read.
+fn refuse<E: Sink>(err: &mut E, fault: io::Error) -> ToolStatus {
+    let status = match fault.kind() {
+        io::ErrorKind::OutOfMemory => ToolStatus::Memory,
+        _ => ToolStatus::Usage,
+    };
+    tell(err, status);
+    status
+}
+
+/// The program `sigtool`, on the arguments of its runtime and these streams: `tool` of both. Where the
+/// arguments can't be had, for want of memory or since one is no text, it tells so as `tool` does of a
+/// want of memory or of words that are no command. The exit code is the number of the status, 0 to 9.
+pub fn program<R, I, O, E>(rt: &R, stdin: I, stdout: O, stderr: E) -> ExitCode
+where
+    R: Env + Alloc<A = Global>,
+    I: Read + Drop,
+    O: Write + Drop,
+    E: Write + Drop,
+    ensures { result.status ≤ 9 }
+{
+    let mut err = StdSink::new(stderr);
+    let status = match arguments(rt) {
+        Ok(arguments) => tool(
+            rt.alloc(),
+            arguments.as_slice(),
+            &mut StdSource::new(stdin),
+            &mut StdSink::new(stdout),
+            &mut err,
+        ),
+        Err(fault) => refuse(&mut err, fault),
+    };
+    ExitCode::from(status.number())
+}

@@ -1,0 +1,65 @@
+//! What is told of an end.
+
+ghost use Rattle.std.specs.Prelude.{◌++◌, codes, decimal};
+ghost use Rattle.sig_base.specs.Flow.{Rose, Adds};
+ghost use Rattle.sig_edge.specs.Streams.{writing};
+ghost use Rattle.sig_edge.specs.Told.{IsTold};
+ghost use Rattle.sig_tool.specs.Told.{program_name, told_text};
+
+use crate::status::ToolStatus;
+use itoa::Buffer;
+use sig_base::Sink;
+use sig_edge::{
+    Untold, tell_memory, tell_piece, tell_pieces, tell_read_fault, tell_refusal, tell_write_fault,
+};
+
+/// The program's name, with which what it tells begins.
+const PROGRAM: &str = "sigtool";
+
+/// How the command is called.
+const USAGE: &[u8] = b"usage: sigtool check|replay|links|before P I Q J\n";
+
+/// Writes these words and a number, behind the program's name.
+fn tell_number<E: Sink>(err: &mut E, words: &str, number: u64) -> Result<(), Untold>
+    ensures { IsTold (writing (E.held err.old) (E.held err.new) (E.faults err.old) (E.faults err.new))
+        (program_name ++ codes ": " ++ words.now ++ codes " " ++ decimal number ++ codes "\n") result }
+{
+    let mut digits = Buffer::new();
+    let digits = digits.format(number).as_bytes();
+    tell_pieces(
+        err,
+        &[
+            PROGRAM.as_bytes(),
+            b": ",
+            words.as_bytes(),
+            b" ",
+            digits,
+            b"\n",
+        ],
+    )
+}
+
+/// Writes what there is to tell of an end.
+fn tell_status<E: Sink>(err: &mut E, status: ToolStatus) -> Result<(), Untold>
+    ensures { IsTold (writing (E.held err.old) (E.held err.new) (E.faults err.old) (E.faults err.new)) (told_text status) result }
+{
+    match status {
+        ToolStatus::Done => tell_piece(err, b""),
+        ToolStatus::BadScript { line, kind } => tell_refusal(err, PROGRAM, line, kind),
+        ToolStatus::Usage => tell_piece(err, USAGE),
+        ToolStatus::ReadFault => tell_read_fault(err, PROGRAM),
+        ToolStatus::WriteFault => tell_write_fault(err, PROGRAM),
+        ToolStatus::Memory => tell_memory(err, PROGRAM),
+        ToolStatus::No { event } => tell_number(err, "no at event", event),
+        ToolStatus::BadRecord { line } => tell_number(err, "record line", line),
+        ToolStatus::NoEvent => tell_pieces(err, &[PROGRAM.as_bytes(), b": no such event\n"]),
+        ToolStatus::TooLong => tell_pieces(err, &[PROGRAM.as_bytes(), b": too long\n"]),
+    }
+}
+
+/// Writes what there is to tell of an end. A fault there changes no status.
+pub(crate) fn tell<E: Sink>(err: &mut E, status: ToolStatus)
+    ensures { (Rose (E.faults err.old) (E.faults err.new) → ⊥) → Adds (E.held err.old) (E.held err.new) (told_text status) }
+{
+    let _ = tell_status(err, status);
+}

@@ -1,0 +1,119 @@
+ghost use Rattle.std.specs.Prelude.{◌≡◌, ◌⊎◌, ℕ, List, map, string_bytes};
+ghost use Rattle.sig_base.specs.Flow.{Rose, Adds};
+ghost use Rattle.sig_edge.specs.Streams.{reading, writing};
+ghost use Rattle.sig_tool.specs.declared.command.Command.{Command as Asked};
+ghost use Rattle.sig_tool.specs.declared.status.ToolStatus.{ToolStatus};
+ghost use Rattle.sig_tool.specs.Answers.{IsAnswer, IsDue, IsRanSo, IsWellGiven};
+ghost use Rattle.sig_tool.specs.Inputs.{IsTextRead};
+ghost use Rattle.sig_tool.specs.Told.{told_text};
+
+use crate::checking::check_text;
+use crate::command::Command;
+use crate::linking::links_text;
+use crate::ordering::before_text;
+use crate::replaying::replay_text;
+use crate::status::ToolStatus;
+use crate::telling::tell;
+use sig_base::{Sink, Source, Written, write_whole};
+use std::alloc::Global;
+
+/// What the command writes of the input.
+fn text_of<S: Source>(alloc: Global, command: Command, input: &mut S) -> Result<Vec<u8>, ToolStatus>
+    ensures { IsTextRead command (reading (S.left input.old) (S.left input.new) (S.faults input.old) (S.faults input.new)) result }
+{
+    match command {
+        Command::Check => check_text(alloc, input),
+        Command::Replay => replay_text(alloc, input),
+        Command::Links => links_text(alloc, input),
+        Command::Before { first, second } => before_text(alloc, first, second, input),
+    }
+}
+
+/// Reads the input, and writes what the command says of it. The text is made whole before the first
+/// write.
+fn run_command<S: Source, O: Sink>(
+    alloc: Global,
+    command: Command,
+    input: &mut S,
+    out: &mut O,
+) -> ToolStatus
+    ensures { IsRanSo command (reading (S.left input.old) (S.left input.new) (S.faults input.old) (S.faults input.new))
+        (writing (O.held out.old) (O.held out.new) (O.faults out.old) (O.faults out.new)) result }
+{
+    match text_of(alloc, command, input) {
+        Ok(text) => match write_whole(out, text.as_slice()) {
+            Written::Whole => ToolStatus::Done,
+            Written::WriteFault { written: _ } => ToolStatus::WriteFault,
+        },
+        Err(status) => status,
+    }
+}
+
+/// Reads the arguments, and writes what their command says of the input.
+fn run_words<S: Source, O: Sink>(
+    alloc: Global,
+    words: &[String],
+    input: &mut S,
+    out: &mut O,
+) -> ToolStatus
+    ensures { IsAnswer (map string_bytes words.now)
+        (reading (S.left input.old) (S.left input.new) (S.faults input.old) (S.faults input.new))
+        (writing (O.held out.old) (O.held out.new) (O.faults out.old) (O.faults out.new)) result }
+{
+    match Command::of(words) {
+        Some(command) => run_command(alloc, command, input, out),
+        None => ToolStatus::Usage,
+    }
+}
+
+/// Reads a script with a record behind it to the input's end, and writes to `out` what the command
+/// says of them. The record begins at the first line that is exactly `sigrecord 1`; where there is
+/// none, its part of the input is empty. The words may be one: `check` writes `yes` and a line feed where
+/// the record is that of a settled run of the script; `replay` then writes the record, as it is gathered
+/// from processes that made its choices; `links` writes a line `link P Q` for each two processes that
+/// wait at its end with a link between them, by ascending pids, P below Q. Or they are five: `before P I
+/// Q J`, with four numbers of one decimal digit or more, writes `yes` and a line feed where the event I
+/// of the process P happened before the event J of the process Q, and else `no` and a line feed; the
+/// events of a process are counted from 1.
+///
+/// Of causes that stand together the first in this order is told:
+///
+/// - `Usage`: exactly where the words are no command. The input wasn't read.
+/// - `ReadFault`: only where a read failed.
+/// - `TooLong`: exactly where one byte more than [`MOST_INPUT`](crate::MOST_INPUT) was taken.
+/// - `BadScript`: exactly where the script's part spells no script; with the first line that is refused
+///   and why, or line 0 where it has more bytes than a script may have.
+/// - `BadRecord`: exactly where the record's part is no record's text; with the first line, counted from
+///   the first of that part, that isn't whole or can't stand there.
+/// - `No`: exactly where the record isn't that of a settled run of the script; with the first event, of
+///   all processes in the order of their stamps and counted from 1, with which the events are no run,
+///   or one more than there are where they are one.
+/// - `NoEvent`: exactly where the record is that of a settled run, and lacks one of the two events.
+/// - `WriteFault`: only where a write to `out` failed, which has taken the beginning of the text.
+/// - `Done`: `out` has taken the whole text.
+///
+/// `Memory` may come in place of each but `Usage`, where memory was wanting. No read failed, but with
+/// `ReadFault`. Only `Done` and `WriteFault` have written to `out`. What a status tells is written to
+/// `err` where no write to it fails, and a fault of `err` changes no status.
+pub fn tool<S: Source, O: Sink, E: Sink>(
+    alloc: Global,
+    words: &[String],
+    input: &mut S,
+    out: &mut O,
+    err: &mut E,
+) -> ToolStatus
+    ensures answer { IsAnswer (map string_bytes words.now)
+        (reading (S.left input.old) (S.left input.new) (S.faults input.old) (S.faults input.new))
+        (writing (O.held out.old) (O.held out.new) (O.faults out.old) (O.faults out.new)) result }
+    ensures told { (Rose (E.faults err.old) (E.faults err.new) → ⊥) → Adds (E.held err.old) (E.held err.new) (told_text result) }
+    // What is due for the input is answered, where nothing fails and there is memory.
+    ensures complete { (command : Asked) (bytes : List ℕ) (due : ToolStatus) → IsDue command bytes due →
+        IsWellGiven command (map string_bytes words.now) bytes due
+        (reading (S.left input.old) (S.left input.new) (S.faults input.old) (S.faults input.new))
+        (writing (O.held out.old) (O.held out.new) (O.faults out.old) (O.faults out.new))
+        → (result ≡ due) ⊎ (result ≡ ToolStatus.Memory) }
+{
+    let status = run_words(alloc, words, input, out);
+    tell(err, status);
+    status
+}

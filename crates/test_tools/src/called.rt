@@ -1,0 +1,98 @@
+//! Calls of the tool: what they are given, and what they answer, write and tell.
+
+use sig_base::{FailingSink, FailingSource, MemorySink};
+use sig_tool::{ToolStatus, tool};
+use std::alloc::{AllocError, Global};
+
+/// More bytes than the tool writes of any input here.
+const ROOM: usize = 100000;
+
+/// What a call is given beside its input.
+#[derive(Clone, Copy)]
+pub(crate) struct Setting<'a> {
+    /// The arguments.
+    pub words: &'a [&'a str],
+    /// How many bytes of the input come at a read.
+    pub piece: usize,
+    /// The most bytes that a write takes.
+    pub taken: usize,
+    /// The numbers of the reads and of the writes that fail, from 1.
+    pub fails: [&'a [u64]; 2],
+    /// How many bytes may be told.
+    pub room: usize,
+}
+
+/// The command `check`, and streams that don't fail.
+pub(crate) const PLAIN: Setting<'static> = Setting {
+    words: &["check"],
+    piece: 100,
+    taken: 10,
+    fails: [&[], &[]],
+    room: 100,
+};
+
+/// A call: its answer, which is `Memory` before it was made, what is left of its input, and what it
+/// has written and told.
+#[derive(Drop)]
+pub(crate) struct Called {
+    pub status: ToolStatus,
+    pub input: FailingSource,
+    pub out: FailingSink,
+    pub err: MemorySink,
+}
+
+/// The texts of these words.
+pub(crate) fn texts_of(alloc: Global, list: &[&str]) -> Result<Vec<String>, AllocError> {
+    let mut words = Vec::new(alloc);
+    for word in list {
+        words.push(String::from_str(alloc, word)?)?;
+    }
+    Ok(words)
+}
+
+/// The bytes of the script and of the record, one behind the other.
+fn joined(alloc: Global, script: &[u8], told: &[u8]) -> Result<Vec<u8>, AllocError> {
+    let mut bytes = Vec::from_slice(alloc, script)?;
+    bytes.extend_from_slice(told)?;
+    Ok(bytes)
+}
+
+impl Called {
+    /// Before the call.
+    fn open(alloc: Global, setting: &Setting, input: Vec<u8>) -> Result<Called, AllocError> {
+        let [reads, writes] = setting.fails;
+        let reads = Vec::from_slice(alloc, reads)?;
+        let input = FailingSource::new(input, setting.piece.max(1), reads);
+        let writes = Vec::from_slice(alloc, writes)?;
+        Ok(Called {
+            status: ToolStatus::Memory,
+            input,
+            out: FailingSink::with_room(alloc, ROOM, setting.taken.max(1), writes)?,
+            err: MemorySink::with_room(alloc, setting.room)?,
+        })
+    }
+
+    /// The call on this script with this record behind it.
+    pub(crate) fn of(
+        alloc: Global,
+        setting: &Setting,
+        script: &[u8],
+        told: &[u8],
+    ) -> Result<Called, AllocError> {
+        let words = texts_of(alloc, setting.words)?;
+        let mut called = Called::open(alloc, setting, joined(alloc, script, told)?)?;
+        called.status = tool(
+            alloc,
+            words.as_slice(),
+            &mut called.input,
+            &mut called.out,
+            &mut called.err,
+        );
+        Ok(called)
+    }
+
+    /// Whether it has answered, written and told so.
+    pub(crate) fn is(&self, status: ToolStatus, written: &[u8], told: &[u8]) -> bool {
+        self.status == status && self.out.held() == written && self.err.held() == told
+    }
+}

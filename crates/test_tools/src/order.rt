@@ -1,0 +1,139 @@
+//! Which event of a record happened before which.
+
+use crate::called::{Called, PLAIN, Setting};
+use crate::rows::{ITS_RECORD, ONE_MESSAGE};
+use sig_tool::ToolStatus;
+use std::alloc::{AllocError, Global};
+
+/// A message goes round three processes. The record was worked out by hand from the tables of the machine.
+const RING: &[u8] =
+    b"sigscript 1\nprocess a\nsend @b x\nreceive\non x\nend\nprocess b\nreceive\non x\nend\nsend @c x\n\
+      process c\nreceive\non x\nend\nsend @a x\n";
+
+const RING_RECORD: &[u8] =
+    b"sigrecord 1\nprocess 0 a\n1 exec 1 sent <1> x\n8 from 2 1 kept x\n9 exec 2 took 1 1 x\n\
+      10 exec 3 ended normal\nstate ended normal\nprocess 1 b\n2 from 0 1 kept x\n3 exec 1 took 1 1 x\n\
+      4 exec 2 sent <2> x\n5 exec 3 ended normal\nstate ended normal\nprocess 2 c\n5 from 1 1 kept x\n\
+      6 exec 1 took 1 1 x\n7 exec 2 sent <0> x\n8 exec 3 ended normal\nstate ended normal\n";
+
+/// Two clients of a server, which has both calls before it replies to the first of them.
+const CLIENTS: &[u8] =
+    b"sigscript 1\nprocess s\nreceive\non {call,P}\nend\nsend P ok\nreceive\non {call,Q}\nend\nsend Q ok\n\
+      process a\nsend @s {call,@a}\nreceive\non ok\nend\nprocess b\nsend @s {call,@b}\nreceive\non ok\nend\n";
+
+const CLIENTS_RECORD: &[u8] =
+    b"sigrecord 1\nprocess 0 s\n2 from 1 1 kept {call,<1>}\n3 from 2 1 kept {call,<2>}\n\
+      4 exec 1 took 1 1 {call,<1>}\n5 exec 2 sent <1> ok\n6 exec 3 took 1 1 {call,<2>}\n7 exec 4 sent <2> ok\n\
+      8 exec 5 ended normal\nstate ended normal\nprocess 1 a\n1 exec 1 sent <0> {call,<1>}\n6 from 0 1 kept ok\n\
+      7 exec 2 took 1 1 ok\n8 exec 3 ended normal\nstate ended normal\nprocess 2 b\n\
+      1 exec 1 sent <0> {call,<2>}\n8 from 0 1 kept ok\n9 exec 2 took 1 1 ok\n10 exec 3 ended normal\nstate ended normal\n";
+
+/// A record that isn't the script's.
+const WRONG: &[u8] = b"sigrecord 1\nprocess 0 a\nstate cut\nprocess 1 b\nstate cut\n";
+
+const YES: (ToolStatus, &[u8], &[u8]) = (ToolStatus::Done, b"yes\n", b"");
+
+const NO: (ToolStatus, &[u8], &[u8]) = (ToolStatus::Done, b"no\n", b"");
+
+const NONE: (ToolStatus, &[u8], &[u8]) = (ToolStatus::NoEvent, b"", b"sigtool: no such event\n");
+
+const USAGE: (ToolStatus, &[u8], &[u8]) = (
+    ToolStatus::Usage,
+    b"",
+    b"usage: sigtool check|replay|links|before P I Q J\n",
+);
+
+/// What is asked of a script and its record, and what is answered, written and told.
+type Question = (
+    &'static [&'static str],
+    (ToolStatus, &'static [u8], &'static [u8]),
+);
+
+/// Of one message: its sending, its receiving, and numbers that name no event or aren't numbers.
+static OF_ONE: [Question; 17] = [
+    (&["before", "0", "1", "1", "2"], YES),
+    (&["before", "0", "2", "1", "1"], NO),
+    (&["before", "0", "1", "0", "1"], NO),
+    (&["before", "0", "3", "1", "1"], NONE),
+    (&["before", "1", "1", "1", "3"], YES),
+    (&["before", "00", "01", "0000000000000000000001", "1"], YES),
+    (&["before", "0", "0", "1", "1"], NONE),
+    (&["before", "0", "1", "2", "1"], NONE),
+    (
+        &["before", "4294967295", "18446744073709551615", "0", "1"],
+        NONE,
+    ),
+    (&["before", "4294967296", "1", "0", "1"], USAGE),
+    (&["before", "0", "18446744073709551616", "0", "1"], USAGE),
+    (&["before", "0", "", "0", "1"], USAGE),
+    (&["before", "+0", "1", "1", "1"], USAGE),
+    (&["before", "0", "1", "1", "-1"], USAGE),
+    (&["before", "0", "1", "1"], USAGE),
+    (&["after", "0", "1", "1", "1"], USAGE),
+    (&["before", "0", "1", "1", "1", "1"], USAGE),
+];
+
+/// Of the ring.
+static OF_RING: [Question; 8] = [
+    (&["before", "0", "1", "2", "3"], YES),
+    (&["before", "0", "1", "0", "2"], YES),
+    (&["before", "2", "3", "0", "2"], YES),
+    (&["before", "1", "3", "0", "4"], YES),
+    (&["before", "0", "2", "0", "1"], NO),
+    (&["before", "1", "4", "2", "4"], NO),
+    (&["before", "2", "4", "1", "4"], NO),
+    (&["before", "1", "4", "0", "4"], NO),
+];
+
+/// Of the clients: their calls, each call and the reply to the other, the two replies, and events of
+/// which the first has the lower stamp alone.
+static OF_CLIENTS: [Question; 7] = [
+    (&["before", "1", "1", "2", "1"], NO),
+    (&["before", "2", "1", "1", "1"], NO),
+    (&["before", "2", "1", "1", "2"], YES),
+    (&["before", "1", "1", "2", "2"], YES),
+    (&["before", "0", "4", "0", "6"], YES),
+    (&["before", "1", "4", "2", "3"], NO),
+    (&["before", "1", "2", "2", "2"], NO),
+];
+
+/// Whether each question is answered so.
+fn are_answered(
+    alloc: Global,
+    script: &[u8],
+    told: &[u8],
+    questions: &[Question],
+) -> Result<bool, AllocError> {
+    for (words, (status, written, line)) in questions {
+        let setting = Setting { words, ..PLAIN };
+        let called = Called::of(alloc, &setting, script, told)?;
+        if !called.is(*status, written, line) {
+            return Ok(false);
+        }
+    }
+    Ok(true)
+}
+
+#[test]
+fn events_are_ordered(rt: HostRuntime) {
+    let one = are_answered(rt.alloc(), ONE_MESSAGE, ITS_RECORD, &OF_ONE);
+    let ring = are_answered(rt.alloc(), RING, RING_RECORD, &OF_RING);
+    let clients = are_answered(rt.alloc(), CLIENTS, CLIENTS_RECORD, &OF_CLIENTS);
+    assert!(rt; one == Ok(true));
+    assert!(rt; ring == Ok(true));
+    assert!(rt; clients == Ok(true));
+}
+
+/// A verdict of no comes before a missing event.
+#[test]
+fn the_verdict_comes_first(rt: HostRuntime) {
+    let setting = Setting {
+        words: &["before", "0", "3", "1", "1"],
+        ..PLAIN
+    };
+    let called = Called::of(rt.alloc(), &setting, ONE_MESSAGE, WRONG);
+    assert!(rt;
+        matches!(&called, Ok(called)
+        if called.is(ToolStatus::No { event: 1 }, b"", b"sigtool: no at event 1\n"))
+    );
+}
