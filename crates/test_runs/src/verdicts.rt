@@ -124,6 +124,12 @@ fn are_told_of(alloc: Global, example: (&[u8], &[u8]), sent: &[[u64; 4]]) -> Opt
     are_told(alloc, script.as_slice(), record.as_slice(), sent)
 }
 
+/// The same of the example of monitors and aliases at this place.
+fn are_told_at(alloc: Global, at: usize, sent: &[[u64; 4]]) -> Option<bool> {
+    let example = WATCHES.get(at)?;
+    are_told_of(alloc, *example, sent)
+}
+
 #[test]
 fn records_have_their_verdicts(rt: HostRuntime) {
     for (text, verdict) in &VERDICTS {
@@ -142,7 +148,7 @@ fn signals_have_their_origins(rt: HostRuntime) {
     let own = are_told_of(alloc, OWN, OWN_SENT);
     assert!(rt; own == Some(true));
     for (at, sent) in &SENT {
-        let told = are_told_of(alloc, WATCHES[*at], sent);
+        let told = are_told_at(alloc, *at, sent);
         assert!(rt; told == Some(true), "{at}");
     }
 }
