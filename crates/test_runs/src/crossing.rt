@@ -36,7 +36,8 @@ fn ends_alike<R: Threads + Wait + Sync>(rt: &R, alloc: Global) -> Result<bool, A
     let ran = Ran::of(rt, alloc, &FOUR_WORKERS, &[(CROSSING, 1)], &OpenGate)?;
     match links_of(alloc, ran.out.held())? {
         Some(out) => Ok(
-            ran.status == Status::Done && (out.held().is_empty() || out.held() == b"link 0 1\n"),
+            ran.status == Status::Done
+                && (out.held().is_empty() || out.held() == b"link 0 1\n".as_slice()),
         ),
         None => Ok(false),
     }
