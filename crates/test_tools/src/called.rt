@@ -16,8 +16,10 @@ pub(crate) struct Setting<'a> {
     pub piece: usize,
     /// The most bytes that a write takes.
     pub taken: usize,
-    /// The numbers of the reads and of the writes that fail, from 1.
-    pub fails: [&'a [u64]; 2],
+    /// The number of the read that fails, from 1; 0 where none does.
+    pub failing_read: u64,
+    /// The number of the write that fails, from 1; 0 where none does.
+    pub failing_write: u64,
     /// How many bytes may be told.
     pub room: usize,
 }
@@ -27,7 +29,8 @@ pub(crate) const PLAIN: Setting<'static> = Setting {
     words: &["check"],
     piece: 100,
     taken: 10,
-    fails: [&[], &[]],
+    failing_read: 0,
+    failing_write: 0,
     room: 100,
 };
 
@@ -57,13 +60,21 @@ fn joined(alloc: Global, script: &[u8], told: &[u8]) -> Result<Vec<u8>, AllocErr
     Ok(bytes)
 }
 
+/// The number as a list; 0 is none.
+fn one_number(alloc: Global, number: u64) -> Result<Vec<u64>, AllocError> {
+    let mut numbers = Vec::new(alloc);
+    if number > 0 {
+        numbers.push(number)?;
+    }
+    Ok(numbers)
+}
+
 impl Called {
     /// Before the call.
     fn open(alloc: Global, setting: &Setting, input: Vec<u8>) -> Result<Called, AllocError> {
-        let [reads, writes] = setting.fails;
-        let reads = Vec::from_slice(alloc, reads)?;
+        let reads = one_number(alloc, setting.failing_read)?;
         let input = FailingSource::new(input, setting.piece.max(1), reads);
-        let writes = Vec::from_slice(alloc, writes)?;
+        let writes = one_number(alloc, setting.failing_write)?;
         Ok(Called {
             status: ToolStatus::Memory,
             input,

@@ -9,18 +9,21 @@ const READ_FAULT: &[u8] = b"sigtool: read fault\n";
 
 const WRITE_FAULT: &[u8] = b"sigtool: write fault\n";
 
-/// What the command writes.
-fn text_of(word: &str) -> &'static [u8] {
-    if word == "check" { YES } else { ITS_RECORD }
-}
+/// The commands, each with what it writes.
+const COMMANDS: &[(&[&str], &[u8])] = &[(&["check"], YES), (&["replay"], ITS_RECORD)];
 
 /// Whether the call whose read of this number fails, each of one byte, says so; behind the last read
 /// it is done.
-fn fails_at_read(alloc: Global, word: &str, read: u64) -> Result<bool, AllocError> {
+fn fails_at_read(
+    alloc: Global,
+    words: &[&str],
+    text: &[u8],
+    read: u64,
+) -> Result<bool, AllocError> {
     let setting = Setting {
-        words: &[word],
+        words,
         piece: 1,
-        fails: [&[read], &[]],
+        failing_read: read,
         ..PLAIN
     };
     let called = Called::of(alloc, &setting, ONE_MESSAGE, ITS_RECORD)?;
@@ -28,21 +31,25 @@ fn fails_at_read(alloc: Global, word: &str, read: u64) -> Result<bool, AllocErro
     if read <= reads.saturating_add(1) {
         Ok(called.is(ToolStatus::ReadFault, b"", READ_FAULT))
     } else {
-        Ok(called.is(ToolStatus::Done, text_of(word), b""))
+        Ok(called.is(ToolStatus::Done, text, b""))
     }
 }
 
 /// Whether the call whose write of this number fails, each of one byte, says so and has written the
 /// bytes before; behind the last write it is done.
-fn fails_at_write(alloc: Global, word: &str, write: u64) -> Result<bool, AllocError> {
+fn fails_at_write(
+    alloc: Global,
+    words: &[&str],
+    text: &[u8],
+    write: u64,
+) -> Result<bool, AllocError> {
     let setting = Setting {
-        words: &[word],
+        words,
         taken: 1,
-        fails: [&[], &[write]],
+        failing_write: write,
         ..PLAIN
     };
     let called = Called::of(alloc, &setting, ONE_MESSAGE, ITS_RECORD)?;
-    let text = text_of(word);
     match text.get(..(write as usize).saturating_sub(1)) {
         Some(front) if front.len() < text.len() => {
             Ok(called.is(ToolStatus::WriteFault, front, WRITE_FAULT))
@@ -52,9 +59,14 @@ fn fails_at_write(alloc: Global, word: &str, write: u64) -> Result<bool, AllocEr
 }
 
 /// The first call of a stream, from 1 up to this number, whose fault is answered otherwise.
-fn first_other(alloc: Global, word: &str, last: u64) -> Result<Option<u64>, AllocError> {
+fn first_other(
+    alloc: Global,
+    words: &[&str],
+    text: &[u8],
+    last: u64,
+) -> Result<Option<u64>, AllocError> {
     for call in 1..=last {
-        if !fails_at_read(alloc, word, call)? || !fails_at_write(alloc, word, call)? {
+        if !fails_at_read(alloc, words, text, call)? || !fails_at_write(alloc, words, text, call)? {
             return Ok(Some(call));
         }
     }
@@ -63,8 +75,8 @@ fn first_other(alloc: Global, word: &str, last: u64) -> Result<Option<u64>, Allo
 
 #[test]
 fn each_failing_call_is_told(rt: HostRuntime) {
-    for word in ["check", "replay"] {
-        let other = first_other(rt.alloc(), word, 242);
+    for (words, text) in COMMANDS {
+        let other = first_other(rt.alloc(), words, text, 242);
         assert!(rt; other == Ok(None), "{other:?}");
     }
 }
@@ -72,12 +84,13 @@ fn each_failing_call_is_told(rt: HostRuntime) {
 /// Whether a cause that comes first is told before a failing write: the verdict, or a failing read.
 fn are_in_order(alloc: Global) -> Result<bool, AllocError> {
     let setting = Setting {
-        fails: [&[], &[1]],
+        failing_write: 1,
         ..PLAIN
     };
     let refused = Called::of(alloc, &setting, ONE_MESSAGE, b"sigrecord 1\n")?;
     let unread = Setting {
-        fails: [&[1], &[1]],
+        failing_read: 1,
+        failing_write: 1,
         ..PLAIN
     };
     let failed = Called::of(alloc, &unread, b"no script", b"")?;

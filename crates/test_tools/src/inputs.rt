@@ -106,7 +106,7 @@ static WORDS: [&[&str]; 9] = [
 fn are_refused(alloc: Global, words: &[&str]) -> Result<bool, AllocError> {
     let setting = Setting {
         words,
-        fails: [&[1], &[]],
+        failing_read: 1,
         ..PLAIN
     };
     let called = Called::of(alloc, &setting, ONE_MESSAGE, ITS_RECORD)?;
