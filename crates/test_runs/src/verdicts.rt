@@ -2,12 +2,11 @@
 
 use crate::runs::{ONE_MESSAGE, ONE_MESSAGE_RECORD};
 use crate::watches::WATCHES;
-use crate::whole::text_of;
 use sig_check::{Replaying, Verdict, check, replay};
 use sig_model::{Origin, Origins};
 use sig_record::{Record, read_record};
 use sig_script::read_script;
-use std::alloc::Global;
+use std::alloc::{AllocError, Global};
 
 /// Records of the script of one message, and the verdict on each.
 static VERDICTS: [(&[u8], Verdict); 3] = [
@@ -116,18 +115,24 @@ fn are_told(alloc: Global, script: &[u8], record: &[u8], sent: &[[u64; 4]]) -> O
     }
 }
 
+/// A text with this first line.
+fn under(alloc: Global, first: &[u8], rest: &[u8]) -> Result<Vec<u8>, AllocError> {
+    let mut text = Vec::from_slice(alloc, first)?;
+    text.extend_from_slice(rest)?;
+    Ok(text)
+}
+
 /// The same of a script and a record without their first lines.
-fn are_told_of(alloc: Global, example: (&[u8], &[u8]), sent: &[[u64; 4]]) -> Option<bool> {
-    let (script, record) = example;
-    let script = text_of(alloc, &[(b"sigscript 1\n", 1), (script, 1)]).ok()?;
-    let record = text_of(alloc, &[(b"sigrecord 1\n", 1), (record, 1)]).ok()?;
+fn are_told_of(alloc: Global, script: &[u8], record: &[u8], sent: &[[u64; 4]]) -> Option<bool> {
+    let script = under(alloc, b"sigscript 1\n", script).ok()?;
+    let record = under(alloc, b"sigrecord 1\n", record).ok()?;
     are_told(alloc, script.as_slice(), record.as_slice(), sent)
 }
 
 /// The same of the example of monitors and aliases at this place.
 fn are_told_at(alloc: Global, at: usize, sent: &[[u64; 4]]) -> Option<bool> {
     let example = WATCHES.get(at)?;
-    are_told_of(alloc, *example, sent)
+    are_told_of(alloc, example.0, example.1, sent)
 }
 
 #[test]
@@ -145,7 +150,7 @@ fn signals_have_their_origins(rt: HostRuntime) {
     let alloc = rt.alloc();
     let one = are_told(alloc, ONE_MESSAGE, ONE_MESSAGE_RECORD, ONE_MESSAGE_SENT);
     assert!(rt; one == Some(true));
-    let own = are_told_of(alloc, OWN, OWN_SENT);
+    let own = are_told_of(alloc, OWN.0, OWN.1, OWN_SENT);
     assert!(rt; own == Some(true));
     for (at, sent) in &SENT {
         let told = are_told_at(alloc, *at, sent);
