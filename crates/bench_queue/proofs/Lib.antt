@@ -1,3 +1,4 @@
 mod Offers
 mod Splits
 mod Opens
+mod Counting

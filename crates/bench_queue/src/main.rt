@@ -2,9 +2,13 @@
 //! and the thread that began receives them.
 #![tactic(auto)]
 
+mod fetches;
+mod idle;
 mod measuring;
 mod over_mutex;
 mod over_queue;
+mod passed;
+mod puts;
 mod receiver;
 mod sender;
 mod way;
@@ -21,7 +25,7 @@ use std::{env, io};
 
 /// How the program is called.
 const USAGE: &str = "usage: bench_queue check
-       bench_queue never|always|auto|churn|mutex SENDERS SIGNALS apart|neighbours";
+       bench_queue never|always|auto|churn|mutex SENDERS SIGNALS apart|neighbours sleeps|yields TRIES RUNS";
 
 /// The arguments after the program's name.
 fn arguments(rt: &HostRuntime) -> io::Result<Vec<String>> {

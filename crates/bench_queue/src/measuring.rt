@@ -1,7 +1,10 @@
 //! Runs, and the lines that tell of them.
 
+use crate::fetches::Fetches;
+use crate::idle::Idle;
 use crate::over_mutex::over_mutex;
 use crate::over_queue::over_queue;
+use crate::passed::Passed;
 use crate::way::{WAYS, Way};
 use crate::work::Work;
 use std::alloc::{AllocError, Global};
@@ -10,24 +13,67 @@ use std::sync::Wait;
 use std::thread::Threads;
 use std::time::{Clock, Instant};
 
-// Does the work, and tells how many signals came, all of them.
-fn perform<R: Threads + Wait + Clock + Sync>(rt: &R, alloc: Global, work: Work) -> io::Result<u64> {
-    let got = match work.way.policy() {
+// Does the work, and tells what came, all of it.
+fn perform<R: Threads + Wait + Clock + Sync>(
+    rt: &R,
+    alloc: Global,
+    work: Work,
+) -> io::Result<Passed> {
+    let passed = match work.way.policy() {
         Some(policy) => over_queue(rt, alloc, policy, work)?,
         None => over_mutex(rt, alloc, work),
     };
-    if got != work.signals() {
+    if passed.got != work.signals() {
         return Err(AllocError.into());
     }
-    Ok(got)
+    Ok(passed)
+}
+
+// How many hundredths of a million signals came in a second.
+fn rate_of(got: u64, nanos: u64) -> u64 {
+    (got as u128 * 100_000 / nanos.max(1) as u128).min(u64::MAX as u128) as u64
 }
 
 // Prints the line of a run.
-fn tell<R: Print>(rt: &R, work: Work, got: u64, nanos: u128) -> io::Result<()> {
-    let nanos = nanos.max(1);
-    let rate = got as u128 * 100_000 / nanos;
+fn tell<R: Print>(rt: &R, work: Work, passed: &Passed, nanos: u64) -> io::Result<()> {
+    let rate = rate_of(passed.got, nanos);
+    let Fetches {
+        all,
+        empty,
+        busy,
+        skips,
+        removals,
+    } = passed.fetches;
     println!(rt;
-        "{} {} {got} {nanos} {}.{:02}",
+        "{} {} {} {nanos} {}.{:02} outer {} refused {} fetches {all} empty {empty} busy {busy} skips {skips} removals {removals}",
+        work.way.word(),
+        work.senders,
+        passed.got,
+        rate / 100,
+        rate % 100,
+        passed.outer,
+        passed.refused
+    )
+}
+
+// Does the work once, prints its line, and tells the nanoseconds that it took.
+fn measure_one<R: Threads + Wait + Clock + Print + Sync>(
+    rt: &R,
+    alloc: Global,
+    work: Work,
+) -> io::Result<u64> {
+    let start = Instant::now(rt)?;
+    let passed = perform(rt, alloc, work)?;
+    let nanos = start.elapsed(rt)?.as_nanos().min(u64::MAX as u128) as u64;
+    tell(rt, work, &passed, nanos)?;
+    Ok(nanos)
+}
+
+// Prints the rate at these nanoseconds, and what it is.
+fn tell_rate<R: Print>(rt: &R, work: Work, what: &str, nanos: u64) -> io::Result<()> {
+    let rate = rate_of(work.signals(), nanos);
+    println!(rt;
+        "{} {} {what} {}.{:02}",
         work.way.word(),
         work.senders,
         rate / 100,
@@ -35,17 +81,29 @@ fn tell<R: Print>(rt: &R, work: Work, got: u64, nanos: u128) -> io::Result<()> {
     )
 }
 
-/// Does the work and prints a line: the way, the senders, the signals, the nanoseconds, and how many
-/// million signals came in a second. Fails for want of memory, or where the clock or the output fails.
+/// Does the work, so often as it says, and prints a line for each run: the way, the senders, the
+/// signals, the nanoseconds, how many million signals came in a second, how many signals were put into
+/// the outer list, how often a sender was refused, and of the fetches how many there were, how many were
+/// empty, and were kept out, how many buffers were skipped, and how often buffers went out of use. At
+/// last it prints the best and the median rate. Fails for want of memory, or where the clock or the
+/// output fails.
 pub fn measure<R: Threads + Wait + Clock + Print + Sync>(
     rt: &R,
     alloc: Global,
     work: Work,
 ) -> io::Result<()> {
-    let start = Instant::now(rt)?;
-    let got = perform(rt, alloc, work)?;
-    let nanos = start.elapsed(rt)?.as_nanos();
-    tell(rt, work, got, nanos)
+    let mut times = Vec::new(alloc);
+    for _ in 0..work.runs {
+        times.push(measure_one(rt, alloc, work)?)?;
+    }
+    times.sort_unstable();
+    if let Some(best) = times.first() {
+        tell_rate(rt, work, "best", *best)?;
+    }
+    if let Some(median) = times.get(times.len() / 2) {
+        tell_rate(rt, work, "median", *median)?;
+    }
+    Ok(())
 }
 
 // A run that takes next to no time.
@@ -55,6 +113,9 @@ fn sample(way: Way, apart: bool) -> Work {
         senders: 3,
         each: 200,
         apart,
+        idle: Idle::Sleeps,
+        tries: 1,
+        runs: 1,
     }
 }
 
@@ -64,8 +125,8 @@ fn check_one<R: Threads + Wait + Clock + Print + Sync>(
     alloc: Global,
     work: Work,
 ) -> io::Result<()> {
-    let got = perform(rt, alloc, work)?;
-    println!(rt; "{} {} {got}", work.way.word(), work.senders)
+    let passed = perform(rt, alloc, work)?;
+    println!(rt; "{} {} {}", work.way.word(), work.senders, passed.got)
 }
 
 /// Sends some signals each way, with pids of each kind, and prints how many came. Fails as `measure`

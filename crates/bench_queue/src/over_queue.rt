@@ -3,6 +3,7 @@ ghost use Rattle.std.specs.Prelude.{◌≡◌, [], true, replicate, IfOk};
 ghost use Rattle.sig_layout.specs.Policies.{IsPolicy};
 ghost use Rattle.bench_queue.specs.Messages.{receiver, IsFresh};
 
+use crate::passed::Passed;
 use crate::receiver::Receiver;
 use crate::sender::Sender;
 use crate::work::{RECEIVER, Work};
@@ -62,27 +63,35 @@ fn senders_of<'q>(
     Ok(senders)
 }
 
-// Each sender sends in a thread of its own, while this thread receives. It tells how many signals came.
+// Each sender sends in a thread of its own, while this thread receives.
 fn exchange<'q, R: Threads + Wait + Clock + Sync>(
     rt: &R,
     alloc: Global,
     senders: Vec<Sender<'q>>,
     receiver: Receiver<'q>,
     work: Work,
-) -> u64 {
-    let missing = AtomicU64::new(0);
-    let shared = &missing;
-    let each = work.each as u64;
-    thread::scope(thread::scope_env(), rt, |scope| {
+) -> Passed {
+    let (missing, outer, refused) = (AtomicU64::new(0), AtomicU64::new(0), AtomicU64::new(0));
+    let (shared, to_outer, to_refused) = (&missing, &outer, &refused);
+    let (each, tries) = (work.each as u64, work.tries);
+    let (got, fetches) = thread::scope(thread::scope_env(), rt, |scope| {
         for sender in senders {
-            let spawned = scope.spawn(move || sender.send(each, shared));
+            let spawned = scope.spawn(move || sender.send(
+                each, tries, shared, to_outer, to_refused,
+            ));
             if spawned.is_err() {
                 shared.fetch_add(each, Ordering::SeqCst);
             }
             drop(spawned);
         }
-        receiver.receive(rt, alloc, work.signals(), shared)
-    })
+        receiver.receive(rt, alloc, work.idle, work.signals(), shared)
+    });
+    Passed {
+        got,
+        outer: outer.load(Ordering::SeqCst),
+        refused: refused.load(Ordering::SeqCst),
+        fetches,
+    }
 }
 
 // A queue for the senders of the work, and its first seat.
@@ -94,7 +103,7 @@ fn opened(alloc: Global, policy: Policy, pids: Senders) -> Result<(SigQueue, QSe
     SigQueue::open(alloc, policy, QueueData::OffHeap, pids, &opening)
 }
 
-// Sends and receives the signals through this queue, and tells how many came.
+// Sends and receives the signals through this queue.
 fn pass<R: Threads + Wait + Clock + Sync>(
     rt: &R,
     alloc: Global,
@@ -102,7 +111,7 @@ fn pass<R: Threads + Wait + Clock + Sync>(
     mut seat: QSeat,
     work: Work,
     pids: Senders,
-) -> Result<u64, AllocError>
+) -> Result<Passed, AllocError>
     requires { IsFresh queue.now pids seat }
 {
     let senders = senders_of(alloc, queue, &mut seat, pids)?;
@@ -110,14 +119,14 @@ fn pass<R: Threads + Wait + Clock + Sync>(
     Ok(exchange(rt, alloc, senders, receiver, work))
 }
 
-/// Sends the signals through a queue under this policy, and tells how many came. Fails only for want of
+/// Sends the signals through a queue under this policy, and tells what came. Fails only for want of
 /// memory.
 pub fn over_queue<R: Threads + Wait + Clock + Sync>(
     rt: &R,
     alloc: Global,
     policy: Policy,
     work: Work,
-) -> Result<u64, AllocError>
+) -> Result<Passed, AllocError>
     requires { IsPolicy policy }
 {
     let pids = work.pids();

@@ -1,5 +1,6 @@
 ghost use Rattle.std.specs.Prelude.{◌≡◌, ◌≤◌, ◌<◌, ◌*◌, IfSome};
 
+use crate::idle::Idle;
 use crate::way::Way;
 use sig_layout::Senders;
 use sig_terms::Pid;
@@ -9,6 +10,12 @@ pub const RECEIVER: Pid = Pid(0);
 
 /// The most senders.
 pub const MOST_SENDERS: u32 = 8;
+
+/// The most tries.
+pub const MOST_TRIES: u32 = 1_000_000;
+
+/// The most runs.
+pub const MOST_RUNS: u32 = 1_000;
 
 /// The most signals of each.
 pub const MOST_SIGNALS: u32 = 1_000_000_000;
@@ -24,6 +31,12 @@ pub struct Work {
     /// Whether the senders' pids are 8 apart, so that their buffers are in other cache lines. Else they
     /// are neighbours.
     pub apart: bool,
+    /// What the receiver does where nothing came.
+    pub idle: Idle,
+    /// How many offers in a row may be refused before a sender lets others run.
+    pub tries: u32,
+    /// How often it is done.
+    pub runs: u32,
     ghost few: { senders ≤ 8 },
 }
 
@@ -76,20 +89,27 @@ fn apart_of(text: &str) -> Option<bool> {
     }
 }
 
-/// What these arguments ask for: the way, the count of senders, the signals of each, and whether the
-/// pids are apart. `None` where there are other arguments, or more or fewer.
+/// What these arguments ask for: the way, the count of senders, the signals of each, whether the pids
+/// are apart, what an idle receiver does, how often a sender tries, and how many runs. `None` where there are other arguments, or
+/// more or fewer.
 pub fn work_of(arguments: &[String]) -> Option<Work> {
-    if arguments.len() != 4 {
+    if arguments.len() != 7 {
         return None;
     }
     let way = Way::of(arguments[0].as_str())?;
     let senders = number_of(arguments[1].as_str(), MOST_SENDERS)?;
     let each = number_of(arguments[2].as_str(), MOST_SIGNALS)?;
     let apart = apart_of(arguments[3].as_str())?;
+    let idle = Idle::of(arguments[4].as_str())?;
+    let tries = number_of(arguments[5].as_str(), MOST_TRIES)?;
+    let runs = number_of(arguments[6].as_str(), MOST_RUNS)?;
     Some(Work {
         way,
         senders,
         each,
         apart,
+        idle,
+        tries,
+        runs,
     })
 }

@@ -127,7 +127,8 @@ is_in (n ∷ ns) name = n == name || is_in ns name
 -- of a word; `peek` gives a word and leaves none.
 abbrev steps : List String
 steps =
-    "atomic_table::shared::Shared::compare_exchange"
+    "atomic_table::shared::Seat::slot_mut"
+    ∷ "atomic_table::shared::Shared::compare_exchange"
     ∷ "atomic_table::shared::Shared::exchange"
     ∷ "atomic_table::shared::Shared::fetch_or"
     ∷ "atomic_table::shared::Shared::join_seat"
@@ -147,7 +148,7 @@ near f = filter (λ n. starts_with n "atomic_table::" || is_own n) (names f.body
 abbrev pub OneStep : Fn → Type 0
 OneStep f = (filter (λ n. not (is_in steps n)) (near f) ≡ []) × (length (near f) ≡ 1) × (loops f.body ≡ [])
 
--- The one function there that takes two: it names these two functions of src/words/, once each.
+-- A function there that takes two: it names these two functions of the table and of this crate, once each.
 abbrev pub TwoSteps : List String → Fn → Type 0
 TwoSteps both f = (near f ≡ both) × (loops f.body ≡ [])
 

@@ -1,17 +1,14 @@
 //! How a fetch finds its buffers.
-ghost use Rattle.std.specs.Prelude.{take, drop, ◌≡◌, ℕ, ◌+◌, ◌<◌, ◌++◌, [], ◌∷◌, List, length, true, false, Some, IfSome};
-ghost use Rattle.atomic_table.specs.Table.{rest};
-ghost use Rattle.sig_kinds.specs.declared.signal.Signal.{Signal};
+ghost use Rattle.std.specs.Prelude.{take, drop, ◌≡◌, ℕ, ◌+◌, ◌<◌, ◌≤◌, ◌++◌, [], ◌∷◌, length, true, false, Some, IfSome};
 ghost use Rattle.sig_layout.specs.declared.outer.Outer.{Outer};
 ghost use Rattle.sig_layout.specs.declared.knows.Knows.{Knows};
 ghost use Rattle.sig_layout.specs.Views.{number, IsSomebody, filled_at, with_bits};
 ghost use Rattle.sig_queue.specs.Fetching.{Finding, outer_out};
-ghost use Rattle.sig_queue.specs.SeatWords.{IsOf, IsBufferOf, IsSameSeat, table_of};
+ghost use Rattle.sig_queue.specs.SeatWords.{IsOf, IsBufferOf, IsSameSeat};
 
 use crate::rule::SeatAt;
-use crate::slot::Slot;
 use crate::words::Words;
-use crate::words::buffer_steps::{put_list, take_list, try_buffer};
+use crate::words::buffer_steps::{list_len, try_buffer};
 use crate::words::steps::set_back;
 use sig_layout::BUFFERS;
 use std::marker::Brand;
@@ -29,12 +26,21 @@ pub(crate) struct Caught {
     pub(crate) total: Option<usize>,
 }
 
-// Whether the bit of a buffer is set.
-pub(crate) fn has_bit(bits: u64, buffer: usize) -> bool
-    requires { buffer < BUFFERS }
-    ensures { result ≡ filled_at bits buffer }
+// The first buffer from this one on whose bit is set, or `BUFFERS` where there is none.
+pub(crate) fn next_bit(bits: u64, from: usize) -> usize
+    requires { from ≤ BUFFERS }
+    ensures within { (from ≤ result) × (result ≤ BUFFERS) }
+    ensures passed { (c : ℕ) → from ≤ c → c < result → filled_at bits c ≡ false }
+    ensures set { result < BUFFERS → filled_at bits result ≡ true }
 {
-    bits >> buffer & 1 == 1
+    if from >= BUFFERS {
+        return BUFFERS;
+    }
+    let left = bits >> from;
+    if left == 0 {
+        return BUFFERS;
+    }
+    from + left.trailing_zeros() as usize
 }
 
 // The slot that was taken so many before the last comes to the front.
@@ -46,20 +52,6 @@ pub(crate) fn bring_front(place: &mut SeatAt, count: usize)
     for _ in 0..count {
         place.turn();
     }
-}
-
-// The length of the list of the slot that stands in front.
-fn measure(words: &Words, place: &mut SeatAt, buffer: usize) -> usize
-    requires table { (place.old.table_id ≡ table_of words.now) × (buffer < BUFFERS) }
-    requires out { (l : List Signal) × (place.old.me.1 ≡ (buffer + 1, Slot.List l) ∷ rest place.old.me.1) }
-    ensures same { IsSameSeat place.new place.old }
-    ensures still { place.new.me ≡ place.old.me }
-    ensures length { (l : List Signal) × (place.old.me.1 ≡ (buffer + 1, Slot.List l) ∷ rest place.old.me.1) × (result ≡ length l) }
-{
-    let list = take_list(words, place, buffer);
-    let found = list.len();
-    put_list(words, place, buffer, list);
-    found
 }
 
 fn plus(total: Option<usize>, found: usize) -> Option<usize>
@@ -90,7 +82,7 @@ fn find_one(words: &Words, place: &mut SeatAt, found: &mut Caught, buffer: usize
     }
     found.held |= 1u64 << buffer;
     found.count += 1;
-    let length = measure(words, place, buffer);
+    let length = list_len(words, place, buffer);
     found.total = plus(found.total, length);
 }
 
@@ -109,10 +101,10 @@ pub(crate) fn find_all(words: &Words, place: &mut SeatAt, bits: u64, my_word: u6
         count: 0,
         total: Some(0),
     };
-    for buffer in 0..BUFFERS {
-        if has_bit(bits, buffer) {
-            find_one(words, place, &mut found, buffer, my_word);
-        }
+    let mut buffer = next_bit(bits, 0);
+    while buffer < BUFFERS {
+        find_one(words, place, &mut found, buffer, my_word);
+        buffer = next_bit(bits, buffer + 1);
     }
     found
 }

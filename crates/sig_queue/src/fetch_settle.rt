@@ -9,7 +9,7 @@ ghost use Rattle.sig_queue.specs.Calls.{bare, Finished, Settled};
 ghost use Rattle.sig_queue.specs.Fetching.{Standing, Emptying, Leaving, all_of};
 ghost use Rattle.sig_queue.specs.SeatWords.{IsOf, IsBufferOf, IsSameSeat, key_of};
 
-use crate::fetch_find::{Caught, bring_front, has_bit};
+use crate::fetch_find::{Caught, bring_front, next_bit};
 use crate::outer_box::OuterBox;
 use crate::rule::SeatAt;
 use crate::words::Words;
@@ -60,11 +60,11 @@ fn empty_all(words: &Words, place: &mut SeatAt, held: u64, count: usize, into: &
     ensures moved { into.new.items ++ all_of place.new.me.0.parts ≡ into.old.items ++ all_of place.old.me.0.parts }
 {
     let mut left = count;
-    for buffer in 0..BUFFERS {
-        if has_bit(held, buffer) {
-            empty_one(words, place, held, buffer, left, into);
-            left -= 1;
-        }
+    let mut buffer = next_bit(held, 0);
+    while buffer < BUFFERS {
+        empty_one(words, place, held, buffer, left, into);
+        left -= 1;
+        buffer = next_bit(held, buffer + 1);
     }
 }
 
@@ -92,11 +92,11 @@ fn leave_all(words: &Words, place: &mut SeatAt, held: u64, count: usize)
     ensures leaving { Leaving place.old.me.0 place.new.me }
 {
     let mut left = count;
-    for buffer in 0..BUFFERS {
-        if has_bit(held, buffer) {
-            leave_one(words, place, held, buffer, left);
-            left -= 1;
-        }
+    let mut buffer = next_bit(held, 0);
+    while buffer < BUFFERS {
+        leave_one(words, place, held, buffer, left);
+        left -= 1;
+        buffer = next_bit(held, buffer + 1);
     }
 }
 

@@ -22,9 +22,24 @@ pub enum Sent {
     Memory { signal: Signal },
 }
 
+/// So many refused offers in a row come before a sender lets other threads run.
+const TRIES: u32 = 16;
+
+// One more offer in a row was refused. Other threads run once there are `TRIES`. It tells how many were
+// refused since.
+fn pause(refused: u32) -> u32 {
+    let refused = refused.saturating_add(1);
+    if refused < TRIES {
+        return refused;
+    }
+    thread::yield_now();
+    0
+}
+
 impl SigQueue {
-    /// Offers a signal until it was put, or memory is wanting. It may wait for other seats. Where the
-    /// queue goes by `Never` it is put into no buffer, and where by `Always`, never into the outer list.
+    /// Offers a signal until it was put, or memory is wanting. It may wait for other seats: it lets
+    /// other threads run after each 16 offers in a row that were refused. Where the queue goes by
+    /// `Never` it is put into no buffer, and where by `Always`, never into the outer list.
     ///
     /// Asks of the seat and the signal what [`offer`](SigQueue::offer) asks.
     pub fn send<R: Wait>(&self, rt: &R, seat: &mut QSeat, mut signal: Signal) -> Sent
@@ -38,6 +53,7 @@ impl SigQueue {
         ensures never { self.now.setup.policy ≡ Never → (b : ℕ) → result ≢ Sent.Put (Via.Buffer b) }
         ensures always { self.now.setup.policy ≡ Always → result ≢ Sent.Put Via.Outer }
     {
+        let mut again = 0;
         for _ in rt.forever() {
             match self.offer(seat, signal) {
                 Offer::Put { via } => return Sent::Put { via },
@@ -47,7 +63,7 @@ impl SigQueue {
                     found: _,
                 } => signal = back,
             }
-            thread::yield_now();
+            again = pause(again);
         }
         unreachable!()
     }

@@ -14,7 +14,7 @@ ghost use Rattle.sig_queue.specs.SeatWords.{IsBufferOf, IsSameSeat, key_of};
 use crate::rule::SeatAt;
 use crate::slot::Slot;
 use crate::words::Words;
-use crate::words::buffer_steps::{leave_buffer, leave_buffer_put, put_list, take_list, try_buffer};
+use crate::words::buffer_steps::{leave_buffer, leave_buffer_put, push_signal, try_buffer};
 use crate::words::steps::{load_mode, load_under, set_bit};
 use sig_kinds::Signal;
 use std::marker::Brand;
@@ -72,13 +72,10 @@ fn under_turn(words: &Words, place: &mut SeatAt, buffer: usize, signal: Signal) 
         leave_buffer(words, place, buffer);
         return ToBuffer::Off(signal);
     }
-    let mut list = take_list(words, place, buffer);
-    if let Err(signal) = list.push(signal) {
-        put_list(words, place, buffer, list);
+    if let Err(signal) = push_signal(words, place, buffer, signal) {
         leave_buffer(words, place, buffer);
         return ToBuffer::Memory(signal);
     }
-    put_list(words, place, buffer, list);
     leave_filled(words, place, buffer);
     ToBuffer::Put
 }

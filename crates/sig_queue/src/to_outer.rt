@@ -14,7 +14,7 @@ use crate::offer::Offer;
 use crate::rule::SeatAt;
 use crate::slot::Slot;
 use crate::words::Words;
-use crate::words::steps::{leave_put, leave_same, mode_on, put_value, take_value, try_outer};
+use crate::words::steps::{leave_put, leave_same, mode_on, push_outer, try_outer};
 use sig_kinds::Signal;
 use sig_layout::{Policy, Via};
 
@@ -52,19 +52,16 @@ fn put_held(
     ensures offered { PutHeld signal place.old.me.0 result place.new.me.0 }
     ensures refused { refused.new ≡ some_refused place.new.me.0.refused }
 {
-    let mut outer = take_value(words, place);
-    match outer.put(signal, *refused, policy) {
+    match push_outer(words, place, signal, *refused, policy) {
         Ok(switched) => {
             // The mode goes on under the turn, with the entry of the install, so that no other seat
             // finds one of the two without the other: `the_install_is_stored_after_the_turn`.
             install_if(words, place, switched);
-            put_value(words, place, outer);
             leave_put(words, place);
             *refused = false;
             Offer::Put { via: Via::Outer }
         }
         Err(signal) => {
-            put_value(words, place, outer);
             leave_same(words, place);
             Offer::Memory { signal }
         }

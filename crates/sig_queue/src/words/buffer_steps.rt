@@ -1,5 +1,5 @@
 //! One function for each kind of step on the turn of a buffer.
-ghost use Rattle.std.specs.Prelude.{◌≡◌, ◌≢◌, ◌+◌, ◌<◌, ◌++◌, [], ◌∷◌, List, true, false, Some, None};
+ghost use Rattle.std.specs.Prelude.{◌≡◌, ◌≢◌, ◌+◌, ◌<◌, ◌++◌, [], ◌∷◌, List, length, true, false, Some, None, OnOk, IfErr};
 ghost use Rattle.atomic_table.specs.Table.{rest};
 ghost use Rattle.sig_kinds.specs.declared.signal.Signal.{Signal};
 ghost use Rattle.sig_layout.specs.declared.layout.TheConstants.{BUFFERS};
@@ -16,6 +16,7 @@ use super::Words;
 use crate::plays::{LeaveBuffer, LeaveBufferPut, LeavePart, LeavePassed, TryBuffer};
 use crate::rule::SeatAt;
 use crate::slot::Slot;
+use sig_kinds::Signal;
 use sig_layout::{APART, Batch, FIRST_TURN};
 
 // Tries the turn of a buffer once.
@@ -35,6 +36,43 @@ pub(crate) fn try_buffer(words: &Words, place: &mut SeatAt, buffer: usize, my_wo
         .table
         .shared
         .compare_exchange::<TryBuffer>(place, FIRST_TURN + buffer * APART, 0, my_word)
+}
+
+// How many signals lie in the list. It stays in its slot.
+pub(crate) fn list_len(words: &Words, place: &mut SeatAt, buffer: usize) -> usize
+    requires table { (place.old.table_id ≡ table_of words.now) × (buffer < BUFFERS) }
+    requires out { (l : List Signal) × (place.old.me.1 ≡ (buffer + 1, Slot.List l) ∷ rest place.old.me.1) }
+    ensures same { IsSameSeat place.new place.old }
+    ensures still { place.new.me ≡ place.old.me }
+    ensures length { (l : List Signal) × (place.old.me.1 ≡ (buffer + 1, Slot.List l) ∷ rest place.old.me.1) × (result ≡ length l) }
+{
+    match place.slot_mut(&words.table.shared, buffer + 1) {
+        Slot::List(list) => list.len(),
+        _ => unreachable!(),
+    }
+}
+
+// One more signal at the end of the list, which stays in its slot. Where there is no memory for it,
+// it comes back.
+pub(crate) fn push_signal(
+    words: &Words,
+    place: &mut SeatAt,
+    buffer: usize,
+    signal: Signal,
+) -> Result<(), Signal>
+    requires table { (place.old.table_id ≡ table_of words.now) × (buffer < BUFFERS) }
+    requires out { (l : List Signal) × (place.old.me.1 ≡ (buffer + 1, Slot.List l) ∷ rest place.old.me.1) }
+    ensures same { IsSameSeat place.new place.old }
+    ensures ok { OnOk result (place.new.me ≡ (
+      place.old.me.0,
+      (buffer + 1, Slot.List (list_in place.old.me.1 ++ signal ∷ [])) ∷ rest place.old.me.1,
+    )) }
+    ensures err { IfErr result (λ s. (s ≡ signal) × (place.new.me ≡ place.old.me)) }
+{
+    match place.slot_mut(&words.table.shared, buffer + 1) {
+        Slot::List(list) => list.push(signal),
+        _ => unreachable!(),
+    }
 }
 
 // The list out.

@@ -1,5 +1,5 @@
 //! One function for each kind of step on OUTER, MODE and FILLED. Each is tied to the step of the core that has its name.
-ghost use Rattle.std.specs.Prelude.{◌≡◌, ◌≢◌, ◌+◌, ◌<◌, ◌++◌, [], ◌∷◌, true, false, Some, None};
+ghost use Rattle.std.specs.Prelude.{◌≡◌, ◌≢◌, ◌+◌, ◌<◌, ◌++◌, [], ◌∷◌, true, false, Some, None, IfOk, IfErr};
 ghost use Rattle.atomic_table.specs.Table.{rest};
 ghost use Rattle.sig_layout.specs.declared.layout.TheConstants.{BUFFERS};
 ghost use Rattle.sig_layout.specs.declared.outer.Outer.{Outer};
@@ -27,7 +27,8 @@ use crate::plays::{
 };
 use crate::rule::SeatAt;
 use crate::slot::Slot;
-use sig_layout::{FILLED, MODE, OUTER};
+use sig_kinds::Signal;
+use sig_layout::{FILLED, MODE, OUTER, Policy};
 
 // Tries the outer turn once.
 pub(crate) fn try_outer(words: &Words, place: &mut SeatAt, my_word: u64) -> u64
@@ -53,6 +54,31 @@ pub(crate) fn take_value(words: &Words, place: &mut SeatAt) -> OuterBox
 {
     match words.table.shared.exchange(place, 0, Slot::Out) {
         Slot::Outer(outer) => outer,
+        _ => unreachable!(),
+    }
+}
+
+// One more signal in the outer value, with its entries. The value stays in its slot. It tells whether
+// the put makes an install due. Where there is no memory for it, the signal comes back.
+pub(crate) fn push_outer(
+    words: &Words,
+    place: &mut SeatAt,
+    signal: Signal,
+    refused: bool,
+    policy: Policy,
+) -> Result<bool, Signal>
+    requires table { place.old.table_id ≡ table_of words.now }
+    requires out { (o : Outer) × (place.old.me.1 ≡ (0, Slot.Outer o) ∷ rest place.old.me.1) }
+    ensures same { IsSameSeat place.new place.old }
+    ensures due { IfOk result (λ switched. switched ≡ is_install (due_at policy ((outer_in place.old.me.1).journal ++ Direct refused ∷ []))) }
+    ensures ok { IfOk result (λ switched. place.new.me ≡ (
+      place.old.me.0,
+      (0, Slot.Outer (added (outer_in place.old.me.1) signal refused switched)) ∷ rest place.old.me.1,
+    )) }
+    ensures err { IfErr result (λ s. (s ≡ signal) × (place.new.me ≡ place.old.me)) }
+{
+    match place.slot_mut(&words.table.shared, 0) {
+        Slot::Outer(outer) => outer.put(signal, refused, policy),
         _ => unreachable!(),
     }
 }

@@ -22,8 +22,8 @@ pub set_back-requires-clause-masked : goal.set_back-requires-clause-masked
 set_back-requires-clause-masked c = let f = c.requires.finding in let h = c.requires.fetching in let m = ap (λ (x : Held). x.0) (c.try_buffer.ensures.refused c.if-try_buffer-ne0.true).0 in
     ((h.0.0, ap (λ (v : Knows). v.held) m ∙ h.0.1), ap (λ (v : Knows). v.fetching) m ∙ h.1, ap (λ (v : Knows). flag v.mask c.args.buffer) m ∙ (f.2.to_come c.args.buffer c.requires.table.2 (omega arith) ∙ f.3))
 
-pub measure-length-requires-clause-out : goal.measure-length-requires-clause-out
-measure-length-requires-clause-out c = let t = c.try_buffer.ensures.took c.if-try_buffer-ne0.false in let e = ap (λ (m : Held). m.1) t.1 in
+pub list_len-length-requires-clause-out : goal.list_len-length-requires-clause-out
+list_len-length-requires-clause-out c = let t = c.try_buffer.ensures.took c.if-try_buffer-ne0.false in let e = ap (λ (m : Held). m.1) t.1 in
     (t.0, e ∙ ap (λ (r : List (ℕ × Slot)). (c.args.buffer + 1, slot.List t.0) ∷ r) (sym (ap rest e)))
 
 pub returns-then-try_buffer-ne0-clause-finding : goal.returns-then-try_buffer-ne0-clause-finding
@@ -31,10 +31,10 @@ returns-then-try_buffer-ne0-clause-finding c v n f bit blind = let r = c.try_buf
     finding_skipped v n c.args.buffer c.args.place.now.me c.args.found.now f c.requires.table.2 c.try_buffer.result _ _ (c.set_back.ensures.back ∙ ap (λ (m : Held). let w : Held = (given_back m.0 c.args.buffer, m.1) in w) r.0) r.1 blind refl refl refl refl bit
 
 pub returns-clause-finding : goal.returns-clause-finding
-returns-clause-finding c v n f bit blind = let t = c.try_buffer.ensures.took c.if-try_buffer-ne0.false in let m = c.measure-length.ensures.length in
+returns-clause-finding c v n f bit blind = let t = c.try_buffer.ensures.took c.if-try_buffer-ne0.false in let m = c.list_len-length.ensures.length in
     let same : m.0 ≡ t.0 = same_front (c.args.buffer + 1) m.0 t.0 _ c.args.place.now.me.1 c.try_buffer.new.place.me.1 m.1 (ap (λ (x : Held). x.1) t.1) in
-    let total = total_more c.args.found.now.total c.plus-found.result c.measure-length.result (length (all_of c.args.place.now.me.0.parts)) c.plus-found.ensures f.total in
-    finding_held v n c.args.buffer c.args.place.now.me c.args.found.now f c.requires.table.2 t.0 _ _ bit (c.measure-length.ensures.still ∙ t.1) refl refl refl
+    let total = total_more c.args.found.now.total c.plus-found.result c.list_len-length.result (length (all_of c.args.place.now.me.0.parts)) c.plus-found.ensures f.total in
+    finding_held v n c.args.buffer c.args.place.now.me c.args.found.now f c.requires.table.2 t.0 _ _ bit (c.list_len-length.ensures.still ∙ t.1) refl refl refl
     (subst (λ (x : ℕ). IfSome c.plus-found.result (λ s. s ≡ length (all_of c.args.place.now.me.0.parts) + x)) (m.2 ∙ ap length same) total) t.2
 
 code_keeps : Keeps [] code.function

@@ -1,6 +1,0 @@
-use Rattle.std.proofs.Common.{refl, []}
-use Rattle.sig_queue.proofs.Bodies.{Keeps}
-use Rattle.sig_queue.proofs.fetch_find.has_bit.Code as code
-
-code_keeps : Keeps [] code.function
-code_keeps = (refl, refl)
