@@ -3,6 +3,7 @@ ghost use Rattle.sig_base.specs.Flow.{Rose, Adds};
 ghost use Rattle.sig_edge.specs.Streams.{reading, writing};
 ghost use Rattle.sig_program.specs.Scripts.{Program, IsScriptWithin};
 ghost use Rattle.sig_canon.specs.Generated.{generated};
+ghost use Rattle.sig_record.specs.RecordText.{record_text};
 ghost use Rattle.sig_model.specs.OneWorker.{IsClear, RunsTo};
 ghost use Rattle.sig_model.specs.CrewLaw.{IsLawfulCrew};
 ghost use Rattle.sig_process.specs.Standing.{runnings_of};
@@ -23,6 +24,7 @@ ghost use Rattle.sig_host.specs.Words.{IsInRange};
 
 use crate::command_line::words;
 use crate::ending::Ending;
+use crate::printing::print_apart;
 use crate::settings::Settings;
 use crate::status::Status;
 use crate::summing::summary_text;
@@ -33,10 +35,11 @@ use sig_base::{Gate, ReadAll, Sink, Source, Written, read_all, write_whole};
 use sig_model::lawful_crew_comes_to_rest;
 use sig_process::Crew;
 use sig_program::{MOST_PROCESSES, Script};
-use sig_record::{Record, a_lawful_crew_tells_a_run, print_record, summarize};
+use sig_record::{Record, a_lawful_crew_tells_a_run, summarize};
 use sig_script::{FaultKind, MOST_BYTES, MOST_CALLS, ScriptError, generate, read_script};
 use sig_workers::{run_one, run_rounds};
 use std::alloc::{AllocError, Global};
+use std::mem;
 use std::sync::Wait;
 use std::thread::Threads;
 
@@ -130,7 +133,25 @@ fn summary_of(alloc: Global, given: &Record, asked: bool) -> Result<Option<Vec<u
     summary_text(alloc, &summarize(given)).map(Some)
 }
 
-/// Runs the script. The texts of its record, and of the summary where one is asked for.
+/// The texts of the record, made by so many threads, and of its summary where one is asked for.
+fn texts_of<R: Threads + Sync>(
+    rt: &R,
+    alloc: Global,
+    given: &Record,
+    asked: bool,
+    threads: u32,
+) -> Result<Texts, AllocError>
+    ensures record { IfOk result (λ texts. texts.record.items ≡ record_text given.now) }
+    ensures summary { IfOk result (λ texts. text_in texts.summary ≡ summary_for asked given.now) }
+{
+    let summary = summary_of(alloc, given, asked)?;
+    let record = print_apart(rt, alloc, given, threads)?;
+    Ok(Texts { record, summary })
+}
+
+/// Runs the script. The texts of its record, and of the summary where one is asked for. The record
+/// itself is left as it lies in memory, which isn't given back: that would take a tenth of a run, and
+/// more where several workers have made it.
 fn run_texts<R: Threads + Wait + Sync, G: Gate>(
     rt: &R,
     alloc: Global,
@@ -143,10 +164,9 @@ fn run_texts<R: Threads + Wait + Sync, G: Gate>(
     ensures { IfOk result (AreTexts settings.workers script asked) }
 {
     let given = run_record(rt, alloc, settings, script, gate)?;
-    let summary = summary_of(alloc, &given, asked)?;
-    let mut record = Vec::new(alloc);
-    print_record(&given, &mut record)?;
-    Ok(Texts { record, summary })
+    let texts = texts_of(rt, alloc, &given, asked, settings.workers);
+    mem::forget(given);
+    texts
 }
 
 /// Writes the record. The summary is told once it is written.

@@ -5,6 +5,7 @@ mod command_line;
 mod ending;
 mod host;
 mod option_values;
+mod printing;
 mod settings;
 mod standard;
 mod status;

@@ -5,8 +5,9 @@ use sig_layout::Policy;
 pub struct Settings {
     /// How many workers run the processes, from 1 to [`MOST_WORKERS`].
     pub workers: u32,
-    /// How many events a worker makes before its part of a round is over, at least: from 1 to
-    /// [`MOST_QUOTA`]. With one worker it counts for nothing.
+    /// How many events a worker makes before its part of the first round is over, at least: from 1 to
+    /// [`MOST_QUOTA`]. Each later round asks for twice as many as the one before, up to 1,000,000. With
+    /// one worker it counts for nothing.
     pub quota: u32,
     /// When the shared queues have buffers; the number of [`Policy::Churn`] is from 1 to
     /// [`MOST_CHURN`]. With one worker it counts for nothing.

@@ -30,8 +30,11 @@ impl Progress {
         requires other { is_receive (option_copied instr) ≡ false }
         ensures { MatchResult result (λ _. HasExecuted pid.0 proc.now self.old self.new) (λ _. IsSameButRoom self.old self.new) }
     {
-        let plan = self.plan_instr(proc, instr)?;
-        self.commit_exec(pid, plan)
+        // By `?` the execution would be copied twice more.
+        match self.plan_instr(proc, instr) {
+            Ok(plan) => self.commit_exec(pid, plan),
+            Err(fault) => Err(fault),
+        }
     }
 
     /// Executes the next instruction.

@@ -9,6 +9,7 @@ use sig_inner::Inner;
 use sig_kinds::Signals;
 use sig_model::{Events, LAST_STAMP, State};
 use sig_terms::{Name, Pid, Term};
+use std::mem;
 
 /// What a record tells of a process.
 #[derive(Debug, Drop)]
@@ -67,7 +68,10 @@ impl Process {
         any_late(&self.progress.own) || any_late(&self.progress.taken_in)
     }
 
-    /// The process's part of a record. The process kept what every running process keeps.
+    /// The process's part of a record. The process kept what every running process keeps. The labels and
+    /// instructions of its part of the script are left as they lie in memory, and that memory isn't given
+    /// back: a program gathers a record when it is about to end, and to give back a long script line by
+    /// line takes nearly as long as to make it.
     ///
     /// Asks that nothing is left of what it has sent to others: its outbox is empty, as
     /// [`Process::take_outbox`] leaves it.
@@ -79,6 +83,8 @@ impl Process {
         let cut = self.is_cut() || self.has_late();
         let progress = self.progress;
         let proc = self.proc;
+        mem::forget(proc.labels);
+        mem::forget(proc.instrs);
         let (mut left, end) = progress.tables.into_left();
         left.forget();
         Parts {

@@ -1,5 +1,6 @@
 pub mod Lists
 pub mod Fronts
+pub mod Digits
 pub mod SortLemmas
 pub mod QueueLemmas
 pub mod CountedLemmas
@@ -38,3 +39,4 @@ pub mod RecordStops
 pub mod RecordFaults
 pub mod OneFault
 pub mod FeedCounts
+pub mod Shares

@@ -30,5 +30,13 @@ head_text pid name = codes "process " ++ decimal pid ++ codes " " ++ name ++ cod
 unfoldable pub report_text : Report → List ℕ
 report_text r = head_text r.pid.0 r.name ++ flat_map event_text r.events ++ flat_map left_text r.left ++ flat_map queued_text r.queued ++ state_text r.state
 
+-- the line with which each record begins
+abbrev pub header_text : List ℕ
+header_text = codes "sigrecord 1\n"
+
+-- the parts of these processes
+abbrev pub reports_text : List Report → List ℕ
+reports_text reports = flat_map report_text reports
+
 abbrev pub record_text : List Report → List ℕ
 record_text reports = codes "sigrecord 1\n" ++ flat_map report_text reports

@@ -18,10 +18,12 @@ mod rereading;
 mod runs;
 mod settling;
 mod summary;
+mod text_parts;
+mod words;
 
 pub use merging::{Merged, MergedAt};
 pub use ordering::merged_record_is_the_order;
-pub use printing::print_record;
+pub use printing::{print_header, print_record, print_reports};
 pub use reading::{read_record, texts_tell_records_apart};
 pub use record::Record;
 pub use refusal::RecordError;
@@ -29,3 +31,4 @@ pub use report::{Left, Lefts, Queued, Report};
 pub use rereading::reread;
 pub use runs::{a_lawful_crew_tells_a_readable_record, a_lawful_crew_tells_a_run};
 pub use summary::{Summary, summarize};
+pub use text_parts::a_records_text_is_that_of_its_parts;

@@ -14,6 +14,8 @@ ghost use Rattle.sig_record.specs.RecordText.{
   state_text,
   head_text,
   report_text,
+  header_text,
+  reports_text,
   record_text,
 };
 ghost use Rattle.sig_record.specs.StoredRecord.{
@@ -31,14 +33,18 @@ ghost use Rattle.sig_record.specs.ReadableRecord.{CanBeReread};
 
 use crate::record::Record;
 use crate::report::{Left, Report};
-use itoa::Buffer;
+use crate::words::write_word;
+use itoa::{Buffer, write_digits};
 use sig_kinds::{Kind, Signal};
 use sig_model::{Did, Event, Outcome, State};
 use sig_terms::{Name, Pid, Ref, Term};
 use std::alloc::AllocError;
 
-/// About how many bytes the line of an event has at least.
-const EVENT_LINE: usize = 24;
+/// About how many bytes the line of an event has.
+const EVENT_LINE: usize = 40;
+
+/// No fewer bytes than the numbers of an event take, with the words between them.
+const LINE: usize = 72;
 
 fn put(into: &mut Vec<u8>, text: &[u8]) -> Result<(), AllocError>
     ensures { IsPut into.old.items into.new.items text.now result }
@@ -101,20 +107,6 @@ fn put_spaced_term(into: &mut Vec<u8>, term: &Term) -> Result<(), AllocError>
     term.print(into)
 }
 
-/// A space, and what the process did.
-fn put_spaced_did(into: &mut Vec<u8>, did: &Did) -> Result<(), AllocError>
-    ensures text { IsPut into.old.items into.new.items (codes " " ++ did_text did.now) result }
-    ensures stored { OnOk result (IsStoredDid did.now) }
-{
-    match did {
-        Did::Exec { place } => put_numbered(into, b" exec ", u64::from(*place)),
-        Did::From { from, number } => {
-            put_pid(into, b" from ", *from)?;
-            put_spaced_number(into, *number)
-        }
-    }
-}
-
 fn answered_words(truth: bool) -> &'static [u8]
     ensures { result.now ≡ codes " answered " ++ truth_text truth }
 {
@@ -123,6 +115,20 @@ fn answered_words(truth: bool) -> &'static [u8]
     } else {
         b" answered false"
     }
+}
+
+/// A space, and which clause took a message, after how many were looked at.
+fn put_took(into: &mut Vec<u8>, clause: u32, looked: u64) -> Result<(), AllocError>
+    ensures text { IsPut into.old.items into.new.items (codes " took " ++ decimal clause ++ codes " " ++ decimal looked) result }
+    ensures clause { IsNarrow clause }
+    ensures looked { IsWide looked }
+{
+    let mut line = [0; LINE];
+    let at = write_digits(looked, &mut line, LINE);
+    let at = write_word(b" ", &mut line, at);
+    let at = write_digits(u64::from(clause), &mut line, at);
+    let at = write_word(b" took ", &mut line, at);
+    put(into, &line[at..])
 }
 
 /// A space, and what a receive took.
@@ -138,8 +144,7 @@ fn put_spaced_took(
     ensures looked { IsWide looked }
     ensures message { OnOk result (IsTerm message.now) }
 {
-    put_numbered(into, b" took ", u64::from(clause))?;
-    put_spaced_number(into, looked)?;
+    put_took(into, clause, looked)?;
     put_spaced_term(into, message)
 }
 
@@ -174,13 +179,45 @@ fn put_spaced_outcome(into: &mut Vec<u8>, outcome: &Outcome) -> Result<(), Alloc
     }
 }
 
+/// The stamp of an execution, and its place.
+fn put_exec(into: &mut Vec<u8>, stamp: u64, place: u32) -> Result<(), AllocError>
+    ensures text { IsPut into.old.items into.new.items (decimal stamp ++ codes " exec " ++ decimal place) result }
+    ensures stamp { IsWide stamp }
+    ensures place { IsNarrow place }
+{
+    let mut line = [0; LINE];
+    let at = write_digits(u64::from(place), &mut line, LINE);
+    let at = write_word(b" exec ", &mut line, at);
+    let at = write_digits(stamp, &mut line, at);
+    put(into, &line[at..])
+}
+
+/// The stamp of a handling, and the sender of the signal with its number.
+fn put_from(into: &mut Vec<u8>, stamp: u64, from: Pid, number: u64) -> Result<(), AllocError>
+    ensures text { IsPut into.old.items into.new.items
+        (decimal stamp ++ codes " from " ++ decimal from.0 ++ codes " " ++ decimal number) result }
+    ensures stamp { IsWide stamp }
+    ensures from { IsNarrow from.0 }
+    ensures number { IsWide number }
+{
+    let mut line = [0; LINE];
+    let at = write_digits(number, &mut line, LINE);
+    let at = write_word(b" ", &mut line, at);
+    let at = write_digits(u64::from(from.0), &mut line, at);
+    let at = write_word(b" from ", &mut line, at);
+    let at = write_digits(stamp, &mut line, at);
+    put(into, &line[at..])
+}
+
 /// The event's stamp, and what the process did.
 fn put_act(into: &mut Vec<u8>, event: &Event) -> Result<(), AllocError>
     ensures text { IsPut into.old.items into.new.items (decimal event.now.stamp ++ codes " " ++ did_text event.now.did) result }
     ensures stored { OnOk result (IsWide event.now.stamp × IsStoredDid event.now.did) }
 {
-    put_number(into, event.stamp)?;
-    put_spaced_did(into, &event.did)
+    match &event.did {
+        Did::Exec { place } => put_exec(into, event.stamp, *place),
+        Did::From { from, number } => put_from(into, event.stamp, *from, *number),
+    }
 }
 
 /// What a record has several of: events, messages, signals, reports.
@@ -404,6 +441,34 @@ pub fn print_record(given: &Record, into: &mut Vec<u8>) -> Result<(), AllocError
 {
     let before = into.len();
     let appended = put_record(into, given.reports());
+    if appended.is_err() {
+        into.truncate(before);
+    }
+    appended
+}
+
+/// Appends the line with which each record's text begins. Where memory is refused, `into` is as before.
+pub fn print_header(into: &mut Vec<u8>) -> Result<(), AllocError>
+    ensures text { OnOk result (into.new.items ≡ into.old.items ++ header_text) }
+    ensures err { OnErr result (into.new.items ≡ into.old.items) }
+{
+    let before = into.len();
+    let appended = put(into, b"sigrecord 1\n");
+    if appended.is_err() {
+        into.truncate(before);
+    }
+    appended
+}
+
+/// Appends what a record's text tells of these processes. The texts of a record's reports, cut into
+/// parts anywhere and one behind the other, are behind its header the text of the record, as
+/// `a_records_text_is_that_of_its_parts` says. Where memory is refused, `into` is as before.
+pub fn print_reports(reports: &[Report], into: &mut Vec<u8>) -> Result<(), AllocError>
+    ensures text { OnOk result (into.new.items ≡ into.old.items ++ reports_text reports.now) }
+    ensures err { OnErr result (into.new.items ≡ into.old.items) }
+{
+    let before = into.len();
+    let appended = put_each(into, reports);
     if appended.is_err() {
         into.truncate(before);
     }

@@ -1,11 +1,13 @@
 -- A visit of a process that has nothing to do.
 use Rattle.std.proofs.Common.{◌≡◌, ℕ, ◌<◌, List, [], length, Bool, true, false, Some, refl, sym, ap, ◌∙◌, get_or}
-use Rattle.std.specs.Prelude.{slice_get, slice_set, unwrap_or, not, ◌==◌}
+use Rattle.std.specs.Prelude.{slice_get, slice_set, unwrap_or, not, ◌==◌, ◌&&◌}
 use Rattle.std.specs.Option.{option_map_or}
 use Rattle.std.proofs.lemmas.Bool.{eqb-false}
 use Rattle.sig_kinds.specs.declared.signal.Signal.{Signal}
 use Rattle.sig_model.specs.declared.event.Event.{Event}
-use Rattle.sig_model.specs.Running.{Running}
+use Rattle.sig_model.specs.ProcessState.{is_cut}
+use Rattle.sig_model.specs.Running.{Running, can_handle, next_of, is_early}
+use Rattle.sig_model.specs.Still.{IsStill}
 use Rattle.sig_model.specs.OneWorker.{handle_all, exec_or_stay, visited, deliver_all, settled_visit, visit_at, visit, event_count, has_moved}
 use Rattle.sig_model.proofs.ReachLemmas.{set_here}
 use Rattle.sig_process.specs.Idling.{IsIdle}
@@ -29,6 +31,20 @@ idle_settled crew at r there empty =
     ap (λ xs. deliver_all xs (slice_set crew at (record r { outbox = [] }))) empty
     ∙ ap (λ (xs : List Signal). slice_set crew at (record r { outbox = xs })) (sym empty)
     ∙ set_here crew at r there
+
+-- it can do nothing
+none_early : (b : Bool) → (b && is_early (next_of [] [])) ≡ false
+none_early true = refl
+none_early false = refl
+
+pub idle_still : (r : Running) → IsIdle r → IsStill r
+unfolding can_handle
+idle_still r i = record {
+  handle = ap (λ xs. not (is_cut r.turns r.state) && is_early (next_of xs r.taken_in)) i.own
+      ∙ ap (λ xs. not (is_cut r.turns r.state) && is_early (next_of [] xs)) i.taken_in
+      ∙ none_early (not (is_cut r.turns r.state));
+  exec = i.still;
+}
 
 -- so the crew stays as it is
 pub idle_visit : (crew : List Running) (at : ℕ) (r : Running) → slice_get crew at ≡ Some r → IsIdle r → visit at crew ≡ crew

@@ -105,7 +105,7 @@ acts_on p m q (inl a) (inr b) = inl (omega (arith, a, b.0))
 acts_on p m q (inr a) (inl b) = inl (omega (arith, a.0, b))
 acts_on p m q (inr a) (inr b) = inr (b.0 ∙ a.0, b.1, omega (arith, a.2, b.2))
 
-act_twice : (xs ys zs : List Standing) → ActBelow (length ys) xs ys → ActBelow (length zs) ys zs → ActBelow (length zs) xs zs
+pub act_twice : (xs ys zs : List Standing) → ActBelow (length ys) xs ys → ActBelow (length zs) ys zs → ActBelow (length zs) xs zs
 act_twice xs ys zs h k i q lt at =
     let w : (m : Standing) × (slice_get ys i ≡ Some m) × HasActed m q = k i q lt at in
     let v : (p : Standing) × (slice_get xs i ≡ Some p) × HasActed p w.0 = h i w.0 (slice_get_within ys i w.0 w.1) w.1 in
@@ -115,6 +115,33 @@ pub acted_pass : (start mid end : Part) (a : Bool) → MatchBool a (AnyMore (pro
     ActBelow (length end.procs.items) mid.procs.items end.procs.items → ActBelow (length end.procs.items) start.procs.items end.procs.items
 acted_pass start mid end true m h k = act_twice start.procs.items mid.procs.items end.procs.items (h refl) k
 acted_pass start mid end false m h k = subst (λ (z : Part). ActBelow (length end.procs.items) z.procs.items end.procs.items) m k
+
+-- Passes in a row without an event, and one pass more. They may have fetched, so the part isn't as it was; but no process had an event,
+-- and so what the last pass tells of events is true since the first.
+module _ (start mid end : Part) (none : StillBelow (length (procs_of mid)) (procs_of start) (procs_of mid)) where
+  as_many : (i : ℕ) (m : Running) → slice_get (procs_of mid) i ≡ Some m → (r : Running) × (slice_get (procs_of start) i ≡ Some r) × (length m.events ≡ length r.events)
+  as_many i m at =
+      let w : (r : Running) × (slice_get (procs_of start) i ≡ Some r) × (length m.events ≡ length r.events) × IsStill m = none i m (slice_get_within (procs_of mid) i m at) at in
+      (w.0, w.1, w.2)
+
+  again_more : AnyMore (procs_of mid) (procs_of end) → AnyMore (procs_of start) (procs_of end)
+  again_more a =
+      let w : (r : Running) × (slice_get (procs_of start) a.at ≡ Some r) × (length a.old.events ≡ length r.events) = as_many a.at a.old a.there in
+      record { at = a.at; old = w.0; there = w.1; new = a.new; here = a.here; more = omega (arith, a.more, w.2) }
+
+  again_still : StillBelow (length (procs_of end)) (procs_of mid) (procs_of end) → StillBelow (length (procs_of end)) (procs_of start) (procs_of end)
+  again_still h i t lt is =
+      let m : (m : Running) × (slice_get (procs_of mid) i ≡ Some m) × (length t.events ≡ length m.events) × IsStill t = h i t lt is in
+      let w : (r : Running) × (slice_get (procs_of start) i ≡ Some r) × (length m.0.events ≡ length r.events) = as_many i m.0 m.1 in
+      (w.0, w.1, m.2 ∙ w.2, m.3)
+
+  again_passed : (b : Bool) → HavePassed (procs_of mid) (procs_of end) b → HavePassed (procs_of start) (procs_of end) b
+  again_passed true h = again_more h
+  again_passed false h = again_still h
+
+pub pass_again : (start mid end : Part) (a b : Bool) → a ≡ false → HavePassed (procs_of start) (procs_of mid) a → HavePassed (procs_of mid) (procs_of end) b → HavePassed (procs_of start) (procs_of end) b
+pass_again start mid end true b e h k = absurd (true≢false e)
+pass_again start mid end false b e h k = again_passed start mid end h b k
 
 -- several passes
 -- one pass more, which had an event or had none

@@ -26,6 +26,7 @@ use Rattle.sig_model.specs.contracts.event.Event as event
 use Rattle.sig_process.specs.contracts.process.Process as process
 use Rattle.sig_queue.proofs.Sendable.{seat_send, queue_sync}
 use Rattle.sig_queue.specs.contracts.sig_queue.SigQueue as queue
+use Rattle.sig_workers.specs.contracts.bells.Bells as bells
 use Rattle.sig_workers.specs.contracts.part.Part as part
 use Rattle.sig_workers.specs.contracts.part.Worked as worked
 
@@ -76,6 +77,10 @@ part_send = search (process_send, seat_send, crosses, maps.crosses, sendable) de
 
 pub worked_send : IsSend worked.the_row
 worked_send = search (process_send, seat_send, crosses, maps.crosses, sendable) depth 60 fits 20000
+
+-- bells may be shared
+pub bells_sync : IsSync bells.the_row
+bells_sync = search (crosses, sendable) depth 40
 
 -- a list of queues may be shared
 pub queues_sync : (ℓ : Lifetime) (κ : Lft) → IsSync (ShrSlice ℓ κ queue.the_row)

@@ -112,7 +112,8 @@ fn cut_part(
 }
 
 /// The workers' parts, one after another. Of n processes worker w, from 0, has those from w * n /
-/// workers to below (w + 1) * n / workers. The error is want of memory.
+/// workers to below (w + 1) * n / workers. One that would have none gets no part, but for the first
+/// worker of no processes at all. The error is want of memory.
 pub(crate) fn make_parts(
     alloc: Global,
     queues: &[SigQueue],
@@ -133,6 +134,9 @@ pub(crate) fn make_parts(
     while let Some(base) = bases.pop() {
         let worker = bases.len() as u32;
         let first = (worker * count / workers).min(procs.len() as u32);
+        if worker > 0 && first == procs.len() as u32 {
+            continue;
+        }
         let part = cut_part(alloc, queues, &mut seats, &mut procs, first, worker, base)?;
         parts.push_front(part)?;
     }

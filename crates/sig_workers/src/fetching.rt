@@ -3,6 +3,7 @@ ghost use Rattle.std.specs.Prelude.{◌≡◌, ◌<◌, [], true, OnOk, vec_len}
 ghost use Rattle.sig_workers.specs.Gone.{IsReady, Goes};
 ghost use Rattle.sig_workers.specs.Visits.{IsRemoved, IsFetched};
 
+use crate::bells::Bells;
 use crate::putting::Me;
 use sig_kinds::Signals;
 use sig_process::Process;
@@ -22,10 +23,21 @@ fn remove_due<R: Wait>(rt: &R, queue: &SigQueue, seat: &mut QSeat) -> Result<(),
     Ok(())
 }
 
-/// Makes a removal where one is due, and tries a fetch. The error is want of memory.
+/// Whether a fetch may have left what was put.
+fn leaves_some(fetch: &Fetch) -> bool {
+    match fetch {
+        Fetch::Took { skipped, .. } => *skipped != 0,
+        Fetch::Busy { .. } | Fetch::Memory => true,
+    }
+}
+
+/// Makes a removal where one is due, and tries a fetch. The bell of the queue rings again where the
+/// fetch may have left something. The error is want of memory.
 fn fetch_at<R: Wait>(
     rt: &R,
     queue: &SigQueue,
+    bells: &Bells,
+    pid: u32,
     seat: &mut QSeat,
     into: &mut Signals,
 ) -> Result<(), AllocError>
@@ -35,7 +47,9 @@ fn fetch_at<R: Wait>(
     ensures { OnOk result (IsFetched queue.now seat.old into.new.items seat.new) }
 {
     remove_due(rt, queue, seat)?;
-    match queue.try_fetch(seat, into) {
+    let got = queue.try_fetch(seat, into);
+    bells.ring_if(pid, leaves_some(&got));
+    match got {
         Fetch::Took { .. } | Fetch::Busy { .. } => Ok(()),
         Fetch::Memory => Err(AllocError),
     }
@@ -43,9 +57,10 @@ fn fetch_at<R: Wait>(
 
 /// Takes in what was put for the process, if another worker doesn't hold its queue. It lies in the
 /// empty list on its way. The error is want of memory.
-pub(crate) fn fetch<R: Wait>(
+fn fetch<R: Wait>(
     rt: &R,
     queues: &[SigQueue],
+    bells: &Bells,
     me: Me,
     process: &mut Process,
     seats: &mut Vec<QSeat>,
@@ -61,6 +76,34 @@ pub(crate) fn fetch<R: Wait>(
     ensures empty { OnOk result (fetched.new.items ≡ []) }
 {
     let at = me.pid as usize;
-    fetch_at(rt, &queues[at], &mut seats[at], fetched)?;
+    fetch_at(rt, &queues[at], bells, me.pid, &mut seats[at], fetched)?;
     process.take_in(fetched)
+}
+
+/// Takes in what was put for the process, where its bell rings: it is hushed first, so that what is
+/// put from then on rings again. Where the bell is quiet there is nothing that a fetch would have to
+/// take now. What it takes lies in the empty list on its way. The error is want of memory.
+pub(crate) fn fetch_rung<R: Wait>(
+    rt: &R,
+    queues: &[SigQueue],
+    bells: &Bells,
+    me: Me,
+    process: &mut Process,
+    seats: &mut Vec<QSeat>,
+    fetched: &mut Signals,
+) -> Result<(), AllocError>
+    requires ready { IsReady queues.now me.pid process.old.running seats.old.items }
+    requires within { me.pid < vec_len seats.old }
+    requires empty { fetched.old.items ≡ [] }
+    ensures goes { OnOk result (Goes queues.now me.pid process.old.running seats.old.items process.new.running seats.new.items) }
+    ensures outbox { OnOk result (process.new.running.outbox ≡ process.old.running.outbox) }
+    ensures events { OnOk result (process.new.running.events ≡ process.old.running.events) }
+    ensures saved { OnOk result (process.new.saved ≡ process.old.saved) }
+    ensures empty { OnOk result (fetched.new.items ≡ []) }
+{
+    if !bells.rings(me.pid) {
+        return Ok(());
+    }
+    bells.hush(me.pid);
+    fetch(rt, queues, bells, me, process, seats, fetched)
 }

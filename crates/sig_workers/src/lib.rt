@@ -2,6 +2,7 @@
 #![tactic(auto)]
 
 mod arriving;
+mod bells;
 mod closing;
 mod columns;
 mod cutting;

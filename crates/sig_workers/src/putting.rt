@@ -6,6 +6,7 @@ ghost use Rattle.sig_queue.specs.Seats.{Seated};
 ghost use Rattle.sig_workers.specs.Gone.{IsReady, Goes};
 ghost use Rattle.sig_workers.specs.Visits.{MayPut, HasPut, WasPut};
 
+use crate::bells::Bells;
 use sig_base::{Gate, Point};
 use sig_kinds::Signal;
 use sig_layout::Via;
@@ -43,10 +44,11 @@ fn put_at<R: Wait>(
     }
 }
 
-/// Puts a signal into its receiver's queue. The error is want of memory.
-pub(crate) fn put_one<R: Wait>(
+/// Puts a signal into its receiver's queue, and rings the bell. The error is want of memory.
+fn put_one<R: Wait>(
     rt: &R,
     queues: &[SigQueue],
+    bells: &Bells,
     seats: &mut Vec<QSeat>,
     signal: Signal,
 ) -> Result<Via, AllocError>
@@ -55,8 +57,11 @@ pub(crate) fn put_one<R: Wait>(
     requires may { (v : Seated) → slice_get seats.old.items signal.to.0 ≡ Some v → MayPut queues.now v signal }
     ensures { IfOk result (λ via. WasPut seats.old.items signal via seats.new.items) }
 {
-    let to = signal.to.0 as usize;
-    put_at(rt, &queues[to], &mut seats[to], signal)
+    let pid = signal.to.0;
+    let to = pid as usize;
+    let put = put_at(rt, &queues[to], &mut seats[to], signal);
+    bells.ring(pid);
+    put
 }
 
 /// The number of the buffer, where the way is one.
@@ -67,11 +72,12 @@ fn buffer_of(via: Via) -> Option<u8> {
     }
 }
 
-/// Puts all that lies in the process's outbox, the oldest signal first, and tells the gate of each
-/// put. The error is want of memory.
+/// Puts all that lies in the process's outbox, the oldest signal first, rings the bell of each
+/// receiver, and tells the gate of each put. The error is want of memory.
 pub(crate) fn put_all<R: Wait, G: Gate>(
     rt: &R,
     queues: &[SigQueue],
+    bells: &Bells,
     gate: &G,
     me: Me,
     process: &mut Process,
@@ -82,7 +88,7 @@ pub(crate) fn put_all<R: Wait, G: Gate>(
     ensures process { OnOk result (process.new.running ≡ record process.old.running { outbox = [] }) }
 {
     while let Some(signal) = process.next_out() {
-        let via = put_one(rt, queues, seats, signal)?;
+        let via = put_one(rt, queues, bells, seats, signal)?;
         gate.at(
             me.worker,
             me.pid,

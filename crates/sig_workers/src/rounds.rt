@@ -1,4 +1,4 @@
-ghost use Rattle.std.specs.Prelude.{◌≤◌, IfOk};
+ghost use Rattle.std.specs.Prelude.{◌≡◌, ◌≤◌, ◌*◌, max, min, IfOk};
 ghost use Rattle.sig_program.specs.Scripts.{Program, IsScriptWithin};
 ghost use Rattle.sig_model.specs.CrewLaw.{IsLawfulCrew};
 ghost use Rattle.sig_model.specs.OneWorker.{IsClear};
@@ -6,7 +6,9 @@ ghost use Rattle.sig_model.specs.Still.{IsStillCrew};
 ghost use Rattle.sig_process.specs.Standing.{runnings_of};
 ghost use Rattle.sig_layout.specs.Policies.{IsPolicy};
 ghost use Rattle.sig_workers.specs.Rounds.{IsRound, IsRounds, HasSettled};
+ghost use Rattle.sig_workers.specs.declared.rounds.TheConstants.{LONGEST_QUOTA};
 
+use crate::bells::Bells;
 use crate::closing::close_all;
 use crate::cutting::{keep_base, make_parts};
 use crate::joining::join_all;
@@ -20,6 +22,20 @@ use sig_queue::Receipts;
 use std::alloc::{AllocError, Global};
 use std::sync::Wait;
 use std::thread::Threads;
+
+/// The quota of [`run_rounds`] doubles from round to round, up to so many events.
+const LONGEST_QUOTA: u32 = 1_000_000;
+
+/// The quota of the next round: twice as much, at most [`LONGEST_QUOTA`], but no less than before.
+fn doubled(quota: u32) -> u32
+    ensures { result ≡ max quota (min (2 * quota) LONGEST_QUOTA) }
+{
+    if quota < LONGEST_QUOTA / 2 {
+        quota * 2
+    } else {
+        quota.max(LONGEST_QUOTA)
+    }
+}
 
 /// A round of a crew by several workers, over shared queues: one queue for each process, opened
 /// with this policy and the crew's next numbers. The workers run side by side, each over its part
@@ -50,9 +66,10 @@ pub fn round<R: Threads + Wait + Sync, G: Gate>(
 {
     let procs = crew.procs;
     let (queues, seats) = open_all(alloc, policy, procs.as_slice())?;
+    let bells = Bells::new(alloc, procs.len())?;
     let base = keep_base(&procs);
     let parts = make_parts(alloc, queues.as_slice(), seats, procs, workers)?;
-    let done = work_all(rt, alloc, queues.as_slice(), gate, quota, parts)?;
+    let done = work_all(rt, alloc, queues.as_slice(), &bells, gate, quota, parts)?;
     let Worked { part, moved } = join_all(queues.as_slice(), &base, done)?;
     let Part {
         worker: _,
@@ -65,10 +82,11 @@ pub fn round<R: Threads + Wait + Sync, G: Gate>(
     Ok((Crew { procs }, receipts, moved))
 }
 
-/// Rounds until one has no event. Gives the crew, which has settled and of which no process can do
-/// anything, and for each process the receipt of all that was put for it, by pid. It ends, since
-/// each round but the last raises the sum of the processes' stamps, and no stamp is above 2^62. The
-/// error is want of memory.
+/// Rounds until one has no event. The quota is that of the first round; that of each later one is
+/// twice that of the round before, up to 1,000,000, and never below what was given. So long runs have
+/// few rounds. Gives the crew, which has settled and of which no process can do anything, and for each
+/// process the receipt of all that was put for it, by pid. It ends, since each round but the last
+/// raises the sum of the processes' stamps, and no stamp is above 2^62. The error is want of memory.
 ///
 /// Asks what [`round`] asks.
 pub fn run_rounds<R: Threads + Wait + Sync, G: Gate>(
@@ -92,8 +110,10 @@ pub fn run_rounds<R: Threads + Wait + Sync, G: Gate>(
     ensures still { IfOk result (λ r. IsStillCrew (runnings_of r.0)) }
 {
     let (mut now, mut receipts, mut moved) = round(rt, alloc, crew, workers, quota, policy, gate)?;
+    let mut longer = quota;
     while moved {
-        let (later, more, again) = round(rt, alloc, now, workers, quota, policy, gate)?;
+        longer = doubled(longer);
+        let (later, more, again) = round(rt, alloc, now, workers, longer, policy, gate)?;
         receipts.follow(more);
         now = later;
         moved = again;

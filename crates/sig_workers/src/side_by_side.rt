@@ -2,6 +2,7 @@
 ghost use Rattle.std.specs.Prelude.{◌≡◌, ◌≤◌, All, IfOk, vec_len};
 ghost use Rattle.sig_workers.specs.Parts.{IsPart, HasWorked, HaveWorked};
 
+use crate::bells::Bells;
 use crate::part::{Part, Worked};
 use crate::working::work;
 use sig_base::Gate;
@@ -17,6 +18,7 @@ pub(crate) fn work_all<R: Threads + Wait + Sync, G: Gate>(
     rt: &R,
     alloc: Global,
     queues: &[SigQueue],
+    bells: &Bells,
     gate: &G,
     quota: u32,
     parts: Vec<Part>,
@@ -29,6 +31,6 @@ pub(crate) fn work_all<R: Threads + Wait + Sync, G: Gate>(
     let one = |part: Part| -> Result<Worked, AllocError>
         requires { (1 ≤ quota) × IsPart queues.now part }
         ensures { IfOk result (HasWorked queues.entry.now part) }
-    { work(rt, alloc, queues, gate, quota, part) };
+    { work(rt, alloc, queues, bells, gate, quota, part) };
     thread::map_vec(rt, parts, &one)
 }

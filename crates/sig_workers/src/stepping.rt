@@ -1,11 +1,13 @@
 //! A visit of one process by a worker.
 ghost use Rattle.std.specs.Prelude.{◌≡◌, ◌<◌, [], length, true, false, IfOk, OnOk, vec_len};
 ghost use Rattle.sig_model.specs.Running.{can_handle};
+ghost use Rattle.sig_process.specs.Idling.{IsIdle};
 ghost use Rattle.sig_workers.specs.Gone.{IsReady, Goes};
 ghost use Rattle.sig_workers.specs.Visits.{HasMoved, HaveHandled, HaveExecuted};
 ghost use Rattle.sig_workers.specs.Acting.{HasActed};
 
-use crate::fetching::fetch;
+use crate::bells::Bells;
+use crate::fetching::fetch_rung;
 use crate::putting::{Me, put_all};
 use sig_base::{Gate, Point, Steps};
 use sig_kinds::Signals;
@@ -19,6 +21,7 @@ use std::sync::ledger::Ledger;
 fn handle_one<R: Wait, G: Gate>(
     rt: &R,
     queues: &[SigQueue],
+    bells: &Bells,
     gate: &G,
     me: Me,
     process: &mut Process,
@@ -32,7 +35,7 @@ fn handle_one<R: Wait, G: Gate>(
     ensures empty { OnOk result (process.new.running.outbox ≡ []) }
 {
     process.handle()?;
-    put_all(rt, queues, gate, me, process, seats)?;
+    put_all(rt, queues, bells, gate, me, process, seats)?;
     gate.at(me.worker, me.pid, Point::Handled);
     Ok(())
 }
@@ -43,6 +46,7 @@ fn handle_one<R: Wait, G: Gate>(
 fn handle_all<R: Wait, G: Gate>(
     rt: &R,
     queues: &[SigQueue],
+    bells: &Bells,
     gate: &G,
     me: Me,
     process: &mut Process,
@@ -57,7 +61,7 @@ fn handle_all<R: Wait, G: Gate>(
 {
     let mut moved = false;
     while process.can_handle() {
-        handle_one(rt, queues, gate, me, process, seats)?;
+        handle_one(rt, queues, bells, gate, me, process, seats)?;
         moved = true;
     }
     Ok(moved)
@@ -68,6 +72,7 @@ fn handle_all<R: Wait, G: Gate>(
 fn exec_one<R: Wait, G: Gate, L: Ledger>(
     rt: &R,
     queues: &[SigQueue],
+    bells: &Bells,
     gate: &G,
     me: Me,
     process: &mut Process,
@@ -86,20 +91,28 @@ fn exec_one<R: Wait, G: Gate, L: Ledger>(
     match process.exec(steps)? {
         Exec::Waiting => Ok(false),
         Exec::Stepped => {
-            put_all(rt, queues, gate, me, process, seats)?;
+            put_all(rt, queues, bells, gate, me, process, seats)?;
             gate.at(me.worker, me.pid, Point::Executed);
             Ok(true)
         }
     }
 }
 
+/// Whether a visit would find nothing to do: the process is idle, and its bell doesn't ring.
+fn is_quiet(bells: &Bells, pid: u32, process: &Process) -> bool
+    ensures { result ≡ true → IsIdle process.now.running }
+{
+    !bells.rings(pid) && process.is_idle()
+}
+
 /// Visits a process: takes in what was put for it, handles what waits, executes at most one
-/// instruction, and puts each event's signals before the next event. What it takes in lies in the
-/// empty list on its way, which keeps its room for the next visit. Tells whether there was an event.
-/// The error is want of memory.
+/// instruction, and puts each event's signals before the next event. A process that is idle and whose
+/// bell doesn't ring is passed over. What it takes in lies in the empty list on its way, which keeps
+/// its room for the next visit. Tells whether there was an event. The error is want of memory.
 pub(crate) fn visit<R: Wait, G: Gate, L: Ledger>(
     rt: &R,
     queues: &[SigQueue],
+    bells: &Bells,
     gate: &G,
     me: Me,
     process: &mut Process,
@@ -117,8 +130,11 @@ pub(crate) fn visit<R: Wait, G: Gate, L: Ledger>(
     ensures acted { OnOk result (HasActed process.old process.new) }
     ensures nothing { OnOk result (fetched.new.items ≡ []) }
 {
-    fetch(rt, queues, me, process, seats, fetched)?;
-    let handled = handle_all(rt, queues, gate, me, process, seats)?;
-    let executed = exec_one(rt, queues, gate, me, process, seats, steps)?;
+    if is_quiet(bells, me.pid, process) {
+        return Ok(false);
+    }
+    fetch_rung(rt, queues, bells, me, process, seats, fetched)?;
+    let handled = handle_all(rt, queues, bells, gate, me, process, seats)?;
+    let executed = exec_one(rt, queues, bells, gate, me, process, seats, steps)?;
     Ok(handled | executed)
 }

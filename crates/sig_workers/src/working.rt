@@ -2,7 +2,9 @@
 ghost use Rattle.std.specs.Prelude.{◌≡◌, ◌<◌, ◌≤◌, [], length, IfOk, OnOk, vec_len};
 ghost use Rattle.sig_workers.specs.Acting.{HasActedAt, ActBelow};
 ghost use Rattle.sig_workers.specs.Parts.{procs_of, IsPart, IsSamePart, HasVisited, Grow, HavePassed, HasWorked};
+ghost use Rattle.sig_workers.specs.declared.working.TheConstants.{PATIENCE};
 
+use crate::bells::Bells;
 use crate::part::{Part, Worked};
 use crate::putting::Me;
 use crate::stepping::visit;
@@ -13,6 +15,10 @@ use std::alloc::{AllocError, Global};
 use std::marker::Brand;
 use std::sync::Wait;
 use std::sync::ledger::{Blank, Ledger};
+use std::thread;
+
+/// How many passes in a row may have no event, after the first, before a worker ends its part.
+const PATIENCE: u32 = 1000;
 
 /// Visits the process at this place of the part. Tells whether it had an event, and adds its events
 /// to `made`. What it takes in lies in the list on its way, which is empty before and after. The
@@ -20,6 +26,7 @@ use std::sync::ledger::{Blank, Ledger};
 fn visit_at<R: Wait, G: Gate, L: Ledger>(
     rt: &R,
     queues: &[SigQueue],
+    bells: &Bells,
     gate: &G,
     part: &mut Part,
     at: usize,
@@ -45,6 +52,7 @@ fn visit_at<R: Wait, G: Gate, L: Ledger>(
     let moved = visit(
         rt,
         queues,
+        bells,
         gate,
         me,
         process,
@@ -61,6 +69,7 @@ fn visit_at<R: Wait, G: Gate, L: Ledger>(
 fn pass<R: Wait, G: Gate, L: Ledger>(
     rt: &R,
     queues: &[SigQueue],
+    bells: &Bells,
     gate: &G,
     part: &mut Part,
     fetched: &mut Signals,
@@ -78,18 +87,64 @@ fn pass<R: Wait, G: Gate, L: Ledger>(
 {
     let mut moved = false;
     for at in 0..part.procs.len() {
-        let here = visit_at(rt, queues, gate, part, at, fetched, made, steps)?;
+        let here = visit_at(rt, queues, bells, gate, part, at, fetched, made, steps)?;
         moved |= here;
     }
     Ok(moved)
 }
 
-/// Passes until one has no event, or until there are at least as many events as the quota says. Tells
-/// whether there was one. The error is want of memory.
+/// How many passes a worker makes in vain after the first: none where no signal of another worker can
+/// come, since it has all processes.
+fn patience(queues: &[SigQueue], part: &Part) -> u32
+    ensures most { result ≤ PATIENCE }
+    ensures alone { vec_len part.now.procs ≡ length queues.now → result ≡ 0 }
+{
+    if part.procs.len() == queues.len() {
+        return 0;
+    }
+    PATIENCE
+}
+
+/// Passes until one has an event, at most so often in a row after the first, and gives the processor
+/// away in between: a signal of another worker may be on its way. Tells whether there was an event, and
+/// adds the events to `made`. The error is want of memory.
+fn pass_patiently<R: Wait, G: Gate, L: Ledger>(
+    rt: &R,
+    queues: &[SigQueue],
+    bells: &Bells,
+    gate: &G,
+    part: &mut Part,
+    fetched: &mut Signals,
+    made: &mut usize,
+    steps: &mut Steps<L>,
+) -> Result<bool, AllocError>
+    requires part { IsPart queues.now part.old }
+    requires empty { fetched.old.items ≡ [] }
+    ensures part { OnOk result (IsPart queues.now part.new) }
+    ensures same { OnOk result (IsSamePart part.old part.new) }
+    ensures grow { OnOk result (Grow (procs_of part.old) (procs_of part.new)) }
+    ensures passed { IfOk result (HavePassed (procs_of part.old) (procs_of part.new)) }
+    ensures acted { OnOk result (ActBelow (length part.new.procs.items) part.old.procs.items part.new.procs.items) }
+    ensures empty { OnOk result (fetched.new.items ≡ []) }
+{
+    let mut moved = pass(rt, queues, bells, gate, part, fetched, made, steps)?;
+    for _again in 0..patience(queues, part) {
+        if moved {
+            return Ok(true);
+        }
+        thread::yield_now();
+        moved = pass(rt, queues, bells, gate, part, fetched, made, steps)?;
+    }
+    Ok(moved)
+}
+
+/// Passes until so many in a row have no event, or until there are at least as many events as the quota
+/// says. Tells whether there was one. The error is want of memory.
 fn work_with<R: Wait, G: Gate, L: Ledger>(
     rt: &R,
     alloc: Global,
     queues: &[SigQueue],
+    bells: &Bells,
     gate: &G,
     quota: u32,
     part: &mut Part,
@@ -110,7 +165,16 @@ fn work_with<R: Wait, G: Gate, L: Ledger>(
     let mut moved = false;
     let mut made = 0;
     for _turn in 0..quota {
-        let here = pass(rt, queues, gate, part, &mut fetched, &mut made, &mut steps)?;
+        let here = pass_patiently(
+            rt,
+            queues,
+            bells,
+            gate,
+            part,
+            &mut fetched,
+            &mut made,
+            &mut steps,
+        )?;
         moved |= here;
         if !here || made >= quota as usize {
             return Ok(moved);
@@ -119,12 +183,14 @@ fn work_with<R: Wait, G: Gate, L: Ledger>(
     Ok(moved)
 }
 
-/// One worker's work in a round: passes over its processes until one has no event, or until it has
-/// made at least as many events as the quota says. The error is want of memory.
+/// One worker's work in a round: passes over its processes until it finds nothing to do, however often
+/// it looks again, or until it has made at least as many events as the quota says. The error is want of
+/// memory.
 pub(crate) fn work<R: Wait, G: Gate>(
     rt: &R,
     alloc: Global,
     queues: &[SigQueue],
+    bells: &Bells,
     gate: &G,
     quota: u32,
     mut part: Part,
@@ -134,6 +200,6 @@ pub(crate) fn work<R: Wait, G: Gate>(
     ensures { IfOk result (HasWorked queues.now part) }
 {
     let blank = Blank::new(1);
-    let moved = work_with::<R, G, Brand>(rt, alloc, queues, gate, quota, &mut part, blank)?;
+    let moved = work_with::<R, G, Brand>(rt, alloc, queues, bells, gate, quota, &mut part, blank)?;
     Ok(Worked { part, moved })
 }

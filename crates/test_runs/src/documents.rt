@@ -654,6 +654,7 @@ state ended normal
     ),
     (
         br"sigscript 1
+turns 1000
 process server
 receive
 on {call,Ref,Value}

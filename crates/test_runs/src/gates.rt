@@ -1,7 +1,7 @@
 //! What a gate sees of rounds: which workers worked, how many events a round gave them, and which way
 //! their signals went.
 
-use crate::workers::{ends_well, look};
+use crate::workers::{LOOKS, ends_well, look};
 use sig_base::{Gate, Point};
 use std::alloc::Global;
 use std::sync::atomic::{AtomicBool, AtomicU64, Ordering};
@@ -52,20 +52,48 @@ fn as_many_workers_work_as_are_asked_for(rt: HostRuntime) {
     }
 }
 
-/// A gate that holds process 0 at its first instruction until process 1 has executed as many as the
-/// quota says, and that sees whether one of the two was ever further ahead of the other than that.
+/// How many instructions each process of [`TWO_LOOPS`] executes.
+const INSTRUCTIONS: u64 = 200;
+
+/// Of a process that executes an instruction more in each pass, the round in which it executes the one
+/// after so many: how many it had executed when that round began, and how many it has when it ends.
+/// The first round gives as many as the quota says, and each later one twice as many as the one before.
+fn round_of(quota: u64, before: u64) -> (u64, u64) {
+    let mut begin = 0u64;
+    let mut end = quota;
+    for _round in 0..64 {
+        if before < end {
+            return (begin, end);
+        }
+        let length = end.saturating_sub(begin).saturating_mul(2);
+        begin = end;
+        end = begin.saturating_add(length);
+    }
+    (begin, end)
+}
+
+/// Whether the count comes to so many, before the looking is given up.
+fn comes_to(count: &AtomicU64, least: u64) -> bool {
+    for _look in 0..LOOKS {
+        if count.load(Ordering::SeqCst) >= least {
+            return true;
+        }
+    }
+    false
+}
+
+/// A gate that holds process 0 at its first instruction of each round until process 1 has executed as
+/// many as the quota of that round says, and that sees whether one of the two was ever in a round
+/// before the other had executed all of the rounds before.
 #[derive(Drop)]
 struct Ahead {
+    /// The quota of the first round.
     quota: u64,
     /// How many instructions each has executed.
     executed: [AtomicU64; 2],
-    /// Process 1 has executed as many as the quota says.
-    made: AtomicBool,
-    /// Process 0 was held.
-    held: AtomicBool,
-    /// The hold was given up.
+    /// A hold was given up.
     gave_up: AtomicBool,
-    /// One was ahead of the other by more than the quota.
+    /// One was in a round too early.
     too_far: AtomicBool,
 }
 
@@ -74,27 +102,27 @@ impl Ahead {
         Ahead {
             quota,
             executed: [AtomicU64::new(0), AtomicU64::new(0)],
-            made: AtomicBool::new(false),
-            held: AtomicBool::new(false),
             gave_up: AtomicBool::new(false),
             too_far: AtomicBool::new(false),
         }
     }
 
-    /// Counts an instruction of the first one, and looks how far ahead of the other it is.
-    fn count(&self, own: &AtomicU64, other: &AtomicU64) {
+    /// Counts an instruction of the first one, and looks whether the other has executed all of the
+    /// rounds before. Gives how many it has at the round's end, where the instruction was its first.
+    fn count(&self, own: &AtomicU64, other: &AtomicU64) -> Option<u64> {
         let before = own.fetch_add(1, Ordering::SeqCst);
-        let most = other.load(Ordering::SeqCst).saturating_add(self.quota);
-        if before >= most {
+        let (begin, end) = round_of(self.quota, before);
+        if other.load(Ordering::SeqCst) < begin {
             self.too_far.store(true, Ordering::SeqCst);
         }
+        (before == begin).then_some(end.min(INSTRUCTIONS))
     }
 
-    /// Whether both executed so many, neither too far ahead, and the round gave process 1 its quota.
-    fn is_right(&self, instructions: u64) -> bool {
+    /// Whether both executed all, none too early, and the rounds gave process 1 their quotas.
+    fn is_right(&self) -> bool {
         let [first, second] = &self.executed;
-        first.load(Ordering::SeqCst) == instructions
-            && second.load(Ordering::SeqCst) == instructions
+        first.load(Ordering::SeqCst) == INSTRUCTIONS
+            && second.load(Ordering::SeqCst) == INSTRUCTIONS
             && !self.gave_up.load(Ordering::SeqCst)
             && !self.too_far.load(Ordering::SeqCst)
     }
@@ -105,16 +133,14 @@ impl Gate for Ahead {
         let [first, second] = &self.executed;
         match (pid, point) {
             (0, Point::Executed) => {
-                self.count(first, second);
-                if !self.held.swap(true, Ordering::SeqCst) && !look(&self.made) {
+                if let Some(end) = self.count(first, second)
+                    && !comes_to(second, end)
+                {
                     self.gave_up.store(true, Ordering::SeqCst);
                 }
             }
             (1, Point::Executed) => {
                 self.count(second, first);
-                if second.load(Ordering::SeqCst) >= self.quota {
-                    self.made.store(true, Ordering::SeqCst);
-                }
             }
             _ => (),
         }
@@ -125,7 +151,8 @@ impl Gate for Ahead {
 const TWO_LOOPS: &[u8] =
     b"sigscript 1\nturns 200\nprocess a\nlabel l\ngoto l\nprocess b\nlabel l\ngoto l\n";
 
-/// Whether rounds of two workers give each as many events as the quota says.
+/// Whether rounds of two workers give each as many events as the quotas say: in the first round that
+/// which is given, and in each later one twice as many as in the one before.
 fn keeps_quota<R: Threads + Wait + Sync>(
     rt: &R,
     alloc: Global,
@@ -134,19 +161,20 @@ fn keeps_quota<R: Threads + Wait + Sync>(
 ) -> bool {
     let gate = Ahead::new(quota as u64);
     let ended = ends_well(rt, alloc, words, TWO_LOOPS, &gate) == Ok(true);
-    ended && gate.is_right(200)
+    ended && gate.is_right()
 }
 
 /// The quota that is asked for, with the one that stands where none is.
-const QUOTAS: [(&[&str], u32); 4] = [
+const QUOTAS: [(&[&str], u32); 5] = [
     (&["--workers", "2", "--quota", "1"], 1),
+    (&["--workers", "2", "--quota", "3"], 3),
     (&["--workers", "2", "--quota", "10"], 10),
     (&["--workers", "2"], 64),
     (&["--workers", "2", "--quota", "200"], 200),
 ];
 
 #[test]
-fn a_round_gives_the_quota(rt: HostRuntime) {
+fn rounds_give_quotas_that_double(rt: HostRuntime) {
     for (words, quota) in QUOTAS {
         assert!(rt; keeps_quota(&rt, rt.alloc(), quota, words), "{words:?}");
     }

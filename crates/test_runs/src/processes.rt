@@ -69,7 +69,7 @@ const TAKEN: [(&[u8], usize); 8] = [
 ];
 
 /// Appends the lines of the processes of these numbers, each with these lines.
-fn push_processes(
+pub(crate) fn push_processes(
     text: &mut Vec<u8>,
     first: u32,
     end: u32,

@@ -14,7 +14,7 @@ use std::sync::atomic::{AtomicBool, Ordering};
 use std::thread::Threads;
 
 /// How often a gate looks before it gives up.
-const LOOKS: u64 = 100_000_000;
+pub(crate) const LOOKS: u64 = 100_000_000;
 
 /// How often the piece stands in the text.
 pub(crate) fn count(text: &[u8], piece: &[u8]) -> usize {

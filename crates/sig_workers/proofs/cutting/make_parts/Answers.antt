@@ -30,6 +30,26 @@ loop-base-preserved c =
       row = subst (λ z. FreshRow queues crew z (length crew) c.push_front.new.self.items) (sym long)
           (subst (FreshRow queues crew f (length crew)) (sym c.in_ok-push_front.ensures.items) (push_part queues crew ps inv.left f le (length crew) c.in_ok-part.part c.loop-base.parts.items e.part.0 base e.part.2 e.right inv.row));
       all = all_left (λ (b : Base). b.crew.value.items ≡ crew) c.pop.new.self.items c.in-Some.base all;
-      many = omega (arith, count, inserted, inv.many);
+      few_left = omega (arith, count, inv.few_left);
+      some = λ e. omega (arith, inserted);
       none = λ e. (let zero : f ≡ 0 = grind (arith, common_steps, e) in long ∙ zero);
+    }
+
+-- a worker that would have no process
+pub loop-base-preserved-then-first-len : goal.loop-base-preserved-then-first-len
+loop-base-preserved-then-first-len c =
+    let inv = c.loop-base.invariant in
+    let crew = c.args.procs.items in
+    let more = c.in-Some.ensures.items in
+    let all : All (λ (b : Base). b.crew.value.items ≡ crew) (c.pop.new.self.items ++ c.in-Some.base ∷ []) = subst (All (λ (b : Base). b.crew.value.items ≡ crew)) more inv.all in
+    let count : length c.loop-base.bases.items ≡ length c.pop.new.self.items + length (c.in-Some.base ∷ []) = ap (λ z. length z) more ∙ length-append c.pop.new.self.items (c.in-Some.base ∷ []) in
+    record {
+      left = inv.left;
+      few = inv.few;
+      fresh = inv.fresh;
+      row = inv.row;
+      all = all_left (λ (b : Base). b.crew.value.items ≡ crew) c.pop.new.self.items c.in-Some.base all;
+      few_left = omega (arith, count, inv.few_left);
+      some = λ e. absurd (let f : ⊥ = grind (arith, common_steps, e) in f);
+      none = λ e. absurd (let f : ⊥ = grind (arith, common_steps, e) in f);
     }

@@ -1,4 +1,4 @@
-use Rattle.std.proofs.Common.{◌≡◌, ◌+◌, ◌≤◌, All, length, take}
+use Rattle.std.proofs.Common.{◌≡◌, ◌≤◌, ◌<◌, All, length, take}
 use Rattle.sig_workers.specs.Opening.{AreFresh}
 use Rattle.sig_workers.specs.Rows.{FreshRow}
 use Rattle.sig_workers.proofs.cutting.make_parts.Given as goal
@@ -10,7 +10,8 @@ invariant-loop-base l = record {
   fresh : AreFresh l.queues 0 (length l.procs.items) l.seats.items;
   row : FreshRow l.queues l.fn.procs.items (length l.procs.items) (length l.fn.procs.items) l.parts.items;
   all : All (λ b. b.crew.value.items ≡ l.fn.procs.items) l.bases.items;
-  many : length l.bases.items + length l.parts.items ≡ l.fn.workers;
+  few_left : length l.bases.items ≤ l.fn.workers;
+  some : length l.bases.items ≡ 0 → 0 < length l.parts.items;
   none : length l.bases.items ≡ 0 → length l.procs.items ≡ 0;
 }
 

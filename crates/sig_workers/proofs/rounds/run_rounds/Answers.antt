@@ -1,11 +1,20 @@
-use Rattle.std.proofs.Common.{◌<◌, sym, subst}
+use Rattle.std.proofs.Common.{◌≡◌, ℕ, ◌<◌, ◌≤◌, sym, subst, arith}
+use Rattle.std.specs.Prelude.{max}
+use Rattle.std.proofs.Math.Nat.{le-max_left}
 use Rattle.sig_process.specs.Standing.{runnings_of}
 use Rattle.sig_workers.specs.Rounds.{IsRounds, room_left}
 use Rattle.sig_workers.proofs.RoundsLemmas.{first_round, less_room, may_follow, one_more_round, round_still}
 use Rattle.sig_workers.proofs.rounds.run_rounds.Goals as goal
 
+-- the quota is no less than before
+longer_yet : (quota next most : ℕ) → next ≡ max quota most → 1 ≤ quota → 1 ≤ next
+longer_yet quota next most is le =
+    let more : quota ≤ max quota most = le-max_left quota most in
+    subst (λ z. 1 ≤ z) (sym is) (omega (arith, le, more))
+
 pub loop-moved-init : goal.loop-moved-init
 loop-moved-init g c = record {
+  longer = c.requires.quota;
   rounds = λ script law. first_round script c.args.policy c.args.crew c.in_ok-now.now c.in_ok-now.receipts c.in_ok-now.moved (c.in_ok-now.ensures script law);
   settled = λ script law. (c.in_ok-now.ensures script law).settled;
   still =
@@ -38,6 +47,7 @@ loop-moved-smaller g c =
 
 pub loop-moved-preserved : goal.loop-moved-preserved
 loop-moved-preserved g c = record {
+  longer = longer_yet c.loop-moved.longer c.doubled-longer.result _ c.doubled-longer.ensures c.loop-moved.invariant.longer;
   rounds = λ script law.
       let rounds = c.loop-moved.invariant.rounds script law in
       subst (IsRounds script c.args.policy (runnings_of c.args.crew) (runnings_of c.in_ok-later.later)) (sym c.follow.ensures)

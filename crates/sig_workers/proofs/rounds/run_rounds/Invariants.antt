@@ -1,4 +1,4 @@
-use Rattle.std.proofs.Common.{◌≡◌, false}
+use Rattle.std.proofs.Common.{◌≡◌, ◌≤◌, false}
 use Rattle.sig_program.specs.Scripts.{Program}
 use Rattle.sig_model.specs.CrewLaw.{IsLawfulCrew}
 use Rattle.sig_model.specs.Still.{IsStillCrew}
@@ -8,6 +8,7 @@ use Rattle.sig_workers.proofs.rounds.run_rounds.Given as goal
 
 abbrev pub invariant-loop-moved : goal.invariant-loop-moved
 invariant-loop-moved g l = record {
+  longer : 1 ≤ l.longer;
   rounds : (script : Program) → IsLawfulCrew script (runnings_of l.fn.crew) → IsRounds script l.policy (runnings_of l.fn.crew) (runnings_of l.now) l.receipts;
   settled : (script : Program) → IsLawfulCrew script (runnings_of l.fn.crew) → l.moved ≡ false → HasSettled script (runnings_of l.now);
   still : l.moved ≡ false → IsStillCrew (runnings_of l.now);

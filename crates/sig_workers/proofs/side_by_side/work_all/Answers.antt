@@ -2,7 +2,7 @@ use Rattle.std.proofs.Crossing.{crosses}
 use Rattle.std.proofs.Common.{rules}
 use denote.Param.Send.{sendable}
 use mir.Syntax.{of_param}
-use Rattle.sig_workers.proofs.Sends.{part_send, worked_send, queues_shared}
+use Rattle.sig_workers.proofs.Sends.{part_send, worked_send, bells_sync, queues_shared}
 use Rattle.sig_workers.proofs.side_by_side.work_all.Goals as goal
 
 pub map_vec-requires-send-J : goal.map_vec-requires-send-J
@@ -21,8 +21,11 @@ map_vec-requires-sync-F g c κs within = record {
         (
           ((λ q. (tt, (tt, tt))), (queues_shared (of_param 0) κs.1.1.1.1.1.1.1.1.1.0 x.2 b o κ).1),
           (
-            ((λ q. tt), c.type_bounds.sync-G.shared x.3.now x.3.ref_ptr.0 x.3.ref_ptr.1 κs.1.1.1.1.1.1.1.1.1.1.0),
-            (search rules, tt),
+            ((λ q. tt), bells_sync.shared x.3.now x.3.ref_ptr.0 x.3.ref_ptr.1 κs.1.1.1.1.1.1.1.1.1.1.0),
+            (
+              ((λ q. tt), c.type_bounds.sync-G.shared x.4.now x.4.ref_ptr.0 x.4.ref_ptr.1 κs.1.1.1.1.1.1.1.1.1.1.1.0),
+              (search rules, tt),
+            ),
           ),
         ),
       ),

@@ -1,0 +1,70 @@
+//! Records whose text several threads make, through the top call.
+
+use crate::processes::push_processes;
+use crate::whole::{PLAIN, Ran, Setting};
+use crate::workers::count;
+use sig_base::OpenGate;
+use sig_host::Status;
+use std::alloc::{AllocError, Global};
+use std::sync::Wait;
+use std::thread::Threads;
+
+/// What a process does that sends nothing, until it is cut: the same with any number of workers.
+const ALONE: &[u8] = b"label l\nset X {x,[1,2]}\ngoto l\n";
+
+/// The heads of scripts, each with how many such processes it has: one, fewer than most workers here,
+/// and more.
+const CREWS: [(&[u8], u32); 3] = [
+    (b"sigscript 1\nturns 3000\n", 1),
+    (b"sigscript 1\nturns 1000\n", 3),
+    (b"sigscript 1\nturns 200\n", 40),
+];
+
+/// The arguments that ask for several workers.
+const WORKERS: [&[&str]; 3] = [
+    &["--workers", "2"],
+    &["--workers", "4"],
+    &["--workers", "16"],
+];
+
+/// A run of this text.
+fn run_with<R: Threads + Wait + Sync>(
+    rt: &R,
+    alloc: Global,
+    text: &[u8],
+    words: &[&str],
+) -> Result<Ran, AllocError> {
+    let setting = Setting {
+        words,
+        taken: 100000,
+        ..PLAIN
+    };
+    Ran::of(rt, alloc, &setting, &[(text, 1)], &OpenGate)
+}
+
+/// Whether a run of so many processes is told with these workers as with one.
+fn is_told_alike<R: Threads + Wait + Sync>(
+    rt: &R,
+    alloc: Global,
+    crew: (&[u8], u32),
+    words: &[&str],
+) -> Result<bool, AllocError> {
+    let (head, processes) = crew;
+    let mut text = Vec::from_slice(alloc, head)?;
+    push_processes(&mut text, 0, processes, ALONE)?;
+    let one = run_with(rt, alloc, text.as_slice(), PLAIN.words)?;
+    let several = run_with(rt, alloc, text.as_slice(), words)?;
+    let record = several.out.held();
+    let all_cut = count(record, b"\nstate cut\n") == processes as usize;
+    Ok(several.status == Status::Done && all_cut && record == one.out.held())
+}
+
+#[test]
+fn several_threads_print_what_one_prints(rt: HostRuntime) {
+    for crew in CREWS {
+        for words in WORKERS {
+            let alike = is_told_alike(&rt, rt.alloc(), crew, words);
+            assert!(rt; alike == Ok(true), "{crew:?} {words:?}");
+        }
+    }
+}
