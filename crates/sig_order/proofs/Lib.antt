@@ -12,3 +12,4 @@ pub mod OneEvent
 pub mod RunTraces
 pub mod TracedRuns
 pub mod OriginsTraced
+pub mod Spans

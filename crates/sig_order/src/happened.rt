@@ -4,10 +4,13 @@ ghost use Rattle.std.specs.Prelude.{◌≡◌, ◌<◌, ◌↔◌, true, IsTrue,
 ghost use Rattle.sig_record.specs.Merging.{event_at};
 ghost use Rattle.sig_order.specs.Happening.{is_there, stamp_of, HappenedBefore, IsTraced};
 ghost use Rattle.sig_order.specs.Counting.{no_rows, IsCounted, AddsCounts};
+ghost use Rattle.sig_order.specs.Concurrent.{IsRange};
 
 use crate::at::At;
 use crate::counts::{Rows, add_event, count};
+use crate::searching::span;
 use crate::senders::{SignalKey, index_of, sender};
+use crate::span::Span;
 use sig_model::{Origin, Origins};
 use sig_record::{MergedAt, Record, Report};
 use std::alloc::{AllocError, Global};
@@ -143,5 +146,18 @@ impl Happened {
         } else {
             first.event <= before
         }
+    }
+
+    /// The events of this process that are concurrent with the event: neither of the two happened
+    /// before the other. They follow on one another, so they are a range of the process's events; or
+    /// there is none, as for the event's own process. It takes no memory, and time in proportion to
+    /// the logarithm of the count of that process's events.
+    ///
+    /// Asks that the record has the event, as `has` tells.
+    pub fn concurrent(&self, at: At, pid: u32) -> Option<Span>
+        requires { is_there self.now.reports at ≡ true }
+        ensures { IsRange self.now.reports self.now.origins at pid result }
+    {
+        span(self.rows.as_slice(), at, pid)
     }
 }

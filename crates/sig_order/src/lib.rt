@@ -1,12 +1,15 @@
-//! Which event of a record happened before which.
+//! Which event of a record happened before which, and which are concurrent.
 #![tactic(auto)]
 
 mod at;
 mod counts;
 mod happened;
+mod searching;
 mod senders;
+mod span;
 mod traced;
 
 pub use at::At;
 pub use happened::Happened;
+pub use span::Span;
 pub use traced::origins_of_a_run_are_traced;
