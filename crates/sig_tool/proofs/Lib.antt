@@ -1,6 +1,7 @@
 pub mod SplitLemmas
 pub mod ScriptLines
 pub mod InputLemmas
+pub mod CallLemmas
 pub mod DueLemmas
 pub mod AnswerLemmas
 pub mod LinkLemmas

@@ -21,9 +21,10 @@ use Rattle.sig_order.specs.Told.{Told}
 use Rattle.sig_order.proofs.OriginsTraced.{traced}
 use Rattle.sig_tool.specs.declared.command.Command.TheVariants.{Before}
 use Rattle.sig_tool.specs.declared.status.ToolStatus.{ToolStatus}
-use Rattle.sig_tool.specs.declared.status.ToolStatus.TheVariants.{Done, BadScript, Usage, ReadFault, WriteFault, Memory, No, BadRecord, TooLong, NoEvent}
+use Rattle.sig_tool.specs.declared.status.ToolStatus.TheVariants.{Done, BadScript, Usage, ReadFault, WriteFault, Memory, No, BadRecord, TooLong, NoEvent, BadCall}
 use Rattle.sig_tool.specs.Ordering.{HasBoth, LacksOne, said, SaysWhether, IsOrderOf, IsBeforeText, IsAnswered}
-use Rattle.sig_tool.specs.Inputs.{IsSettledPair, IsTextRead}
+use Rattle.sig_tool.specs.Inputs.{IsSettledPair}
+use Rattle.sig_tool.specs.Texts.{IsTextRead}
 
 module _ (script : Program) (reports : List Report) (crew : List Running) (origins : List Origin) (sound : IsScriptWithin script) (settled : IsOfSettledRun script reports) (replayed : IsReplayed script reports crew origins) where
   pub replay_traced : IsTraced reports origins
@@ -77,3 +78,4 @@ module _ (script : Program) (reports : List Report) (told : Told) (order : IsOrd
   text_so r pair (Err (BadRecord line)) h = absurd h
   text_so r pair (Err TooLong) h = absurd h
   text_so r pair (Err NoEvent) h = (script, reports, pair, answer_lacks h)
+  text_so r pair (Err (BadCall line kind)) h = absurd h

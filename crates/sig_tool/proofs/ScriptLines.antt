@@ -1,5 +1,5 @@
 -- No line of a script is the first of a record, so a script is cut from the record behind it.
-use Rattle.std.proofs.Common.{◌≡◌, ℕ, suc, ◌+◌, ◌≤◌, Bool, true, false, cond, List, [], ◌∷◌, ◌++◌, length, take, drop, Option, Some, None, Result, Ok, Err, refl, sym, ap, ◌∙◌, subst, arith}
+use Rattle.std.proofs.Common.{◌≡◌, ◌≢◌, ℕ, suc, ◌+◌, ◌≤◌, Bool, true, false, cond, List, [], ◌∷◌, ◌++◌, length, take, drop, Option, Some, None, Result, Ok, Err, refl, sym, ap, ◌∙◌, subst, arith}
 use Rattle.std.specs.Prelude.{codes, ◌==◌, nat_le}
 use Rattle.std.specs.Str.{bytes_eq}
 use Rattle.std.specs.List.{flat_map}
@@ -30,7 +30,8 @@ use Rattle.sig_check.specs.Verdicts.{IsOfSettledRun}
 use Rattle.sig_tool.specs.declared.given.TheConstants.{MOST_INPUT}
 use Rattle.sig_tool.specs.declared.status.ToolStatus.TheVariants.{Done}
 use Rattle.sig_tool.specs.declared.command.Command.{Command}
-use Rattle.sig_tool.specs.Answers.{IsDue}
+use Rattle.sig_tool.specs.declared.command.Command.TheVariants.{Check, Replay, Links, Before, Expand}
+use Rattle.sig_tool.specs.Answers.{IsDue, IsRecordDue}
 use Rattle.sig_tool.specs.Commands.{HasEvents}
 use Rattle.sig_tool.specs.Split.{script_length, script_part, record_part}
 use Rattle.sig_tool.proofs.SplitLemmas.{counted, counted_at, counted_on}
@@ -195,18 +196,25 @@ module _ (text front : List ℕ) (ends : text ≡ front ++ codes "\n") (script :
   unfolding record_part
   record_cut = ap (λ (n : ℕ). drop n (text ++ record_text reports)) parts_length ∙ drop_at text (record_text reports) (length text) refl
 
-pub whole_due : (text front : List ℕ) (script : Program) (reports : List Report) → text ≡ front ++ codes "\n" → script_of text ≡ Ok script →
-    IsReadableRecord reports → IsOfSettledRun script reports → length (text ++ record_text reports) ≤ MOST_INPUT →
-    (command : Command) → HasEvents command reports → IsDue command (text ++ record_text reports) Done
-whole_due text front script reports ends spelled readable settled short command has = (
-  script,
-  reports,
-  record {
-    short = short;
-    spelled = ap script_of (script_cut text front ends script spelled reports) ∙ spelled;
-    readable = readable;
-    printed = record_cut text front ends script spelled reports;
-  },
-  settled,
-  has,
-)
+module _ (text front : List ℕ) (script : Program) (reports : List Report) (ends : text ≡ front ++ codes "\n") (spelled : script_of text ≡ Ok script)
+    (readable : IsReadableRecord reports) (settled : IsOfSettledRun script reports) (short : length (text ++ record_text reports) ≤ MOST_INPUT) where
+  record_due : (command : Command) → HasEvents command reports → IsRecordDue command (text ++ record_text reports) Done
+  record_due command has = (
+    script,
+    reports,
+    record {
+      short = short;
+      spelled = ap script_of (script_cut text front ends script spelled reports) ∙ spelled;
+      readable = readable;
+      printed = record_cut text front ends script spelled reports;
+    },
+    settled,
+    has,
+  )
+
+  pub whole_due : (command : Command) → command ≢ Expand → HasEvents command reports → IsDue command (text ++ record_text reports) Done
+  whole_due Check other has = record_due Check has
+  whole_due Replay other has = record_due Replay has
+  whole_due Links other has = record_due Links has
+  whole_due (Before first second) other has = record_due (Before first second) has
+  whole_due Expand other has = absurd (other refl)

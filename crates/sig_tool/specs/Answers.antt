@@ -6,11 +6,14 @@ use Rattle.sig_program.specs.Scripts.{Program}
 use Rattle.sig_record.specs.declared.report.Report.{Report}
 use Rattle.sig_check.specs.Verdicts.{IsOfSettledRun}
 use Rattle.sig_tool.specs.declared.command.Command.{Command}
+use Rattle.sig_tool.specs.declared.command.Command.TheVariants.{Expand}
 use Rattle.sig_tool.specs.declared.given.TheConstants.{MOST_INPUT}
 use Rattle.sig_tool.specs.declared.status.ToolStatus.{ToolStatus}
-use Rattle.sig_tool.specs.declared.status.ToolStatus.TheVariants.{Done, BadScript, Usage, ReadFault, WriteFault, Memory, No, BadRecord, TooLong, NoEvent}
+use Rattle.sig_tool.specs.declared.status.ToolStatus.TheVariants.{Done, BadScript, Usage, ReadFault, WriteFault, Memory, No, BadRecord, TooLong, NoEvent, BadCall}
 use Rattle.sig_tool.specs.Commands.{command_of, HasEvents, LacksEvent}
-use Rattle.sig_tool.specs.Inputs.{IsFault, IsPair, IsTextFor, IsUnfitFor}
+use Rattle.sig_tool.specs.Expanding.{IsCallsDue}
+use Rattle.sig_tool.specs.Inputs.{IsFault, IsPair}
+use Rattle.sig_tool.specs.Texts.{IsTextFor, IsUnfitFor}
 
 -- the whole text of the command was written
 abbrev pub IsPrinted : Command → Reading → Writing → Type 0
@@ -36,14 +39,19 @@ IsAnswerTo (Some command) r w status = IsRanSo command r w status
 abbrev pub IsAnswer : List (List ℕ) → Reading → Writing → ToolStatus → Type 0
 IsAnswer words r w status = IsAnswerTo (command_of words) r w status
 
--- what the command has to answer for these bytes, where nothing fails and there is memory; there is one such answer
-abbrev pub IsDue : Command → List ℕ → ToolStatus → Type 0
-IsDue command bytes Done =
+-- what a command of records has to answer for these bytes, where nothing fails and there is memory; there is one such answer
+abbrev pub IsRecordDue : Command → List ℕ → ToolStatus → Type 0
+IsRecordDue command bytes Done =
     (script : Program) × (reports : List Report) × IsPair bytes script reports × IsOfSettledRun script reports × HasEvents command reports
-IsDue command bytes NoEvent =
+IsRecordDue command bytes NoEvent =
     (script : Program) × (reports : List Report) × IsPair bytes script reports × IsOfSettledRun script reports × LacksEvent command reports
-IsDue command bytes TooLong = MOST_INPUT < length bytes
-IsDue command bytes status = IsFault bytes status
+IsRecordDue command bytes TooLong = MOST_INPUT < length bytes
+IsRecordDue command bytes status = IsFault bytes status
+
+-- the same of each command
+abbrev pub IsDue : Command → List ℕ → ToolStatus → Type 0
+IsDue Expand bytes status = IsCallsDue bytes status
+IsDue command bytes status = IsRecordDue command bytes status
 
 -- the words are this command, the source has these bytes, no read failed, and no write to `out` where there is something to be written
 pub record IsWellGiven (command : Command) (words : List (List ℕ)) (bytes : List ℕ) (due : ToolStatus) (r : Reading) (w : Writing) : Type 0 where

@@ -5,7 +5,7 @@ use Rattle.sig_program.specs.Scripts.{Program}
 use Rattle.sig_record.specs.declared.report.Report.{Report}
 use Rattle.sig_record.specs.RecordText.{record_text}
 use Rattle.sig_tool.specs.declared.command.Command.{Command}
-use Rattle.sig_tool.specs.declared.command.Command.TheVariants.{Check, Replay, Links, Before}
+use Rattle.sig_tool.specs.declared.command.Command.TheVariants.{Check, Replay, Links, Before, Expand}
 use Rattle.sig_order.specs.declared.at.At.{At}
 use Rattle.sig_tool.specs.Linking.{IsLinksText}
 use Rattle.sig_tool.specs.Numbers.{event_named}
@@ -15,7 +15,8 @@ use Rattle.sig_tool.specs.Ordering.{HasBoth, LacksOne, IsBeforeText}
 abbrev pub named : List ℕ → Option Command
 named word =
     if bytes_eq word (codes "check") then Some Check
-    else (if bytes_eq word (codes "replay") then Some Replay else (if bytes_eq word (codes "links") then Some Links else None))
+    else (if bytes_eq word (codes "replay") then Some Replay
+    else (if bytes_eq word (codes "links") then Some Links else (if bytes_eq word (codes "expand") then Some Expand else None)))
 
 -- of two events the command `before`, where this is its name
 abbrev pub before_with : Option At → Option At → Option Command
@@ -31,12 +32,13 @@ command_of (word ∷ []) = named word
 command_of (word ∷ p ∷ i ∷ q ∷ j ∷ []) = before_of word (event_named p i) (event_named q j)
 command_of _ = None
 
--- the text that the command writes, of a script and the record of a settled run of it
+-- the text that a command of records writes, of a script and the record of a settled run of it
 abbrev pub IsTextOf : Command → Program → List Report → List ℕ → Type 0
 IsTextOf Check script reports text = text ≡ codes "yes\n"
 IsTextOf Replay script reports text = text ≡ record_text reports
 IsTextOf Links script reports text = IsLinksText script reports text
 IsTextOf (Before first second) script reports text = IsBeforeText script reports first second text
+IsTextOf Expand script reports text = ⊥
 
 -- the record has the events of which the command asks, or lacks one
 abbrev pub HasEvents : Command → List Report → Type 0

@@ -1,4 +1,5 @@
--- What is read: a script and a record behind it, which is that of a settled run of the script; or why there is none.
+-- What is read: all bytes of the source; and of a script and a record behind it, which is that of a settled run of the script, or why there
+-- is none.
 use Rattle.std.specs.Prelude.{◌≡◌, ◌≢◌, ℕ, ◌+◌, ◌≤◌, List, length, IfSome, Result, Ok, Err, Vec, ⊤}
 use Rattle.std.specs.Global.{Global}
 use Rattle.sig_base.specs.Flow.{Rose, Took}
@@ -15,7 +16,7 @@ use Rattle.sig_tool.specs.declared.command.Command.{Command}
 use Rattle.sig_tool.specs.declared.given.Given.{Given}
 use Rattle.sig_tool.specs.declared.given.TheConstants.{MOST_INPUT}
 use Rattle.sig_tool.specs.declared.status.ToolStatus.{ToolStatus}
-use Rattle.sig_tool.specs.declared.status.ToolStatus.TheVariants.{Done, BadScript, Usage, ReadFault, WriteFault, Memory, No, BadRecord, TooLong, NoEvent}
+use Rattle.sig_tool.specs.declared.status.ToolStatus.TheVariants.{Done, BadScript, Usage, ReadFault, WriteFault, Memory, No, BadRecord, TooLong, NoEvent, BadCall}
 use Rattle.sig_tool.specs.Commands.{IsTextOf, LacksEvent}
 use Rattle.sig_tool.specs.Split.{script_part, record_part}
 
@@ -58,26 +59,26 @@ pub record IsWhole (r : Reading) (bytes : List ℕ) : Type 0 where
   pub ended : IsReadToEnd r
   pub fine : IsFine r
 
--- one byte more than an input may have was taken
-abbrev pub IsOver : Reading → Type 0
-IsOver r = (taken : List ℕ) × Took r.left r.rest taken × (length taken ≡ MOST_INPUT + 1)
+-- one byte more than so many was taken
+abbrev pub IsOver : ℕ → Reading → Type 0
+IsOver most r = (taken : List ℕ) × Took r.left r.rest taken × (length taken ≡ most + 1)
 
 -- why the source gave no script with the record of a settled run of it behind it
 abbrev pub IsUnfit : Reading → ToolStatus → Type 0
 IsUnfit r ReadFault = Rose r.before r.after
 IsUnfit r Memory = IsFine r
-IsUnfit r TooLong = IsOver r × IsFine r
+IsUnfit r TooLong = IsOver MOST_INPUT r × IsFine r
 IsUnfit r status = (bytes : List ℕ) × IsWhole r bytes × IsFault bytes status
 
 -- ---- the steps
 
--- reading the input to its end
-abbrev pub IsInput : Reading → Result (Vec ℕ Global) ToolStatus → Type 0
-IsInput r (Ok bytes) = IsWhole r bytes.items × IsShort bytes.items
-IsInput r (Err ReadFault) = Rose r.before r.after
-IsInput r (Err Memory) = IsFine r
-IsInput r (Err TooLong) = IsOver r × IsFine r
-IsInput r (Err _) = ⊥
+-- reading the input to its end, of at most so many bytes
+abbrev pub IsInput : ℕ → Reading → Result (Vec ℕ Global) ToolStatus → Type 0
+IsInput most r (Ok bytes) = IsWhole r bytes.items × (length bytes.items ≤ most)
+IsInput most r (Err ReadFault) = Rose r.before r.after
+IsInput most r (Err Memory) = IsFine r
+IsInput most r (Err TooLong) = IsOver most r × IsFine r
+IsInput most r (Err _) = ⊥
 
 -- reading the script and the record that the bytes spell
 abbrev pub ArePartsOf : List ℕ → Result Given ToolStatus → Type 0
@@ -104,19 +105,15 @@ abbrev pub IsChecked : Reading → Result Given ToolStatus → Type 0
 IsChecked r (Ok given) = IsSettledPair r given.script given.told
 IsChecked r (Err status) = IsUnfit r status
 
--- this is what the command writes of what the source spells
-abbrev pub IsTextFor : Command → Reading → List ℕ → Type 0
-IsTextFor command r text = (script : Program) × (reports : List Report) × IsSettledPair r script reports × IsTextOf command script reports text
+-- this is what the command writes of a script and its record that the source spells
+abbrev pub IsRecordText : Command → Reading → List ℕ → Type 0
+IsRecordText command r text = (script : Program) × (reports : List Report) × IsSettledPair r script reports × IsTextOf command script reports text
 
 -- the same, where the record lacks an event of which the command asks
 abbrev pub HasNoSuchEvent : Command → Reading → Type 0
 HasNoSuchEvent command r = (script : Program) × (reports : List Report) × IsSettledPair r script reports × LacksEvent command reports
 
--- why there is nothing that the command could write
-abbrev pub IsUnfitFor : Command → Reading → ToolStatus → Type 0
-IsUnfitFor command r NoEvent = HasNoSuchEvent command r
-IsUnfitFor command r status = IsUnfit r status
-
-abbrev pub IsTextRead : Command → Reading → Result (Vec ℕ Global) ToolStatus → Type 0
-IsTextRead command r (Ok text) = IsTextFor command r text.items
-IsTextRead command r (Err status) = IsUnfitFor command r status
+-- why there is nothing that the command could write of such
+abbrev pub IsUnfitRecord : Command → Reading → ToolStatus → Type 0
+IsUnfitRecord command r NoEvent = HasNoSuchEvent command r
+IsUnfitRecord command r status = IsUnfit r status

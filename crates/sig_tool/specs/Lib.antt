@@ -5,5 +5,7 @@ pub mod Numbers
 pub mod Ordering
 pub mod Commands
 pub mod Inputs
+pub mod Expanding
+pub mod Texts
 pub mod Told
 pub mod Answers

@@ -2,7 +2,7 @@
 
 ghost use Rattle.sig_edge.specs.Streams.{reading};
 ghost use Rattle.sig_tool.specs.declared.command.Command.TheVariants.{Check};
-ghost use Rattle.sig_tool.specs.Inputs.{IsTextRead};
+ghost use Rattle.sig_tool.specs.Texts.{IsTextRead};
 
 use crate::given::read_checked;
 use crate::status::ToolStatus;

@@ -15,6 +15,8 @@ pub enum Command {
     Links,
     /// The same; and whether the first event of the record happened before the second.
     Before { first: At, second: At },
+    /// The script that a text of calls spells. No record is read.
+    Expand,
 }
 
 impl Command {
@@ -28,6 +30,8 @@ impl Command {
             Some(Command::Replay)
         } else if word == "links" {
             Some(Command::Links)
+        } else if word == "expand" {
+            Some(Command::Expand)
         } else {
             None
         }

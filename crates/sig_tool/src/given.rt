@@ -2,11 +2,12 @@
 
 ghost use Rattle.std.specs.Prelude.{◌≤◌, length};
 ghost use Rattle.sig_edge.specs.Streams.{reading};
-ghost use Rattle.sig_tool.specs.Inputs.{ArePartsOf, IsApproved, IsChecked, IsInput, IsPair};
+ghost use Rattle.sig_tool.specs.Inputs.{ArePartsOf, IsApproved, IsChecked, IsPair};
 
+use crate::input::read_input;
 use crate::splitting::split;
 use crate::status::ToolStatus;
-use sig_base::{ReadAll, Source, read_all};
+use sig_base::Source;
 use sig_check::{Verdict, check};
 use sig_record::{Record, read_record};
 use sig_script::{Script, read_script};
@@ -17,24 +18,11 @@ pub const MOST_INPUT: usize = 67108864;
 
 /// What the input gives.
 #[derive(Drop)]
-pub(crate) struct Given {
+pub struct Given {
     /// The script.
-    pub(crate) script: Script,
+    pub script: Script,
     /// The record behind it.
-    pub(crate) told: Record,
-}
-
-/// Reads the input to its end.
-fn read_input<S: Source>(alloc: Global, input: &mut S) -> Result<Vec<u8>, ToolStatus>
-    ensures { IsInput (reading (S.left input.old) (S.left input.new) (S.faults input.old) (S.faults input.new)) result }
-{
-    let mut bytes = Vec::new(alloc);
-    match read_all(input, MOST_INPUT, &mut bytes) {
-        ReadAll::Whole => Ok(bytes),
-        ReadAll::TooLong => Err(ToolStatus::TooLong),
-        ReadAll::ReadFault => Err(ToolStatus::ReadFault),
-        ReadAll::Memory => Err(ToolStatus::Memory),
-    }
+    pub told: Record,
 }
 
 /// The script and the record that the bytes spell.
@@ -59,11 +47,12 @@ fn approved(alloc: Global, given: Given) -> Result<Given, ToolStatus>
 }
 
 /// Reads the input to its end, and the script and the record that it spells, where the record is that
-/// of a settled run of the script.
-pub(crate) fn read_checked<S: Source>(alloc: Global, input: &mut S) -> Result<Given, ToolStatus>
+/// of a settled run of the script. Why there is none is told as `tool` tells it, and in the same order:
+/// `ReadFault`, `TooLong`, `BadScript`, `BadRecord` or `No`; or `Memory`, where memory was wanting.
+pub fn read_checked<S: Source>(alloc: Global, input: &mut S) -> Result<Given, ToolStatus>
     ensures { IsChecked (reading (S.left input.old) (S.left input.new) (S.faults input.old) (S.faults input.new)) result }
 {
-    let bytes = read_input(alloc, input)?;
+    let bytes = read_input(alloc, MOST_INPUT, input)?;
     let given = parts_of(alloc, bytes.as_slice())?;
     approved(alloc, given)
 }

@@ -4,7 +4,7 @@ ghost use Rattle.std.specs.Prelude.{◌≡◌, ◌++◌, IfOk, OnOk, decimal};
 ghost use Rattle.sig_edge.specs.Streams.{reading};
 ghost use Rattle.sig_check.specs.Verdicts.{IsOfSettledRun};
 ghost use Rattle.sig_tool.specs.declared.command.Command.TheVariants.{Links};
-ghost use Rattle.sig_tool.specs.Inputs.{IsTextRead};
+ghost use Rattle.sig_tool.specs.Texts.{IsTextRead};
 ghost use Rattle.sig_tool.specs.Linking.{link_line, link_lines, IsLinksText};
 
 use crate::given::{Given, read_checked};

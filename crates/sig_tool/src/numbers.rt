@@ -14,8 +14,9 @@ fn are_digits(text: &str) -> bool
     text.as_bytes().iter().all(|byte| byte.is_ascii_digit())
 }
 
-/// The number that the text spells in one decimal digit or more, where 64 bits hold it.
-fn number_in(text: &str) -> Option<u64>
+/// The number that the text spells in one decimal digit or more, where 64 bits hold it. `None` exactly
+/// where it spells none.
+pub fn number_in(text: &str) -> Option<u64>
     ensures { result ≡ number_in text.now }
 {
     if !are_digits(text) {
@@ -48,8 +49,9 @@ fn pid_in(text: &str) -> Option<u32>
     }
 }
 
-/// The event that these texts name, its process and its number.
-pub(crate) fn event_named(pid: &str, event: &str) -> Option<At>
+/// The event that these texts name, its process and its number. `None` exactly where one of them spells
+/// no number, or one that 32 bits don't hold for the process or 64 for the event.
+pub fn event_named(pid: &str, event: &str) -> Option<At>
     ensures { result ≡ event_named pid.now event.now }
 {
     match (pid_in(pid), number_in(event)) {

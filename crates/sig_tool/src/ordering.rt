@@ -4,7 +4,7 @@ ghost use Rattle.std.specs.Prelude.{◌≡◌, IfOk};
 ghost use Rattle.sig_edge.specs.Streams.{reading};
 ghost use Rattle.sig_check.specs.Verdicts.{IsOfSettledRun};
 ghost use Rattle.sig_tool.specs.declared.command.Command.TheVariants.{Before};
-ghost use Rattle.sig_tool.specs.Inputs.{IsTextRead};
+ghost use Rattle.sig_tool.specs.Texts.{IsTextRead};
 ghost use Rattle.sig_tool.specs.Ordering.{said, IsAnswered, IsOrderOf};
 
 use crate::given::{Given, read_checked};

@@ -5,7 +5,7 @@ ghost use Rattle.sig_edge.specs.Streams.{reading};
 ghost use Rattle.sig_check.specs.Verdicts.{IsOfSettledRun};
 ghost use Rattle.sig_record.specs.RecordText.{record_text};
 ghost use Rattle.sig_tool.specs.declared.command.Command.TheVariants.{Replay};
-ghost use Rattle.sig_tool.specs.Inputs.{IsTextRead};
+ghost use Rattle.sig_tool.specs.Texts.{IsTextRead};
 
 use crate::given::{Given, read_checked};
 use crate::status::ToolStatus;

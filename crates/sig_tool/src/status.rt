@@ -1,7 +1,8 @@
 ghost use Rattle.std.specs.Prelude.{◌≡◌};
-ghost use Rattle.sig_tool.specs.Statuses.{number_of, of_record_error, of_script_error};
+ghost use Rattle.sig_tool.specs.Statuses.{number_of, of_call_error, of_record_error, of_script_error};
 ghost use Rattle.sig_tool.specs.declared.status.ToolStatus.TheVariants as status;
 
+use sig_call::{CallError, CallFault};
 use sig_record::RecordError;
 use sig_script::{FaultKind, ScriptError};
 use std::alloc::AllocError;
@@ -11,7 +12,9 @@ use std::alloc::AllocError;
 pub enum ToolStatus {
     /// The command's text was written whole.
     Done,
-    /// The script's part of the input is no script, or is too long for one: then it is line 0.
+    /// The script's part of the input is no script, or is too long for one: then it is line 0. Or a text
+    /// of calls is expanded to no script: then it is the line of that text from which the refused line
+    /// comes.
     BadScript { line: u64, kind: FaultKind },
     /// The arguments aren't those of a command.
     Usage,
@@ -28,8 +31,11 @@ pub enum ToolStatus {
     BadRecord { line: u64 },
     /// The record is that of a settled run, and lacks an event of which `before` asks.
     NoEvent,
-    /// The input has more than [`MOST_INPUT`](crate::MOST_INPUT) bytes.
+    /// The input has more than [`MOST_INPUT`](crate::MOST_INPUT) bytes; or a text of calls has more
+    /// than [`MOST_BYTES`](sig_script::MOST_BYTES).
     TooLong,
+    /// This line can't stand in a text of calls.
+    BadCall { line: u64, kind: CallFault },
 }
 
 impl ToolStatus {
@@ -48,6 +54,7 @@ impl ToolStatus {
             ToolStatus::BadRecord { line: _ } => 7,
             ToolStatus::TooLong => 8,
             ToolStatus::NoEvent => 9,
+            ToolStatus::BadCall { line: _, kind: _ } => 10,
         }
     }
 }
@@ -78,6 +85,19 @@ impl From<RecordError> for ToolStatus {
         match e {
             RecordError::BadRecord { line } => ToolStatus::BadRecord { line },
             RecordError::Memory => ToolStatus::Memory,
+        }
+    }
+}
+
+impl From<CallError> for ToolStatus {
+    ghost from_gives = { λ e s. s ≡ of_call_error e };
+
+    fn from(e: CallError) -> ToolStatus {
+        match e {
+            CallError::TooLong => ToolStatus::TooLong,
+            CallError::Call { line, kind } => ToolStatus::BadCall { line, kind },
+            CallError::Script { line, kind } => ToolStatus::BadScript { line, kind },
+            CallError::Memory => ToolStatus::Memory,
         }
     }
 }

@@ -4,11 +4,12 @@ ghost use Rattle.sig_edge.specs.Streams.{reading, writing};
 ghost use Rattle.sig_tool.specs.declared.command.Command.{Command as Asked};
 ghost use Rattle.sig_tool.specs.declared.status.ToolStatus.{ToolStatus};
 ghost use Rattle.sig_tool.specs.Answers.{IsAnswer, IsDue, IsRanSo, IsWellGiven};
-ghost use Rattle.sig_tool.specs.Inputs.{IsTextRead};
+ghost use Rattle.sig_tool.specs.Texts.{IsTextRead};
 ghost use Rattle.sig_tool.specs.Told.{told_text};
 
 use crate::checking::check_text;
 use crate::command::Command;
+use crate::expanding::expand_text;
 use crate::linking::links_text;
 use crate::ordering::before_text;
 use crate::replaying::replay_text;
@@ -26,6 +27,7 @@ fn text_of<S: Source>(alloc: Global, command: Command, input: &mut S) -> Result<
         Command::Replay => replay_text(alloc, input),
         Command::Links => links_text(alloc, input),
         Command::Before { first, second } => before_text(alloc, first, second, input),
+        Command::Expand => expand_text(alloc, input),
     }
 }
 
@@ -66,23 +68,28 @@ fn run_words<S: Source, O: Sink>(
     }
 }
 
-/// Reads a script with a record behind it to the input's end, and writes to `out` what the command
-/// says of them. The record begins at the first line that is exactly `sigrecord 1`; where there is
-/// none, its part of the input is empty. The words may be one: `check` writes `yes` and a line feed where
-/// the record is that of a settled run of the script; `replay` then writes the record, as it is gathered
-/// from processes that made its choices; `links` writes a line `link P Q` for each two processes that
-/// wait at its end with a link between them, by ascending pids, P below Q. Or they are five: `before P I
-/// Q J`, with four numbers of one decimal digit or more, writes `yes` and a line feed where the event I
-/// of the process P happened before the event J of the process Q, and else `no` and a line feed; the
-/// events of a process are counted from 1.
+/// Reads the input to its end, a script with a record behind it or a text of calls, and writes to `out`
+/// what the command says of it. The record begins at the first line that is exactly `sigrecord 1`; where
+/// there is none, its part of the input is empty. The words may be one: `check` writes `yes` and a line
+/// feed where the record is that of a settled run of the script; `replay` then writes the record, as it
+/// is gathered from processes that made its choices; `links` writes a line `link P Q` for each two
+/// processes that wait at its end with a link between them, by ascending pids, P below Q. `expand` takes
+/// the whole input as a text of calls ([`expand`](sig_call::expand)), and writes the canonical text of the
+/// script that it spells. Or the words are five: `before P I Q J`, with four numbers of one decimal digit
+/// or more, writes `yes` and a line feed where the event I of the process P happened before the event J
+/// of the process Q, and else `no` and a line feed; the events of a process are counted from 1.
 ///
 /// Of causes that stand together the first in this order is told:
 ///
 /// - `Usage`: exactly where the words are no command. The input wasn't read.
 /// - `ReadFault`: only where a read failed.
-/// - `TooLong`: exactly where one byte more than [`MOST_INPUT`](crate::MOST_INPUT) was taken.
+/// - `TooLong`: exactly where one byte more than [`MOST_INPUT`](crate::MOST_INPUT) was taken, and with
+///   `expand` one more than [`MOST_BYTES`](sig_script::MOST_BYTES).
+/// - `BadCall`: exactly where the command is `expand`, and a line can't stand in a text of calls; with the
+///   first such line and why.
 /// - `BadScript`: exactly where the script's part spells no script; with the first line that is refused
-///   and why, or line 0 where it has more bytes than a script may have.
+///   and why, or line 0 where it has more bytes than a script may have. With `expand`, where the expanded
+///   text spells none; with the line of the input from which the refused line comes.
 /// - `BadRecord`: exactly where the record's part is no record's text; with the first line, counted from
 ///   the first of that part, that isn't whole or can't stand there.
 /// - `No`: exactly where the record isn't that of a settled run of the script; with the first event, of

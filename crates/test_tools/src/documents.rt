@@ -1,6 +1,6 @@
 //! The examples of the documents. tools/examples compares them with the documents.
 
-use crate::called::{Called, PLAIN};
+use crate::called::{Called, PLAIN, Setting};
 use std::alloc::{AllocError, Global};
 
 /// Each script with a record behind it that a document shows, and what `check` writes or tells of them.
@@ -30,9 +30,42 @@ state ended normal
 ",
 )];
 
-/// Whether this is what is written or told of the input.
-fn is_so(alloc: Global, input: &[u8], said: &[u8]) -> Result<bool, AllocError> {
-    let called = Called::of(alloc, &PLAIN, input, b"")?;
+/// Each text of calls that a document shows, and the script that `expand` writes of it.
+static EXPANSIONS: [(&[u8], &[u8]); 1] = [(
+    br"sigscript 1
+process server
+receive
+on {call,Ref,Value}
+end
+send Ref {Ref,Value}
+send Ref {Ref,late}
+process client
+call Answer @server 7
+",
+    br"sigscript 1
+turns 1000
+process server
+receive
+on {call,Ref,Value}
+end
+send Ref {Ref,Value}
+send Ref {Ref,late}
+process client
+reserve
+monitor Call_1 @server reply_demonitor
+bind Call_1
+send @server {call,Call_1,7}
+receive using Call_1
+on {^Call_1,Answer}
+on {'DOWN',^Call_1,process,_,Answer}
+end
+",
+)];
+
+/// Whether this is what the command writes or tells of the input.
+fn is_so(alloc: Global, words: &[&str], input: &[u8], said: &[u8]) -> Result<bool, AllocError> {
+    let setting = Setting { words, ..PLAIN };
+    let called = Called::of(alloc, &setting, input, b"")?;
     let [written, told] = [called.out.held(), called.err.held()];
     Ok((written == said && told.is_empty()) || (written.is_empty() && told == said))
 }
@@ -40,7 +73,11 @@ fn is_so(alloc: Global, input: &[u8], said: &[u8]) -> Result<bool, AllocError> {
 #[test]
 fn examples_are_answered_so(rt: HostRuntime) {
     for (input, said) in &EXAMPLES {
-        let so = is_so(rt.alloc(), input, said);
+        let so = is_so(rt.alloc(), &["check"], input, said);
+        assert!(rt; so == Ok(true));
+    }
+    for (input, said) in &EXPANSIONS {
+        let so = is_so(rt.alloc(), &["expand"], input, said);
         assert!(rt; so == Ok(true));
     }
 }

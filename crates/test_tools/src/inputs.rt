@@ -2,6 +2,7 @@
 
 use crate::called::{Called, PLAIN, Setting};
 use crate::rows::{ITS_RECORD, ONE_MESSAGE, YES, both_answer};
+use sig_call::CallFault;
 use sig_script::FaultKind;
 use sig_tool::ToolStatus;
 use std::alloc::{AllocError, Global};
@@ -90,7 +91,7 @@ fn parts_are_refused(rt: HostRuntime) {
 }
 
 /// Arguments that are no command.
-static WORDS: [&[&str]; 9] = [
+static WORDS: [&[&str]; 11] = [
     &[],
     &[""],
     &["chec"],
@@ -99,6 +100,8 @@ static WORDS: [&[&str]; 9] = [
     &["check", "check"],
     &["check", "replay"],
     &["--", "check"],
+    &["Expand"],
+    &["expand", "expand"],
     &["help"],
 ];
 
@@ -113,7 +116,7 @@ fn are_refused(alloc: Global, words: &[&str]) -> Result<bool, AllocError> {
     Ok(called.is(
         ToolStatus::Usage,
         b"",
-        b"usage: sigtool check|replay|links|before P I Q J\n",
+        b"usage: sigtool check|replay|links|before P I Q J|expand\n",
     ))
 }
 
@@ -152,6 +155,11 @@ fn statuses_have_their_numbers(rt: HostRuntime) {
         NO_RECORD.number(),
         ToolStatus::TooLong.number(),
         ToolStatus::NoEvent.number(),
+        ToolStatus::BadCall {
+            line: 1,
+            kind: CallFault::Form,
+        }
+        .number(),
     ];
-    assert!(rt; numbers == [0, 1, 2, 3, 4, 5, 6, 7, 8, 9]);
+    assert!(rt; numbers == [0, 1, 2, 3, 4, 5, 6, 7, 8, 9, 10]);
 }

@@ -1,9 +1,11 @@
-//! Tests of the tool through its top call: scripts with records behind them, what is answered and written,
-//! inputs and arguments that are refused, and streams that fail.
+//! Tests of the tool through its top call: scripts with records behind them and texts of calls, what is
+//! answered and written, inputs and arguments that are refused, and streams that fail.
 #![tactic(auto)]
 
 #[cfg(test)]
 mod called;
+#[cfg(test)]
+mod calls;
 #[cfg(test)]
 mod documents;
 #[cfg(test)]

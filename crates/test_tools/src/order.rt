@@ -40,7 +40,7 @@ const NONE: (ToolStatus, &[u8], &[u8]) = (ToolStatus::NoEvent, b"", b"sigtool: n
 const USAGE: (ToolStatus, &[u8], &[u8]) = (
     ToolStatus::Usage,
     b"",
-    b"usage: sigtool check|replay|links|before P I Q J\n",
+    b"usage: sigtool check|replay|links|before P I Q J|expand\n",
 );
 
 /// What is asked of a script and its record, and what is answered, written and told.
