@@ -1,0 +1,5 @@
+pub mod RowLemmas
+pub mod MarkLemmas
+pub mod ThereLemmas
+pub mod ArrowLemmas
+pub mod BeginLemmas

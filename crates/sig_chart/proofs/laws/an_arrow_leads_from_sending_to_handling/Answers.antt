@@ -1,0 +1,9 @@
+use Rattle.sig_chart.proofs.ArrowLemmas.{ends_at_marks}
+use Rattle.sig_chart.proofs.BeginLemmas.{begin_at_senders}
+use Rattle.sig_chart.proofs.laws.an_arrow_leads_from_sending_to_handling.Goals as goal
+
+pub returns-clause-ends : goal.returns-clause-ends
+returns-clause-ends c = λ w g. ends_at_marks g 0 g.shown
+
+pub returns-clause-begins : goal.returns-clause-begins
+returns-clause-begins c = λ w g. begin_at_senders g 0 g.shown

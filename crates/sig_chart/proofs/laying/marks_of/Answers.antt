@@ -1,0 +1,11 @@
+use Rattle.std.proofs.Common.{◌∙◌}
+use Rattle.sig_record.specs.declared.merging.MergedAt.{MergedAt}
+use Rattle.sig_chart.specs.Shapes.{mark_at}
+use Rattle.sig_chart.proofs.RowLemmas.{row_more}
+use Rattle.sig_chart.proofs.laying.marks_of.Goals as goal
+
+pub loop-row-preserved : goal.loop-row-preserved
+loop-row-preserved c =
+    let d : MergedAt = record { pid = record { 0 = 0 }; place = 0 } in
+    row_more (mark_at c.args.reports.now) c.args.shown.now c.loop-row.row d c.loop-row.marks c.add_mark.new.marks c.loop-row-test.true c.in_ok-add_mark.ensures
+    ∙ c.loop-row.invariant

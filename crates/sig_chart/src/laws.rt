@@ -1,0 +1,24 @@
+//! What the shapes of a chart keep. Nothing here runs: the contracts are what was proved, and the bodies
+//! are empty.
+
+ghost use Rattle.std.specs.Prelude.{◌≡◌, All, length, map};
+ghost use Rattle.std.specs.List.{AllPairs, filter};
+ghost use Rattle.sig_chart.specs.declared.window.Window.{Window as Stamps};
+ghost use Rattle.sig_chart.specs.Drawn.{AreShown};
+ghost use Rattle.sig_chart.specs.Laid.{IsAbove, spot_of, end_of, BeginsAtSender};
+ghost use Rattle.sig_chart.specs.Shapes.{Ground, chart_of};
+
+/// Each later mark stands in a lower row, so no two stand at one place. Each event that is shown has its
+/// mark: there are as many.
+pub fn marks_stand_apart()
+    ensures apart { (w : Stamps) (g : Ground) → AllPairs IsAbove (chart_of w g).marks }
+    ensures each { (w : Stamps) (g : Ground) → AreShown g.reports w g.shown → length (chart_of w g).marks ≡ length g.shown }
+{}
+
+/// For each mark of a handling there is one arrow, which ends there, and there is no other. An arrow that
+/// begins in a row begins at the event that sent the signal, as the origin of the signal tells.
+pub fn an_arrow_leads_from_sending_to_handling()
+    ensures ends { (w : Stamps) (g : Ground) →
+        map end_of (chart_of w g).arrows ≡ map spot_of (filter (λ m. m.handled) (chart_of w g).marks) }
+    ensures begins { (w : Stamps) (g : Ground) → All (BeginsAtSender g) (chart_of w g).arrows }
+{}

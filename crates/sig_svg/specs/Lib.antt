@@ -1,0 +1,4 @@
+pub mod Escape
+pub mod Markups
+pub mod Places
+pub mod Svg

@@ -1,0 +1,6 @@
+pub mod WordLemmas
+pub mod InputLemmas
+pub mod RangeLemmas
+pub mod TextLemmas
+pub mod DueLemmas
+pub mod AnswerLemmas

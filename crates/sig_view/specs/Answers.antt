@@ -1,0 +1,60 @@
+-- What each answer of the viewer says of the words, of what was read, and of what was written; and which is due.
+use Rattle.std.specs.Prelude.{◌≡◌, ℕ, ◌<◌, List, length, take, Option, Some, None}
+use Rattle.sig_base.specs.Flow.{Rose, Adds}
+use Rattle.sig_edge.specs.Streams.{IsUnread, IsUnwritten, Reading, Writing}
+use Rattle.sig_program.specs.Scripts.{Program}
+use Rattle.sig_record.specs.declared.report.Report.{Report}
+use Rattle.sig_check.specs.Verdicts.{IsOfSettledRun}
+use Rattle.sig_tool.specs.declared.given.TheConstants.{MOST_INPUT}
+use Rattle.sig_tool.specs.declared.status.ToolStatus.TheVariants as tool
+use Rattle.sig_tool.specs.Inputs.{IsFault, IsPair}
+use Rattle.sig_view.specs.declared.command.Command.{Command}
+use Rattle.sig_view.specs.declared.status.ViewStatus.{ViewStatus}
+use Rattle.sig_view.specs.declared.status.ViewStatus.TheVariants.{Done, BadScript, Usage, WriteFault, No, BadRecord, TooLong}
+use Rattle.sig_view.specs.Commands.{command_of, IsFit, IsRefusal}
+use Rattle.sig_view.specs.Inputs.{IsTextFor, IsUnfitFor}
+
+-- the whole text of the command was written
+abbrev pub IsPrinted : Command → Reading → Writing → Type 0
+IsPrinted command r w = (text : List ℕ) × IsTextFor command r text × Adds w.held w.new text
+
+-- a write failed, and the beginning of that text was written
+abbrev pub IsCutOff : Command → Reading → Writing → Type 0
+IsCutOff command r w = Rose w.before w.after × ((text : List ℕ) × (n : ℕ) × IsTextFor command r text × Adds w.held w.new (take n text))
+
+-- how the command ended: its text was written, or a part of it; or nothing, for this reason
+abbrev pub IsRanSo : Command → Reading → Writing → ViewStatus → Type 0
+IsRanSo command r w Done = IsPrinted command r w
+IsRanSo command r w WriteFault = IsCutOff command r w
+IsRanSo command r w status = IsUnfitFor command r status × IsUnwritten w
+
+-- what each status says where the words are this command, or none
+abbrev pub IsAnswerTo : Option Command → Reading → Writing → ViewStatus → Type 0
+IsAnswerTo None r w Usage = IsUnread r × IsUnwritten w
+IsAnswerTo None r w _ = ⊥
+IsAnswerTo (Some command) r w status = IsRanSo command r w status
+
+-- what each status says of the words, of what was read, and of what was written
+abbrev pub IsAnswer : List (List ℕ) → Reading → Writing → ViewStatus → Type 0
+IsAnswer words r w status = IsAnswerTo (command_of words) r w status
+
+-- what the command has to answer of the record of a settled run
+abbrev pub IsDecided : Command → List Report → ViewStatus → Type 0
+IsDecided command reports Done = IsFit command reports
+IsDecided command reports status = IsRefusal command reports status
+
+-- what the command has to answer for these bytes, where nothing fails and there is memory; there is one such answer
+abbrev pub IsDue : Command → List ℕ → ViewStatus → Type 0
+IsDue command bytes (BadScript line kind) = IsFault bytes (tool.BadScript line kind)
+IsDue command bytes (BadRecord line) = IsFault bytes (tool.BadRecord line)
+IsDue command bytes (No event) = IsFault bytes (tool.No event)
+IsDue command bytes TooLong = MOST_INPUT < length bytes
+IsDue command bytes status =
+    (script : Program) × (reports : List Report) × IsPair bytes script reports × IsOfSettledRun script reports × IsDecided command reports status
+
+-- the words are this command, the source has these bytes, no read failed, and no write to `out` where there is something to be written
+pub record IsWellGiven (command : Command) (words : List (List ℕ)) (bytes : List ℕ) (due : ViewStatus) (r : Reading) (w : Writing) : Type 0 where
+  pub named : command_of words ≡ Some command
+  pub left : r.left ≡ Some bytes
+  pub source : Rose r.before r.after → ⊥
+  pub out : due ≡ Done → Rose w.before w.after → ⊥

@@ -1,0 +1,28 @@
+-- What the command `chart` writes (this project's own).
+use Rattle.std.specs.Prelude.{ℕ, ◌≤◌, List, length, Result, Ok, Err, Vec, ⊤}
+use Rattle.std.specs.Global.{Global}
+use Rattle.sig_program.specs.Scripts.{Program}
+use Rattle.sig_model.specs.declared.origin.Origin.{Origin}
+use Rattle.sig_record.specs.declared.report.Report.{Report}
+use Rattle.sig_record.specs.declared.merging.MergedAt.{MergedAt}
+use Rattle.sig_chart.specs.Drawn.{AreShown, AreTooMany, IsChart}
+use Rattle.sig_chart.specs.declared.window.Window.{Window}
+use Rattle.sig_chart.specs.declared.window.TheConstants.{MOST_EVENTS}
+use Rattle.sig_view.specs.declared.status.ViewStatus.{ViewStatus}
+use Rattle.sig_view.specs.declared.status.ViewStatus.TheVariants.{Memory, TooManyEvents}
+use Rattle.sig_view.specs.Origins.{AreOrigins}
+
+-- no more events are of the window than a chart draws
+abbrev pub HasFew : List Report → Window → Type 0
+HasFew reports window = (shown : List MergedAt) × AreShown reports window shown × (length shown ≤ MOST_EVENTS)
+
+-- the text is that of the chart of these events, with the origins of the signals of the run of which the record is
+abbrev pub IsChartText : Program → List Report → Window → List ℕ → Type 0
+IsChartText script reports window text = (origins : List Origin) × AreOrigins script reports origins × IsChart script reports origins window text
+
+-- the same of origins that are at hand; where there are too many events that is told
+abbrev pub IsDrawn : Program → List Report → List Origin → Window → Result (Vec ℕ Global) ViewStatus → Type 0
+IsDrawn script reports origins window (Ok text) = IsChart script reports origins window text.items
+IsDrawn script reports origins window (Err TooManyEvents) = AreTooMany reports window
+IsDrawn script reports origins window (Err Memory) = ⊤
+IsDrawn script reports origins window (Err _) = ⊥

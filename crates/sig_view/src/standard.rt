@@ -1,0 +1,47 @@
+ghost use Rattle.std.specs.Prelude.{◌≤◌};
+
+use crate::status::ViewStatus;
+use crate::telling::tell;
+use crate::top::view;
+use sig_base::{Sink, StdSink, StdSource};
+use sig_edge::arguments;
+use std::alloc::Global;
+use std::io;
+use std::io::{Read, Write};
+use std::process::ExitCode;
+use std::rt::Env;
+
+/// The status where the arguments can't be had, told on standard error. Nothing was read.
+fn refuse<E: Sink>(err: &mut E, fault: io::Error) -> ViewStatus {
+    let status = match fault.kind() {
+        io::ErrorKind::OutOfMemory => ViewStatus::Memory,
+        _ => ViewStatus::Usage,
+    };
+    tell(err, status);
+    status
+}
+
+/// The program `sigview`, on the arguments of its runtime and these streams: `view` of both. Where the
+/// arguments can't be had, for want of memory or since one is no text, it tells so as `view` does of a
+/// want of memory or of words that are no command. The exit code is the number of the status, 0 to 9 or 11.
+pub fn program<R, I, O, E>(rt: &R, stdin: I, stdout: O, stderr: E) -> ExitCode
+where
+    R: Env + Alloc<A = Global>,
+    I: Read + Drop,
+    O: Write + Drop,
+    E: Write + Drop,
+    ensures { result.status ≤ 11 }
+{
+    let mut err = StdSink::new(stderr);
+    let status = match arguments(rt) {
+        Ok(arguments) => view(
+            rt.alloc(),
+            arguments.as_slice(),
+            &mut StdSource::new(stdin),
+            &mut StdSink::new(stdout),
+            &mut err,
+        ),
+        Err(fault) => refuse(&mut err, fault),
+    };
+    ExitCode::from(status.number())
+}

@@ -1,0 +1,116 @@
+ghost use Rattle.std.specs.Prelude.{◌≡◌, ◌⊎◌, ℕ, List, map, string_bytes};
+ghost use Rattle.sig_base.specs.Flow.{Rose, Adds};
+ghost use Rattle.sig_edge.specs.Streams.{reading, writing};
+ghost use Rattle.sig_view.specs.declared.command.Command.{Command as Asked};
+ghost use Rattle.sig_view.specs.declared.status.ViewStatus.{ViewStatus};
+ghost use Rattle.sig_view.specs.Answers.{IsAnswer, IsDue, IsRanSo, IsWellGiven};
+ghost use Rattle.sig_view.specs.Inputs.{IsTextRead};
+ghost use Rattle.sig_view.specs.Told.{told_text};
+
+use crate::charting::chart_text;
+use crate::command::Command;
+use crate::concurrency::concurrent_text;
+use crate::status::ViewStatus;
+use crate::telling::tell;
+use sig_base::{Sink, Source, Written, write_whole};
+use std::alloc::Global;
+
+/// What the command writes of the input.
+fn text_of<S: Source>(alloc: Global, command: Command, input: &mut S) -> Result<Vec<u8>, ViewStatus>
+    ensures { IsTextRead command (reading (S.left input.old) (S.left input.new) (S.faults input.old) (S.faults input.new)) result }
+{
+    match command {
+        Command::Chart { window } => chart_text(alloc, window, input),
+        Command::Concurrent { event } => concurrent_text(alloc, event, input),
+    }
+}
+
+/// Reads the input, and writes what the command says of it. The text is made whole before the first
+/// write.
+fn run_command<S: Source, O: Sink>(
+    alloc: Global,
+    command: Command,
+    input: &mut S,
+    out: &mut O,
+) -> ViewStatus
+    ensures { IsRanSo command (reading (S.left input.old) (S.left input.new) (S.faults input.old) (S.faults input.new))
+        (writing (O.held out.old) (O.held out.new) (O.faults out.old) (O.faults out.new)) result }
+{
+    match text_of(alloc, command, input) {
+        Ok(text) => match write_whole(out, text.as_slice()) {
+            Written::Whole => ViewStatus::Done,
+            Written::WriteFault { written: _ } => ViewStatus::WriteFault,
+        },
+        Err(status) => status,
+    }
+}
+
+/// Reads the arguments, and writes what their command says of the input.
+fn run_words<S: Source, O: Sink>(
+    alloc: Global,
+    words: &[String],
+    input: &mut S,
+    out: &mut O,
+) -> ViewStatus
+    ensures { IsAnswer (map string_bytes words.now)
+        (reading (S.left input.old) (S.left input.new) (S.faults input.old) (S.faults input.new))
+        (writing (O.held out.old) (O.held out.new) (O.faults out.old) (O.faults out.new)) result }
+{
+    match Command::of(words) {
+        Some(command) => run_command(alloc, command, input, out),
+        None => ViewStatus::Usage,
+    }
+}
+
+/// Reads a script with a record behind it to the input's end, as `tool` of sig_tool reads them, and
+/// writes to `out` what the command says of them. The words may be `chart`, and behind it `--from S`,
+/// `--to T` or both in this order, with numbers of one decimal digit or more that 64 bits hold: it
+/// writes the chart of the events whose stamps lie between the two, both included; without one of them
+/// it begins with the first, or ends with the last. Or they are three: `concurrent P I`, with numbers
+/// as `before` of the tool has them, writes a line `concurrent Q FIRST LAST` for each process Q that
+/// has events which neither happened before the event I of the process P nor after it, by ascending
+/// pid; these are its events from FIRST to LAST. The events of a process are counted from 1.
+///
+/// Of causes that stand together the first in this order is told:
+///
+/// - `Usage`: exactly where the words are no command. The input wasn't read.
+/// - `ReadFault`: only where a read failed.
+/// - `TooLong`: exactly where one byte more than [`MOST_INPUT`](sig_tool::MOST_INPUT) was taken.
+/// - `BadScript`: exactly where the script's part spells no script; with the first line that is refused
+///   and why, or line 0 where it has more bytes than a script may have.
+/// - `BadRecord`: exactly where the record's part is no record's text; with the first line, counted from
+///   the first of that part, that isn't whole or can't stand there.
+/// - `No`: exactly where the record isn't that of a settled run of the script; with the first event, of
+///   all processes in the order of their stamps and counted from 1, with which the events are no run,
+///   or one more than there are where they are one.
+/// - `NoEvent`: exactly where the record is that of a settled run, and lacks the event of `concurrent`.
+/// - `TooManyEvents`: exactly where the record is that of a settled run, and more than
+///   [`MOST_EVENTS`](sig_chart::MOST_EVENTS) of its events have the stamps of `chart`.
+/// - `WriteFault`: only where a write to `out` failed, which has taken the beginning of the text.
+/// - `Done`: `out` has taken the whole text.
+///
+/// `Memory` may come in place of each but `Usage`, where memory was wanting. No read failed, but with
+/// `ReadFault`. Only `Done` and `WriteFault` have written to `out`. What a status tells is written to
+/// `err` where no write to it fails, and a fault of `err` changes no status.
+pub fn view<S: Source, O: Sink, E: Sink>(
+    alloc: Global,
+    words: &[String],
+    input: &mut S,
+    out: &mut O,
+    err: &mut E,
+) -> ViewStatus
+    ensures answer { IsAnswer (map string_bytes words.now)
+        (reading (S.left input.old) (S.left input.new) (S.faults input.old) (S.faults input.new))
+        (writing (O.held out.old) (O.held out.new) (O.faults out.old) (O.faults out.new)) result }
+    ensures told { (Rose (E.faults err.old) (E.faults err.new) → ⊥) → Adds (E.held err.old) (E.held err.new) (told_text result) }
+    // What is due for the input is answered, where nothing fails and there is memory.
+    ensures complete { (command : Asked) (bytes : List ℕ) (due : ViewStatus) → IsDue command bytes due →
+        IsWellGiven command (map string_bytes words.now) bytes due
+        (reading (S.left input.old) (S.left input.new) (S.faults input.old) (S.faults input.new))
+        (writing (O.held out.old) (O.held out.new) (O.faults out.old) (O.faults out.new))
+        → (result ≡ due) ⊎ (result ≡ ViewStatus.Memory) }
+{
+    let status = run_words(alloc, words, input, out);
+    tell(err, status);
+    status
+}

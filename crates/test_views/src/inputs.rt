@@ -1,0 +1,142 @@
+//! Inputs whose parts are refused, and arguments.
+
+use crate::called::{Called, PLAIN, Setting};
+use crate::rows::{ITS_RECORD, ONE_MESSAGE, WITH_ITS_END, WRONG};
+use sig_script::FaultKind;
+use sig_view::ViewStatus;
+use std::alloc::{AllocError, Global};
+
+const NO_HEADER: ViewStatus = ViewStatus::BadScript {
+    line: 1,
+    kind: FaultKind::Header,
+};
+
+const TOLD_HEADER: &[u8] = b"sigview: line 1: header\n";
+
+const NO_RECORD: ViewStatus = ViewStatus::BadRecord { line: 1 };
+
+const TOLD_RECORD: &[u8] = b"sigview: record line 1\n";
+
+/// What stands in the place of the script and what behind it, and what is answered and told.
+static INPUTS: [(&[u8], &[u8], ViewStatus, &[u8]); 5] = [
+    (b"", b"", NO_HEADER, TOLD_HEADER),
+    // no record
+    (ONE_MESSAGE, b"", NO_RECORD, TOLD_RECORD),
+    // no script
+    (b"", ITS_RECORD, NO_HEADER, TOLD_HEADER),
+    // a line of the record is cut off
+    (
+        ONE_MESSAGE,
+        b"sigrecord 1\nprocess 0 a\n1 exec 1 sent <1> hi\n2 exec 2 ended",
+        ViewStatus::BadRecord { line: 4 },
+        b"sigview: record line 4\n",
+    ),
+    // a record of another run
+    (
+        ONE_MESSAGE,
+        WRONG,
+        ViewStatus::No { event: 1 },
+        b"sigview: no at event 1\n",
+    ),
+];
+
+/// Whether both commands refuse this input so, and write nothing.
+fn both_refuse(
+    alloc: Global,
+    script: &[u8],
+    told: &[u8],
+    status: ViewStatus,
+    said: &[u8],
+) -> Result<bool, AllocError> {
+    let charting = Setting {
+        words: &["chart"],
+        ..PLAIN
+    };
+    let asked = Called::of(alloc, &PLAIN, script, told)?;
+    let charted = Called::of(alloc, &charting, script, told)?;
+    Ok(asked.is(status, b"", said) && charted.is(status, b"", said))
+}
+
+#[test]
+fn parts_are_refused(rt: HostRuntime) {
+    for (script, told, status, said) in &INPUTS {
+        let refused = both_refuse(rt.alloc(), script, told, *status, said);
+        assert!(rt; refused == Ok(true), "{status:?}");
+    }
+}
+
+/// Arguments that are no command.
+static WORDS: [&[&str]; 17] = [
+    &[],
+    &[""],
+    &["check"],
+    &["Chart"],
+    &["chart", "1"],
+    &["chart", "--from"],
+    &["chart", "1", "2"],
+    &["chart", "--from", "-1"],
+    &["chart", "--to", "18446744073709551616"],
+    &["chart", "--to", "2", "--from", "1"],
+    &["chart", "--from", "1", "--from", "2"],
+    &["chart", "--from", "1", "--to", ""],
+    &["concurrent"],
+    &["concurrent", "0"],
+    &["concurrent", "4294967296", "1"],
+    &["concurrent", "--from", "1"],
+    &["concurrent", "0", "1", "1", "1"],
+];
+
+/// Whether these arguments are refused, and nothing of the input is read: a read would fail.
+fn are_refused(alloc: Global, words: &[&str]) -> Result<bool, AllocError> {
+    let setting = Setting {
+        words,
+        failing_read: 1,
+        ..PLAIN
+    };
+    let called = Called::of(alloc, &setting, ONE_MESSAGE, ITS_RECORD)?;
+    Ok(called.is(
+        ViewStatus::Usage,
+        b"",
+        b"usage: sigview chart [--from S] [--to T]|concurrent P I\n",
+    ))
+}
+
+#[test]
+fn other_arguments_are_refused(rt: HostRuntime) {
+    for words in &WORDS {
+        let refused = are_refused(rt.alloc(), words);
+        assert!(rt; refused == Ok(true));
+    }
+}
+
+/// Whether all is as ever where nothing can be told.
+fn is_untold(alloc: Global) -> Result<bool, AllocError> {
+    let setting = Setting { room: 0, ..PLAIN };
+    let answered = Called::of(alloc, &setting, ONE_MESSAGE, ITS_RECORD)?;
+    let refused = Called::of(alloc, &setting, ONE_MESSAGE, b"")?;
+    Ok(answered.is(ViewStatus::Done, WITH_ITS_END, b"") && refused.is(NO_RECORD, b"", b""))
+}
+
+#[test]
+fn a_fault_of_telling_changes_nothing(rt: HostRuntime) {
+    let untold = is_untold(rt.alloc());
+    assert!(rt; untold == Ok(true));
+}
+
+#[test]
+fn statuses_have_their_numbers(rt: HostRuntime) {
+    let numbers = [
+        ViewStatus::Done.number(),
+        NO_HEADER.number(),
+        ViewStatus::Usage.number(),
+        ViewStatus::ReadFault.number(),
+        ViewStatus::WriteFault.number(),
+        ViewStatus::Memory.number(),
+        ViewStatus::No { event: 1 }.number(),
+        NO_RECORD.number(),
+        ViewStatus::TooLong.number(),
+        ViewStatus::NoEvent.number(),
+        ViewStatus::TooManyEvents.number(),
+    ];
+    assert!(rt; numbers == [0, 1, 2, 3, 4, 5, 6, 7, 8, 9, 11]);
+}

@@ -1,0 +1,16 @@
+//! Tests of the viewer through its top call: scripts with records behind them, what is answered and
+//! written, inputs and arguments that are refused, and streams that fail.
+#![tactic(auto)]
+
+#[cfg(test)]
+mod called;
+#[cfg(test)]
+mod charts;
+#[cfg(test)]
+mod concurrent;
+#[cfg(test)]
+mod failing;
+#[cfg(test)]
+mod inputs;
+#[cfg(test)]
+mod rows;
