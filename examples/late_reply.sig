@@ -1,4 +1,5 @@
 sigscript 1
+turns 1000
 process server
 receive
 on {call,Ref,Value}
