@@ -1,2 +1,4 @@
 pub mod LinkNameLemmas
 pub mod WatchNameLemmas
+pub mod KnownNames
+pub mod ResemblingLists

@@ -4,3 +4,4 @@ pub mod LinkRules
 pub mod WatchRules
 pub mod Counting
 pub mod SignalNames
+pub mod Plainly

@@ -4,7 +4,9 @@
 
 mod alias_answer;
 mod alias_mode;
+mod naming;
 mod queue_data;
+mod resembling;
 mod signal;
 mod signals;
 

@@ -2,3 +2,4 @@ pub mod NextLemmas
 pub mod Peers
 pub mod Places
 pub mod Remaining
+pub mod Sameness

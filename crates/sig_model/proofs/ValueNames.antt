@@ -15,7 +15,7 @@ use Rattle.sig_patterns.specs.declared.expression.Expr.TheFolds.{fold-roll-Expr,
 use Rattle.sig_patterns.specs.Environment.{Environment, undefined, value_of_var}
 use Rattle.sig_patterns.specs.Building.{value_of, value_step}
 use Rattle.sig_program.specs.Parts.{expr_pids, pids_of}
-use Rattle.sig_program.proofs.PidLemmas.{pids_of-roll, all_front, all_behind}
+use Rattle.sig_patterns.proofs.PidLemmas.{pids_of-roll, all_front, all_behind}
 use Rattle.sig_model.specs.ProcessState.{EnvironmentNames}
 
 -- P holds of each process that the expression names

@@ -1,4 +1,5 @@
 pub mod ProcessState
+pub mod Stampless
 pub mod Bodies
 pub mod Executing
 pub mod ExitRule

@@ -1,5 +1,6 @@
 pub mod ByteKeyLemmas
 pub mod EnvironmentLemmas
+pub mod SameEntries
 pub mod PastTheEnd
 pub mod NextPlace
 pub mod PartWalks
@@ -16,3 +17,4 @@ pub mod Taking
 pub mod GuardLemmas
 pub mod Comparing
 pub mod GuardExamples
+pub mod PidLemmas

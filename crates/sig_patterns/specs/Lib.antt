@@ -7,3 +7,4 @@ pub mod Fitting
 pub mod Building
 pub mod Scanning
 pub mod Pinning
+pub mod Pids

@@ -13,6 +13,7 @@ mod laws;
 mod mark;
 mod matching;
 mod measure;
+mod naming;
 mod pattern;
 mod pinning;
 mod places;

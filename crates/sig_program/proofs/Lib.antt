@@ -1,2 +1,1 @@
-pub mod PidLemmas
 pub mod ProcessCounts

@@ -1,17 +1,12 @@
 -- The parts of an instruction, and the pids in them.
-use Rattle.std.specs.Prelude.{ℕ, List, [], ◌∷◌, ◌++◌, Option, None, filter_map, option_to_list}
-use Rattle.std.specs.List.{concat}
+use Rattle.std.specs.Prelude.{ℕ, Bool, List, [], ◌∷◌, ◌++◌, All, Option, None, filter_map, option_to_list}
 use Rattle.sig_kinds.specs.declared.alias_mode.AliasMode.{AliasMode}
 use Rattle.sig_patterns.specs.declared.clause.Clause.{Clause}
 use Rattle.sig_patterns.specs.declared.var.Var.{Var}
 use Rattle.sig_patterns.specs.declared.expression.Expr.{Expr}
-use Rattle.sig_patterns.specs.declared.expression.Expr.TheOpen.{Expr-F}
-use Rattle.sig_patterns.specs.declared.expression.Expr.TheOpen as expression
-use Rattle.sig_patterns.specs.declared.expression.Expr.TheFolds.{fold-Expr}
 use Rattle.sig_patterns.specs.declared.pattern.Pattern.{Pattern}
-use Rattle.sig_patterns.specs.declared.pattern.Pattern.TheOpen.{Pattern-F}
-use Rattle.sig_patterns.specs.declared.pattern.Pattern.TheOpen as pattern
-use Rattle.sig_patterns.specs.declared.pattern.Pattern.TheFolds.{fold-Pattern}
+use Rattle.sig_patterns.specs.Pids.{IsExprAmong}
+pub use Rattle.sig_patterns.specs.Pids.{expr_pids, pids_of, pids_of_pattern}
 use Rattle.sig_program.specs.declared.instruction.After.{After}
 use Rattle.sig_program.specs.declared.instruction.Instr.{Instr}
 use Rattle.sig_program.specs.Instructions.{Operand, an_expr, a_variable, a_label, a_mode, AllSaid, operands_of, Spoken, Says, Receives, spoken}
@@ -51,6 +46,10 @@ exprs_in (Receives r) = []
 -- the expressions of an instruction, in the order of its line
 abbrev pub exprs_of : Instr → List Expr
 exprs_of i = exprs_in (spoken i)
+
+-- each process that stands in an expression of an instruction is known
+abbrev pub IsInstrAmong : List Bool → Instr → Type 0
+IsInstrAmong known i = All (IsExprAmong known) (exprs_of i)
 
 abbrev pub vars_in : Spoken → List (List ℕ)
 vars_in (Says v x) = said_vars (operands_of v) x
@@ -92,26 +91,3 @@ mode_by (Receives r) = None
 -- the mode of a monitor's alias
 abbrev pub mode_in : Instr → Option AliasMode
 mode_in i = mode_by (spoken i)
-
--- the pids in one layer of an expression, where those of its elements are held
-abbrev pub expr_pids : Expr-F (List ℕ) → List ℕ
-expr_pids (expression.Pid p) = p.0 ∷ []
-expr_pids (expression.Tuple held) = concat held
-expr_pids (expression.List held) = concat held
-expr_pids _ = []
-
--- the pids in an expression, from left to right
-abbrev pub pids_of : Expr → List ℕ
-pids_of e = fold-Expr (List ℕ) expr_pids e
-
--- the same of a layer of a pattern
-abbrev pub pattern_pids : Pattern-F (List ℕ) → List ℕ
-pattern_pids (pattern.Pid p) = p.0 ∷ []
-pattern_pids (pattern.Tuple held) = concat held
-pattern_pids (pattern.List held) = concat held
-pattern_pids (pattern.Cons head tail) = head ++ tail
-pattern_pids _ = []
-
--- the pids in a pattern, from left to right
-abbrev pub pids_of_pattern : Pattern → List ℕ
-pids_of_pattern p = fold-Pattern (List ℕ) pattern_pids p

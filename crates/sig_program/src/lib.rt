@@ -3,6 +3,7 @@
 
 mod instruction;
 mod label;
+mod naming;
 mod process;
 mod script;
 mod version;

@@ -42,7 +42,7 @@ use Rattle.sig_reader.specs.Forms.{word_at, mode_of, operand_at, all_said, keywo
 use Rattle.sig_reader.specs.Guards.{guard_at}
 use Rattle.sig_reader.proofs.TableLemmas.{spoken_again, instr_as}
 use Rattle.sig_tokens.proofs.NestLemmas.{nested_pids}
-use Rattle.sig_program.proofs.PidLemmas.{int_pids, atom_pids, var_pids, pid_pids, tuple_pids, list_pids, any_pattern_pids, bind_pattern_pids, pin_pattern_pids, int_pattern_pids, atom_pattern_pids, pid_pattern_pids, tuple_pattern_pids, list_pattern_pids}
+use Rattle.sig_patterns.proofs.PidLemmas.{int_pids, atom_pids, var_pids, pid_pids, tuple_pids, list_pids, any_pattern_pids, bind_pattern_pids, pin_pattern_pids, int_pattern_pids, atom_pattern_pids, pid_pattern_pids, tuple_pattern_pids, list_pattern_pids}
 use Rattle.sig_patterns.specs.declared.building.TheConstants.{MOST_NODES, MOST_DEPTH}
 
 -- what holds of a result that isn't a refusal

@@ -1,6 +1,6 @@
 -- What a term names: processes, by their pids, and references (Erlang Reference Manual, Data Types, Pid and Reference). That
 -- pids are numbers from 0, and that a reference has an owner, is this project's own.
-use Rattle.std.specs.Prelude.{ℕ, ◌<◌, List, [], ◌∷◌, All}
+use Rattle.std.specs.Prelude.{◌≡◌, ℕ, ◌<◌, Bool, true, Some, List, [], ◌∷◌, All, slice_get}
 use Rattle.std.specs.List.{flat_map}
 use Rattle.sig_terms.specs.declared.reference.Ref.{Ref}
 use Rattle.sig_terms.specs.declared.term.Term.{Term}
@@ -41,3 +41,8 @@ IsNameBelow count (reference r) = Unit {0}
 -- the same of a reference: its owner
 abbrev pub IsRefBelow : ℕ → Ref → Type 0
 IsRefBelow count r = r.owner.0 < count
+
+-- a process that is named is known: the list is true at its place; of a reference, its owner is named too
+abbrev pub IsAmong : List Bool → Named → Type 0
+IsAmong known (process pid) = slice_get known pid ≡ Some true
+IsAmong known (reference r) = Unit {0}

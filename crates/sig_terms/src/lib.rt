@@ -4,7 +4,9 @@
 mod atom;
 mod atoms;
 pub mod bytes;
+mod hashing;
 mod name;
+mod naming;
 mod nested;
 mod nodes;
 pub mod numbers;

@@ -1,8 +1,7 @@
-ghost use Rattle.std.specs.Prelude.{◌≡◌, ◌<◌, ◌^◌, OnOk, OnErr, ◌++◌};
+ghost use Rattle.std.specs.Prelude.{◌≡◌, ◌<◌, ◌^◌, OnOk, OnErr, ◌++◌, take, length};
 ghost use Rattle.sig_terms.specs.TermText.{reference_text};
 
 use crate::pid::Pid;
-use crate::pieces::append_pieces;
 use itoa::Buffer;
 use std::alloc::AllocError;
 
@@ -23,10 +22,27 @@ impl Ref {
         // What is printed is a term as `read` knows them.
         ensures term { (self.owner.0 < 2 ^ 32) × (self.serial < 2 ^ 64) }
     {
+        let before = into.len();
+        let appended = self.append(into);
+        if appended.is_err() {
+            into.truncate(before);
+        }
+        appended
+    }
+
+    /// Appends the reference's text. Where memory is refused, a part of it may stand behind what
+    /// was there.
+    fn append(self, into: &mut Vec<u8>) -> Result<(), AllocError>
+        ensures text { OnOk result (into.new.items ≡ into.old.items ++ reference_text self) }
+        ensures front { OnErr result (take (length into.old.items) into.new.items ≡ into.old.items) }
+        ensures term { (self.owner.0 < 2 ^ 32) × (self.serial < 2 ^ 64) }
+    {
         let mut owner = Buffer::new();
         let mut serial = Buffer::new();
-        let owner = owner.format(self.owner.0).as_bytes();
-        let serial = serial.format(self.serial).as_bytes();
-        append_pieces(into, &[b"#Ref<", owner, b".", serial, b">"])
+        into.extend_from_slice(b"#Ref<")?;
+        into.extend_from_slice(owner.format(self.owner.0).as_bytes())?;
+        into.extend_from_slice(b".")?;
+        into.extend_from_slice(serial.format(self.serial).as_bytes())?;
+        into.extend_from_slice(b">")
     }
 }

@@ -4,7 +4,7 @@ use Rattle.std.proofs.lemmas.List.Elements.{All-head, All-tail}
 use Rattle.sig_patterns.specs.declared.pattern.Pattern.{Pattern}
 use Rattle.sig_patterns.specs.declared.pattern.Pattern.TheVariants as pattern
 use Rattle.sig_tokens.specs.PatternTexts.{nested}
-use Rattle.sig_program.proofs.PidLemmas.{OfPattern, cons_pattern_pids}
+use Rattle.sig_patterns.proofs.PidLemmas.{OfPattern, cons_pattern_pids}
 
 -- the last head stands before the tail
 pub nested_last : (heads : List Pattern) (last tail : Pattern) → nested (heads ++ last ∷ []) tail ≡ nested heads (pattern.Cons last tail)

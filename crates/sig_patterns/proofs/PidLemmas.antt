@@ -13,7 +13,7 @@ use Rattle.sig_patterns.specs.declared.pattern.Pattern.TheVariants as pat
 use Rattle.sig_patterns.specs.declared.pattern.Pattern.TheOpen.{Pattern-F}
 use Rattle.sig_patterns.specs.declared.pattern.Pattern.TheOpen as pattern
 use Rattle.sig_patterns.specs.declared.pattern.Pattern.TheFolds.{fold-roll-Pattern}
-use Rattle.sig_program.specs.Parts.{expr_pids, pids_of, pattern_pids, pids_of_pattern}
+use Rattle.sig_patterns.specs.Pids.{expr_pids, pids_of, pattern_pids, pids_of_pattern}
 
 -- a layer at a time
 pub pids_of-roll : (x : Expr-F Expr) → pids_of (roll-Expr x) ≡ expr_pids (map-Expr Expr (List ℕ) pids_of x)
