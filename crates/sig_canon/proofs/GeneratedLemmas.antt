@@ -24,7 +24,7 @@ use Rattle.sig_program.specs.declared.version.Version.TheVariants.{One}
 use Rattle.sig_program.specs.Parts.{pids_of, pids_of_pattern}
 use Rattle.sig_program.specs.Scripts.{Declared, IsInstrWithin, IsPlace, AreRising, IsWithin, IsExprBelow, IsPatternBelow, IsInstrBelow, IsProcBelow, IsScriptWithin}
 use Rattle.sig_canon.specs.Generated.{var_named, call_clause, hub_receive, hub_answer, hub, to_hub, watch_hub, bind_mark, send_call, answer_clause, down_clause, await_answer, call, client, client_names, generated}
-use Rattle.sig_program.proofs.PidLemmas.{pids_of-Int, pids_of-Atom, pids_of-Var, pids_of-Pid, pids_of-Tuple, pids_of_pattern-Any, pids_of_pattern-Bind, pids_of_pattern-Pin, pids_of_pattern-Atom, pids_of_pattern-Tuple}
+use Rattle.sig_patterns.proofs.PidLemmas.{pids_of-Int, pids_of-Atom, pids_of-Var, pids_of-Pid, pids_of-Tuple, pids_of_pattern-Any, pids_of_pattern-Bind, pids_of_pattern-Pin, pids_of_pattern-Atom, pids_of_pattern-Tuple}
 use Rattle.sig_reader.proofs.BoundTermLemmas.{no-mode, IsMonitorMode}
 
 -- one call more

@@ -38,6 +38,9 @@ use std::alloc::{AllocError, Global};
 /// The most calls of each client of a generated script.
 pub const MOST_CALLS: u32 = 800;
 
+/// How many instructions a call has.
+const CALL_INSTRS: u32 = 5;
+
 fn var_of(alloc: Global, word: &[u8]) -> Result<Var, AllocError>
     requires { is_token word.now ≡ true }
     ensures { IfOk result (λ v. v.0 ≡ word.now) }
@@ -235,7 +238,8 @@ fn add_answer_clause(alloc: Global, clauses: &mut Clauses) -> Result<(), AllocEr
 fn make_down(alloc: Global) -> Result<Pattern, AllocError>
     ensures { IfOk result (λ p. p ≡ down_clause.pattern) }
 {
-    let mut parts = Sequence::new(alloc);
+    let room = Vec::with_capacity(alloc, 5)?;
+    let mut parts = Sequence::from_vec(room);
     add_word(alloc, &mut parts, b"DOWN")?;
     add_pin(alloc, &mut parts, b"M")?;
     add_word(alloc, &mut parts, b"process")?;
@@ -288,7 +292,8 @@ fn make_calls(alloc: Global, n: u32) -> Result<Instrs, AllocError>
     requires { n ≤ MOST_CALLS }
     ensures { IfOk result (λ is. is ≡ flat_map call (range_with_len 1 n)) }
 {
-    let mut instrs = Sequence::new(alloc);
+    let room = Vec::with_capacity(alloc, (CALL_INSTRS * n) as usize)?;
+    let mut instrs = Sequence::from_vec(room);
     for k in 0..n {
         add_call(alloc, &mut instrs, k + 1)?;
     }

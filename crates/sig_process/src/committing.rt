@@ -37,7 +37,12 @@ impl Progress {
     }
 
     /// Makes all room, and notes the event. Where memory is refused all but the room is as before.
-    fn begin(&mut self, event: Event, posts: usize, grows: Growing) -> Result<(), AllocError>
+    pub(crate) fn begin(
+        &mut self,
+        event: Event,
+        posts: usize,
+        grows: Growing,
+    ) -> Result<(), AllocError>
         ensures { MatchResult result (λ _. HasBegun posts grows self.old self.new event) (λ _. IsSameButRoom self.old self.new) }
     {
         if let Err(fault) = self.make_room(posts, grows) {
@@ -49,7 +54,14 @@ impl Progress {
 
     /// Changes what is left, with this stamp, and sends. There is room for it.
     #[tactic(auto, using(crate::proofs::RoomLemmas::room_obeyed))]
-    fn go_on(&mut self, pid: Pid, stamp: u64, obeyed: Option<Pid>, change: Change, posts: Posts)
+    pub(crate) fn go_on(
+        &mut self,
+        pid: Pid,
+        stamp: u64,
+        obeyed: Option<Pid>,
+        change: Change,
+        posts: Posts,
+    )
         requires room { HasRoom (length (outgoing_of posts)) (growing change) self.old }
         requires committable { IsCommittable (outgoing_of posts) self.old }
         ensures state { state_of self.new ≡ gone_on (changed (after_obeying (state_of self.old) obeyed) change) stamp

@@ -3,6 +3,7 @@
 
 mod changing;
 mod committing;
+mod comparing;
 mod copying;
 mod crew;
 mod ending;

@@ -1,4 +1,4 @@
-ghost use Rattle.std.specs.Prelude.{ℕ, ◌≡◌, ◌+◌, ◌<◌, ◌≤◌, true, length, IfOk, IfSome, MatchResult, slice_get, replicate};
+ghost use Rattle.std.specs.Prelude.{ℕ, ◌≡◌, ◌+◌, ◌<◌, ◌≤◌, true, length, is_some, IfOk, IfSome, MatchResult, slice_get, replicate};
 ghost use Rattle.sig_inner.specs.InnerQueue.{opened as no_queue};
 ghost use Rattle.sig_program.specs.Scripts.{Declared, IsProcBelow};
 ghost use Rattle.sig_model.specs.ProcessState.{is_cut, opening_tables};
@@ -162,6 +162,15 @@ impl Process {
         self.count
     }
 
+    /// The stamp of its last event, 0 before the first. The process keeps what every running process
+    /// keeps.
+    pub fn stamp(&self) -> u64
+        ensures stamp { result ≡ self.now.running.state.counts.stamp }
+        ensures keeps { IsKeeping self.now.running }
+    {
+        self.progress.counts.stamp
+    }
+
     /// Where it keeps its messages. (Module `erlang`, `process_flag/2`, `message_queue_data`.)
     pub fn queue_data(&self) -> QueueData
         ensures { result ≡ self.now.running.proc.queue_data }
@@ -174,6 +183,13 @@ impl Process {
         ensures { result.now ≡ self.now.running.events }
     {
         &self.progress.events
+    }
+
+    /// Whether it has ended. (Erlang Reference Manual, Processes, Process Termination.)
+    pub fn is_ended(&self) -> bool
+        ensures { result ≡ is_some self.now.running.state.tables.end }
+    {
+        self.progress.tables.end.is_some()
     }
 
     /// Whether the process is cut: it isn't ended and has executed its turns, or its last stamp is

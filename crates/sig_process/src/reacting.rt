@@ -1,13 +1,13 @@
 ghost use Rattle.std.specs.Prelude.{◌≡◌, IfOk, None, Some};
 ghost use Rattle.sig_kinds.specs.LinkRules.{on_link, on_unlink, on_ack};
-ghost use Rattle.sig_kinds.specs.WatchRules.{mode_of, by_mode, on_alias_message, on_monitor, on_demonitor, on_down};
+ghost use Rattle.sig_kinds.specs.WatchRules.{mode_of, by_mode, on_monitor, on_demonitor, on_down};
 ghost use Rattle.sig_kinds.specs.declared.alias_answer.AliasAnswer.TheVariants as alias_answer;
 ghost use Rattle.sig_model.specs.ProcessState.{rewatched};
 ghost use Rattle.sig_model.specs.Bodies.{appending, dropping};
 ghost use Rattle.sig_model.specs.ExitRule.{exit_message, exit_rule, plain_exit, linked_exit};
 ghost use Rattle.sig_model.specs.Handling.{linking_up, unlinking_from, acknowledging, through_alias, watching, unwatching};
 ghost use Rattle.sig_model.specs.Handling.{down_message, told_down, live_body, answering_noproc, ended_body, handling};
-ghost use Rattle.sig_process.specs.KeptMessage.{message_of};
+ghost use Rattle.sig_process.specs.KeptMessage.{message_of, alias_of, through_plan};
 ghost use Rattle.sig_process.specs.Plans.{after_obeying, body_of};
 ghost use Rattle.sig_process.specs.Planning.{noproc_answer};
 ghost use Rattle.sig_process.specs.Progressing.{state_of};
@@ -173,36 +173,15 @@ impl Progress {
         }
     }
 
-    /// A message through an alias of this mode, which may end it then, and the monitor with it.
+    /// What a message sends that comes through an alias of this mode: it may end the monitor too.
     #[tactic(auto, using(crate::proofs::PlanLemmas::through_kept))]
-    fn plan_through_active(
-        &self,
-        mode: AliasMode,
-        reference: Ref,
-        term: &Term,
-    ) -> Result<Plan, AllocError>
+    pub(crate) fn alias_posts(&self, mode: AliasMode, reference: Ref) -> Posts
         requires { mode_of self.now.tables.watch.watch reference ≡ Some mode }
-        ensures { IfOk result (λ plan. through_alias (state_of self.now) reference term.now
-            (by_mode self.now.tables.watch.watch reference (Some mode)) ≡ body_of (state_of self.now) plan) }
+        ensures { (t : Term) → through_alias (state_of self.now) reference t
+            (by_mode self.now.tables.watch.watch reference (Some mode)) ≡ body_of (state_of self.now) (through_plan reference t result) }
     {
-        let message = term.copy(self.alloc)?;
-        let (message, kept) = with_copy(self.alloc, message)?;
         let told = self.told_by(mode, reference);
-        let posts = demonitor_posts(reference, told);
-        let change = Change::ThroughAlias { reference, message };
-        let outcome = Outcome::Kept { message: kept };
-        Ok(Plan::sending(change, outcome, posts))
-    }
-
-    /// A message through an alias: kept where the alias is active.
-    fn plan_through_alias(&self, reference: Ref, term: &Term) -> Result<Plan, AllocError>
-        ensures { IfOk result (λ plan. through_alias (state_of self.now) reference term.now
-            (on_alias_message self.now.tables.watch.watch reference) ≡ body_of (state_of self.now) plan) }
-    {
-        match self.tables.watch.alias_mode(reference) {
-            None => Ok(self.dropping(None)),
-            Some(mode) => self.plan_through_active(mode, reference, term),
-        }
+        demonitor_posts(reference, told)
     }
 
     /// A monitor signal: the process bears the monitor.
@@ -252,14 +231,18 @@ impl Progress {
     }
 
     /// A signal to a live process, one arm for each cell of the table of handling. A message isn't
-    /// planned.
+    /// planned, nor is one through an alias that is active.
     fn plan_live(&self, pid: Pid, sender: Pid, kind: &Kind) -> Result<Plan, AllocError>
-        requires { message_of kind.now ≡ None }
+        requires message { message_of kind.now ≡ None }
+        requires alias { alias_of self.now.tables.watch.watch kind.now ≡ None }
         ensures { IfOk result (λ plan. live_body pid.0 (state_of self.now) sender.0 kind.now ≡ body_of (state_of self.now) plan) }
     {
         match kind {
             Kind::Message { term: _ } => unreachable!(),
-            Kind::AliasMessage { reference, term } => self.plan_through_alias(*reference, term),
+            Kind::AliasMessage {
+                reference: _,
+                term: _,
+            } => Ok(self.dropping(None)),
             Kind::Link => Ok(self.plan_link_up(sender)),
             Kind::Unlink { id } => Ok(self.plan_unlink_by(sender, *id)),
             Kind::UnlinkAck { id } => Ok(self.plan_acknowledge(sender, *id)),
@@ -305,11 +288,12 @@ impl Progress {
         }
     }
 
-    /// What the handling of a signal does that is no message, or that comes to a process which has
-    /// ended.
+    /// What the handling of a signal does that is no message to this process, and none through an active
+    /// alias, or that comes to a process which has ended.
     #[tactic(auto, unfolding(sig_model::specs::Handling::handling))]
     pub(crate) fn plan_signal(&self, pid: Pid, signal: &Signal) -> Result<Plan, AllocError>
-        requires { (self.now.tables.end ≡ None) → message_of signal.now.kind ≡ None }
+        requires message { (self.now.tables.end ≡ None) → message_of signal.now.kind ≡ None }
+        requires alias { (self.now.tables.end ≡ None) → alias_of self.now.tables.watch.watch signal.now.kind ≡ None }
         ensures { IfOk result (λ plan. handling pid.0 (state_of self.now) signal.now ≡ body_of (state_of self.now) plan) }
     {
         if self.tables.end.is_some() {

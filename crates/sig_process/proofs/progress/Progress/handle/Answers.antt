@@ -5,8 +5,8 @@ use Rattle.sig_process.specs.KeptMessage.{kept_message}
 use Rattle.sig_process.proofs.KeepingLemmas.{kept_handled}
 use Rattle.sig_process.proofs.progress.Progress.handle.Goals as goal
 
-pub handle_planned-requires-clause-placed : goal.handle_planned-requires-clause-placed
-handle_planned-requires-clause-placed c = record { within = omega (arith, c.passed.ensures.count, c.passed.ensures.within); early = c.next_arrival.ensures.marks }
+pub handle_other-requires-clause-placed : goal.handle_other-requires-clause-placed
+handle_other-requires-clause-placed c = record { within = omega (arith, c.passed.ensures.count, c.passed.ensures.within); early = c.next_arrival.ensures.marks }
 
 pub returns : goal.returns
 returns c =
