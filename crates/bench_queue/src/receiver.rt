@@ -94,13 +94,13 @@ impl<'q> Receiver<'q> {
         all: u64,
         missing: &AtomicU64,
     ) -> (u64, Fetches) {
+        let mut into = Signals::new(alloc);
         for _ in rt.forever() {
             if self.got.saturating_add(missing.load(Ordering::SeqCst)) >= all {
                 break;
             }
-            let mut into = Signals::new(alloc);
             let came = self.fetch(rt, &mut into);
-            drop(into);
+            into.clear();
             match came {
                 Came::Something => {}
                 Came::Nothing => idle.pause(rt),

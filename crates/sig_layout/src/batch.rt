@@ -3,6 +3,7 @@ ghost use Rattle.std.specs.Prelude.{◌≡◌, ◌≤◌, ◌+◌, ◌++◌, [],
 use sig_kinds::{Push, Signal, Signals};
 use std::alloc::Global;
 use std::marker::Model;
+use std::mem;
 
 /// Signals that wait in one list, the oldest first. Contracts see the signals alone.
 #[derive(Debug, Drop)]
@@ -80,5 +81,24 @@ impl Batch {
         while let Some(signal) = self.signals.pop_front() {
             into.add(signal);
         }
+    }
+
+    /// Moves all signals to the end of `into`, and leaves room for so many more there. Where `into`
+    /// is empty, and this list has room for so many more, the two lists change places, and no signal
+    /// is moved.
+    ///
+    /// Asks that `into` has room for all of them and for so many more, as [`Signals::room`] makes it.
+    pub fn pour_with_room(&mut self, into: &mut Signals, more: usize)
+        requires { length self.old + more ≤ into.old.spare }
+        ensures list { into.new.items ≡ into.old.items ++ self.old }
+        ensures rest { self.new ≡ [] }
+        ensures room { more ≤ into.new.spare }
+    {
+        // Without a signal nothing is to move, and `into` keeps its room.
+        if into.is_empty() && !self.is_empty() && more <= self.signals.spare() {
+            mem::swap(&mut self.signals, into);
+            return;
+        }
+        self.pour_into(into);
     }
 }

@@ -53,7 +53,7 @@ impl Outer {
             Pushed::Added => {}
             Pushed::Memory { item: _ } => return Err(AllocError),
         }
-        self.signals.pour_into(into);
+        self.signals.pour_into(into, more);
         Ok(total)
     }
 }

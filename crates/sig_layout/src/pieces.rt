@@ -81,17 +81,18 @@ impl Pieces {
         Some(total)
     }
 
-    // Moves all signals to the end of `into`, where room was made for them.
-    pub(crate) fn pour_into(&mut self, into: &mut Signals)
-        requires { length self.old ≤ into.old.spare }
+    // Moves all signals to the end of `into`, where room was made for them and for so many more, and
+    // leaves that room. The newest piece changes places with `into` where nothing came before it.
+    pub(crate) fn pour_into(&mut self, into: &mut Signals, more: usize)
+        requires { length self.old + more ≤ into.old.spare }
         ensures list { into.new.items ≡ into.old.items ++ self.old }
         ensures rest { self.new ≡ [] }
-        ensures room { into.old.spare ≤ into.new.spare + length self.old }
+        ensures room { more ≤ into.new.spare }
     {
         for i in 0..self.first.len() {
             self.first[i].pour_into(into);
         }
-        self.last.pour_into(into);
+        self.last.pour_with_room(into, more);
     }
 
     /// The same with room for so many batches more. Where there is no memory for that, it comes

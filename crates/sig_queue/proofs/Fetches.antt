@@ -382,11 +382,8 @@ module _ (me m : Held) (k count : ℕ) (f : Front k me count) (is : m ≡ (me.0,
   pub all_parted : all_of me.0.parts ≡ (first_part me.0.parts).list ++ all_of (tail me.0.parts)
   all_parted = ap all_of f.first.0
 
-  pub fits_one : (l : List Signal) (spare : ℕ) → l ≡ (first_part me.0.parts).list → length (all_of me.0.parts) ≤ spare → length l ≤ spare
-  fits_one l spare e h = let g = ap length all_parted ∙ length-append (first_part me.0.parts).list (all_of (tail me.0.parts)) in let j = ap length e in omega arith
-
-  pub room_one : (l : List Signal) (ps : List HeldBuffer) (before now : ℕ) → l ≡ (first_part me.0.parts).list → ps ≡ tail me.0.parts → length (all_of me.0.parts) ≤ before → before ≤ now + length l → length (all_of ps) ≤ now
-  room_one l ps before now e t h r = let g = ap length all_parted ∙ length-append (first_part me.0.parts).list (all_of (tail me.0.parts)) in let j = ap length e in let s = ap (λ (z : List HeldBuffer). length (all_of z)) t in omega arith
+  pub counted_one : (l : List Signal) → l ≡ (first_part me.0.parts).list → length (all_of me.0.parts) ≡ length l + length (all_of (tail me.0.parts))
+  counted_one l e = ap length all_parted ∙ (length-append (first_part me.0.parts).list (all_of (tail me.0.parts)) ∙ ap (λ (z : List Signal). length z + length (all_of (tail me.0.parts))) (sym e))
 
   pub moved_one : (l : List Signal) (ps : List HeldBuffer) (into : List Signal) → l ≡ (first_part me.0.parts).list → ps ≡ tail me.0.parts → (into ++ l) ++ all_of ps ≡ into ++ all_of me.0.parts
   moved_one l ps into e t = append_assoc into l (all_of ps) ∙ ap (λ (z : List Signal). into ++ z) ((λ i. e i ++ all_of (t i)) ∙ sym all_parted)

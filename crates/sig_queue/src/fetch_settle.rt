@@ -19,51 +19,66 @@ use sig_kinds::Signals;
 use sig_layout::{BUFFERS, Due, Policy};
 use std::marker::Brand;
 
-// Moves the list of the buffer that was taken first, and leaves its turn.
+// Moves the list of the buffer that was taken first, and leaves its turn. `left` signals lie there
+// and in the buffers that are held besides. It tells how many lie in those.
 fn empty_one(
     words: &Words,
     place: &mut SeatAt,
     held: u64,
     buffer: usize,
     count: usize,
+    left: usize,
     into: &mut Signals,
-)
+) -> usize
     requires table { IsBufferOf place.old words.now buffer }
     requires standing { Standing held buffer place.old.me count × (filled_at held buffer ≡ true) }
     requires emptying { (u : Knows) × Emptying u place.old.me }
     requires fetching { place.old.me.0.fetching ≡ true }
-    requires room { length (all_of place.old.me.0.parts) ≤ into.old.spare }
+    requires left { left ≡ length (all_of place.old.me.0.parts) }
+    requires room { left ≤ into.old.spare }
     ensures same { IsSameSeat place.new place.old }
     ensures standing { Standing held (buffer + 1) place.new.me (count - 1) }
     ensures emptying { (u : Knows) → Emptying u place.old.me → Emptying u place.new.me }
     ensures fetching { place.new.me.0.fetching ≡ true }
     ensures moved { into.new.items ++ all_of place.new.me.0.parts ≡ into.old.items ++ all_of place.old.me.0.parts }
-    ensures room { length (all_of place.new.me.0.parts) ≤ into.new.spare }
+    ensures left { result ≡ length (all_of place.new.me.0.parts) }
+    ensures room { result ≤ into.new.spare }
 {
     bring_front(place, count);
     let mut list = take_list(words, place, buffer);
-    list.pour_into(into);
+    let behind = left - list.len();
+    list.pour_with_room(into, behind);
     put_list(words, place, buffer, list);
     leave_part(words, place, buffer);
+    behind
 }
 
-// Moves all lists by ascending number, and leaves their turns.
-fn empty_all(words: &Words, place: &mut SeatAt, held: u64, count: usize, into: &mut Signals)
+// Moves all lists by ascending number, and leaves their turns. `total` signals lie there.
+fn empty_all(
+    words: &Words,
+    place: &mut SeatAt,
+    held: u64,
+    count: usize,
+    total: usize,
+    into: &mut Signals,
+)
     requires table { IsOf place.old words.now }
     requires standing { Standing held 0 place.old.me count }
     requires emptying { Emptying place.old.me.0 place.old.me }
     requires fetching { place.old.me.0.fetching ≡ true }
-    requires room { length (all_of place.old.me.0.parts) ≤ into.old.spare }
+    requires total { total ≡ length (all_of place.old.me.0.parts) }
+    requires room { total ≤ into.old.spare }
     ensures same { IsSameSeat place.new place.old }
     ensures standing { (n : ℕ) × Standing held BUFFERS place.new.me n }
     ensures emptying { Emptying place.old.me.0 place.new.me }
     ensures moved { into.new.items ++ all_of place.new.me.0.parts ≡ into.old.items ++ all_of place.old.me.0.parts }
 {
-    let mut left = count;
+    let mut buffers = count;
+    let mut left = total;
     let mut buffer = next_bit(held, 0);
     while buffer < BUFFERS {
-        empty_one(words, place, held, buffer, left, into);
-        left -= 1;
+        left = empty_one(words, place, held, buffer, buffers, left, into);
+        buffers -= 1;
         buffer = next_bit(held, buffer + 1);
     }
 }
@@ -118,12 +133,13 @@ fn is_removal_due(outer: &OuterBox, policy: Policy) -> bool
     }
 }
 
-// The outer list came into `into`, which has room for the lists of the buffers. They come behind it, and the outer turn is left.
+// The outer list came into `into`, which has room for the lists of the buffers, `total` signals. They come
+// behind it, and the outer turn is left.
 fn finish(
     words: &Words,
     place: &mut SeatAt,
-    held: u64,
-    parts: usize,
+    found: &Caught,
+    total: usize,
     outer: OuterBox,
     count: u64,
     into: &mut Signals,
@@ -131,19 +147,20 @@ fn finish(
 ) -> Taken
     requires table { IsOf place.old words.now }
     requires policy { (key_of words.now).policy ≡ policy }
-    requires standing { Standing held 0 place.old.me parts }
+    requires standing { Standing found.now.held 0 place.old.me found.now.count }
+    requires total { total ≡ length (all_of place.old.me.0.parts) }
     requires held { (o : Outer) × (place.old.me.0.held ≡ Some o) × (outer ≡ emptied o (length (all_of place.old.me.0.parts))) }
     requires fetching { (place.old.me.0.fetching ≡ true) × (place.old.me.0.removing ≡ false)
         × (place.old.me.0.switched ≡ false) × (place.old.me.0.moved ≡ 0) }
     requires role { (place.old.me.0.role ≡ true) × (place.old.me.0.due ≡ false) }
-    requires room { length (all_of place.old.me.0.parts) ≤ into.old.spare }
+    requires room { total ≤ into.old.spare }
     ensures same { IsSameSeat place.new place.old }
     ensures bare { place.new.me.1 ≡ [] }
     ensures moved { into.new.items ≡ into.old.items ++ all_of place.old.me.0.parts }
     ensures count { result.count ≡ count }
     ensures finished { Finished (key_of words.now) place.old.me.0 result place.new.me.0 }
 {
-    empty_all(words, place, held, parts, into);
+    empty_all(words, place, found.held, found.count, total, into);
     let due = is_removal_due(&outer, policy);
     put_value(words, place, outer);
     leave_fetch::<Brand>(words, place, due);
@@ -200,8 +217,8 @@ pub(crate) fn settle(
     let taken = finish(
         words,
         place,
-        found.held,
-        found.count,
+        found,
+        total,
         outer,
         count as u64,
         into,

@@ -8,11 +8,12 @@ abbrev pub invariant-loop-buffer : goal.invariant-loop-buffer
 invariant-loop-buffer l = record {
   table : l.place.table_id ≡ l.initial.place.table_id;
   id : l.place.id ≡ l.initial.place.id;
-  standing : Standing l.held l.buffer l.place.me l.left;
+  standing : Standing l.held l.buffer l.place.me l.buffers;
   emptying : Emptying l.initial.place.me.0 l.place.me;
   fetching : l.place.me.0.fetching ≡ true;
   moved : l.into.items ++ all_of l.place.me.0.parts ≡ l.initial.into.items ++ all_of l.initial.place.me.0.parts;
-  room : length (all_of l.place.me.0.parts) ≤ l.into.spare;
+  left : l.left ≡ length (all_of l.place.me.0.parts);
+  room : l.left ≤ l.into.spare;
   within : l.buffer ≤ BUFFERS;
   set : l.buffer < BUFFERS → filled_at l.held l.buffer ≡ true;
 }

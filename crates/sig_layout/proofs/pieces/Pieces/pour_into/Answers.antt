@@ -26,8 +26,8 @@ returns-clause-list c = let inv = c.loop-i.invariant in let ls : List (List Sign
     let none : all_pieces ls ≡ [] = all_poured ls (λ k l. inv.poured k (omega (arith, c.loop-i-test.false, inv.size))) in
     let view : c.args.self.now ≡ all_pieces c.self.inside.first.items ++ c.self.inside.last = search rules in
     let into : c.loop-i.into.items ≡ c.args.into.now.items ++ all_pieces c.self.inside.first.items = sym (append-nil c.loop-i.into.items) ∙ (ap (λ (x : List Signal). c.loop-i.into.items ++ x) (sym none) ∙ inv.moved) in
-    c.pour_into-2.ensures.list ∙ ((λ k. into k ++ inv.last k) ∙ (append_assoc c.args.into.now.items (all_pieces c.self.inside.first.items) c.self.inside.last ∙ ap (λ (x : List Signal). c.args.into.now.items ++ x) (sym view)))
+    c.pour_with_room.ensures.list ∙ ((λ k. into k ++ inv.last k) ∙ (append_assoc c.args.into.now.items (all_pieces c.self.inside.first.items) c.self.inside.last ∙ ap (λ (x : List Signal). c.args.into.now.items ++ x) (sym view)))
 
 pub returns-clause-rest : goal.returns-clause-rest
 returns-clause-rest c = let inv = c.loop-i.invariant in let ls : List (List Signal) = c.loop-i.self-inside.first.items in
-    let none : all_pieces ls ≡ [] = all_poured ls (λ k l. inv.poured k (omega (arith, c.loop-i-test.false, inv.size))) in λ k. none k ++ c.pour_into-2.ensures.rest k
+    let none : all_pieces ls ≡ [] = all_poured ls (λ k l. inv.poured k (omega (arith, c.loop-i-test.false, inv.size))) in λ k. none k ++ c.pour_with_room.ensures.rest k
