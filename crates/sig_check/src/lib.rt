@@ -10,6 +10,7 @@ mod retracing;
 mod verdict;
 
 pub use checking::check;
+pub use opening::{close, open};
 pub use replaying::{Replaying, replay};
 pub use resting::a_crew_rests_where_none_can_go;
 pub use retracing::a_retraced_crew_has_the_record;

@@ -29,8 +29,9 @@ fn seat_all(alloc: Global, count: u32, procs: Vec<Process>) -> Result<Vec<Player
     Ok(players)
 }
 
-/// The processes of the script, as the script opens them. The error is want of memory.
-pub(crate) fn open(alloc: Global, script: &Script) -> Result<Vec<Player>, AllocError>
+/// The processes of the script, as the script opens them: none has made a choice yet. The error is want of
+/// memory. (Erlang Reference Manual, Processes, Process Creation; scripts are this project's own.)
+pub fn open(alloc: Global, script: &Script) -> Result<Vec<Player>, AllocError>
     ensures ready { IfOk result (λ players. AreReady players.items) }
     ensures opened { IfOk result (λ players. crew_of players.items ≡ opened_crew script.now) }
     ensures lawful { IfOk result (λ players. IsLawfulCrew script.now (crew_of players.items)) }
@@ -73,8 +74,12 @@ fn close_one(player: Player) -> Result<Process, AllocError>
     Ok(process)
 }
 
-/// These processes, each of which takes in all that waits for it. The error is want of memory.
-pub(crate) fn close(alloc: Global, players: Vec<Player>) -> Result<Vec<Process>, AllocError>
+/// These processes, each of which takes in all that waits for it, by ascending sender. So they can be
+/// gathered into a record. The error is want of memory.
+///
+/// Asks that each process itself has taken in no signal of another, and has a list for each process of
+/// the script, with signals of that sender alone that may arrive.
+pub fn close(alloc: Global, players: Vec<Player>) -> Result<Vec<Process>, AllocError>
     requires { All IsReady players.items }
     ensures { IfOk result (λ procs. runnings_of procs.items ≡ crew_of players.items) }
 {

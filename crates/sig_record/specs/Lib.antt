@@ -9,6 +9,7 @@ pub mod Phrases
 pub mod EventRows
 pub mod KindRows
 pub mod RecordText
+pub mod EndText
 pub mod Readers
 pub mod RecordFronts
 pub mod LineReaders

@@ -1,6 +1,7 @@
 //! Records of runs, and their text.
 #![tactic(auto)]
 
+mod ending_text;
 mod gathering;
 mod items;
 mod lines;
@@ -21,6 +22,7 @@ mod summary;
 mod text_parts;
 mod words;
 
+pub use ending_text::print_ends;
 pub use merging::{Merged, MergedAt};
 pub use ordering::merged_record_is_the_order;
 pub use printing::{print_header, print_record, print_reports};

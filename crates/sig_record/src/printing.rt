@@ -52,7 +52,7 @@ fn put(into: &mut Vec<u8>, text: &[u8]) -> Result<(), AllocError>
     into.extend_from_slice(text)
 }
 
-fn put_byte(into: &mut Vec<u8>, byte: u8) -> Result<(), AllocError>
+pub(crate) fn put_byte(into: &mut Vec<u8>, byte: u8) -> Result<(), AllocError>
     ensures { IsPut into.old.items into.new.items (byte ∷ []) result }
 {
     into.push(byte)?;
@@ -83,14 +83,14 @@ fn put_spaced_number(into: &mut Vec<u8>, number: u64) -> Result<(), AllocError>
     put_number(into, number)
 }
 
-fn put_pid(into: &mut Vec<u8>, word: &[u8], pid: Pid) -> Result<(), AllocError>
+pub(crate) fn put_pid(into: &mut Vec<u8>, word: &[u8], pid: Pid) -> Result<(), AllocError>
     ensures text { IsPut into.old.items into.new.items (word.now ++ decimal pid.0) result }
     ensures narrow { IsNarrow pid.0 }
 {
     put_numbered(into, word, u64::from(pid.0))
 }
 
-fn put_term(into: &mut Vec<u8>, word: &[u8], term: &Term) -> Result<(), AllocError>
+pub(crate) fn put_term(into: &mut Vec<u8>, word: &[u8], term: &Term) -> Result<(), AllocError>
     ensures text { IsPut into.old.items into.new.items (word.now ++ term_text term.now) result }
     ensures stored { OnOk result (IsTerm term.now) }
 {
@@ -309,7 +309,7 @@ fn put_referring(
 }
 
 /// A space, and the kind.
-fn put_spaced_kind(into: &mut Vec<u8>, kind: &Kind) -> Result<(), AllocError>
+pub(crate) fn put_spaced_kind(into: &mut Vec<u8>, kind: &Kind) -> Result<(), AllocError>
     ensures text { IsPut into.old.items into.new.items (codes " " ++ kind_text kind.now) result }
     ensures stored { OnOk result (IsStoredKind kind.now) }
 {
@@ -360,7 +360,7 @@ fn put_ended(into: &mut Vec<u8>, reason: &Term) -> Result<(), AllocError>
     put_byte(into, b'\n')
 }
 
-fn put_state(into: &mut Vec<u8>, state: &State) -> Result<(), AllocError>
+pub(crate) fn put_state(into: &mut Vec<u8>, state: &State) -> Result<(), AllocError>
     ensures text { IsPut into.old.items into.new.items (state_text state.now) result }
     ensures stored { OnOk result (IsStoredState state.now) }
 {
@@ -371,7 +371,7 @@ fn put_state(into: &mut Vec<u8>, state: &State) -> Result<(), AllocError>
     }
 }
 
-fn put_head(into: &mut Vec<u8>, pid: Pid, name: &Name) -> Result<(), AllocError>
+pub(crate) fn put_head(into: &mut Vec<u8>, pid: Pid, name: &Name) -> Result<(), AllocError>
     ensures text { IsPut into.old.items into.new.items (head_text pid.0 name.now) result }
     ensures stored { OnOk result (IsNarrow pid.0 × (is_token name.now ≡ true)) }
 {
