@@ -29,6 +29,8 @@ mod markers;
 #[cfg(test)]
 mod matches;
 #[cfg(test)]
+mod outcomes;
+#[cfg(test)]
 mod processes;
 #[cfg(test)]
 mod records;

@@ -93,7 +93,7 @@ fn first_unserved(alloc: Global, text: &[u8]) -> Result<Option<u32>, AllocError>
 /// How many of the clients have ended as they may: each has stopped, or it is the one that may be
 /// killed and was killed.
 fn count_ended(text: &[u8]) -> usize {
-    let stopped = count(text, b" exec 6 ended normal\n");
+    let stopped = count(text, b" exec 6 ended normal\nstate ended normal\n");
     stopped.saturating_add(count(text, b"\nstate ended killed\nprocess 6 c6\n"))
 }
 
