@@ -2,6 +2,5 @@ pub mod WordLemmas
 pub mod InputLemmas
 pub mod RangeLemmas
 pub mod TextLemmas
-pub mod OutcomeLemmas
 pub mod DueLemmas
 pub mod AnswerLemmas

@@ -23,14 +23,14 @@ fn refuse<E: Sink>(err: &mut E, fault: io::Error) -> ViewStatus {
 
 /// The program `sigview`, on the arguments of its runtime and these streams: `view` of both. Where the
 /// arguments can't be had, for want of memory or since one is no text, it tells so as `view` does of a
-/// want of memory or of words that are no command. The exit code is the number of the status, 0 to 9, 11 or 12.
+/// want of memory or of words that are no command. The exit code is the number of the status, 0 to 9 or 11.
 pub fn program<R, I, O, E>(rt: &R, stdin: I, stdout: O, stderr: E) -> ExitCode
 where
     R: Env + Alloc<A = Global>,
     I: Read + Drop,
     O: Write + Drop,
     E: Write + Drop,
-    ensures { result.status ≤ 12 }
+    ensures { result.status ≤ 11 }
 {
     let mut err = StdSink::new(stderr);
     let status = match arguments(rt) {

@@ -18,8 +18,7 @@ use sig_edge::{
 const PROGRAM: &str = "sigview";
 
 /// How the command is called.
-const USAGE: &[u8] =
-    b"usage: sigview chart [--from S] [--to T]|concurrent P I|outcomes [--states N] [--record K]\n";
+const USAGE: &[u8] = b"usage: sigview chart [--from S] [--to T]|concurrent P I\n";
 
 /// Writes these words, a number and what stands behind it, behind the program's name.
 fn tell_number<E: Sink>(err: &mut E, words: &str, number: u64, behind: &str) -> Result<(), Untold>
@@ -63,10 +62,6 @@ fn tell_status<E: Sink>(err: &mut E, status: ViewStatus) -> Result<(), Untold>
             MOST_EVENTS as u64,
             " events: choose some with --from S --to T",
         ),
-        ViewStatus::NoOutcome => tell_pieces(err, &[PROGRAM.as_bytes(), b": no such outcome\n"]),
-        ViewStatus::Unfinished { states } => {
-            tell_number(err, "states seen:", states, "; there may be more outcomes")
-        }
     }
 }
 

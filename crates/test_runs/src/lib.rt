@@ -29,8 +29,6 @@ mod markers;
 #[cfg(test)]
 mod matches;
 #[cfg(test)]
-mod outcomes;
-#[cfg(test)]
 mod processes;
 #[cfg(test)]
 mod records;
