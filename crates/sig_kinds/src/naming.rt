@@ -7,8 +7,8 @@ ghost use Rattle.sig_kinds.specs.SignalNames.{names_of_kind, SignalNames};
 use crate::signal::{Kind, Signal};
 
 impl Kind {
-    /// Whether each process that it names is known, also each owner of a reference: `known` is true
-    /// at its place.
+    /// True only where each process that it names is known, also each owner of a reference: `known`
+    /// is true at its place.
     #[tactic(auto, using(crate::proofs::KnownNames::known_ref, crate::proofs::KnownNames::known_both))]
     pub fn names_only(&self, known: &[bool]) -> bool
         ensures { result ≡ true → All (IsAmong known.now) (names_of_kind self.now) }

@@ -19,7 +19,8 @@ fn all_name_only(items: &[Expr], known: &[bool]) -> bool
 }
 
 impl Expr {
-    /// Whether each process that stands in the expression is known: `known` is true at its place.
+    /// True only where each process that stands in the expression is known: `known` is true at its
+    /// place.
     #[cycle(names_only)]
     pub fn names_only(&self, known: &[bool]) -> bool
         ensures { result ≡ true → IsExprAmong known.now self.now }

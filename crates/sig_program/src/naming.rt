@@ -7,8 +7,8 @@ use crate::instruction::Instr;
 use crate::process::Proc;
 
 impl Instr {
-    /// Whether each process that stands in an expression of the instruction is known: `known` is
-    /// true at its place.
+    /// True only where each process that stands in an expression of the instruction is known: `known`
+    /// is true at its place.
     pub fn names_only(&self, known: &[bool]) -> bool
         ensures { result ≡ true → IsInstrAmong known.now self.now }
     {
@@ -37,8 +37,8 @@ impl Instr {
 }
 
 impl Proc {
-    /// Whether each process that stands in an expression of its instructions is known: `known` is
-    /// true at its place.
+    /// True only where each process that stands in an expression of its instructions is known:
+    /// `known` is true at its place.
     pub fn names_only(&self, known: &[bool]) -> bool
         ensures { result ≡ true → All (IsInstrAmong known.now) self.now.instrs }
     {

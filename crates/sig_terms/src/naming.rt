@@ -18,7 +18,7 @@ impl Pid {
     }
 }
 
-/// Whether the terms name known processes alone.
+/// True only where the terms name known processes alone.
 #[cycle(names_only)]
 fn all_name_only(items: &[Term], known: &[bool]) -> bool
     ensures { result ≡ true → All (AllNames (IsAmong known.now)) items.now }
@@ -32,8 +32,8 @@ fn all_name_only(items: &[Term], known: &[bool]) -> bool
 }
 
 impl Term {
-    /// Whether each process that the term names is known, also each owner of a reference: `known`
-    /// is true at its place.
+    /// True only where each process that the term names is known, also each owner of a reference:
+    /// `known` is true at its place.
     #[cycle(names_only)]
     pub fn names_only(&self, known: &[bool]) -> bool
         ensures { result ≡ true → AllNames (IsAmong known.now) self.now }
