@@ -1,7 +1,7 @@
 //! Graphs, from a table: how many nodes are searched at most, what is met in which order, and whether that is all.
 
 use crate::graph::Graph;
-use sig_search::search;
+use sig_search::{Silent, search};
 use std::alloc::{AllocError, Global};
 
 // A graph, the node with which a search begins, how many nodes it visits at most, the nodes that it meets in their
@@ -126,7 +126,7 @@ fn has_met(graph: &Graph<'_>, met: &[u32]) -> bool {
 // Whether a search goes as the row says.
 fn goes(alloc: Global, row: &Row) -> Result<bool, AllocError> {
     let mut graph = Graph::begun(alloc, row.edges, row.first)?;
-    let all = search(&mut graph, row.most)?;
+    let all = search(&mut graph, row.most, &mut Silent)?;
     Ok(all == row.all && has_met(&graph, row.met))
 }
 

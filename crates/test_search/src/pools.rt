@@ -1,0 +1,139 @@
+//! Pools of many things, from a table: the numbers follow from the order in which the things are given.
+
+ghost use Rattle.std.specs.Prelude.{ℕ};
+
+use sig_search::{Plain, Pool};
+use std::alloc::{AllocError, Global};
+
+// A thing that has one of so many marks.
+#[derive(Drop)]
+struct Marked {
+    value: u32,
+    marks: u64,
+}
+
+impl Plain for Marked {
+    ghost Sight = { ℕ };
+
+    ghost shown = { λ m. m.value };
+
+    fn same(&self, other: &Marked) -> bool {
+        self.value == other.value
+    }
+
+    fn mark(&self) -> u64 {
+        u64::from(self.value).checked_rem(self.marks).unwrap_or(0)
+    }
+}
+
+// How many things there are, the difference of each to the one before it, and how many marks they have.
+struct Row {
+    count: u32,
+    step: u32,
+    marks: u64,
+}
+
+static ROWS: [Row; 9] = [
+    // one mark for all, two, and a few
+    Row {
+        count: 600,
+        step: 1,
+        marks: 1,
+    },
+    Row {
+        count: 600,
+        step: 1,
+        marks: 2,
+    },
+    Row {
+        count: 1000,
+        step: 7,
+        marks: 48,
+    },
+    // as many as a power of two, and one more
+    Row {
+        count: 8,
+        step: 1,
+        marks: 1 << 32,
+    },
+    Row {
+        count: 9,
+        step: 1,
+        marks: 1 << 32,
+    },
+    Row {
+        count: 64,
+        step: 3,
+        marks: 1 << 32,
+    },
+    Row {
+        count: 65,
+        step: 3,
+        marks: 1 << 32,
+    },
+    // many, each with a mark of its own: in a row, and alike in their lower 16 bits
+    Row {
+        count: 20000,
+        step: 1,
+        marks: 1 << 32,
+    },
+    Row {
+        count: 20000,
+        step: 1 << 16,
+        marks: 1 << 32,
+    },
+];
+
+fn thing(row: &Row, at: u32) -> Marked {
+    Marked {
+        value: at.wrapping_mul(row.step),
+        marks: row.marks,
+    }
+}
+
+// Whether each thing gets its place among them as its number.
+fn gives_places(pool: &mut Pool<Marked>, row: &Row) -> Result<bool, AllocError> {
+    for at in 0..row.count {
+        if pool.number(thing(row, at))? != at as usize {
+            return Ok(false);
+        }
+    }
+    Ok(true)
+}
+
+// Whether each thing stands at its place, and none behind them.
+fn has_all(pool: &Pool<Marked>, row: &Row) -> bool {
+    for at in 0..row.count {
+        let Some(found) = pool.get(at as usize) else {
+            return false;
+        };
+        if found.value != at.wrapping_mul(row.step) {
+            return false;
+        }
+    }
+    pool.len() == row.count as usize && pool.get(pool.len()).is_none()
+}
+
+// Whether the things get the numbers that the row says, at first and again, and stand there then.
+fn numbers_right(alloc: Global, row: &Row) -> Result<bool, AllocError> {
+    let mut pool = Pool::new(alloc);
+    let first = gives_places(&mut pool, row)?;
+    let again = gives_places(&mut pool, row)?;
+    Ok(first && again && has_all(&pool, row))
+}
+
+// The first row whose things get other numbers.
+fn wrong_row(alloc: Global, rows: &[Row]) -> Result<Option<usize>, AllocError> {
+    for at in 0..rows.len() {
+        if !numbers_right(alloc, &rows[at])? {
+            return Ok(Some(at));
+        }
+    }
+    Ok(None)
+}
+
+#[test]
+fn pools_number_things_in_their_order(rt: HostRuntime) {
+    let wrong = wrong_row(rt.alloc(), &ROWS);
+    assert!(rt; wrong.is_ok_and(|row| row.is_none()));
+}
