@@ -6,9 +6,9 @@ use Rattle.sig_tool.specs.declared.status.ToolStatus.TheVariants as tool
 use Rattle.sig_tool.specs.Inputs.{IsUnfit}
 use Rattle.sig_view.specs.declared.command.Command.{Command}
 use Rattle.sig_view.specs.declared.status.ViewStatus.{ViewStatus}
-use Rattle.sig_view.specs.declared.status.ViewStatus.TheVariants.{Done, BadScript, Usage, ReadFault, WriteFault, Memory, No, BadRecord, TooLong, NoEvent, TooManyEvents}
+use Rattle.sig_view.specs.declared.status.ViewStatus.TheVariants.{Done, BadScript, Usage, ReadFault, WriteFault, Memory, No, BadRecord, TooLong, NoEvent, TooManyEvents, NoOutcome, Unfinished}
 use Rattle.sig_view.specs.Statuses.{of_tool}
-use Rattle.sig_view.specs.Inputs.{IsNoInput, IsUnfitFor}
+use Rattle.sig_view.specs.Inputs.{IsNoInput, IsUnfitRecord}
 
 pub no_input : (r : Reading) (status : ToolStatus) → IsUnfit r status → IsNoInput r (of_tool status)
 no_input r tool.Done h = absurd h.2
@@ -26,15 +26,17 @@ no_input r (tool.BadCall line kind) h = absurd h.2
 pub said_input : (r : Reading) (status : ToolStatus) (said : ViewStatus) → said ≡ of_tool status → IsUnfit r status → IsNoInput r said
 said_input r status said is h = subst (λ (s : ViewStatus). IsNoInput r s) (sym is) (no_input r status h)
 
-pub unfit_for : (command : Command) (r : Reading) (status : ViewStatus) → IsNoInput r status → IsUnfitFor command r status
-unfit_for command r Done h = h
-unfit_for command r (BadScript line kind) h = h
-unfit_for command r Usage h = h
-unfit_for command r ReadFault h = h
-unfit_for command r WriteFault h = h
-unfit_for command r Memory h = h
-unfit_for command r (No event) h = h
-unfit_for command r (BadRecord line) h = h
-unfit_for command r TooLong h = h
-unfit_for command r NoEvent h = absurd h
-unfit_for command r TooManyEvents h = absurd h
+pub unfit_record : (command : Command) (r : Reading) (status : ViewStatus) → IsNoInput r status → IsUnfitRecord command r status
+unfit_record command r Done h = h
+unfit_record command r (BadScript line kind) h = h
+unfit_record command r Usage h = h
+unfit_record command r ReadFault h = h
+unfit_record command r WriteFault h = h
+unfit_record command r Memory h = h
+unfit_record command r (No event) h = h
+unfit_record command r (BadRecord line) h = h
+unfit_record command r TooLong h = h
+unfit_record command r NoEvent h = absurd h
+unfit_record command r TooManyEvents h = absurd h
+unfit_record command r NoOutcome h = h
+unfit_record command r (Unfinished states) h = h

@@ -2,5 +2,6 @@ pub mod WordLemmas
 pub mod InputLemmas
 pub mod RangeLemmas
 pub mod TextLemmas
+pub mod OutcomeLemmas
 pub mod DueLemmas
 pub mod AnswerLemmas

@@ -11,14 +11,14 @@ use Rattle.sig_order.specs.declared.at.At.{At}
 use Rattle.sig_tool.specs.Inputs.{IsSettledPair}
 use Rattle.sig_view.specs.declared.command.Command.TheVariants.{Chart, Concurrent}
 use Rattle.sig_view.specs.declared.status.ViewStatus.{ViewStatus}
-use Rattle.sig_view.specs.declared.status.ViewStatus.TheVariants.{Done, BadScript, Usage, ReadFault, WriteFault, Memory, No, BadRecord, TooLong, NoEvent, TooManyEvents}
+use Rattle.sig_view.specs.declared.status.ViewStatus.TheVariants.{Done, BadScript, Usage, ReadFault, WriteFault, Memory, No, BadRecord, TooLong, NoEvent, TooManyEvents, NoOutcome, Unfinished}
 use Rattle.sig_view.specs.Charts.{IsDrawn}
-use Rattle.sig_view.specs.Inputs.{IsTextRead}
+use Rattle.sig_view.specs.Inputs.{IsRecordRead}
 use Rattle.sig_view.specs.Origins.{AreOrigins}
 use Rattle.sig_view.specs.Ranges.{IsAnswered}
 
 module _ (r : Reading) (script : Program) (reports : List Report) (origins : List Origin) (pair : IsSettledPair r script reports) (are : AreOrigins script reports origins) where
-  pub answer_read : (event : At) (result : Result (Vec ℕ Global) ViewStatus) → IsAnswered reports origins event result → IsTextRead (Concurrent event) r result
+  pub answer_read : (event : At) (result : Result (Vec ℕ Global) ViewStatus) → IsAnswered reports origins event result → IsRecordRead (Concurrent event) r result
   answer_read event (Ok text) h = (script, reports, pair, (origins, are, h))
   answer_read event (Err Done) h = absurd h
   answer_read event (Err (BadScript line kind)) h = absurd h
@@ -31,8 +31,10 @@ module _ (r : Reading) (script : Program) (reports : List Report) (origins : Lis
   answer_read event (Err TooLong) h = absurd h
   answer_read event (Err NoEvent) h = (script, reports, pair, h)
   answer_read event (Err TooManyEvents) h = absurd h
+  answer_read event (Err NoOutcome) h = absurd h
+  answer_read event (Err (Unfinished states)) h = absurd h
 
-  pub chart_read : (window : Window) (result : Result (Vec ℕ Global) ViewStatus) → IsDrawn script reports origins window result → IsTextRead (Chart window) r result
+  pub chart_read : (window : Window) (result : Result (Vec ℕ Global) ViewStatus) → IsDrawn script reports origins window result → IsRecordRead (Chart window) r result
   chart_read window (Ok text) h = (script, reports, pair, (origins, are, h))
   chart_read window (Err Done) h = absurd h
   chart_read window (Err (BadScript line kind)) h = absurd h
@@ -45,3 +47,5 @@ module _ (r : Reading) (script : Program) (reports : List Report) (origins : Lis
   chart_read window (Err TooLong) h = absurd h
   chart_read window (Err NoEvent) h = absurd h
   chart_read window (Err TooManyEvents) h = (script, reports, pair, h)
+  chart_read window (Err NoOutcome) h = absurd h
+  chart_read window (Err (Unfinished states)) h = absurd h

@@ -1,5 +1,5 @@
 -- The commands, what each writes, and of what record it refuses to (this project's own).
-use Rattle.std.specs.Prelude.{◌≡◌, ℕ, Bool, true, false, List, [], ◌∷◌, codes, if◌then◌else◌, Option, Some, None}
+use Rattle.std.specs.Prelude.{◌≡◌, ◌&&◌, ℕ, true, false, List, [], ◌∷◌, codes, if◌then◌else◌, Option, Some, None, option_and_then, nat_le, nat_lt}
 use Rattle.std.specs.Str.{bytes_eq}
 use Rattle.sig_program.specs.Scripts.{Program}
 use Rattle.sig_record.specs.declared.report.Report.{Report}
@@ -8,8 +8,8 @@ use Rattle.sig_order.specs.declared.at.At.{At}
 use Rattle.sig_order.specs.Happening.{is_there}
 use Rattle.sig_tool.specs.Numbers.{event_named, number_in}
 use Rattle.sig_view.specs.declared.command.Command.{Command}
-use Rattle.sig_view.specs.declared.command.Command.TheVariants.{Chart, Concurrent}
-use Rattle.sig_view.specs.declared.command.TheConstants.{LOWEST, HIGHEST}
+use Rattle.sig_view.specs.declared.command.Command.TheVariants.{Chart, Concurrent, Outcomes, OutcomeRecord}
+use Rattle.sig_view.specs.declared.command.TheConstants.{LOWEST, HIGHEST, STATES, MOST_STATES}
 use Rattle.sig_view.specs.declared.status.ViewStatus.{ViewStatus}
 use Rattle.sig_view.specs.declared.status.ViewStatus.TheVariants.{NoEvent, TooManyEvents}
 use Rattle.sig_view.specs.Charts.{HasFew, IsChartText}
@@ -33,43 +33,85 @@ concurrent_with None = None
 abbrev pub concurrent_of : List ℕ → Option At → Option Command
 concurrent_of word event = if bytes_eq word (codes "concurrent") then concurrent_with event else None
 
+-- the number of states, where a search may visit so many
+abbrev pub allowed : ℕ → Option ℕ
+allowed states = if nat_lt 0 states && nat_le states MOST_STATES then Some states else None
+
+abbrev pub states_in : List ℕ → Option ℕ
+states_in text = option_and_then allowed (number_in text)
+
+-- the command `outcomes` of so many states, where the word is its name
+abbrev pub outcomes_with : Option ℕ → Option Command
+outcomes_with (Some states) = Some (Outcomes states)
+outcomes_with None = None
+
+abbrev pub outcomes_of : List ℕ → Option ℕ → Option Command
+outcomes_of word states = if bytes_eq word (codes "outcomes") then outcomes_with states else None
+
+-- the same with the number of an outcome, whose record it writes
+abbrev pub record_with : Option ℕ → Option ℕ → Option Command
+record_with (Some states) (Some number) = Some (OutcomeRecord states number)
+record_with _ _ = None
+
+abbrev pub record_of : List ℕ → Option ℕ → Option ℕ → Option Command
+record_of word states number = if bytes_eq word (codes "outcomes") then record_with states number else None
+
 -- the number behind an option with this name
 abbrev pub option_of : List ℕ → List ℕ → List ℕ → Option ℕ
 option_of name word value = if bytes_eq word name then number_in value else None
 
--- of three words: `chart` with one option, or `concurrent` with a pid and an event
+-- the number of states behind the option `--states`
+abbrev pub states_option : List ℕ → List ℕ → Option ℕ
+states_option word value = if bytes_eq word (codes "--states") then states_in value else None
+
+-- of one word: `outcomes` or `chart`
+abbrev pub of_one : List ℕ → Option Command
+of_one word = if bytes_eq word (codes "outcomes") then Some (Outcomes STATES) else chart_of word (Some LOWEST) (Some HIGHEST)
+
+-- of three words: `chart` or `outcomes` with one option, or `concurrent` with a pid and an event
 abbrev pub of_three : List ℕ → List ℕ → List ℕ → Option Command
 of_three word second third =
     if bytes_eq second (codes "--from") then chart_of word (number_in third) (Some HIGHEST)
-    else (if bytes_eq second (codes "--to") then chart_of word (Some LOWEST) (number_in third) else concurrent_of word (event_named second third))
+    else (if bytes_eq second (codes "--to") then chart_of word (Some LOWEST) (number_in third)
+    else (if bytes_eq second (codes "--states") then outcomes_of word (states_in third)
+    else (if bytes_eq second (codes "--record") then record_of word (Some STATES) (number_in third) else concurrent_of word (event_named second third))))
+
+-- of five words: `outcomes` with two options in either order, or `chart` with two in their order
+abbrev pub of_five : List ℕ → List ℕ → List ℕ → List ℕ → List ℕ → Option Command
+of_five word first one second other =
+    if bytes_eq first (codes "--states") then record_of word (states_in one) (option_of (codes "--record") second other)
+    else (if bytes_eq first (codes "--record") then record_of word (states_option second other) (number_in one)
+    else chart_of word (option_of (codes "--from") first one) (option_of (codes "--to") second other))
 
 -- the command that these words are
 abbrev pub command_of : List (List ℕ) → Option Command
-command_of (word ∷ []) = chart_of word (Some LOWEST) (Some HIGHEST)
+command_of (word ∷ []) = of_one word
 command_of (word ∷ second ∷ third ∷ []) = of_three word second third
-command_of (word ∷ first ∷ from ∷ second ∷ to ∷ []) = chart_of word (option_of (codes "--from") first from) (option_of (codes "--to") second to)
+command_of (word ∷ first ∷ one ∷ second ∷ other ∷ []) = of_five word first one second other
 command_of _ = None
 
 -- ---- what is written
 
--- the text that the command writes, of a script and the record of a settled run of it
+-- the text that a command of records writes, of a script and the record of a settled run of it
 abbrev pub IsTextOf : Command → Program → List Report → List ℕ → Type 0
 IsTextOf (Chart window) script reports text = IsChartText script reports window text
 IsTextOf (Concurrent event) script reports text = IsConcurrentText script reports event text
+IsTextOf _ script reports text = ⊥
 
 -- the command has something to write of this record
 abbrev pub IsFit : Command → List Report → Type 0
 IsFit (Chart window) reports = HasFew reports window
 IsFit (Concurrent event) reports = is_there reports event ≡ true
+IsFit _ reports = ⊥
 
 -- the record lacks the event of which the command asks, or has more events than the command draws
 abbrev pub LacksEvent : Command → List Report → Type 0
-LacksEvent (Chart window) reports = ⊥
 LacksEvent (Concurrent event) reports = is_there reports event ≡ false
+LacksEvent _ reports = ⊥
 
 abbrev pub HasTooMany : Command → List Report → Type 0
 HasTooMany (Chart window) reports = AreTooMany reports window
-HasTooMany (Concurrent event) reports = ⊥
+HasTooMany _ reports = ⊥
 
 -- so it is refused with this status
 abbrev pub IsRefusal : Command → List Report → ViewStatus → Type 0

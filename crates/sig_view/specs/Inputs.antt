@@ -1,4 +1,4 @@
--- What is read, as the tool reads it, and what the command writes of it; or why it writes nothing.
+-- What is read of a script with a record behind it, as the tool reads it, and what a command of records writes of it; or why it writes nothing.
 use Rattle.std.specs.Prelude.{ℕ, List, Result, Ok, Err, Vec}
 use Rattle.std.specs.Global.{Global}
 use Rattle.sig_edge.specs.Streams.{Reading}
@@ -27,19 +27,19 @@ IsSettledRead r (Ok given) = IsSettledPair r given.script given.told
 IsSettledRead r (Err status) = IsNoInput r status
 
 -- this is what the command writes of what the source spells
-abbrev pub IsTextFor : Command → Reading → List ℕ → Type 0
-IsTextFor command r text = (script : Program) × (reports : List Report) × IsSettledPair r script reports × IsTextOf command script reports text
+abbrev pub IsRecordText : Command → Reading → List ℕ → Type 0
+IsRecordText command r text = (script : Program) × (reports : List Report) × IsSettledPair r script reports × IsTextOf command script reports text
 
 -- the source spells the record of a settled run, of which the command refuses to write
 abbrev pub IsRefused : Command → Reading → ViewStatus → Type 0
 IsRefused command r status = (script : Program) × (reports : List Report) × IsSettledPair r script reports × IsRefusal command reports status
 
 -- why there is nothing that the command could write
-abbrev pub IsUnfitFor : Command → Reading → ViewStatus → Type 0
-IsUnfitFor command r NoEvent = IsRefused command r NoEvent
-IsUnfitFor command r TooManyEvents = IsRefused command r TooManyEvents
-IsUnfitFor command r status = IsNoInput r status
+abbrev pub IsUnfitRecord : Command → Reading → ViewStatus → Type 0
+IsUnfitRecord command r NoEvent = IsRefused command r NoEvent
+IsUnfitRecord command r TooManyEvents = IsRefused command r TooManyEvents
+IsUnfitRecord command r status = IsNoInput r status
 
-abbrev pub IsTextRead : Command → Reading → Result (Vec ℕ Global) ViewStatus → Type 0
-IsTextRead command r (Ok text) = IsTextFor command r text.items
-IsTextRead command r (Err status) = IsUnfitFor command r status
+abbrev pub IsRecordRead : Command → Reading → Result (Vec ℕ Global) ViewStatus → Type 0
+IsRecordRead command r (Ok text) = IsRecordText command r text.items
+IsRecordRead command r (Err status) = IsUnfitRecord command r status

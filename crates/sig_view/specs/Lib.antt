@@ -2,7 +2,10 @@ pub mod Statuses
 pub mod Origins
 pub mod Ranges
 pub mod Charts
+pub mod OutcomeText
+pub mod Outcomes
 pub mod Commands
 pub mod Inputs
+pub mod Texts
 pub mod Told
 pub mod Answers

@@ -1,5 +1,5 @@
 -- What the command `concurrent` writes (this project's own).
-use Rattle.std.specs.Prelude.{◌≡◌, ℕ, ◌+◌, ◌<◌, Bool, true, false, List, [], ◌∷◌, ◌++◌, length, get_or, Option, Some, None, Result, Ok, Err, Vec, ⊤, codes, decimal}
+use Rattle.std.specs.Prelude.{◌≡◌, ℕ, ◌+◌, ◌<◌, true, false, List, [], ◌∷◌, ◌++◌, length, get_or, Option, Some, None, Result, Ok, Err, Vec, ⊤, codes, decimal}
 use Rattle.std.specs.Global.{Global}
 use Rattle.sig_program.specs.Scripts.{Program}
 use Rattle.sig_model.specs.declared.origin.Origin.{Origin}

@@ -1,9 +1,11 @@
--- The numbers of the statuses, and the statuses that say what one of the tool says (this project's own).
+-- The numbers of the statuses, and the statuses that say what one of the tool says, or an error of another crate (this project's own).
 use Rattle.std.specs.Prelude.{ℕ}
+use Rattle.sig_reader.specs.declared.reader.ScriptError.{ScriptError}
+use Rattle.sig_reader.specs.declared.reader.ScriptError.TheVariants as unread
 use Rattle.sig_tool.specs.declared.status.ToolStatus.{ToolStatus}
 use Rattle.sig_tool.specs.declared.status.ToolStatus.TheVariants as tool
 use Rattle.sig_view.specs.declared.status.ViewStatus.{ViewStatus}
-use Rattle.sig_view.specs.declared.status.ViewStatus.TheVariants.{Done, BadScript, Usage, ReadFault, WriteFault, Memory, No, BadRecord, TooLong, NoEvent, TooManyEvents}
+use Rattle.sig_view.specs.declared.status.ViewStatus.TheVariants.{Done, BadScript, Usage, ReadFault, WriteFault, Memory, No, BadRecord, TooLong, NoEvent, TooManyEvents, NoOutcome, Unfinished}
 
 abbrev pub number_of : ViewStatus → ℕ
 number_of Done = 0
@@ -17,6 +19,8 @@ number_of (BadRecord line) = 7
 number_of TooLong = 8
 number_of NoEvent = 9
 number_of TooManyEvents = 11
+number_of NoOutcome = 12
+number_of (Unfinished states) = 0
 
 -- of a status that says why there is no input; reading answers no other
 abbrev pub of_tool : ToolStatus → ViewStatus
@@ -27,3 +31,7 @@ of_tool (tool.No event) = No event
 of_tool (tool.BadRecord line) = BadRecord line
 of_tool tool.TooLong = TooLong
 of_tool _ = Usage
+
+abbrev pub of_script : ScriptError → ViewStatus
+of_script (unread.Fault line kind) = BadScript line kind
+of_script unread.Memory = Memory

@@ -4,7 +4,7 @@ ghost use Rattle.std.specs.Prelude.{IfOk};
 ghost use Rattle.sig_edge.specs.Streams.{reading};
 ghost use Rattle.sig_view.specs.declared.command.Command.TheVariants.{Chart};
 ghost use Rattle.sig_view.specs.Charts.{IsDrawn};
-ghost use Rattle.sig_view.specs.Inputs.{IsTextRead};
+ghost use Rattle.sig_view.specs.Inputs.{IsRecordRead};
 
 use crate::origins::origins_of;
 use crate::reading::read_settled;
@@ -38,7 +38,7 @@ pub(crate) fn chart_text<S: Source>(
     window: Window,
     input: &mut S,
 ) -> Result<Vec<u8>, ViewStatus>
-    ensures { IsTextRead (Chart window) (reading (S.left input.old) (S.left input.new) (S.faults input.old) (S.faults input.new)) result }
+    ensures { IsRecordRead (Chart window) (reading (S.left input.old) (S.left input.new) (S.faults input.old) (S.faults input.new)) result }
 {
     let given = read_settled(alloc, input)?;
     let origins = origins_of(alloc, &given)?;

@@ -4,7 +4,7 @@ ghost use Rattle.std.specs.Prelude.{◌≡◌, ◌++◌, true, IfOk, OnOk, decim
 ghost use Rattle.sig_edge.specs.Streams.{reading};
 ghost use Rattle.sig_order.specs.Happening.{is_there};
 ghost use Rattle.sig_view.specs.declared.command.Command.TheVariants.{Concurrent};
-ghost use Rattle.sig_view.specs.Inputs.{IsTextRead};
+ghost use Rattle.sig_view.specs.Inputs.{IsRecordRead};
 ghost use Rattle.sig_view.specs.Ranges.{ends_text, span_line, range_line, range_lines, AreRanges, IsAnswered};
 
 use crate::origins::origins_of;
@@ -103,7 +103,7 @@ pub(crate) fn concurrent_text<S: Source>(
     event: At,
     input: &mut S,
 ) -> Result<Vec<u8>, ViewStatus>
-    ensures { IsTextRead (Concurrent event) (reading (S.left input.old) (S.left input.new) (S.faults input.old) (S.faults input.new)) result }
+    ensures { IsRecordRead (Concurrent event) (reading (S.left input.old) (S.left input.new) (S.faults input.old) (S.faults input.new)) result }
 {
     let given = read_settled(alloc, input)?;
     let origins = origins_of(alloc, &given)?;

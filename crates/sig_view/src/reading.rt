@@ -1,11 +1,13 @@
-//! The input: a script, and behind it a record, which is that of a settled run of the script.
+//! The input: a script; or one with a record behind it, which is that of a settled run of the script.
 
 ghost use Rattle.sig_edge.specs.Streams.{reading};
 ghost use Rattle.sig_view.specs.Inputs.{IsSettledRead};
+ghost use Rattle.sig_view.specs.Outcomes.{AreBytes, IsScriptOf, IsScriptRead};
 
 use crate::status::{ViewStatus, of_tool};
-use sig_base::Source;
-use sig_tool::{Given, read_checked};
+use sig_base::{ReadAll, Source, read_all};
+use sig_script::{Script, read_script};
+use sig_tool::{Given, MOST_INPUT, read_checked};
 use std::alloc::Global;
 
 /// Reads the input to its end, and the script and the record that it spells, where the record is that
@@ -17,4 +19,33 @@ pub(crate) fn read_settled<S: Source>(alloc: Global, input: &mut S) -> Result<Gi
         Ok(given) => Ok(given),
         Err(status) => Err(of_tool(status)),
     }
+}
+
+/// Reads the input to its end.
+fn read_bytes<S: Source>(alloc: Global, input: &mut S) -> Result<Vec<u8>, ViewStatus>
+    ensures { AreBytes (reading (S.left input.old) (S.left input.new) (S.faults input.old) (S.faults input.new)) result }
+{
+    let mut bytes = Vec::new(alloc);
+    match read_all(input, MOST_INPUT, &mut bytes) {
+        ReadAll::Whole => Ok(bytes),
+        ReadAll::TooLong => Err(ViewStatus::TooLong),
+        ReadAll::ReadFault => Err(ViewStatus::ReadFault),
+        ReadAll::Memory => Err(ViewStatus::Memory),
+    }
+}
+
+/// The script that the bytes spell.
+fn script_of(alloc: Global, bytes: &[u8]) -> Result<Script, ViewStatus>
+    ensures { IsScriptOf bytes.now result }
+{
+    let script = read_script(alloc, bytes)?;
+    Ok(script)
+}
+
+/// Reads the input to its end, and the script that it spells.
+pub(crate) fn read_alone<S: Source>(alloc: Global, input: &mut S) -> Result<Script, ViewStatus>
+    ensures { IsScriptRead (reading (S.left input.old) (S.left input.new) (S.faults input.old) (S.faults input.new)) result }
+{
+    let bytes = read_bytes(alloc, input)?;
+    script_of(alloc, bytes.as_slice())
 }

@@ -1,5 +1,6 @@
 ghost use Rattle.std.specs.Prelude.{◌≤◌};
 
+use crate::progress::Progress;
 use crate::status::ViewStatus;
 use crate::telling::tell;
 use crate::top::view;
@@ -7,9 +8,10 @@ use sig_base::{Sink, StdSink, StdSource};
 use sig_edge::arguments;
 use std::alloc::Global;
 use std::io;
-use std::io::{Read, Write};
+use std::io::{IsTerminal, Read, Write};
 use std::process::ExitCode;
 use std::rt::Env;
+use std::time::Clock;
 
 /// The status where the arguments can't be had, told on standard error. Nothing was read.
 fn refuse<E: Sink>(err: &mut E, fault: io::Error) -> ViewStatus {
@@ -23,14 +25,15 @@ fn refuse<E: Sink>(err: &mut E, fault: io::Error) -> ViewStatus {
 
 /// The program `sigview`, on the arguments of its runtime and these streams: `view` of both. Where the
 /// arguments can't be had, for want of memory or since one is no text, it tells so as `view` does of a
-/// want of memory or of words that are no command. The exit code is the number of the status, 0 to 9 or 11.
+/// want of memory or of words that are no command. The exit code is the number of the status, 0 to 9, 11 or 12.
+/// A search that takes longer than a second tells how far it is, where standard error is a terminal.
 pub fn program<R, I, O, E>(rt: &R, stdin: I, stdout: O, stderr: E) -> ExitCode
 where
-    R: Env + Alloc<A = Global>,
+    R: Env + Clock + Alloc<A = Global>,
     I: Read + Drop,
     O: Write + Drop,
-    E: Write + Drop,
-    ensures { result.status ≤ 11 }
+    E: Write + IsTerminal + Copy,
+    ensures { result.status ≤ 12 }
 {
     let mut err = StdSink::new(stderr);
     let status = match arguments(rt) {
@@ -40,6 +43,7 @@ where
             &mut StdSource::new(stdin),
             &mut StdSink::new(stdout),
             &mut err,
+            &mut Progress::new(rt, StdSink::new(stderr), stderr.is_terminal()),
         ),
         Err(fault) => refuse(&mut err, fault),
     };

@@ -1,8 +1,8 @@
 ghost use Rattle.std.specs.Prelude.{◌≡◌};
-ghost use Rattle.sig_view.specs.Statuses.{number_of, of_tool};
+ghost use Rattle.sig_view.specs.Statuses.{number_of, of_script, of_tool};
 ghost use Rattle.sig_view.specs.declared.status.ViewStatus.TheVariants as status;
 
-use sig_script::FaultKind;
+use sig_script::{FaultKind, ScriptError};
 use sig_tool::ToolStatus;
 use std::alloc::AllocError;
 
@@ -33,11 +33,16 @@ pub enum ViewStatus {
     /// The record is that of a settled run, and more than [`MOST_EVENTS`](sig_chart::MOST_EVENTS) of
     /// its events have the stamps that `chart` is to draw.
     TooManyEvents,
+    /// The search found no outcome of the number for whose record `outcomes` was asked.
+    NoOutcome,
+    /// The outcomes that the search found were written whole. It has met so many states, and hasn't
+    /// come to its end: there may be more.
+    Unfinished { states: u64 },
 }
 
 impl ViewStatus {
     /// The number with which the program ends. It is that of the tool for the same cause; 10, which the
-    /// tool has for a cause of its own, isn't used.
+    /// tool has for a cause of its own, isn't used. Where all was written it is 0.
     pub fn number(self) -> u8
         ensures { result ≡ number_of self }
     {
@@ -53,6 +58,8 @@ impl ViewStatus {
             ViewStatus::TooLong => 8,
             ViewStatus::NoEvent => 9,
             ViewStatus::TooManyEvents => 11,
+            ViewStatus::NoOutcome => 12,
+            ViewStatus::Unfinished { states: _ } => 0,
         }
     }
 }
@@ -62,6 +69,17 @@ impl From<AllocError> for ViewStatus {
 
     fn from(_e: AllocError) -> ViewStatus {
         ViewStatus::Memory
+    }
+}
+
+impl From<ScriptError> for ViewStatus {
+    ghost from_gives = { λ e s. s ≡ of_script e };
+
+    fn from(e: ScriptError) -> ViewStatus {
+        match e {
+            ScriptError::Fault { line, kind } => ViewStatus::BadScript { line, kind },
+            ScriptError::Memory => ViewStatus::Memory,
+        }
     }
 }
 

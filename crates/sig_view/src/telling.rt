@@ -15,10 +15,11 @@ use sig_edge::{
 };
 
 /// The program's name, with which what it tells begins.
-const PROGRAM: &str = "sigview";
+pub(crate) const PROGRAM: &str = "sigview";
 
 /// How the command is called.
-const USAGE: &[u8] = b"usage: sigview chart [--from S] [--to T]|concurrent P I\n";
+const USAGE: &[u8] =
+    b"usage: sigview chart [--from S] [--to T]|concurrent P I|outcomes [--states N] [--record K]\n";
 
 /// Writes these words, a number and what stands behind it, behind the program's name.
 fn tell_number<E: Sink>(err: &mut E, words: &str, number: u64, behind: &str) -> Result<(), Untold>
@@ -62,6 +63,10 @@ fn tell_status<E: Sink>(err: &mut E, status: ViewStatus) -> Result<(), Untold>
             MOST_EVENTS as u64,
             " events: choose some with --from S --to T",
         ),
+        ViewStatus::NoOutcome => tell_pieces(err, &[PROGRAM.as_bytes(), b": no such outcome\n"]),
+        ViewStatus::Unfinished { states } => {
+            tell_number(err, "states met:", states, "; there may be more outcomes")
+        }
     }
 }
 

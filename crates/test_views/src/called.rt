@@ -1,6 +1,7 @@
 //! Calls of the viewer: what they are given, and what they answer, write and tell.
 
 use sig_base::{FailingSink, FailingSource, MemorySink};
+use sig_search::Silent;
 use sig_view::{ViewStatus, view};
 use std::alloc::{AllocError, Global};
 
@@ -98,6 +99,7 @@ impl Called {
             &mut called.input,
             &mut called.out,
             &mut called.err,
+            &mut Silent,
         );
         Ok(called)
     }

@@ -97,7 +97,7 @@ fn are_refused(alloc: Global, words: &[&str]) -> Result<bool, AllocError> {
     Ok(called.is(
         ViewStatus::Usage,
         b"",
-        b"usage: sigview chart [--from S] [--to T]|concurrent P I\n",
+        b"usage: sigview chart [--from S] [--to T]|concurrent P I|outcomes [--states N] [--record K]\n",
     ))
 }
 

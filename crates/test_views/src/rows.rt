@@ -12,6 +12,10 @@ pub(crate) const ITS_RECORD: &[u8] =
 /// The events that are concurrent with the second of its first process, the end: all of the other.
 pub(crate) const WITH_ITS_END: &[u8] = b"concurrent 1 1 3\n";
 
+/// The list of its outcomes, of which there is one.
+pub(crate) const ITS_OUTCOME: &[u8] =
+    b"outcomes 1 all\noutcome 1\nprocess 0 a\nstate ended normal\nprocess 1 b\nstate ended normal\n";
+
 /// A message goes round three processes. The record was worked out by hand from the tables of the machine.
 pub(crate) const RING: &[u8] =
     b"sigscript 1\nprocess a\nsend @b x\nreceive\non x\nend\nprocess b\nreceive\non x\nend\nsend @c x\n\

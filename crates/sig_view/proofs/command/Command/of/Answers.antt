@@ -9,3 +9,6 @@ returns-in_default-2 c = other_count (string_bytes {Z = Global}) c.args.words.no
 
 pub returns-in_default-3 : goal.returns-in_default-3
 returns-in_default-3 c = other_count (string_bytes {Z = Global}) c.args.words.now (λ e. omega (arith, e, c.in_default.len_at_least)) (λ e. omega (arith, e, c.in_default.len_at_least)) (λ e. omega (arith, e, c.in_default.len_below))
+
+pub returns-in_default-4 : goal.returns-in_default-4
+returns-in_default-4 c = other_count (string_bytes {Z = Global}) c.args.words.now (λ e. omega (arith, e, c.in_default.len_at_least)) (λ e. omega (arith, e, c.in_default.len_at_least)) (λ e. omega (arith, e, c.in_default.len_at_least))

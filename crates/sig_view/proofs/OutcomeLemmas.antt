@@ -1,0 +1,145 @@
+-- The text of outcomes is that of the records that tell them; and what was found, as it is listed.
+use Rattle.std.proofs.Common.{◌≡◌, ◌≢◌, ℕ, zero, suc, ◌+◌, ◌<◌, Bool, List, [], ◌∷◌, ◌++◌, map, length, drop, get_or, Option, Some, None, refl, sym, ap, ◌∙◌, append_assoc, drop-cons, add-one, subst, arith}
+use Rattle.std.specs.Prelude.{All, AllPairs}
+use Rattle.std.specs.List.{flat_map}
+use Rattle.std.specs.Option.{option_map}
+use Rattle.std.proofs.lemmas.List.{get_or-map, length-map}
+use Rattle.std.proofs.lemmas.List.Elements.{All-head, All-tail, All-map}
+use Rattle.std.proofs.lemmas.List.Folds.{flat_map-map}
+use Rattle.std.proofs.lemmas.Option.{slice_get-map, slice_get_within, get_or_from_slice_get}
+use Rattle.sig_program.specs.Scripts.{Declared, Program}
+use Rattle.sig_runs.specs.Machine.{At, Machine}
+use Rattle.sig_kinds.specs.declared.signal.Signal.{Signal}
+use Rattle.sig_model.specs.declared.event.Event.{Event}
+use Rattle.sig_model.specs.ProcessState.{ProcessState}
+use Rattle.sig_outcomes.specs.Outcomes.{unhandled}
+use Rattle.sig_outcomelaw.specs.Told.{message_of, outcome_told, rest_told}
+use Rattle.sig_record.specs.declared.report.Report.{Report}
+use Rattle.sig_record.specs.EndText.{end_text, ends_text, left_end, message_text, queued_end}
+use Rattle.sig_program.specs.ScriptNames.{AreNames}
+use Rattle.sig_record.specs.ReadableRecord.{CanBeReread}
+use Rattle.sig_record.specs.SizedRecord.{IsSizedRecord}
+use Rattle.sig_record.specs.RecordText.{head_text, record_text, state_text}
+use Rattle.sig_record.specs.RunRecord.{events_listed, run_report, run_reports}
+use Rattle.sig_check.specs.Verdicts.{IsOfSettledRun}
+use Rattle.sig_view.specs.declared.status.ViewStatus.{ViewStatus}
+use Rattle.sig_view.specs.OutcomeText.{endings_from, endings_text, first_line, names_of, number_line, outcomes_from, outcomes_text, rest_text, rests_text, unhandled_text}
+use Rattle.sig_view.specs.Outcomes.{AreFound, AreListed, HasNoOutcome, IsEndWith, IsOutcome, IsOutcomeRecord, IsOutcomesText, numbered}
+
+-- ---- one process
+
+end_is_rest : (r : Report) → end_text r ≡ head_text r.pid.0 r.name ++ rest_text (rest_told r)
+unfolding end_text
+end_is_rest r =
+    let head : List ℕ = head_text r.pid.0 r.name in
+    let lefts : List ℕ = flat_map message_text (map message_of r.left) in
+    let waits : List ℕ = flat_map unhandled_text (map unhandled r.queued) in
+    let state : List ℕ = state_text r.state in
+    let left : flat_map message_text (map message_of r.left) ≡ flat_map left_end r.left = flat_map-map message_text message_of r.left in
+    let queued : flat_map unhandled_text (map unhandled r.queued) ≡ flat_map queued_end r.queued = flat_map-map unhandled_text unhandled r.queued in
+    ap (λ (t : List ℕ). head ++ t ++ flat_map queued_end r.queued ++ state) (sym left)
+    ∙ ap (λ (t : List ℕ). head ++ lefts ++ t ++ state) (sym queued)
+    ∙ append_assoc (head ++ lefts) waits state ∙ append_assoc head lefts (waits ++ state) ∙ ap (λ (t : List ℕ). head ++ t) (sym (append_assoc lefts waits state))
+
+-- ---- one record
+
+module _ (count turns : ℕ) (events : List (At Event)) (m : Machine ProcessState Signal) where
+  ends_are_rests : (pid : ℕ) (ds : List Declared) (ss : List ProcessState)
+      → ends_text (run_reports count turns events m pid ds ss) ≡ rests_text pid (map (λ (d : Declared). d.name) ds) (outcome_told (run_reports count turns events m pid ds ss))
+  ends_are_rests pid [] ss = refl
+  ends_are_rests pid (d ∷ ds) [] = refl
+  ends_are_rests pid (d ∷ ds) (s ∷ ss) =
+      let r : Report = run_report count turns events m pid d s in
+      let others : List Report = run_reports count turns events m (pid + 1) ds ss in
+      ap (λ (t : List ℕ). t ++ ends_text others) (end_is_rest r)
+      ∙ ap (λ (t : List ℕ). head_text pid d.name ++ rest_text (rest_told r) ++ t) (ends_are_rests (pid + 1) ds ss)
+
+module _ (script : Program) where
+  ends_of_settled : (reports : List Report) → IsOfSettledRun script reports → ends_text reports ≡ rests_text 0 (names_of script) (outcome_told reports)
+  ends_of_settled reports h =
+      ap ends_text h.run.told
+      ∙ ends_are_rests (length script.procs) script.turns (events_listed reports h.run.order) h.machine 0 script.procs h.machine.procs
+      ∙ ap (λ (rs : List Report). rests_text 0 (names_of script) (outcome_told rs)) (sym h.run.told)
+
+  -- ---- several records
+
+  endings_are_outcomes : (endings : List (List Report)) (number : ℕ) → All (IsOfSettledRun script) endings
+      → endings_from number endings ≡ outcomes_from number (names_of script) (map outcome_told endings)
+  endings_are_outcomes [] number h = refl
+  endings_are_outcomes (e ∷ es) number h =
+      ap (λ (t : List ℕ). number_line number ++ t ++ endings_from (number + 1) es) (ends_of_settled e (All-head (IsOfSettledRun script) e es h))
+      ∙ ap (λ (t : List ℕ). number_line number ++ rests_text 0 (names_of script) (outcome_told e) ++ t) (endings_are_outcomes es (number + 1) (All-tail (IsOfSettledRun script) e es h))
+
+  text_is : (endings : List (List Report)) (all : Bool) → All (IsOfSettledRun script) endings → endings_text endings all ≡ outcomes_text (names_of script) (map outcome_told endings) all
+  text_is endings all h =
+      ap (λ n. first_line n all ++ endings_from 1 endings) (sym (length-map endings outcome_told))
+      ∙ ap (λ (t : List ℕ). first_line (length (map outcome_told endings)) all ++ t) (endings_are_outcomes endings 1 h)
+
+  -- ---- what was found
+
+  pairs_told : (endings : List (List Report)) → AllPairs (λ a b. outcome_told a ≢ outcome_told b) endings → AllPairs (λ a b. a ≢ b) (map outcome_told endings)
+  pairs_told endings h i j d less within same =
+      let lt : j < length endings = subst (λ n. j < n) (length-map endings outcome_told) within in
+      let first : get_or (map outcome_told endings) i d ≡ outcome_told (get_or endings i []) = get_or-map outcome_told endings i [] d (omega (arith, less, lt)) in
+      let second : get_or (map outcome_told endings) j d ≡ outcome_told (get_or endings j []) = get_or-map outcome_told endings j [] d lt in
+      h i j [] less lt (sym first ∙ same ∙ second)
+
+  module _ (endings : List (List Report)) (all : Bool) (found : AreFound script endings all) where
+    are_listed : AreListed script (map outcome_told endings) all
+    are_listed = record {
+      each = All-map (IsOutcome script) outcome_told endings (λ k d lt. (get_or endings k d, found.each k d lt, refl));
+      distinct = pairs_told endings found.distinct;
+      whole = found.whole;
+    }
+
+    pub listed_text : (text : List ℕ) (end : ViewStatus) → text ≡ endings_text endings all → IsEndWith all end → IsOutcomesText script text end
+    listed_text text end is ends = record { outcomes = map outcome_told endings; all = all; listed = are_listed; lines = is ∙ text_is endings all found.each; ends = ends }
+
+    numbered_told : (number : ℕ) → numbered number (map outcome_told endings) ≡ option_map outcome_told (numbered number endings)
+    numbered_told zero = refl
+    numbered_told (suc place) = slice_get-map outcome_told endings place
+
+    settled_at : (number : ℕ) (reports : List Report) → numbered number endings ≡ Some reports → IsOfSettledRun script reports
+    settled_at zero reports is = absurd (cc)
+    settled_at (suc place) reports is =
+        subst (IsOfSettledRun script) (get_or_from_slice_get endings place reports reports is) (found.each place reports (slice_get_within endings place reports is))
+
+    sized_at : AreNames script → (number : ℕ) (reports : List Report) → numbered number endings ≡ Some reports → IsSizedRecord reports
+    sized_at names zero reports is = absurd (cc)
+    sized_at names (suc place) reports is =
+        subst IsSizedRecord (get_or_from_slice_get endings place reports reports is) (found.sized names place reports (slice_get_within endings place reports is))
+
+    pub listed_record : (number : ℕ) (reports : List Report) (text : List ℕ) → numbered number endings ≡ Some reports → text ≡ record_text reports → CanBeReread reports
+        → AreNames script → IsOutcomeRecord script number text
+    unfolding CanBeReread
+    listed_record number reports text is printed can names = record {
+      outcomes = map outcome_told endings;
+      all = all;
+      listed = are_listed;
+      reports = reports;
+      settled = settled_at number reports is;
+      readable = can (sized_at names number reports is);
+      there = numbered_told number ∙ ap (λ (o : Option (List Report)). option_map outcome_told o) is;
+      printed = printed;
+    }
+
+    pub none_numbered : (number : ℕ) → numbered number endings ≡ None → HasNoOutcome script number
+    none_numbered number is = record {
+      outcomes = map outcome_told endings;
+      all = all;
+      listed = are_listed;
+      missing = numbered_told number ∙ ap (λ (o : Option (List Report)). option_map outcome_told o) is;
+    }
+
+-- ---- the loop
+
+-- with one more the text has the outcomes so far
+pub ends_more : (endings : List (List Report)) (at : ℕ) (ending : List Report) (all old new : List ℕ) → at < length endings → ending ≡ get_or endings at ending
+    → old ++ endings_from (at + 1) (drop at endings) ≡ all → new ≡ old ++ (number_line (at + 1) ++ ends_text ending)
+    → new ++ endings_from (at + 1 + 1) (drop (at + 1) endings) ≡ all
+ends_more endings at ending all old new h there so is =
+    let own : List ℕ = number_line (at + 1) ++ ends_text ending in
+    let rest : drop at endings ≡ ending ∷ drop (at + 1) endings =
+    drop-cons endings at ending h ∙ ap (λ (e : List Report). e ∷ drop (suc at) endings) (sym there) ∙ ap (λ k. ending ∷ drop k endings) (sym (add-one at)) in
+    let more : List ℕ = endings_from (at + 1 + 1) (drop (at + 1) endings) in
+    ap (λ (t : List ℕ). t ++ more) is ∙ append_assoc old own more ∙ ap (λ (es : List (List Report)). old ++ endings_from (at + 1) es) (sym rest) ∙ so

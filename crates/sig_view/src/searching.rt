@@ -1,0 +1,133 @@
+//! The command `outcomes`.
+
+ghost use Rattle.std.specs.Prelude.{◌≡◌, IfOk, OnOk};
+ghost use Rattle.std.specs.Option.{option_copied};
+ghost use Rattle.sig_edge.specs.Streams.{reading};
+ghost use Rattle.sig_program.specs.ScriptNames.{AreNames};
+ghost use Rattle.sig_record.specs.ReadableRecord.{CanBeReread};
+ghost use Rattle.sig_record.specs.RecordText.{record_text};
+ghost use Rattle.sig_view.specs.declared.command.Command.TheVariants.{Outcomes as Listing};
+ghost use Rattle.sig_view.specs.Outcomes.{AreFound, IsEndWith, IsListText, IsNumberedText, IsRecordFound, numbered};
+ghost use Rattle.sig_view.specs.Texts.{IsTextRead};
+
+use crate::outcome_text::endings_text;
+use crate::reading::read_alone;
+use crate::status::ViewStatus;
+use crate::text::Text;
+use sig_base::Source;
+use sig_explore::{Outcomes, list_outcomes};
+use sig_record::{Record, print_record};
+use sig_script::{Script, names_of_scripts_are_name_tokens};
+use sig_search::Teller;
+use std::alloc::{AllocError, Global};
+
+/// What a search of the script's runs finds, which visits at most so many states.
+fn search<T: Teller>(
+    alloc: Global,
+    script: &Script,
+    states: u64,
+    teller: &mut T,
+) -> Result<Outcomes, AllocError>
+    ensures { IfOk result (λ found. AreFound script.now found.endings.items found.all) }
+{
+    list_outcomes(alloc, script, states as usize, teller)
+}
+
+/// How the call ends that has written what was found.
+fn end_of(found: &Outcomes) -> ViewStatus
+    ensures { IsEndWith found.now.all result }
+{
+    if found.all {
+        ViewStatus::Done
+    } else {
+        ViewStatus::Unfinished {
+            states: found.states as u64,
+        }
+    }
+}
+
+/// The text that lists the outcomes of the script which a search finds.
+fn list_text<T: Teller>(
+    alloc: Global,
+    script: &Script,
+    states: u64,
+    teller: &mut T,
+) -> Result<Text, ViewStatus>
+    ensures { IsListText script.now result }
+{
+    let found = search(alloc, script, states, teller)?;
+    let bytes = endings_text(alloc, found.endings.as_slice(), found.all)?;
+    let end = end_of(&found);
+    Ok(Text { bytes, end })
+}
+
+/// The text of `outcomes`: the outcomes of the script that the input spells, as many as a search of at
+/// most so many states finds.
+pub(crate) fn outcomes_text<S: Source, T: Teller>(
+    alloc: Global,
+    states: u64,
+    input: &mut S,
+    teller: &mut T,
+) -> Result<Text, ViewStatus>
+    ensures { IsTextRead (Listing states) (reading (S.left input.old) (S.left input.new) (S.faults input.old) (S.faults input.new)) result }
+{
+    let script = read_alone(alloc, input)?;
+    list_text(alloc, &script, states, teller)
+}
+
+/// The record of this number, counted from 1.
+fn numbered(endings: &[Record], number: u64) -> Option<&Record>
+    ensures { option_copied result ≡ numbered number endings.now }
+{
+    match number.checked_sub(1) {
+        Some(place) => endings.get(place as usize),
+        None => None,
+    }
+}
+
+/// The text of a record.
+fn text_of(alloc: Global, told: &Record) -> Result<Vec<u8>, AllocError>
+    ensures text { IfOk result (λ text. text.items ≡ record_text told.now) }
+    ensures readable { OnOk result (CanBeReread told.now) }
+{
+    let mut text = Vec::new(alloc);
+    print_record(told, &mut text)?;
+    Ok(text)
+}
+
+/// The text of the record of this number, counted from 1, among those that a search finds; `NoOutcome`
+/// where there is none.
+fn numbered_text<T: Teller>(
+    alloc: Global,
+    script: &Script,
+    states: u64,
+    number: u64,
+    teller: &mut T,
+) -> Result<Vec<u8>, ViewStatus>
+    ensures { AreNames script.now → IsNumberedText script.now number result }
+{
+    let found = search(alloc, script, states, teller)?;
+    match numbered(found.endings.as_slice(), number) {
+        Some(ending) => {
+            let text = text_of(alloc, ending)?;
+            Ok(text)
+        }
+        None => Err(ViewStatus::NoOutcome),
+    }
+}
+
+/// The text of `outcomes --record`: the record of a run that ends in the outcome of this number, counted
+/// from 1, of those that a search of at most so many states finds.
+pub(crate) fn outcome_record_text<S: Source, T: Teller>(
+    alloc: Global,
+    states: u64,
+    number: u64,
+    input: &mut S,
+    teller: &mut T,
+) -> Result<Vec<u8>, ViewStatus>
+    ensures { IsRecordFound number (reading (S.left input.old) (S.left input.new) (S.faults input.old) (S.faults input.new)) result }
+{
+    let script = read_alone(alloc, input)?;
+    names_of_scripts_are_name_tokens();
+    numbered_text(alloc, &script, states, number, teller)
+}

@@ -1,0 +1,267 @@
+//! The outcomes of scripts, and the records of runs that end in them.
+
+use crate::called::{Called, PLAIN, Setting};
+use crate::outcome_rows::{ROWS, Row};
+use crate::recorded::recorded;
+use crate::rows::{CLIENTS, ITS_OUTCOME, ITS_RECORD, ONE_MESSAGE};
+use sig_script::FaultKind;
+use sig_view::ViewStatus;
+use std::alloc::{AllocError, Global};
+
+/// What follows the outcome of this number, with the place of that among these. `None` where it is none
+/// of them.
+fn past_outcome<'a>(
+    alloc: Global,
+    text: &'a [u8],
+    number: usize,
+    outcomes: &[&[u8]],
+) -> Result<Option<(usize, &'a [u8])>, AllocError> {
+    let line = format!(in alloc; "outcome {number}\n")?;
+    let Some(outcome) = text.strip_prefix(line.as_bytes()) else {
+        return Ok(None);
+    };
+    for place in 0..outcomes.len() {
+        if let Some(rest) = outcome.strip_prefix(outcomes[place]) {
+            return Ok(Some((place, rest)));
+        }
+    }
+    Ok(None)
+}
+
+/// The places of the listed outcomes among these, where the text lists all of them, each once.
+fn places_in(
+    alloc: Global,
+    text: &[u8],
+    outcomes: &[&[u8]],
+) -> Result<Option<Vec<usize>>, AllocError> {
+    let count = outcomes.len();
+    let first = format!(in alloc; "outcomes {count} all\n")?;
+    let Some(mut rest) = text.strip_prefix(first.as_bytes()) else {
+        return Ok(None);
+    };
+    let mut places = Vec::new(alloc);
+    for number in 1..=count {
+        match past_outcome(alloc, rest, number, outcomes)? {
+            Some((place, behind)) if !places.contains(&place) => {
+                places.push(place)?;
+                rest = behind;
+            }
+            _ => return Ok(None),
+        }
+    }
+    if rest.is_empty() {
+        Ok(Some(places))
+    } else {
+        Ok(None)
+    }
+}
+
+/// Whether the record that is written for this number tells of this outcome.
+fn is_recorded(
+    alloc: Global,
+    script: &[u8],
+    number: usize,
+    outcome: &[u8],
+) -> Result<bool, AllocError> {
+    match recorded(alloc, script, number)? {
+        Some(ends) => Ok(ends.as_slice() == outcome),
+        None => Ok(false),
+    }
+}
+
+/// Whether the outcomes of the row's script are listed, and each has its record.
+fn is_listed(alloc: Global, row: &Row) -> Result<bool, AllocError> {
+    let (script, outcomes) = row;
+    let setting = Setting {
+        words: &["outcomes"],
+        ..PLAIN
+    };
+    let called = Called::of(alloc, &setting, script, b"")?;
+    let Some(places) = places_in(alloc, called.out.held(), outcomes)? else {
+        return Ok(false);
+    };
+    for at in 0..places.len() {
+        match outcomes.get(places[at]) {
+            Some(outcome) if is_recorded(alloc, script, at.saturating_add(1), outcome)? => {}
+            _ => return Ok(false),
+        }
+    }
+    Ok(called.status == ViewStatus::Done && called.err.held().is_empty())
+}
+
+/// The first row of which that isn't so.
+fn first_other(alloc: Global) -> Result<Option<usize>, AllocError> {
+    for at in 0..ROWS.len() {
+        if !is_listed(alloc, &ROWS[at])? {
+            return Ok(Some(at));
+        }
+    }
+    Ok(None)
+}
+
+#[test]
+fn outcomes_are_listed(rt: HostRuntime) {
+    let other = first_other(rt.alloc());
+    assert!(rt; other == Ok(None), "{other:?}");
+}
+
+/// Whether these words on this script alone are answered so.
+fn is_so(
+    alloc: Global,
+    words: &[&str],
+    script: &[u8],
+    status: ViewStatus,
+    written: &[u8],
+    told: &[u8],
+) -> Result<bool, AllocError> {
+    let setting = Setting { words, ..PLAIN };
+    let called = Called::of(alloc, &setting, script, b"")?;
+    Ok(called.is(status, written, told))
+}
+
+/// Words with which it is listed.
+static LISTING: [&[&str]; 3] = [
+    &["outcomes"],
+    &["outcomes", "--states", "10000000"],
+    &["outcomes", "--states", "000100"],
+];
+
+/// Words with which the record of a run is written that ends in it.
+static RECORDING: [&[&str]; 3] = [
+    &["outcomes", "--record", "1"],
+    &["outcomes", "--states", "100", "--record", "01"],
+    &["outcomes", "--record", "1", "--states", "100"],
+];
+
+/// Words that ask for another one.
+static MISSING: [&[&str]; 3] = [
+    &["outcomes", "--record", "0"],
+    &["outcomes", "--record", "2"],
+    &[
+        "outcomes",
+        "--states",
+        "1",
+        "--record",
+        "18446744073709551615",
+    ],
+];
+
+/// Words that are no command.
+static WORDS: [&[&str]; 12] = [
+    &["Outcomes"],
+    &["outcomes", "1"],
+    &["outcomes", "--states"],
+    &["outcomes", "--states", "0"],
+    &["outcomes", "--states", "10000001"],
+    &["outcomes", "--states", "-1"],
+    &["outcomes", "--record", "x"],
+    &["outcomes", "--record", "18446744073709551616"],
+    &["outcomes", "--states", "1", "--states", "2"],
+    &["outcomes", "--record", "1", "--record", "2"],
+    &["outcomes", "--states", "0", "--record", "1"],
+    &["chart", "--states", "1"],
+];
+
+/// Whether the words are those of commands, or of none.
+fn are_words(alloc: Global) -> Result<bool, AllocError> {
+    for words in &LISTING {
+        if !is_so(
+            alloc,
+            words,
+            ONE_MESSAGE,
+            ViewStatus::Done,
+            ITS_OUTCOME,
+            b"",
+        )? {
+            return Ok(false);
+        }
+    }
+    for words in &WORDS {
+        let setting = Setting { words, ..PLAIN };
+        let called = Called::of(alloc, &setting, ONE_MESSAGE, b"")?;
+        if called.status != ViewStatus::Usage || !called.out.held().is_empty() {
+            return Ok(false);
+        }
+    }
+    Ok(true)
+}
+
+#[test]
+fn outcomes_have_their_words(rt: HostRuntime) {
+    let are = are_words(rt.alloc());
+    assert!(rt; are == Ok(true));
+}
+
+/// Whether the record is written where there is one, and else a refusal is told.
+fn are_numbered(alloc: Global) -> Result<bool, AllocError> {
+    for words in &RECORDING {
+        let setting = Setting { words, ..PLAIN };
+        let called = Called::of(alloc, &setting, ONE_MESSAGE, b"")?;
+        let again = Called::of(alloc, &PLAIN, ONE_MESSAGE, called.out.held())?;
+        if called.status != ViewStatus::Done || again.status != ViewStatus::Done {
+            return Ok(false);
+        }
+    }
+    for words in &MISSING {
+        let told = b"sigview: no such outcome\n";
+        if !is_so(alloc, words, ONE_MESSAGE, ViewStatus::NoOutcome, b"", told)? {
+            return Ok(false);
+        }
+    }
+    Ok(ViewStatus::NoOutcome.number() == 12)
+}
+
+#[test]
+fn outcomes_have_their_numbers(rt: HostRuntime) {
+    let are = are_numbered(rt.alloc());
+    assert!(rt; are == Ok(true));
+}
+
+/// Whether a search that visits one state says that there may be more, and how many states it has met.
+fn is_unfinished(alloc: Global) -> Result<bool, AllocError> {
+    let setting = Setting {
+        words: &["outcomes", "--states", "1"],
+        ..PLAIN
+    };
+    let called = Called::of(alloc, &setting, CLIENTS, b"")?;
+    let ViewStatus::Unfinished { states } = called.status else {
+        return Ok(false);
+    };
+    let told = format!(in alloc; "sigview: states met: {states}; there may be more outcomes\n")?;
+    let is_told = called.is(called.status, b"outcomes 0 more\n", told.as_bytes());
+    Ok(is_told && called.status.number() == 0)
+}
+
+#[test]
+fn a_search_that_has_not_ended_says_so(rt: HostRuntime) {
+    let unfinished = is_unfinished(rt.alloc());
+    assert!(rt; unfinished == Ok(true));
+}
+
+/// Whether inputs that are no script are refused as ever; one with a record behind it is none.
+fn are_refused(alloc: Global) -> Result<bool, AllocError> {
+    let setting = Setting {
+        words: &["outcomes"],
+        ..PLAIN
+    };
+    let header = ViewStatus::BadScript {
+        line: 1,
+        kind: FaultKind::Header,
+    };
+    let syntax = ViewStatus::BadScript {
+        line: 8,
+        kind: FaultKind::Syntax,
+    };
+    let empty = Called::of(alloc, &setting, b"", b"")?;
+    let behind = Called::of(alloc, &setting, ONE_MESSAGE, ITS_RECORD)?;
+    Ok(
+        empty.is(header, b"", b"sigview: line 1: header\n")
+            && behind.is(syntax, b"", b"sigview: line 8: syntax\n"),
+    )
+}
+
+#[test]
+fn other_inputs_have_no_outcomes(rt: HostRuntime) {
+    let refused = are_refused(rt.alloc());
+    assert!(rt; refused == Ok(true));
+}
