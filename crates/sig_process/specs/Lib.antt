@@ -12,5 +12,6 @@ pub mod Steps
 pub mod Arrivals
 pub mod Tests
 pub mod PartsOf
+pub mod Portraits
 pub mod Lending
 pub mod Idling
