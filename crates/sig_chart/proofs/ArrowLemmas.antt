@@ -1,5 +1,5 @@
 -- For each mark of a handling there is one arrow.
-use Rattle.std.proofs.Common.{◌≡◌, ℕ, ◌+◌, List, [], ◌∷◌, ◌++◌, map, Option, Some, None, refl, ap, cond, Bool}
+use Rattle.std.proofs.Common.{◌≡◌, ℕ, ◌+◌, List, [], ◌∷◌, ◌++◌, map, Option, Some, None, refl, ap, cond}
 use Rattle.std.specs.List.{filter}
 use Rattle.sig_model.specs.declared.event.Did.{Did}
 use Rattle.sig_model.specs.declared.event.Did.TheVariants.{Exec, From}

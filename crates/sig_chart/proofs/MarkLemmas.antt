@@ -1,18 +1,15 @@
 -- Marks stand apart, and each event that is shown has one.
-use Rattle.std.proofs.Common.{◌≡◌, ℕ, suc, ◌+◌, ◌<◌, ◌≤◌, List, [], ◌∷◌, ◌++◌, length, Option, Some, None, refl, sym, ap, ◌∙◌, subst, cond, true, false, get_or, arith}
+use Rattle.std.proofs.Common.{◌≡◌, ℕ, suc, ◌+◌, ◌≤◌, List, [], ◌∷◌, ◌++◌, length, Option, Some, None, refl, ap, true, get_or, arith}
 use Rattle.std.specs.Prelude.{All, is_some}
-use Rattle.std.specs.List.{AllPairs, count_by, filter, Contains}
-use Rattle.std.proofs.lemmas.List.Elements.{All-nil, All-cons}
+use Rattle.std.specs.List.{AllPairs}
+use Rattle.std.proofs.lemmas.List.Elements.{All-cons}
 use Rattle.std.proofs.lemmas.List.Kept.{AllPairs-cons}
 use Rattle.sig_model.specs.declared.event.Event.{Event}
 use Rattle.sig_record.specs.declared.report.Report.{Report}
 use Rattle.sig_record.specs.declared.merging.MergedAt.{MergedAt}
-use Rattle.sig_record.specs.Merging.{IsMerged, is_same, event_at}
+use Rattle.sig_record.specs.Merging.{event_at}
 use Rattle.sig_svg.specs.declared.shape.Mark.{Mark}
-use Rattle.sig_chart.specs.declared.window.Window.{Window}
-use Rattle.sig_chart.specs.Shown.{is_shown}
 use Rattle.sig_chart.specs.Shapes.{mark, mark_of, mark_at, by_rows}
-use Rattle.sig_chart.specs.Drawn.{AreShown}
 use Rattle.sig_chart.specs.Laid.{IsAbove}
 
 -- each of the marks stands at this row or below it

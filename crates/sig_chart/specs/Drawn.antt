@@ -1,5 +1,5 @@
 -- What a chart is (this project's own).
-use Rattle.std.specs.Prelude.{◌≡◌, ◌≤◌, ◌<◌, ℕ, List, length, Result}
+use Rattle.std.specs.Prelude.{◌≡◌, ◌≤◌, ◌<◌, ℕ, List, length}
 use Rattle.std.specs.List.{filter}
 use Rattle.sig_program.specs.Scripts.{Program}
 use Rattle.sig_model.specs.declared.origin.Origin.{Origin}

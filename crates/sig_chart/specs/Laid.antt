@@ -1,5 +1,5 @@
 -- What the shapes of a chart keep.
-use Rattle.std.specs.Prelude.{◌≡◌, ℕ, ◌+◌, ◌<◌, List, Some, slice_get}
+use Rattle.std.specs.Prelude.{◌≡◌, ℕ, ◌+◌, ◌<◌, Some, slice_get}
 use Rattle.std.specs.List.{Contains}
 use Rattle.sig_model.specs.declared.origin.Origin.{Origin}
 use Rattle.sig_record.specs.declared.merging.MergedAt.{MergedAt}

@@ -1,7 +1,7 @@
 -- Which kind of signal a handled one was. A record doesn't say it of handled signals; it is told by the event that sent the signal: by
 -- what came of it, by its instruction, and where it told of an end by what came of the handling (docs/MACHINE.md has what each event
 -- sends).
-use Rattle.std.specs.Prelude.{ℕ, List, [], ◌∷◌, Option, None, Some, length, ◌==◌, if◌then◌else◌}
+use Rattle.std.specs.Prelude.{ℕ, Option, None, Some, length, ◌==◌, if◌then◌else◌}
 use Rattle.sig_terms.specs.declared.term.Term.{Term, out-Term}
 use Rattle.sig_terms.specs.declared.term.Term.TheVariants as term
 use Rattle.sig_terms.specs.declared.term.Term.TheOpen.{Term-F}

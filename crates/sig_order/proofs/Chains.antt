@@ -1,5 +1,5 @@
 -- Chains of steps: one step more at the end, and what grows along a chain.
-use Rattle.std.proofs.Common.{◌≡◌, ℕ, zero, suc, ◌<◌, ◌≤◌, List, arith}
+use Rattle.std.proofs.Common.{ℕ, zero, suc, ◌<◌, List, arith}
 use Rattle.sig_record.specs.declared.report.Report.{Report}
 use Rattle.sig_order.specs.declared.at.At.{At}
 use Rattle.sig_model.specs.declared.origin.Origin.{Origin}

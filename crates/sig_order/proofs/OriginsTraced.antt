@@ -1,29 +1,26 @@
 -- The record of a run and the origins of the run's signals have one event for each signal, and stamps that rise along each step.
-use Rattle.std.proofs.Common.{◌≡◌, ℕ, zero, suc, ◌+◌, ◌-◌, ◌<◌, Bool, true, List, [], ◌∷◌, length, All, Option, Some, None, is_some, refl, sym, ap, ◌∙◌, subst, inl, inr, ◌⊎◌, arith}
+use Rattle.std.proofs.Common.{◌≡◌, ℕ, zero, suc, ◌+◌, ◌-◌, ◌<◌, true, List, [], ◌∷◌, length, All, Option, Some, None, is_some, refl, sym, ap, ◌∙◌, subst, inl, inr, ◌⊎◌, arith}
 use Rattle.std.specs.Prelude.{slice_get, option_and_then}
-use Rattle.std.specs.List.{Contains}
 use Rattle.std.specs.Option.{option_map_or}
 use Rattle.std.proofs.lemmas.Bool.{false≢true}
 use Rattle.std.proofs.lemmas.Option.{same_Some, none-some, some_pair_parts}
 use Rattle.sig_terms.specs.declared.pid.Pid.{Pid}
 use Rattle.sig_kinds.specs.declared.signal.Signal.{Signal}
 use Rattle.sig_program.specs.Scripts.{Declared, Program, IsWithin, IsScriptWithin}
-use Rattle.sig_runs.specs.Machine.{Machine, At, IsRun}
-use Rattle.sig_runs.specs.Crew.{opening_machine}
+use Rattle.sig_runs.specs.Machine.{Machine, At}
 use Rattle.sig_runs.specs.Order.{events_by}
 use Rattle.sig_model.specs.declared.event.Event.{Event}
 use Rattle.sig_model.specs.declared.event.Did.{Did}
 use Rattle.sig_model.specs.declared.event.Did.TheVariants as did
 use Rattle.sig_model.specs.declared.origin.Origin.{Origin}
 use Rattle.sig_model.specs.ProcessState.{ProcessState}
-use Rattle.sig_model.specs.Machine.{rules_of, opening_of}
 use Rattle.sig_model.proofs.MarkedRuns.{from_mark}
 use Rattle.sig_choices.specs.Origins.{origins_of}
 use Rattle.sig_record.specs.declared.report.Report.{Report}
 use Rattle.sig_record.specs.Merging.{event_at, events_in}
 use Rattle.sig_record.specs.RunRecord.{events_listed, run_report, run_reports, IsRecordOfRun}
 use Rattle.sig_order.specs.declared.at.At.{At as Which}
-use Rattle.sig_order.specs.Happening.{event_of, is_there, stamp_of, handled_by, handled_at, origin_by, IsNext, IsSentTo, IsStep, IsTraced}
+use Rattle.sig_order.specs.Happening.{event_of, is_there, stamp_of, handled_by, origin_by, IsNext, IsSentTo, IsTraced}
 use Rattle.sig_order.proofs.Ats.{from_one, place_of, event_of-place}
 use Rattle.sig_order.proofs.RunTraces.{event_in, origin, IsTold, IsTracedTo}
 use Rattle.sig_order.proofs.TracedRuns.{run_traced}

@@ -1,10 +1,10 @@
 -- The loop over the merged events: those so far have their counts, and at the end all have.
-use Rattle.std.proofs.Common.{◌≡◌, ◌≢◌, ℕ, zero, suc, ◌+◌, ◌-◌, ◌<◌, ◌≤◌, Bool, true, false, cond, List, [], ◌∷◌, length, get_or, replicate, IfSome, Option, Some, None, is_some, refl, sym, ap, subst, ◌∙◌, inl, inr, ◌⊎◌, arith}
+use Rattle.std.proofs.Common.{◌≡◌, ◌≢◌, ℕ, zero, suc, ◌+◌, ◌-◌, ◌<◌, ◌≤◌, true, false, List, [], ◌∷◌, length, get_or, replicate, IfSome, Option, Some, None, is_some, refl, sym, ap, subst, ◌∙◌, inl, inr, ◌⊎◌, arith}
 use Rattle.std.specs.Prelude.{slice_get, option_and_then}
 use Rattle.std.specs.Option.{option_map_or}
 use Rattle.std.proofs.lemmas.Bool.{cases_eq, cases_lt, cases_order, false≢true}
 use Rattle.std.proofs.lemmas.List.{get_or-replicate, length-replicate, get_or_past, get_or_default}
-use Rattle.std.proofs.lemmas.Option.{slice_get_within, slice_get-get_or}
+use Rattle.std.proofs.lemmas.Option.{slice_get_within}
 use Rattle.sig_model.specs.declared.event.Event.{Event}
 use Rattle.sig_model.specs.declared.origin.Origin.{Origin}
 use Rattle.sig_record.specs.declared.report.Report.{Report}
@@ -14,8 +14,8 @@ use Rattle.sig_order.specs.declared.at.At.{At}
 use Rattle.sig_order.specs.declared.counts.Rows.{Rows}
 use Rattle.sig_order.specs.declared.senders.SignalKey.{SignalKey}
 use Rattle.sig_order.specs.Senders.{IsIndex, sender_of}
-use Rattle.sig_order.specs.Happening.{is_there, stamp_of, handled_by, handled_at, IsStep, HappenedBefore, IsTraced}
-use Rattle.sig_order.specs.Counting.{no_rows, rows_of, counted_of, count_at, IsDone, IsLearned, with_event, AddsCounts, IsCounted}
+use Rattle.sig_order.specs.Happening.{is_there, stamp_of, handled_by, handled_at, HappenedBefore, IsTraced}
+use Rattle.sig_order.specs.Counting.{no_rows, rows_of, counted_of, count_at, IsDone, IsLearned, AddsCounts, IsCounted}
 use Rattle.sig_order.proofs.Ats.{at_of, event_of-at, from_one, place_of, event_of-place}
 use Rattle.sig_order.proofs.Chains.{before_rises}
 use Rattle.sig_order.proofs.Right.{IsRight, right_more, before_counts, at_most}

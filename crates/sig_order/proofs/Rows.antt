@@ -1,11 +1,11 @@
 -- The rows of counts, and with the counts of one event more.
-use Rattle.std.proofs.Common.{◌≡◌, ◌≢◌, ℕ, ◌+◌, ◌-◌, ◌<◌, ◌≤◌, max, Bool, true, false, cond, List, [], ◌∷◌, ◌++◌, length, get_or, Option, Some, None, refl, sym, ap, subst, ◌∙◌, inl, inr, ◌⊎◌, arith}
+use Rattle.std.proofs.Common.{◌≡◌, ◌≢◌, ℕ, ◌+◌, ◌-◌, ◌<◌, ◌≤◌, max, Bool, cond, List, [], ◌∷◌, ◌++◌, length, get_or, Option, Some, None, refl, sym, ap, subst, ◌∙◌, inl, inr, ◌⊎◌, arith}
 use Rattle.std.specs.Prelude.{◌==◌, nat_lt, slice_set}
 use Rattle.std.proofs.lemmas.Bool.{cases_eq, cases_lt, eq-eqb, ne_eqb, lt-ltb, le-ltb}
 use Rattle.std.proofs.lemmas.List.{length-set, length_push, get_or-set_same, get_or-set_other, get_or_append_left, get_or_push, get_or_past}
 use Rattle.sig_order.specs.declared.at.At.{At}
 use Rattle.sig_order.specs.declared.counts.Rows.{Rows}
-use Rattle.sig_order.specs.Counting.{no_rows, rows_of, counted_of, last_row, row_at, count_at, IsDone, last_of, IsNewRow, IsLearned, noted, with_event}
+use Rattle.sig_order.specs.Counting.{no_rows, rows_of, counted_of, last_row, row_at, count_at, IsDone, last_of, IsLearned, with_event}
 use Rattle.sig_order.proofs.Right.{Counts, MoreCounts}
 
 -- the count of an event, by the rows of its process

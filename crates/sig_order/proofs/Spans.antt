@@ -1,6 +1,5 @@
 -- The events of a process that are concurrent with a given one are those that it doesn't count, up to the last one that doesn't count it.
 use Rattle.std.proofs.Common.{◌≡◌, ℕ, zero, suc, ◌+◌, ◌-◌, ◌<◌, ◌≤◌, true, List, Option, Some, None, refl, sym, subst, inl, inr, ◌⊎◌, arith}
-use Rattle.std.specs.Prelude.{◌↔◌}
 use Rattle.std.proofs.lemmas.Bool.{cases_lt}
 use Rattle.sig_order.specs.declared.at.At.{At}
 use Rattle.sig_order.specs.declared.counts.Rows.{Rows}

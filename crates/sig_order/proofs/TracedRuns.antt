@@ -12,7 +12,7 @@ use Rattle.sig_program.specs.Scripts.{Declared, Program, IsProcBelow, IsScriptWi
 use Rattle.sig_runs.specs.Rules.{Effect, Rules}
 use Rattle.sig_runs.specs.Rules.{Did as Acted}
 use Rattle.sig_runs.specs.Rules.Did.{Exec as Executed, From as Handled}
-use Rattle.sig_runs.specs.Machine.{Machine, At, Applied, IsRun, apply, choice, moved, without_oldest}
+use Rattle.sig_runs.specs.Machine.{Machine, At, Applied, IsRun, apply, choice, without_oldest}
 use Rattle.sig_runs.specs.Machine.Choice.{Executes, Handles}
 use Rattle.sig_runs.specs.Crew.{opening_machine}
 use Rattle.sig_runs.specs.Order.{events_by}
@@ -29,7 +29,7 @@ use Rattle.sig_model.proofs.Lookups.{at_place}
 use Rattle.sig_model.proofs.MarkerLemmas.{opened_state}
 use Rattle.sig_model.proofs.NameLawLemmas.{event_keeps_names, opening_below}
 use Rattle.sig_choices.specs.Origins.{sent_in, executing_sends, handling_sends, sent_at, origins_in, origins_after, origins_of}
-use Rattle.sig_order.proofs.OneEvent.{IsEventOf, IsExecutionOf, executed_event, handled_event, handled_later}
+use Rattle.sig_order.proofs.OneEvent.{IsExecutionOf, executed_event, handled_event, handled_later}
 use Rattle.sig_order.proofs.RunTraces.{IsSent, IsTold, IsTracedTo, traced_now}
 
 module _ (turns : ℕ) (part : ℕ → Option Declared) (count : ℕ) (parts : (pid : ℕ) → IfSome (part pid) (IsProcBelow count)) where

@@ -1,13 +1,13 @@
 -- The lines of a record, each with its line feed at its end.
-use Rattle.std.proofs.Common.{◌≡◌, ℕ, ◌^◌, ◌<◌, true, List, ◌++◌, refl, arith}
-use Rattle.std.specs.Prelude.{◌==◌, codes, decimal}
+use Rattle.std.proofs.Common.{◌≡◌, ℕ, true, List, ◌++◌, refl, arith}
+use Rattle.std.specs.Prelude.{codes, decimal}
 use Rattle.sig_terms.specs.TermText.{term_text}
 use Rattle.sig_kinds.specs.declared.signal.Signal.{Signal}
 use Rattle.sig_model.specs.declared.event.Event.{Event}
 use Rattle.sig_model.specs.declared.state.State.{State}
 use Rattle.sig_record.specs.declared.report.Left.{Left}
 use Rattle.sig_record.specs.FaultLine.{IsInline}
-use Rattle.sig_record.specs.Phrases.{Phrase, IsNarrow, phrase_text}
+use Rattle.sig_record.specs.Phrases.{IsNarrow, phrase_text}
 use Rattle.sig_record.specs.EventRows.{did_phrase, did_text, outcome_phrase, outcome_text, state_phrase}
 use Rattle.sig_record.specs.KindRows.{kind_phrase, kind_text}
 use Rattle.sig_record.specs.RecordText.{event_text, left_text, queued_text, state_text, head_text}

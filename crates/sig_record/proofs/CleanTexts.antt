@@ -1,5 +1,5 @@
 -- Each line of a record ends with a line feed, and has no other.
-use Rattle.std.proofs.Common.{◌≡◌, ℕ, suc, ◌+◌, ◌/◌, ◌%◌, ◌^◌, ◌<◌, ◌≤◌, ◌&&◌, Bool, true, false, List, [], ◌∷◌, ◌++◌, map, refl, sym, ap, subst, ◌∙◌, arith}
+use Rattle.std.proofs.Common.{◌≡◌, ℕ, suc, ◌+◌, ◌%◌, ◌^◌, ◌<◌, ◌≤◌, Bool, true, false, List, [], ◌∷◌, ◌++◌, map, refl, sym, subst, ◌∙◌, arith}
 use Rattle.std.specs.Prelude.{ℤ, pos, negsuc, nat_lt, nat_le, codes, decimal}
 use Rattle.std.specs.Fmt.{signed_decimal}
 use Rattle.std.specs.List.{list_all, concat}
@@ -20,7 +20,7 @@ use Rattle.sig_terms.specs.declared.bytes.TheConstants.{MOST_WORD_BYTES}
 use Rattle.sig_terms.proofs.Choices.{both_true, by_test}
 use Rattle.sig_terms.proofs.Layers.{shows-Int, shows-Atom, shows-Pid, shows-Ref, shows-Tuple, shows-List}
 use Rattle.sig_record.specs.FaultLine.{is_inline, IsInline}
-use Rattle.sig_record.specs.Phrases.{Field, a_narrow, a_wide, a_reference, a_term, a_truth, a_link, Said, Value, value_text, values_text, IsStoredRef, IsStoredSaid, IsStoredValue, Each, Phrase, phrase_text, IsStoredPhrase}
+use Rattle.sig_record.specs.Phrases.{Field, a_narrow, a_wide, a_reference, a_term, a_truth, a_link, Said, Value, value_text, values_text, IsStoredSaid, IsStoredValue, Each, Phrase, phrase_text, IsStoredPhrase}
 use Rattle.sig_record.specs.RecordFronts.{is_process_name}
 
 -- a line feed ends the text, and it has no other

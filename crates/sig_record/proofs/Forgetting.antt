@@ -1,13 +1,9 @@
 -- A reader of lines reads what the reader reads that doesn't tell where a line can't stand.
 use Rattle.std.proofs.Common.{◌≡◌, ℕ, zero, suc, Bool, true, false, cond, List, [], ◌∷◌, ◌++◌, length, Option, Some, None, Result, Ok, Err, refl, sym, ap, ◌∙◌, inl, inr, ◌⊎◌}
-use Rattle.std.specs.Prelude.{codes, ◌==◌}
 use Rattle.std.proofs.lemmas.Option.{none-some, same_Some}
-use Rattle.sig_terms.specs.Tokens.{◌>>=◌, after_text}
-use Rattle.sig_record.specs.declared.report.Report.{Report}
+use Rattle.sig_terms.specs.Tokens.{◌>>=◌}
 use Rattle.sig_record.specs.Readers.{Reader, joined, items_on}
 use Rattle.sig_record.specs.LineReaders.{Lines, or_left, go_on, one_line, then_lines, lines_on}
-use Rattle.sig_record.specs.RecordFronts.{event_front, left_front, queued_front, state_front, head_front, begins_by_digit, begins_by, report_of_parts, parts_front, report_front, reports_front, record_in}
-use Rattle.sig_record.specs.RecordLines.{parts_lines, report_lines, reports_lines, record_lines}
 
 abbrev pub ok_of : {A : Type 0} → Result A ℕ → Option A
 ok_of (Ok x) = Some x

@@ -1,6 +1,6 @@
 -- Readers of lines: behind what they have read they depend on the next line alone, and where a line can't stand, it can't whatever
 -- follows it.
-use Rattle.std.proofs.Common.{◌≡◌, ℕ, List, [], ◌∷◌, ◌++◌, length, Option, Some, None, Result, Ok, Err, refl, sym, ap, subst, ◌∙◌, inl, inr, ◌⊎◌, append_assoc}
+use Rattle.std.proofs.Common.{◌≡◌, ℕ, List, [], ◌∷◌, ◌++◌, length, Option, Some, None, Ok, Err, refl, sym, ap, subst, ◌∙◌, inl, inr, ◌⊎◌, append_assoc}
 use Rattle.std.specs.Prelude.{codes}
 use Rattle.std.proofs.lemmas.List.{append-nil}
 use Rattle.sig_terms.specs.Tokens.{◌>>=◌}
@@ -11,7 +11,7 @@ use Rattle.sig_record.proofs.ReaderLaws.{IsReadAs, Law, Anything}
 use Rattle.sig_record.proofs.TermFronts.{if_some_at}
 use Rattle.sig_record.proofs.CleanTexts.{IsLine}
 use Rattle.sig_record.proofs.FirstLines.{no_line_again}
-use Rattle.sig_record.proofs.Forgetting.{ok_of, IsSame, left_some, left_none, left_count, ok_parts, err_parts, same_ok, ok_no_err, same_bind, one_same, then_same}
+use Rattle.sig_record.proofs.Forgetting.{IsSame, left_some, left_none, left_count, ok_parts, err_parts, same_ok, ok_no_err, same_bind, one_same, then_same}
 
 -- what was read, so long as the rest begins with the same line
 pub record Passes {X : Type 0} (front : Reader X) (text : X → List ℕ) (ok : X → Type 0) (bytes : List ℕ) (x : X × List ℕ) : Type 0 where

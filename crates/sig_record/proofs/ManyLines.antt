@@ -1,10 +1,10 @@
 -- Items of whole lines that stand one behind the other: where an item's line can't stand, it can't behind those before it.
-use Rattle.std.proofs.Common.{◌≡◌, ℕ, zero, suc, ◌≤◌, Bool, true, false, cond, List, [], ◌∷◌, ◌++◌, length, Option, Some, None, Result, Ok, Err, refl, sym, ap, subst, ◌∙◌, inl, inr, ◌⊎◌, append_assoc, arith, length-append}
+use Rattle.std.proofs.Common.{◌≡◌, ℕ, zero, suc, ◌≤◌, Bool, true, false, cond, List, [], ◌∷◌, ◌++◌, length, Ok, Err, refl, sym, ap, ◌∙◌, inl, append_assoc, arith, length-append}
 use Rattle.std.specs.List.{flat_map}
 use Rattle.std.proofs.lemmas.List.{append-nil}
-use Rattle.sig_record.specs.FaultLine.{IsInline, AreWhole}
+use Rattle.sig_record.specs.FaultLine.{AreWhole}
 use Rattle.sig_record.specs.Readers.{Reader, many}
-use Rattle.sig_record.specs.LineReaders.{Lines, go_on, lines_on, many_lines}
+use Rattle.sig_record.specs.LineReaders.{Lines, lines_on, many_lines}
 use Rattle.sig_record.proofs.ReaderLaws.{IsReadAs, Law, Anything}
 use Rattle.sig_record.proofs.TermFronts.{if_some_at}
 use Rattle.sig_record.proofs.ManyLaws.{Fits, many_law, many_none, begins_not_empty}

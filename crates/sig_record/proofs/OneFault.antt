@@ -1,12 +1,10 @@
 -- Bytes that are no record's text have one line at which that is told.
-use Rattle.std.proofs.Common.{◌≡◌, ℕ, suc, ◌+◌, ◌<◌, ◌≤◌, Bool, true, false, List, [], ◌∷◌, ◌++◌, length, take, drop, refl, sym, ap, subst, ◌∙◌, inl, inr, ◌⊎◌, append_assoc, arith, length-append}
-use Rattle.std.specs.Prelude.{codes, ◌==◌, not}
-use Rattle.std.specs.List.{list_all}
+use Rattle.std.proofs.Common.{◌≡◌, ℕ, suc, ◌+◌, ◌<◌, ◌≤◌, true, false, List, [], ◌∷◌, ◌++◌, length, refl, sym, ap, subst, ◌∙◌, inl, inr, append_assoc, arith, length-append}
+use Rattle.std.specs.Prelude.{codes, not}
 use Rattle.std.proofs.lemmas.Bool.Decides.{Decides-eqb}
-use Rattle.std.proofs.lemmas.List.{append-nil, take_at}
-use Rattle.sig_terms.proofs.Choices.{both_true}
+use Rattle.std.proofs.lemmas.List.{append-nil}
 use Rattle.sig_record.specs.RecordText.{record_text}
-use Rattle.sig_record.specs.FaultLine.{is_feed, is_inline, IsInline, feeds, AreWhole, BeginARecord, IsFaultLine}
+use Rattle.sig_record.specs.FaultLine.{is_feed, is_inline, IsInline, feeds, AreWhole, IsFaultLine}
 
 -- the first line of bytes in which a line feed stands
 record Cut (bytes : List ℕ) : Type 0 where

@@ -1,6 +1,6 @@
 -- The line at which bytes are told to be no record's text.
-use Rattle.std.proofs.Common.{◌≡◌, ℕ, zero, suc, ◌-◌, ◌<◌, Bool, true, false, cond, List, [], ◌∷◌, ◌++◌, length, take, Option, Some, None, Result, Ok, Err, refl, sym, ap, subst, ◌∙◌, inl, inr, ◌⊎◌, append_assoc, arith, length-append}
-use Rattle.std.specs.Prelude.{IfSome, IsErrOf, codes, ◌==◌}
+use Rattle.std.proofs.Common.{◌≡◌, ℕ, suc, ◌-◌, Bool, true, false, cond, List, [], ◌∷◌, ◌++◌, length, take, Option, Some, None, Result, Ok, Err, refl, sym, ap, subst, ◌∙◌, inl, inr, append_assoc, arith, length-append}
+use Rattle.std.specs.Prelude.{IsErrOf, codes, ◌==◌}
 use Rattle.std.specs.List.{flat_map}
 use Rattle.std.proofs.lemmas.Bool.Decides.{Decides-eqb}
 use Rattle.std.proofs.lemmas.Grind.{flat_map-append}
@@ -13,7 +13,6 @@ use Rattle.sig_record.specs.declared.refusal.RecordError.{RecordError}
 use Rattle.sig_record.specs.declared.refusal.RecordError.TheVariants as wrong
 use Rattle.sig_record.specs.declared.report.Report.{Report}
 use Rattle.sig_record.specs.FaultLine.{IsInline, feeds, AreWhole, BeginARecord, IsFaultLine}
-use Rattle.sig_record.specs.ReadableRecord.{IsReadableRecord}
 use Rattle.sig_record.specs.LineReaders.{or_left, go_on}
 use Rattle.sig_record.specs.RecordText.{report_text, record_text}
 use Rattle.sig_record.specs.RecordFronts.{begins_by, report_front, reports_front, record_in}
@@ -21,7 +20,7 @@ use Rattle.sig_record.specs.RecordLines.{report_lines, reports_lines, record_lin
 use Rattle.sig_record.proofs.ReaderLaws.{IsReadAs, Law, Anything, after_again}
 use Rattle.sig_record.proofs.TermFronts.{if_some_at}
 use Rattle.sig_record.proofs.ManyLaws.{Fits, fits_more}
-use Rattle.sig_record.proofs.RecordLaws.{ReportAt, ReportBehind, report_law, report_begins, from_zero, IsTextOf, tells, record_again}
+use Rattle.sig_record.proofs.RecordLaws.{ReportBehind, report_law, report_begins, from_zero, IsTextOf, tells, record_again}
 use Rattle.sig_record.proofs.CleanTexts.{IsLine}
 use Rattle.sig_record.proofs.FirstLines.{text_by_first_line, no_line_again}
 use Rattle.sig_record.proofs.Forgetting.{ok_of, err_of, left_forgotten, left_some, left_none, left_count, ok_parts, err_parts, ok_no_err, same_bind}

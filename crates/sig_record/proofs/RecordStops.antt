@@ -1,30 +1,24 @@
 -- A record's lines: what was read up to a line that can't stand is the begin of a record, and with that line it is the begin of none.
-use Rattle.std.proofs.Common.{◌≡◌, ℕ, true, false, cond, List, [], ◌∷◌, ◌++◌, length, Option, Some, None, Result, Ok, Err, refl, sym, ap, subst, ◌∙◌, inl, inr, ◌⊎◌, append_assoc}
+use Rattle.std.proofs.Common.{◌≡◌, ℕ, true, List, [], ◌++◌, refl, sym, ap, ◌∙◌, inl, inr, ◌⊎◌, append_assoc}
 use Rattle.std.specs.Prelude.{codes, ◌==◌}
 use Rattle.std.specs.List.{flat_map}
-use Rattle.std.proofs.lemmas.Bool.Decides.{Decides-eqb}
 use Rattle.std.proofs.lemmas.List.{append-nil}
-use Rattle.std.proofs.lemmas.Option.{none-some}
-use Rattle.sig_terms.specs.Tokens.{◌>>=◌, after_text}
-use Rattle.sig_terms.proofs.TokenTexts.{after_text_is}
 use Rattle.sig_kinds.specs.declared.signal.Signal.{Signal}
 use Rattle.sig_model.specs.declared.event.Event.{Event}
-use Rattle.sig_model.specs.declared.state.State.{State}
 use Rattle.sig_model.specs.declared.state.State.TheVariants as state
 use Rattle.sig_record.specs.declared.report.Left.{Left}
 use Rattle.sig_record.specs.declared.report.Report.{Report}
-use Rattle.sig_record.specs.FaultLine.{IsInline, AreWhole, BeginARecord}
+use Rattle.sig_record.specs.FaultLine.{AreWhole}
 use Rattle.sig_record.specs.Phrases.{IsNarrow, phrase_text}
 use Rattle.sig_record.specs.EventRows.{state_phrase}
-use Rattle.sig_record.specs.Readers.{Reader, joined, behind}
-use Rattle.sig_record.specs.LineReaders.{Lines, one_line, then_lines}
-use Rattle.sig_record.specs.RecordText.{event_text, left_text, queued_text, state_text, head_text, report_text, record_text}
-use Rattle.sig_record.specs.RecordFronts.{is_process_name, begins_by_digit, begins_by, event_front, left_front, queued_front, state_front, head_front, events_front, lefts_front, all_queued_front, parts_front, report_of_parts, report_front, reports_front, record_in}
-use Rattle.sig_record.specs.RecordLines.{event_lines, left_lines, queued_lines, parts_lines, report_lines, reports_lines, record_lines}
-use Rattle.sig_record.proofs.ReaderLaws.{Law, Anything, passing_law}
+use Rattle.sig_record.specs.Readers.{joined}
+use Rattle.sig_record.specs.LineReaders.{one_line, then_lines}
+use Rattle.sig_record.specs.RecordText.{event_text, left_text, queued_text, state_text, head_text, report_text}
+use Rattle.sig_record.specs.RecordFronts.{is_process_name, begins_by_digit, begins_by, event_front, left_front, queued_front, head_front, events_front, lefts_front, all_queued_front, parts_front, report_of_parts, report_front}
+use Rattle.sig_record.specs.RecordLines.{event_lines, left_lines, queued_lines, parts_lines, report_lines}
 use Rattle.sig_record.proofs.ManyLaws.{Fits}
 use Rattle.sig_record.proofs.LineLaws.{IsReadableEvent, IsReadableLeft, IsReadableState, QueuedBehind, event_law, event_begins, left_law, left_begins, queued_behind_law, queued_begins, state_law, head_law}
-use Rattle.sig_record.proofs.RecordLaws.{ReportAt, PartsAt, parts_at, report_law, report_begins, ReportBehind}
+use Rattle.sig_record.proofs.RecordLaws.{ReportAt, parts_at}
 use Rattle.sig_record.proofs.CleanLines.{event_line, left_line, queued_line, state_line, head_line}
 use Rattle.sig_record.proofs.FirstLines.{digit_by_first_line, text_by_first_line}
 use Rattle.sig_record.proofs.LinesLaws.{LinesLaw, Nothing, one_law, then_law, made_law}

@@ -1,5 +1,5 @@
 -- Where nothing fails, what is answered is due.
-use Rattle.std.proofs.Common.{◌≡◌, ◌⊎◌, ℕ, ◌+◌, ◌<◌, List, length, length-append, Option, Some, inl, inr, refl, sym, ap, ◌∙◌, subst, arith}
+use Rattle.std.proofs.Common.{◌≡◌, ◌⊎◌, ℕ, ◌<◌, List, length, length-append, Option, Some, inl, inr, refl, sym, ap, ◌∙◌, subst, arith}
 use Rattle.std.specs.Prelude.{IfSome}
 use Rattle.sig_base.specs.Flow.{Rose, Took}
 use Rattle.sig_edge.specs.Streams.{IsUnwritten, Reading, Writing}

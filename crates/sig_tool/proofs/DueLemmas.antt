@@ -1,5 +1,5 @@
 -- For the same bytes one status is due.
-use Rattle.std.proofs.Common.{◌≡◌, ℕ, List, length, Result, Ok, Err, refl, sym, ap, ◌∙◌, subst, arith}
+use Rattle.std.proofs.Common.{◌≡◌, ℕ, List, Result, Ok, Err, refl, sym, ap, ◌∙◌, subst, arith}
 use Rattle.sig_program.specs.Scripts.{Program}
 use Rattle.sig_tokens.specs.Faults.{Fault}
 use Rattle.sig_tokens.specs.declared.fault.FaultKind.{FaultKind}
@@ -19,7 +19,7 @@ use Rattle.sig_tool.specs.declared.command.Command.{Command}
 use Rattle.sig_tool.specs.declared.command.Command.TheVariants.{Check, Replay, Links, Before, Expand}
 use Rattle.sig_tool.specs.Commands.{HasEvents, LacksEvent}
 use Rattle.sig_tool.specs.Split.{script_part, record_part}
-use Rattle.sig_tool.specs.Inputs.{HasScript, IsPair}
+use Rattle.sig_tool.specs.Inputs.{IsPair}
 use Rattle.sig_tool.specs.Answers.{IsDue, IsRecordDue}
 use Rattle.sig_tool.proofs.CallLemmas.{one_calls_due}
 

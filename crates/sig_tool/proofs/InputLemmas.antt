@@ -1,7 +1,6 @@
 -- What is known of an input that was read, and of why there is none.
-use Rattle.std.proofs.Common.{◌≡◌, ◌≢◌, ℕ, ◌≤◌, List, length, Option, Result, Ok, Err, refl, sym, subst}
-use Rattle.std.specs.Prelude.{IsErrOf, Vec}
-use Rattle.std.specs.Global.{Global}
+use Rattle.std.proofs.Common.{◌≡◌, ◌≢◌, ℕ, List, Option, Result, Ok, Err, refl, sym, subst}
+use Rattle.std.specs.Prelude.{IsErrOf}
 use Rattle.sig_base.specs.Reading.{IsRead}
 use Rattle.sig_base.specs.declared.reading.ReadAll.TheVariants as read
 use Rattle.sig_edge.specs.Streams.{Reading, reading}

@@ -1,6 +1,6 @@
 -- The origins of a replay are those of the run of which the record is, so the order of its events can be told.
 use Rattle.std.proofs.Common.{◌≡◌, ℕ, Bool, true, false, List, Result, Ok, Err, IfOk, refl, sym, ap, ◌∙◌, subst, inl, inr}
-use Rattle.std.specs.Prelude.{Vec, IsTrue, ◌↔◌}
+use Rattle.std.specs.Prelude.{Vec, IsTrue}
 use Rattle.std.specs.Global.{Global}
 use Rattle.std.proofs.lemmas.Bool.{false≢true}
 use Rattle.sig_edge.specs.Streams.{Reading}

@@ -22,7 +22,7 @@ use Rattle.sig_reader.specs.declared.draft.Draft.{Draft}
 use Rattle.sig_reader.specs.declared.reader.TheConstants.{MOST_BYTES}
 use Rattle.sig_reader.specs.Drafts.{blank}
 use Rattle.sig_reader.specs.Forms.{said, said_by}
-use Rattle.sig_reader.specs.Grammar.{body, header_of, line_taken, located, script_behind, script_of, script_of_lines, taken_if, walk, walk_twice}
+use Rattle.sig_reader.specs.Grammar.{body, header_of, line_taken, located, script_behind, script_of, script_of_lines, taken_if, walk}
 use Rattle.sig_record.specs.declared.report.Report.{Report}
 use Rattle.sig_record.specs.RecordText.{record_text, report_text}
 use Rattle.sig_record.specs.ReadableRecord.{IsReadableRecord}

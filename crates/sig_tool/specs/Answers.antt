@@ -9,7 +9,7 @@ use Rattle.sig_tool.specs.declared.command.Command.{Command}
 use Rattle.sig_tool.specs.declared.command.Command.TheVariants.{Expand}
 use Rattle.sig_tool.specs.declared.given.TheConstants.{MOST_INPUT}
 use Rattle.sig_tool.specs.declared.status.ToolStatus.{ToolStatus}
-use Rattle.sig_tool.specs.declared.status.ToolStatus.TheVariants.{Done, BadScript, Usage, ReadFault, WriteFault, Memory, No, BadRecord, TooLong, NoEvent, BadCall}
+use Rattle.sig_tool.specs.declared.status.ToolStatus.TheVariants.{Done, Usage, WriteFault, TooLong, NoEvent}
 use Rattle.sig_tool.specs.Commands.{command_of, HasEvents, LacksEvent}
 use Rattle.sig_tool.specs.Expanding.{IsCallsDue}
 use Rattle.sig_tool.specs.Inputs.{IsFault, IsPair}

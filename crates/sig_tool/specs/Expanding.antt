@@ -9,7 +9,7 @@ use Rattle.sig_canon.specs.ScriptText.{script_text}
 use Rattle.sig_call.specs.declared.fault.CallError.TheVariants as calls
 use Rattle.sig_call.specs.Expansion.{expansion}
 use Rattle.sig_tool.specs.declared.status.ToolStatus.{ToolStatus}
-use Rattle.sig_tool.specs.declared.status.ToolStatus.TheVariants.{Done, BadScript, Usage, ReadFault, WriteFault, Memory, No, BadRecord, TooLong, NoEvent, BadCall}
+use Rattle.sig_tool.specs.declared.status.ToolStatus.TheVariants.{Done, BadScript, ReadFault, Memory, TooLong, BadCall}
 use Rattle.sig_tool.specs.Inputs.{IsOver, IsWhole}
 
 -- ---- of the bytes

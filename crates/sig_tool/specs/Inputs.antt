@@ -16,7 +16,7 @@ use Rattle.sig_tool.specs.declared.command.Command.{Command}
 use Rattle.sig_tool.specs.declared.given.Given.{Given}
 use Rattle.sig_tool.specs.declared.given.TheConstants.{MOST_INPUT}
 use Rattle.sig_tool.specs.declared.status.ToolStatus.{ToolStatus}
-use Rattle.sig_tool.specs.declared.status.ToolStatus.TheVariants.{Done, BadScript, Usage, ReadFault, WriteFault, Memory, No, BadRecord, TooLong, NoEvent, BadCall}
+use Rattle.sig_tool.specs.declared.status.ToolStatus.TheVariants.{BadScript, ReadFault, Memory, No, BadRecord, TooLong, NoEvent}
 use Rattle.sig_tool.specs.Commands.{IsTextOf, LacksEvent}
 use Rattle.sig_tool.specs.Split.{script_part, record_part}
 

@@ -1,4 +1,4 @@
-use Rattle.std.proofs.Common.{◌≡◌, ℕ, List, length, get_or, replicate, IfSome, sym, ap, subst, ◌∙◌, arith}
+use Rattle.std.proofs.Common.{◌≡◌, List, length, get_or, replicate, IfSome, sym, ap, subst, ◌∙◌, arith}
 use Rattle.sig_model.specs.declared.event.Event.{Event}
 use Rattle.sig_record.specs.declared.report.Report.{Report}
 use Rattle.sig_record.specs.declared.merging.MergedAt.{MergedAt}

@@ -1,4 +1,4 @@
-use Rattle.std.proofs.Common.{◌≡◌, ℕ, ◌+◌, cond, take, get_or, Some, sym, ap, ◌∙◌}
+use Rattle.std.proofs.Common.{cond, take, get_or, Some, sym, ap, ◌∙◌}
 use Rattle.std.specs.BTreeMap.{is_at}
 use Rattle.std.proofs.lemmas.List.{take_more}
 use Rattle.sig_model.specs.declared.origin.Origin.{Origin}

@@ -1,4 +1,4 @@
-use Rattle.std.proofs.Common.{◌≡◌, ap}
+use Rattle.std.proofs.Common.{ap}
 use Rattle.sig_order.specs.Senders.{sender_told}
 use Rattle.sig_order.proofs.senders.sender_known.Goals as goal
 

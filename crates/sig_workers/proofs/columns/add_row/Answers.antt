@@ -1,4 +1,4 @@
-use Rattle.std.proofs.Common.{◌≡◌, ◌∙◌, ◌+◌, ◌++◌, ◌<◌, ◌≤◌, ◌∷◌, [], ℕ, List, length, min, sym, ap, subst, arith}
+use Rattle.std.proofs.Common.{◌≡◌, ◌∙◌, ◌+◌, ◌++◌, ◌<◌, ◌∷◌, [], ℕ, length, min, sym, ap, subst, arith}
 use Rattle.std.proofs.Math.Nat.{min-le_right}
 use Rattle.sig_workers.specs.Columns.{padded}
 use Rattle.sig_workers.proofs.ColumnLemmas.{Added, added_one, added_number, all_added, behind_all}

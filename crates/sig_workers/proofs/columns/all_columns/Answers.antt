@@ -1,4 +1,4 @@
-use Rattle.std.proofs.Common.{◌≡◌, ◌∙◌, ◌<◌, ℕ, [], length, arith}
+use Rattle.std.proofs.Common.{◌≡◌, ◌∙◌, ◌<◌, [], length, arith}
 use Rattle.std.specs.Prelude.{slice_index_or}
 use Rattle.sig_workers.proofs.ColumnLemmas.{row_numbered, empty_columns, column_more, whole_column}
 use Rattle.sig_workers.proofs.columns.all_columns.Goals as goal

@@ -1,4 +1,4 @@
-use Rattle.std.proofs.Common.{◌≡◌, ◌≤◌, ◌<◌, ◌+◌, sym, subst, arith, List, ℕ}
+use Rattle.std.proofs.Common.{◌+◌, sym, subst, arith}
 use Rattle.std.proofs.Math.Nat.{min-le_left, min-le_right, le-max_left, le-max_right}
 use Rattle.sig_process.specs.SentTo.{AreFirstOutside}
 use Rattle.sig_process.proofs.SentLemmas.{one_sent}
