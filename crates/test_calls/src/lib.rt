@@ -23,6 +23,8 @@ mod patterns;
 #[cfg(test)]
 mod pids;
 #[cfg(test)]
+mod portraits;
+#[cfg(test)]
 mod processes;
 #[cfg(test)]
 mod putting;

@@ -168,7 +168,10 @@ fn tells(process: &Process, letters: &[u8]) -> bool {
 }
 
 /// Executes the next instruction. False where none can be executed, and where it waits.
-fn execute<L: Ledger>(process: &mut Process, steps: &mut Steps<L>) -> Result<bool, AllocError>
+pub(crate) fn execute<L: Ledger>(
+    process: &mut Process,
+    steps: &mut Steps<L>,
+) -> Result<bool, AllocError>
     ensures { OnOk result (SameCome process.old.running process.new.running) }
 {
     if !process.can_exec() {
@@ -267,7 +270,7 @@ fn script_of(alloc: Global, lines: &[u8]) -> Result<Script, ScriptError> {
 }
 
 /// The processes of the script of these lines.
-fn opened(alloc: Global, lines: &[u8]) -> Result<Crew, ScriptError> {
+pub(crate) fn opened(alloc: Global, lines: &[u8]) -> Result<Crew, ScriptError> {
     let script = script_of(alloc, lines)?;
     let crew = Crew::open(alloc, &script);
     drop(script);
