@@ -1,11 +1,12 @@
 //! Texts of calls: the scripts that `expand` writes of them, each with a record of it, and what is refused.
 
-use crate::called::{Called, PLAIN, Setting};
+use crate::called::{Called, PLAIN};
 use crate::rows::YES;
 use sig_call::CallFault;
 use sig_script::FaultKind;
 use sig_tool::ToolStatus;
 use std::alloc::{AllocError, Global};
+use test_shared::Setting;
 
 /// A text with one call.
 pub(crate) const ONE_CALL: &[u8] =

@@ -1,7 +1,8 @@
 //! The examples of the documents. tools/examples compares them with the documents.
 
-use crate::called::{Called, PLAIN, Setting};
+use crate::called::{Called, PLAIN};
 use std::alloc::{AllocError, Global};
+use test_shared::Setting;
 
 /// Each script with a record behind it that a document shows, and what `check` writes or tells of them.
 static EXAMPLES: [(&[u8], &[u8]); 1] = [(

@@ -1,11 +1,12 @@
 //! Inputs whose parts are refused, and arguments.
 
-use crate::called::{Called, PLAIN, Setting};
+use crate::called::{Called, PLAIN};
 use crate::rows::{ITS_RECORD, ONE_MESSAGE, YES, both_answer};
 use sig_call::CallFault;
 use sig_script::FaultKind;
 use sig_tool::ToolStatus;
 use std::alloc::{AllocError, Global};
+use test_shared::Setting;
 
 const NO_HEADER: ToolStatus = ToolStatus::BadScript {
     line: 1,

@@ -2,11 +2,11 @@
 
 ghost use Rattle.std.specs.Prelude.{None};
 
-use crate::called::texts_of;
 use sig_base::{Failed, MemorySink, Source};
 use sig_script::FaultKind;
 use sig_tool::{MOST_INPUT, ToolStatus, tool};
 use std::alloc::{AllocError, Global};
+use test_shared::texts_of;
 
 /// A source of so many bytes: of those that stand already where they are to be placed.
 #[derive(Drop)]

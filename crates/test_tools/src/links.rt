@@ -1,8 +1,9 @@
 //! The links between the processes of a run that has come to rest.
 
-use crate::called::{Called, PLAIN, Setting};
+use crate::called::{Called, PLAIN};
 use sig_tool::ToolStatus;
 use std::alloc::{AllocError, Global};
+use test_shared::Setting;
 
 /// Each script, a record of it, and the lines of the links at its end. The records were worked out by
 /// hand from the tables of the machine.

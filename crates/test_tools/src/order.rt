@@ -1,9 +1,10 @@
 //! Which event of a record happened before which.
 
-use crate::called::{Called, PLAIN, Setting};
+use crate::called::{Called, PLAIN};
 use crate::rows::{ITS_RECORD, ONE_MESSAGE};
 use sig_tool::ToolStatus;
 use std::alloc::{AllocError, Global};
+use test_shared::Setting;
 
 /// A message goes round three processes. The record was worked out by hand from the tables of the machine.
 const RING: &[u8] =

@@ -1,8 +1,9 @@
 //! Records of a script, and what the tool says of them.
 
-use crate::called::{Called, PLAIN, Setting};
+use crate::called::{Called, PLAIN};
 use sig_tool::ToolStatus;
 use std::alloc::{AllocError, Global};
+use test_shared::Setting;
 
 /// A process sends a message to another, which takes it.
 pub(crate) const ONE_MESSAGE: &[u8] =

@@ -1,8 +1,9 @@
 //! Charts of so many events as may be, and of one more.
 
-use crate::called::{Called, PLAIN, Setting};
+use crate::called::{Called, PLAIN};
 use sig_view::ViewStatus;
 use std::alloc::{AllocError, Global};
+use test_shared::Setting;
 
 /// A process that turns in a loop until it has made 2,001 events.
 const TURNING: &[u8] = b"sigscript 1\nturns 2001\nprocess a\nlabel again\ngoto again\n";

@@ -1,13 +1,14 @@
 //! Which events of other processes neither happened before an event nor after it. The rows follow from
 //! which event sent which signal, and were worked out by hand.
 
-use crate::called::{Called, PLAIN, Setting};
+use crate::called::{Called, PLAIN};
 use crate::rows::{
     CLIENTS, CLIENTS_RECORD, ITS_RECORD, ONE_MESSAGE, RING, RING_RECORD, WATCHED, WATCHED_RECORD,
     WITH_ITS_END,
 };
 use sig_view::ViewStatus;
 use std::alloc::{AllocError, Global};
+use test_shared::Setting;
 
 /// The pid and the event of which is asked, and what is written.
 type Row = ([&'static str; 2], &'static [u8]);

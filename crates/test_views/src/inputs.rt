@@ -1,10 +1,11 @@
 //! Inputs whose parts are refused, and arguments.
 
-use crate::called::{Called, PLAIN, Setting};
+use crate::called::{Called, PLAIN};
 use crate::rows::{ITS_RECORD, ONE_MESSAGE, WITH_ITS_END, WRONG};
 use sig_script::FaultKind;
 use sig_view::ViewStatus;
 use std::alloc::{AllocError, Global};
+use test_shared::Setting;
 
 const NO_HEADER: ViewStatus = ViewStatus::BadScript {
     line: 1,

@@ -1,12 +1,13 @@
 //! The outcomes of scripts, and the records of runs that end in them.
 
-use crate::called::{Called, PLAIN, Setting};
+use crate::called::{Called, PLAIN};
 use crate::outcome_rows::{ROWS, Row};
 use crate::recorded::recorded;
 use crate::rows::{CLIENTS, ITS_OUTCOME, ITS_RECORD, ONE_MESSAGE};
 use sig_script::FaultKind;
 use sig_view::ViewStatus;
 use std::alloc::{AllocError, Global};
+use test_shared::Setting;
 
 /// What follows the outcome of this number, with the place of that among these. `None` where it is none
 /// of them.

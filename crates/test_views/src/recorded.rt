@@ -1,11 +1,12 @@
 //! The record of a run that ends in an outcome, which `sigtool check` has to say yes to.
 
-use crate::called::{Called, PLAIN, Setting, texts_of};
+use crate::called::{Called, PLAIN};
 use sig_base::{MemorySink, MemorySource};
 use sig_record::{print_ends, read_record};
 use sig_tool::{ToolStatus, tool};
 use sig_view::ViewStatus;
 use std::alloc::{AllocError, Global};
+use test_shared::{Setting, texts_of};
 
 /// Whether `sigtool check` says yes to the record of the script.
 fn is_checked(alloc: Global, script: &[u8], told: &[u8]) -> Result<bool, AllocError> {

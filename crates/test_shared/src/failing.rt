@@ -1,0 +1,69 @@
+use crate::called::Called;
+use crate::program::Program;
+use crate::setting::{PLAIN, Setting};
+use std::alloc::{AllocError, Global};
+
+/// A command with its input, which is read and written a byte at a call, and what it writes.
+pub struct Work {
+    /// The arguments.
+    pub words: &'static [&'static str],
+    /// The script of the input.
+    pub script: &'static [u8],
+    /// The record behind it.
+    pub told: &'static [u8],
+    /// What is written of them.
+    pub text: &'static [u8],
+}
+
+/// Whether the call whose read of this number fails says so; behind the last read it is done.
+fn fails_at_read<P: Program>(alloc: Global, work: &Work, read: u64) -> Result<bool, AllocError> {
+    let setting = Setting {
+        words: work.words,
+        piece: 1,
+        failing_read: read,
+        ..PLAIN
+    };
+    let called = Called::<P>::of(alloc, &setting, work.script, work.told)?;
+    let reads = work.script.len().saturating_add(work.told.len()) as u64;
+    if read <= reads.saturating_add(1) {
+        Ok(called.is(P::READ_FAULT, b"", P::READ_TOLD))
+    } else {
+        Ok(called.is(P::DONE, work.text, b""))
+    }
+}
+
+/// Whether the call whose write of this number fails says so and has written the bytes before; behind
+/// the last write it is done.
+fn fails_at_write<P: Program>(alloc: Global, work: &Work, write: u64) -> Result<bool, AllocError> {
+    let setting = Setting {
+        words: work.words,
+        taken: 1,
+        failing_write: write,
+        ..PLAIN
+    };
+    let called = Called::<P>::of(alloc, &setting, work.script, work.told)?;
+    match work.text.get(..(write as usize).saturating_sub(1)) {
+        Some(front) if front.len() < work.text.len() => {
+            Ok(called.is(P::WRITE_FAULT, front, P::WRITE_TOLD))
+        }
+        _ => Ok(called.is(P::DONE, work.text, b"")),
+    }
+}
+
+/// The first call of a stream, from 1 up to this number, whose fault is answered otherwise.
+///
+/// # Errors
+///
+/// [`AllocError`] where memory is wanting for a call's streams.
+pub fn first_other<P: Program>(
+    alloc: Global,
+    work: &Work,
+    last: u64,
+) -> Result<Option<u64>, AllocError> {
+    for call in 1..=last {
+        if !fails_at_read::<P>(alloc, work, call)? || !fails_at_write::<P>(alloc, work, call)? {
+            return Ok(Some(call));
+        }
+    }
+    Ok(None)
+}
