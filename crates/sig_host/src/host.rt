@@ -119,7 +119,7 @@ fn run_record<R: Threads + Wait + Sync, G: Gate>(
     let crew = Crew::start(alloc, script)?;
     let crew = run_crew(rt, alloc, settings, crew, gate)?;
     a_lawful_crew_tells_a_run();
-    let given = Record::gather(alloc, crew)?;
+    let given = Record::gather_at_end(alloc, crew)?;
     Ok(given)
 }
 

@@ -8,8 +8,8 @@ use crate::process::Process;
 use sig_inner::Inner;
 use sig_kinds::Signals;
 use sig_model::{Events, LAST_STAMP, State};
+use sig_program::{Instrs, Labels};
 use sig_terms::{Name, Pid, Term};
-use std::mem;
 
 /// What a record tells of a process.
 #[derive(Debug, Drop)]
@@ -28,6 +28,10 @@ pub struct Parts {
     pub taken_in: Signals,
     /// How it stands.
     pub state: State,
+    /// The labels of its part of the script.
+    pub labels: Labels,
+    /// What its part of the script has it do.
+    pub instrs: Instrs,
 }
 
 fn is_late_at(signals: &Signals, at: usize) -> bool
@@ -68,10 +72,8 @@ impl Process {
         any_late(&self.progress.own) || any_late(&self.progress.taken_in)
     }
 
-    /// The process's part of a record. The process kept what every running process keeps. The labels and
-    /// instructions of its part of the script are left as they lie in memory, and that memory isn't given
-    /// back: a program gathers a record when it is about to end, and to give back a long script line by
-    /// line takes nearly as long as to make it.
+    /// The process's part of a record, and the labels and instructions of its part of the script. The process kept
+    /// what every running process keeps.
     ///
     /// Asks that nothing is left of what it has sent to others: its outbox is empty, as
     /// [`Process::take_outbox`] leaves it.
@@ -83,8 +85,6 @@ impl Process {
         let cut = self.is_cut() || self.has_late();
         let progress = self.progress;
         let proc = self.proc;
-        mem::forget(proc.labels);
-        mem::forget(proc.instrs);
         let (mut left, end) = progress.tables.into_left();
         left.forget();
         Parts {
@@ -95,6 +95,8 @@ impl Process {
             own: progress.own,
             taken_in: progress.taken_in,
             state: state_of(end, cut),
+            labels: proc.labels,
+            instrs: proc.instrs,
         }
     }
 }

@@ -10,7 +10,9 @@ use sig_inner::Inner;
 use sig_kinds::{Signal, Signals};
 use sig_lists::Sequence;
 use sig_process::Process;
+use sig_program::{Instrs, Labels};
 use std::alloc::{AllocError, Global};
+use std::mem;
 
 /// What is left of the messages.
 fn lefts_of(alloc: Global, mut inner: Inner) -> Result<Lefts, AllocError>
@@ -68,13 +70,25 @@ fn waiting_of(
     Ok((left, queued))
 }
 
-/// The report of a process.
-fn report(alloc: Global, process: Process) -> Result<Report, AllocError>
+/// Lets go of a process's part of the script. Where the program is about to end it stays where it lies.
+fn let_go(labels: Labels, instrs: Instrs, ends: bool) {
+    if ends {
+        mem::forget(labels);
+        mem::forget(instrs);
+    } else {
+        drop(labels);
+        drop(instrs);
+    }
+}
+
+/// The report of a process. Where the program is about to end its part of the script stays where it lies.
+fn report(alloc: Global, process: Process, ends: bool) -> Result<Report, AllocError>
     requires { process.running.outbox ≡ [] }
     ensures report { IfOk result (λ report. report ≡ sorted_report process.running) }
     ensures keeps { IsKeeping process.running }
 {
     let parts = process.into_parts();
+    let_go(parts.labels, parts.instrs, ends);
     let (left, queued) = waiting_of(alloc, parts.left, parts.own, parts.taken_in)?;
     Ok(Report {
         pid: parts.pid,
@@ -86,15 +100,19 @@ fn report(alloc: Global, process: Process) -> Result<Report, AllocError>
     })
 }
 
-/// The reports of the processes.
-pub(crate) fn gather_all(alloc: Global, procs: Vec<Process>) -> Result<Vec<Report>, AllocError>
+/// The reports of the processes. Where the program is about to end their parts of the script stay where they lie.
+pub(crate) fn gather_all(
+    alloc: Global,
+    procs: Vec<Process>,
+    ends: bool,
+) -> Result<Vec<Report>, AllocError>
     requires { IsClear (runnings_of procs.items) }
     ensures reports { IfOk result (λ reports. reports.items ≡ sorted_record (runnings_of procs.items)) }
     ensures keeping { OnOk result (All IsKeeping (runnings_of procs.items)) }
 {
     let mut reports = Sequence::new(alloc);
     for process in procs {
-        reports.add(report(alloc, process)?)?;
+        reports.add(report(alloc, process, ends)?)?;
     }
     Ok(reports.into_vec())
 }

@@ -13,7 +13,7 @@ use Rattle.sig_record.proofs.CountedLemmas.{counted_in_order}
 use Rattle.sig_record.proofs.CountedCrews.{crew_counted}
 use Rattle.sig_record.proofs.RunLemmas.{record_of_a_run}
 use Rattle.sig_record.proofs.RecordLemmas.{record_kept, same_record}
-use Rattle.sig_record.proofs.record.Record.gather.Goals as goal
+use Rattle.sig_record.proofs.record.Record.gathered.Goals as goal
 
 pub invariant_of-result : goal.invariant_of-result
 invariant_of-result c =
