@@ -15,9 +15,9 @@ use Rattle.sig_view.specs.declared.status.ViewStatus.{ViewStatus}
 use Rattle.sig_view.specs.declared.status.ViewStatus.TheVariants.{Done, BadScript, Usage, ReadFault, WriteFault, Memory, No, BadRecord, TooLong, NoEvent, TooManyEvents, NoOutcome, Unfinished}
 use Rattle.sig_view.specs.Commands.{IsFit, IsTextOf}
 use Rattle.sig_view.specs.Inputs.{IsRecordText, IsRefused, IsUnfitRecord}
-use Rattle.sig_view.specs.Outcomes.{IsEndWith, IsNoOutcomeFor, IsNoScript, IsScript, IsSpelled, LacksScript}
+use Rattle.sig_view.specs.Outcomes.{end_with, IsNoOutcomeFor, IsNoScript, IsScript, IsSpelled, LacksScript}
 use Rattle.sig_view.specs.Texts.{IsTextFor, IsUnfitFor}
-use Rattle.sig_view.specs.Answers.{as_done, IsAnswer, IsAnswerTo, IsDue, IsRanSo, IsRecordDue, IsWellGiven}
+use Rattle.sig_view.specs.Answers.{as_done, IsAnswer, IsAnswerTo, IsDue, IsPrinted, IsRanSo, IsRecordDue, IsUnfinished, IsWellGiven}
 use Rattle.sig_view.proofs.DueLemmas.{one_due, spelled_once}
 
 -- ---- nothing was written
@@ -34,11 +34,11 @@ never_cut_off (Concurrent event) r h = h
 never_cut_off (Outcomes states) r h = h
 never_cut_off (OutcomeRecord states number) r h = h
 
-never_unfinished : (command : Command) (r : Reading) (seen : ℕ) → IsUnfitFor command r (Unfinished seen) → ⊥
-never_unfinished (Chart window) r seen h = h
-never_unfinished (Concurrent event) r seen h = h
-never_unfinished (Outcomes states) r seen h = h
-never_unfinished (OutcomeRecord states number) r seen h = h
+unfinished_unfit : (command : Command) (r : Reading) (w : Writing) (met : ℕ) → IsUnfitFor command r (Unfinished met) → IsUnwritten w → IsUnfinished command r w met
+unfinished_unfit (Chart window) r w met h none = absurd h
+unfinished_unfit (Concurrent event) r w met h none = absurd h
+unfinished_unfit (Outcomes states) r w met h none = absurd h
+unfinished_unfit (OutcomeRecord states number) r w met h none = (h, none)
 
 -- where there was nothing to write, it ended so
 pub unfit_ran : (command : Command) (r : Reading) (w : Writing) (status : ViewStatus) → IsUnfitFor command r status → IsUnwritten w → IsRanSo command r w status
@@ -54,7 +54,7 @@ unfit_ran command r w TooLong h none = (h, none)
 unfit_ran command r w NoEvent h none = (h, none)
 unfit_ran command r w TooManyEvents h none = (h, none)
 unfit_ran command r w NoOutcome h none = (h, none)
-unfit_ran command r w (Unfinished states) h none = absurd (never_unfinished command r states h)
+unfit_ran command r w (Unfinished states) h none = unfinished_unfit command r w states h none
 
 -- ---- the whole text was written
 
@@ -62,15 +62,25 @@ unfit_ran command r w (Unfinished states) h none = absurd (never_unfinished comm
 abbrev Ends : ViewStatus → Type 0
 Ends end = (end ≡ Done) ⊎ ((states : ℕ) × (end ≡ Unfinished states))
 
-listed_ends : (all : Bool) (end : ViewStatus) → IsEndWith all end → Ends end
-listed_ends true end h = inl h
-listed_ends false end h = inr h
+listed_ends : (all : Bool) (states : ℕ) (end : ViewStatus) → end ≡ end_with all states → Ends end
+listed_ends true states end h = inl h
+listed_ends false states end h = inr (states, h)
 
 text_ends : (command : Command) (r : Reading) (text : List ℕ) (end : ViewStatus) → IsTextFor command r text end → Ends end
 text_ends (Chart window) r text end h = inl h.0
 text_ends (Concurrent event) r text end h = inl h.0
-text_ends (Outcomes states) r text end h = listed_ends h.2.all end h.2.ends
+text_ends (Outcomes most) r text end h = listed_ends h.2.all h.2.states end h.2.ends
 text_ends (OutcomeRecord states number) r text end h = inl h.0
+
+-- a record is written whole, where its search was cut off too
+unfinished_printed : (command : Command) (r : Reading) (w : Writing) (met : ℕ) → IsPrinted command r w (Unfinished met) → IsUnfinished command r w met
+unfinished_printed (Chart window) r w met h = h
+unfinished_printed (Concurrent event) r w met h = h
+unfinished_printed (Outcomes states) r w met h = h
+unfinished_printed (OutcomeRecord states number) r w met h = absurd (other h.1.0)
+  where
+    other : Unfinished met ≡ Done → ⊥
+    other e = cc
 
 pub printed_ran : (command : Command) (r : Reading) (w : Writing) (text : List ℕ) (end : ViewStatus) → IsTextFor command r text end → Adds w.held w.new text
     → IsRanSo command r w end
@@ -78,7 +88,9 @@ printed_ran command r w text end h adds = by (text_ends command r text end h)
   where
     by : Ends end → IsRanSo command r w end
     by (inl e) = subst (λ (s : ViewStatus). IsRanSo command r w s) (sym e) (text, subst (λ (s : ViewStatus). IsTextFor command r text s) e h, adds)
-    by (inr e) = subst (λ (s : ViewStatus). IsRanSo command r w s) (sym e.1) (text, subst (λ (s : ViewStatus). IsTextFor command r text s) e.1 h, adds)
+    by (inr e) =
+        subst (λ (s : ViewStatus). IsRanSo command r w s) (sym e.1)
+        (unfinished_printed command r w e.0 (text, subst (λ (s : ViewStatus). IsTextFor command r text s) e.1 h, adds))
 
 ends_done : (end : ViewStatus) → Ends end → as_done end ≡ Done
 ends_done end (inl e) = ap as_done e
@@ -174,26 +186,26 @@ module _ (r : Reading) (bytes : List ℕ) (left : r.left ≡ Some bytes) where
   list_due states (Unfinished seen) h = absurd h
 
   -- where none of these bytes' scripts can be found, one is missing
-  numbered_due : (number : ℕ) (due status : ViewStatus) → IsNoScript bytes due → IsNoOutcomeFor number r status → IsDueOr (IsNoScript bytes status) status
-  numbered_due number due Done is_due h = absurd h
-  numbered_due number due (BadScript line kind) is_due h = script_due (BadScript line kind) h
-  numbered_due number due Usage is_due h = absurd h
-  numbered_due number due ReadFault is_due h = inr (inr h)
-  numbered_due number due WriteFault is_due h = absurd h
-  numbered_due number due Memory is_due h = inr (inl refl)
-  numbered_due number due (No event) is_due h = absurd h
-  numbered_due number due (BadRecord line) is_due h = absurd h
-  numbered_due number due TooLong is_due h = script_due TooLong h
-  numbered_due number due NoEvent is_due h = absurd h
-  numbered_due number due TooManyEvents is_due h = absurd h
-  numbered_due number due NoOutcome is_due h = absurd (spelled_once bytes h.0 due (spelled_by h.0 h.1) is_due)
-  numbered_due number due (Unfinished states) is_due h = absurd h
+  numbered_due : (most number : ℕ) (due status : ViewStatus) → IsNoScript bytes due → IsNoOutcomeFor most number r status → IsDueOr (IsNoScript bytes status) status
+  numbered_due most number due Done is_due h = absurd h
+  numbered_due most number due (BadScript line kind) is_due h = script_due (BadScript line kind) h
+  numbered_due most number due Usage is_due h = absurd h
+  numbered_due most number due ReadFault is_due h = inr (inr h)
+  numbered_due most number due WriteFault is_due h = absurd h
+  numbered_due most number due Memory is_due h = inr (inl refl)
+  numbered_due most number due (No event) is_due h = absurd h
+  numbered_due most number due (BadRecord line) is_due h = absurd h
+  numbered_due most number due TooLong is_due h = script_due TooLong h
+  numbered_due most number due NoEvent is_due h = absurd h
+  numbered_due most number due TooManyEvents is_due h = absurd h
+  numbered_due most number due NoOutcome is_due h = absurd (spelled_once bytes h.0 due (spelled_by h.0 h.1) is_due)
+  numbered_due most number due (Unfinished states) is_due h = absurd (spelled_once bytes h.0 due (spelled_by h.0 h.1) is_due)
 
   unfit_due : (command : Command) (due status : ViewStatus) → IsDue command bytes due → IsUnfitFor command r status → IsDueOr (IsDue command bytes status) status
   unfit_due (Chart window) due status is_due h = record_due (Chart window) status h
   unfit_due (Concurrent event) due status is_due h = record_due (Concurrent event) status h
   unfit_due (Outcomes states) due status is_due h = list_due states status h
-  unfit_due (OutcomeRecord states number) due status is_due h = numbered_due number due status is_due h
+  unfit_due (OutcomeRecord states number) due status is_due h = numbered_due states number due status is_due h
 
   text_due : (command : Command) (due : ViewStatus) (text : List ℕ) (end : ViewStatus) → IsDue command bytes due → IsTextFor command r text end → Done ≡ due
   text_due (Chart window) due text end is_due h = one_due (Chart window) bytes Done due (record_text_due (Chart window) text h.1) is_due
@@ -215,6 +227,12 @@ module _ (r : Reading) (bytes : List ℕ) (left : r.left ≡ Some bytes) where
     printed : (text : List ℕ) (end : ViewStatus) → IsTextFor command r text end → as_done end ≡ due
     printed text end h = ends_done end (text_ends command r text end h) ∙ text_due command due text end is_due h
 
+    unfinished : (c : Command) → IsDue c bytes due → (states : ℕ) → IsUnfinished c r w states → Done ≡ due
+    unfinished (Chart window) its states h = text_due (Chart window) due h.0 (Unfinished states) its h.1
+    unfinished (Concurrent event) its states h = text_due (Concurrent event) due h.0 (Unfinished states) its h.1
+    unfinished (Outcomes most) its states h = text_due (Outcomes most) due h.0 (Unfinished states) its h.1
+    unfinished (OutcomeRecord most number) its states h = absurd (spelled_once bytes h.0.0 due (spelled_by h.0.0 h.0.1) its)
+
     ran : (status : ViewStatus) → IsRanSo command r w status → (as_done status ≡ due) ⊎ (status ≡ Memory)
     ran Done h = inl (printed h.0 Done h.1)
     ran (BadScript line kind) h = unfit (BadScript line kind) h.0
@@ -228,7 +246,7 @@ module _ (r : Reading) (bytes : List ℕ) (left : r.left ≡ Some bytes) where
     ran NoEvent h = unfit NoEvent h.0
     ran TooManyEvents h = unfit TooManyEvents h.0
     ran NoOutcome h = unfit NoOutcome h.0
-    ran (Unfinished states) h = inl (printed h.0 (Unfinished states) h.1)
+    ran (Unfinished states) h = inl (unfinished command is_due states h)
 
 pub complete : (command : Command) (words : List (List ℕ)) (bytes : List ℕ) (due status : ViewStatus) (r : Reading) (w : Writing) → IsDue command bytes due
     → IsWellGiven command words bytes due r w → IsAnswer words r w status → (as_done status ≡ due) ⊎ (status ≡ Memory)

@@ -1,12 +1,14 @@
 -- The text of outcomes is that of the records that tell them; and what was found, as it is listed.
-use Rattle.std.proofs.Common.{◌≡◌, ◌≢◌, ℕ, zero, suc, ◌+◌, ◌<◌, Bool, List, [], ◌∷◌, ◌++◌, map, length, drop, get_or, Option, Some, None, refl, sym, ap, ◌∙◌, append_assoc, drop-cons, add-one, subst, arith}
-use Rattle.std.specs.Prelude.{All, AllPairs}
+use Rattle.std.proofs.Common.{◌≡◌, ◌≢◌, ◌⊎◌, inl, inr, ℕ, zero, suc, ◌+◌, ◌<◌, ◌≤◌, Bool, true, false, List, [], ◌∷◌, ◌++◌, map, length, drop, get_or, Option, Some, None, Result, Ok, Err, refl, sym, ap, ◌∙◌, append_assoc, drop-cons, add-one, subst, arith}
+use Rattle.std.specs.Prelude.{All, AllPairs, slice_get, Vec}
+use Rattle.std.specs.Global.{Global}
 use Rattle.std.specs.List.{flat_map}
 use Rattle.std.specs.Option.{option_map}
+use Rattle.std.proofs.lemmas.Bool.{false≢true}
 use Rattle.std.proofs.lemmas.List.{get_or-map, length-map}
 use Rattle.std.proofs.lemmas.List.Elements.{All-head, All-tail, All-map}
 use Rattle.std.proofs.lemmas.List.Folds.{flat_map-map}
-use Rattle.std.proofs.lemmas.Option.{slice_get-map, slice_get_within, get_or_from_slice_get}
+use Rattle.std.proofs.lemmas.Option.{slice_get-map, slice_get_cases, slice_get_within, get_or_from_slice_get}
 use Rattle.sig_program.specs.Scripts.{Declared, Program}
 use Rattle.sig_runs.specs.Machine.{At, Machine}
 use Rattle.sig_kinds.specs.declared.signal.Signal.{Signal}
@@ -23,8 +25,9 @@ use Rattle.sig_record.specs.RecordText.{head_text, record_text, state_text}
 use Rattle.sig_record.specs.RunRecord.{events_listed, run_report, run_reports}
 use Rattle.sig_check.specs.Verdicts.{IsOfSettledRun}
 use Rattle.sig_view.specs.declared.status.ViewStatus.{ViewStatus}
+use Rattle.sig_view.specs.declared.status.ViewStatus.TheVariants.{Done, BadScript, Usage, ReadFault, WriteFault, Memory, No, BadRecord, TooLong, NoEvent, TooManyEvents, NoOutcome, Unfinished}
 use Rattle.sig_view.specs.OutcomeText.{endings_from, endings_text, first_line, names_of, number_line, outcomes_from, outcomes_text, rest_text, rests_text, unhandled_text}
-use Rattle.sig_view.specs.Outcomes.{AreFound, AreListed, HasNoOutcome, IsEndWith, IsOutcome, IsOutcomeRecord, IsOutcomesText, numbered}
+use Rattle.sig_view.specs.Outcomes.{AreFound, AreListed, end_with, HasFewer, IsFoundText, IsNotFound, IsNumberedText, IsOutcome, IsOutcomeRecord, IsOutcomesText, numbered}
 
 -- ---- one process
 
@@ -84,7 +87,7 @@ module _ (script : Program) where
       let second : get_or (map outcome_told endings) j d ≡ outcome_told (get_or endings j []) = get_or-map outcome_told endings j [] d lt in
       h i j [] less lt (sym first ∙ same ∙ second)
 
-  module _ (endings : List (List Report)) (all : Bool) (found : AreFound script endings all) where
+  module _ (most : ℕ) (endings : List (List Report)) (states : ℕ) (all : Bool) (found : AreFound script most endings states all) where
     are_listed : AreListed script (map outcome_told endings) all
     are_listed = record {
       each = All-map (IsOutcome script) outcome_told endings (λ k d lt. (get_or endings k d, found.each k d lt, refl));
@@ -92,8 +95,16 @@ module _ (script : Program) where
       whole = found.whole;
     }
 
-    pub listed_text : (text : List ℕ) (end : ViewStatus) → text ≡ endings_text endings all → IsEndWith all end → IsOutcomesText script text end
-    listed_text text end is ends = record { outcomes = map outcome_told endings; all = all; listed = are_listed; lines = is ∙ text_is endings all found.each; ends = ends }
+    pub listed_text : (text : List ℕ) (end : ViewStatus) → text ≡ endings_text endings all → end ≡ end_with all states → IsOutcomesText script most text end
+    listed_text text end is ends = record {
+      outcomes = map outcome_told endings;
+      states = states;
+      all = all;
+      listed = are_listed;
+      met = found.met;
+      lines = is ∙ text_is endings all found.each;
+      ends = ends;
+    }
 
     numbered_told : (number : ℕ) → numbered number (map outcome_told endings) ≡ option_map outcome_told (numbered number endings)
     numbered_told zero = refl
@@ -109,7 +120,7 @@ module _ (script : Program) where
     sized_at names (suc place) reports is =
         subst IsSizedRecord (get_or_from_slice_get endings place reports reports is) (found.sized names place reports (slice_get_within endings place reports is))
 
-    pub listed_record : (number : ℕ) (reports : List Report) (text : List ℕ) → numbered number endings ≡ Some reports → text ≡ record_text reports → CanBeReread reports
+    listed_record : (number : ℕ) (reports : List Report) (text : List ℕ) → numbered number endings ≡ Some reports → text ≡ record_text reports → CanBeReread reports
         → AreNames script → IsOutcomeRecord script number text
     unfolding CanBeReread
     listed_record number reports text is printed can names = record {
@@ -123,13 +134,45 @@ module _ (script : Program) where
       printed = printed;
     }
 
-    pub none_numbered : (number : ℕ) → numbered number endings ≡ None → HasNoOutcome script number
-    none_numbered number is = record {
+    -- where none has this number there are fewer
+    past_end : (number : ℕ) → number ≢ 0 → numbered number endings ≡ None → length endings < number
+    past_end zero some is = absurd (some refl)
+    past_end (suc place) some is = by (slice_get_cases endings place).1
+      where
+        by : ((x : List Report) × (place < length endings) × (slice_get endings place ≡ Some x) × (get_or endings place x ≡ x)) ⊎ ((length endings ≤ place) × (slice_get endings place ≡ None))
+            → length endings < suc place
+        by (inl h) = let there : slice_get endings place ≡ Some h.0 = h.2 in absurd (cc)
+        by (inr h) = omega (arith, h.0)
+
+    has_fewer : (number : ℕ) → number ≢ 0 → numbered number endings ≡ None → HasFewer script all number
+    has_fewer number some is = record {
       outcomes = map outcome_told endings;
-      all = all;
       listed = are_listed;
-      missing = numbered_told number ∙ ap (λ (o : Option (List Report)). option_map outcome_told o) is;
+      fewer = subst (λ n. n < number) (sym (length-map endings outcome_told)) (past_end number some is);
     }
+
+    not_found : (number met : ℕ) → number ≢ 0 → numbered number endings ≡ None → all ≡ false → met ≡ states → IsNotFound script most number met
+    not_found number met some is cut same =
+        let over : states ≤ most → ⊥ = λ le. false≢true (sym cut ∙ found.met.1 le) in
+        record { over = omega (arith, over, same); found = subst (λ (b : Bool). HasFewer script b number) cut (has_fewer number some is) }
+
+    -- what was found of this number, as it is said of the script
+    pub found_is : (number : ℕ) (result : Result (Vec ℕ Global) ViewStatus) → number ≢ 0 → AreNames script → IsFoundText endings states all number result
+        → IsNumberedText script most number result
+    found_is number (Ok text) some names h = listed_record number h.0 text.items h.1 h.2 h.3 names
+    found_is number (Err Done) some names h = absurd h
+    found_is number (Err (BadScript line kind)) some names h = absurd h
+    found_is number (Err Usage) some names h = absurd h
+    found_is number (Err ReadFault) some names h = absurd h
+    found_is number (Err WriteFault) some names h = absurd h
+    found_is number (Err Memory) some names h = h
+    found_is number (Err (No event)) some names h = absurd h
+    found_is number (Err (BadRecord line)) some names h = absurd h
+    found_is number (Err TooLong) some names h = absurd h
+    found_is number (Err NoEvent) some names h = absurd h
+    found_is number (Err TooManyEvents) some names h = absurd h
+    found_is number (Err NoOutcome) some names h = inr (subst (λ (b : Bool). HasFewer script b number) h.1 (has_fewer number some h.0))
+    found_is number (Err (Unfinished met)) some names h = not_found number met some h.0 h.1 h.2
 
 -- ---- the loop
 

@@ -25,10 +25,15 @@ abbrev pub IsCutOff : Command → Reading → Writing → Type 0
 IsCutOff command r w =
     Rose w.before w.after × ((text : List ℕ) × (end : ViewStatus) × (n : ℕ) × IsTextFor command r text end × Adds w.held w.new (take n text))
 
+-- the search was cut off: its list was written; or nothing, where the record of an outcome is asked for that it didn't find
+abbrev pub IsUnfinished : Command → Reading → Writing → ℕ → Type 0
+IsUnfinished (OutcomeRecord most number) r w states = IsUnfitFor (OutcomeRecord most number) r (Unfinished states) × IsUnwritten w
+IsUnfinished command r w states = IsPrinted command r w (Unfinished states)
+
 -- how the command ended: its text was written, or a part of it; or nothing, for this reason
 abbrev pub IsRanSo : Command → Reading → Writing → ViewStatus → Type 0
 IsRanSo command r w Done = IsPrinted command r w Done
-IsRanSo command r w (Unfinished states) = IsPrinted command r w (Unfinished states)
+IsRanSo command r w (Unfinished states) = IsUnfinished command r w states
 IsRanSo command r w WriteFault = IsCutOff command r w
 IsRanSo command r w status = IsUnfitFor command r status × IsUnwritten w
 
@@ -61,14 +66,14 @@ abbrev pub IsListDue : List ℕ → ViewStatus → Type 0
 IsListDue bytes Done = (script : Program) × IsSpelled bytes script
 IsListDue bytes status = IsNoScript bytes status
 
--- What the command has to answer for these bytes, where nothing fails and there is memory; there is one such answer. Which numbers
--- the outcomes have is the search's own matter.
+-- What the command has to answer for these bytes, where nothing fails and there is memory: at most one status. Where `--record` stands and
+-- they spell a script none is due, since how many states a search meets and which numbers the outcomes have is the search's own matter.
 abbrev pub IsDue : Command → List ℕ → ViewStatus → Type 0
 IsDue (Outcomes states) bytes status = IsListDue bytes status
 IsDue (OutcomeRecord states number) bytes status = IsNoScript bytes status
 IsDue command bytes status = IsRecordDue command bytes status
 
--- the status, which is Done also where outcomes were listed and there may be more
+-- the status, which is Done also where the search was cut off
 abbrev pub as_done : ViewStatus → ViewStatus
 as_done (Unfinished states) = Done
 as_done status = status

@@ -1,5 +1,5 @@
 -- What the commands of a script alone read, and what they write of the outcomes that a search finds (this project's own).
-use Rattle.std.specs.Prelude.{◌≡◌, ◌≢◌, ℕ, zero, suc, ◌<◌, Bool, true, false, List, map, length, All, AllPairs, Option, Some, None, slice_get, Result, Ok, Err, Vec, ⊤}
+use Rattle.std.specs.Prelude.{◌≡◌, ◌≢◌, ◌⊎◌, ◌↔◌, ℕ, zero, suc, ◌<◌, ◌≤◌, Bool, true, false, IsTrue, List, map, length, All, AllPairs, Option, Some, None, slice_get, Result, Ok, Err, Vec, ⊤}
 use Rattle.std.specs.Global.{Global}
 use Rattle.sig_base.specs.Flow.{Rose}
 use Rattle.sig_edge.specs.Streams.{IsFine, IsRefused, Reading}
@@ -9,7 +9,7 @@ use Rattle.sig_reader.specs.Grammar.{script_of}
 use Rattle.sig_outcomes.specs.Outcomes.{Rest}
 use Rattle.sig_outcomelaw.specs.Told.{outcome_told}
 use Rattle.sig_record.specs.declared.report.Report.{Report}
-use Rattle.sig_record.specs.ReadableRecord.{IsReadableRecord}
+use Rattle.sig_record.specs.ReadableRecord.{CanBeReread, IsReadableRecord}
 use Rattle.sig_record.specs.RecordText.{record_text}
 use Rattle.sig_record.specs.SizedRecord.{IsSizedRecord}
 use Rattle.sig_check.specs.Verdicts.{IsOfSettledRun}
@@ -38,28 +38,32 @@ abbrev pub numbered : {X : Type 0} → ℕ → List X → Option X
 numbered zero items = None
 numbered (suc place) items = slice_get items place
 
--- Each of these is the record of a settled run, of names and terms that can be read, and no two tell the same outcome; and where that is
--- said, they tell all.
-pub record AreFound (script : Program) (endings : List (List Report)) (all : Bool) : Type 0 where
+-- Each of these is the record of a settled run, of names and terms that can be read, and no two tell the same outcome. So many states
+-- were met; that these are all is said exactly where no more were met than may be visited, and then the records tell all outcomes.
+pub record AreFound (script : Program) (most : ℕ) (endings : List (List Report)) (states : ℕ) (all : Bool) : Type 0 where
   pub each : All (IsOfSettledRun script) endings
   pub sized : AreNames script → All IsSizedRecord endings
   pub distinct : AllPairs (λ a b. outcome_told a ≢ outcome_told b) endings
+  pub met : IsTrue all ↔ (states ≤ most)
   pub whole : all ≡ true → AreAllOutcomes script (map outcome_told endings)
 
 -- ---- what is written
 
--- how a call ends that has listed all outcomes, or some of them
-abbrev pub IsEndWith : Bool → ViewStatus → Type 0
-IsEndWith true end = end ≡ Done
-IsEndWith false end = (states : ℕ) × (end ≡ Unfinished states)
+-- how a call ends that has listed what was found: done, or with the number of states that were met
+abbrev pub end_with : Bool → ℕ → ViewStatus
+end_with true states = Done
+end_with false states = Unfinished states
 
--- the text lists outcomes of the script, all of them where it says so
-pub record IsOutcomesText (script : Program) (text : List ℕ) (end : ViewStatus) : Type 0 where
+-- The text lists outcomes of the script, all of them where it says so. So many states were met, and it says so exactly where these are no
+-- more than may be visited; else the call ends with their number.
+pub record IsOutcomesText (script : Program) (most : ℕ) (text : List ℕ) (end : ViewStatus) : Type 0 where
   pub outcomes : List (List Rest)
+  pub states : ℕ
   pub all : Bool
   pub listed : AreListed script outcomes all
+  pub met : IsTrue all ↔ (states ≤ most)
   pub lines : text ≡ outcomes_text (names_of script) outcomes all
-  pub ends : IsEndWith all end
+  pub ends : end ≡ end_with all states
 
 -- the text is that of the record of a settled run, which can be read, that ends in the outcome of this number among such
 pub record IsOutcomeRecord (script : Program) (number : ℕ) (text : List ℕ) : Type 0 where
@@ -72,12 +76,21 @@ pub record IsOutcomeRecord (script : Program) (number : ℕ) (text : List ℕ) :
   pub there : numbered number outcomes ≡ Some (outcome_told reports)
   pub printed : text ≡ record_text reports
 
--- there is none of this number among those that were found
-pub record HasNoOutcome (script : Program) (number : ℕ) : Type 0 where
+-- a list of outcomes of the script, which are all where that is said, doesn't come to this number
+pub record HasFewer (script : Program) (all : Bool) (number : ℕ) : Type 0 where
   pub outcomes : List (List Rest)
-  pub all : Bool
   pub listed : AreListed script outcomes all
-  pub missing : numbered number outcomes ≡ None
+  pub fewer : length outcomes < number
+
+-- all outcomes of the script are fewer than this number; or it is 0, which numbers none
+abbrev pub HasNoOutcome : Program → ℕ → Type 0
+HasNoOutcome script number = (number ≡ 0) ⊎ HasFewer script true number
+
+-- More states were met than may be visited, so the search was cut off; it found fewer outcomes than this number. Which these are isn't
+-- said, so of them this says no more than that the number isn't 0.
+pub record IsNotFound (script : Program) (most : ℕ) (number : ℕ) (states : ℕ) : Type 0 where
+  pub over : most < states
+  pub found : HasFewer script false number
 
 -- ---- what is read
 
@@ -125,35 +138,46 @@ IsScriptRead r (Err status) = LacksScript r status
 
 -- ---- of the source
 
--- this text lists outcomes of the script that the source spells
-abbrev pub IsOutcomesFor : Reading → List ℕ → ViewStatus → Type 0
-IsOutcomesFor r text end = (script : Program) × IsScript r script × IsOutcomesText script text end
+-- this text lists outcomes of the script that the source spells, by a search that visits at most so many states
+abbrev pub IsOutcomesFor : ℕ → Reading → List ℕ → ViewStatus → Type 0
+IsOutcomesFor most r text end = (script : Program) × IsScript r script × IsOutcomesText script most text end
 
 -- this text is that of the record of a run which ends in the outcome of this number
 abbrev pub IsOutcomeRecordFor : ℕ → Reading → List ℕ → Type 0
 IsOutcomeRecordFor number r text = (script : Program) × IsScript r script × IsOutcomeRecord script number text
 
--- why there is none
-abbrev pub IsNoOutcomeFor : ℕ → Reading → ViewStatus → Type 0
-IsNoOutcomeFor number r NoOutcome = (script : Program) × IsScript r script × HasNoOutcome script number
-IsNoOutcomeFor number r status = LacksScript r status
+-- why there is none: the script has no such outcome, or a search that visits at most so many states didn't find it
+abbrev pub IsNoOutcomeFor : ℕ → ℕ → Reading → ViewStatus → Type 0
+IsNoOutcomeFor most number r NoOutcome = (script : Program) × IsScript r script × HasNoOutcome script number
+IsNoOutcomeFor most number r (Unfinished states) = (script : Program) × IsScript r script × IsNotFound script most number states
+IsNoOutcomeFor most number r status = LacksScript r status
 
 -- ---- the steps
 
 -- the text of what was found
-abbrev pub IsListText : Program → Result Text ViewStatus → Type 0
-IsListText script (Ok text) = IsOutcomesText script text.bytes.items text.end
-IsListText script (Err Memory) = ⊤
-IsListText script (Err _) = ⊥
+abbrev pub IsListText : Program → ℕ → Result Text ViewStatus → Type 0
+IsListText script most (Ok text) = IsOutcomesText script most text.bytes.items text.end
+IsListText script most (Err Memory) = ⊤
+IsListText script most (Err _) = ⊥
 
--- the text of the record of this number
-abbrev pub IsNumberedText : Program → ℕ → Result (Vec ℕ Global) ViewStatus → Type 0
-IsNumberedText script number (Ok text) = IsOutcomeRecord script number text.items
-IsNumberedText script number (Err NoOutcome) = HasNoOutcome script number
-IsNumberedText script number (Err Memory) = ⊤
-IsNumberedText script number (Err _) = ⊥
+-- the text of the record of this number among these; or none has it, and these are all, or so many states were met by a search that was cut off
+abbrev pub IsFoundText : List (List Report) → ℕ → Bool → ℕ → Result (Vec ℕ Global) ViewStatus → Type 0
+IsFoundText endings states all number (Ok text) =
+    (reports : List Report) × (numbered number endings ≡ Some reports) × (text.items ≡ record_text reports) × CanBeReread reports
+IsFoundText endings states all number (Err NoOutcome) = (numbered number endings ≡ None) × (all ≡ true)
+IsFoundText endings states all number (Err (Unfinished met)) = (numbered number endings ≡ None) × (all ≡ false) × (met ≡ states)
+IsFoundText endings states all number (Err Memory) = ⊤
+IsFoundText endings states all number (Err _) = ⊥
+
+-- the same of the script
+abbrev pub IsNumberedText : Program → ℕ → ℕ → Result (Vec ℕ Global) ViewStatus → Type 0
+IsNumberedText script most number (Ok text) = IsOutcomeRecord script number text.items
+IsNumberedText script most number (Err NoOutcome) = HasNoOutcome script number
+IsNumberedText script most number (Err (Unfinished states)) = IsNotFound script most number states
+IsNumberedText script most number (Err Memory) = ⊤
+IsNumberedText script most number (Err _) = ⊥
 
 -- the same of the script that the source spells
-abbrev pub IsRecordFound : ℕ → Reading → Result (Vec ℕ Global) ViewStatus → Type 0
-IsRecordFound number r (Ok text) = IsOutcomeRecordFor number r text.items
-IsRecordFound number r (Err status) = IsNoOutcomeFor number r status
+abbrev pub IsRecordFound : ℕ → ℕ → Reading → Result (Vec ℕ Global) ViewStatus → Type 0
+IsRecordFound most number r (Ok text) = IsOutcomeRecordFor number r text.items
+IsRecordFound most number r (Err status) = IsNoOutcomeFor most number r status

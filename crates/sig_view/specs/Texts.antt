@@ -11,14 +11,14 @@ use Rattle.sig_view.specs.Outcomes.{IsNoOutcomeFor, IsOutcomeRecordFor, IsOutcom
 
 -- this is what the command writes, of a script alone or with a record behind it, and how the call ends when it is written
 abbrev pub IsTextFor : Command → Reading → List ℕ → ViewStatus → Type 0
-IsTextFor (Outcomes states) r text end = IsOutcomesFor r text end
+IsTextFor (Outcomes states) r text end = IsOutcomesFor states r text end
 IsTextFor (OutcomeRecord states number) r text end = (end ≡ Done) × IsOutcomeRecordFor number r text
 IsTextFor command r text end = (end ≡ Done) × IsRecordText command r text
 
 -- why there is nothing that it could write
 abbrev pub IsUnfitFor : Command → Reading → ViewStatus → Type 0
 IsUnfitFor (Outcomes states) r status = LacksScript r status
-IsUnfitFor (OutcomeRecord states number) r status = IsNoOutcomeFor number r status
+IsUnfitFor (OutcomeRecord states number) r status = IsNoOutcomeFor states number r status
 IsUnfitFor command r status = IsUnfitRecord command r status
 
 abbrev pub IsTextRead : Command → Reading → Result Text ViewStatus → Type 0

@@ -7,7 +7,7 @@ ghost use Rattle.sig_program.specs.ScriptNames.{AreNames};
 ghost use Rattle.sig_record.specs.ReadableRecord.{CanBeReread};
 ghost use Rattle.sig_record.specs.RecordText.{record_text};
 ghost use Rattle.sig_view.specs.declared.command.Command.TheVariants.{Outcomes as Listing};
-ghost use Rattle.sig_view.specs.Outcomes.{AreFound, IsEndWith, IsListText, IsNumberedText, IsRecordFound, numbered};
+ghost use Rattle.sig_view.specs.Outcomes.{AreFound, end_with, IsFoundText, IsListText, IsNumberedText, IsRecordFound, numbered};
 ghost use Rattle.sig_view.specs.Texts.{IsTextRead};
 
 use crate::outcome_text::endings_text;
@@ -28,14 +28,14 @@ fn search<T: Teller>(
     states: u64,
     teller: &mut T,
 ) -> Result<Outcomes, AllocError>
-    ensures { IfOk result (λ found. AreFound script.now found.endings.items found.all) }
+    ensures { IfOk result (λ found. AreFound script.now states found.endings.items found.states found.all) }
 {
     list_outcomes(alloc, script, states as usize, teller)
 }
 
 /// How the call ends that has written what was found.
 fn end_of(found: &Outcomes) -> ViewStatus
-    ensures { IsEndWith found.now.all result }
+    ensures { result ≡ end_with found.now.all found.now.states }
 {
     if found.all {
         ViewStatus::Done
@@ -46,14 +46,14 @@ fn end_of(found: &Outcomes) -> ViewStatus
     }
 }
 
-/// The text that lists the outcomes of the script which a search finds.
+/// The text that lists the outcomes of the script which a search of at most so many states finds.
 fn list_text<T: Teller>(
     alloc: Global,
     script: &Script,
     states: u64,
     teller: &mut T,
 ) -> Result<Text, ViewStatus>
-    ensures { IsListText script.now result }
+    ensures { IsListText script.now states result }
 {
     let found = search(alloc, script, states, teller)?;
     let bytes = endings_text(alloc, found.endings.as_slice(), found.all)?;
@@ -95,8 +95,23 @@ fn text_of(alloc: Global, told: &Record) -> Result<Vec<u8>, AllocError>
     Ok(text)
 }
 
-/// The text of the record of this number, counted from 1, among those that a search finds; `NoOutcome`
-/// where there is none.
+/// The text of the record of this number, counted from 1, among those that were found. Where there is
+/// none it is `NoOutcome` if these are all, and else `Unfinished`.
+fn found_text(alloc: Global, found: &Outcomes, number: u64) -> Result<Vec<u8>, ViewStatus>
+    ensures { IsFoundText found.now.endings.items found.now.states found.now.all number result }
+{
+    match numbered(found.endings.as_slice(), number) {
+        Some(ending) => {
+            let text = text_of(alloc, ending)?;
+            Ok(text)
+        }
+        None if found.all => Err(ViewStatus::NoOutcome),
+        None => Err(end_of(found)),
+    }
+}
+
+/// The same of those that a search of at most so many states finds. There is no search for 0, which
+/// numbers none.
 fn numbered_text<T: Teller>(
     alloc: Global,
     script: &Script,
@@ -104,20 +119,17 @@ fn numbered_text<T: Teller>(
     number: u64,
     teller: &mut T,
 ) -> Result<Vec<u8>, ViewStatus>
-    ensures { AreNames script.now → IsNumberedText script.now number result }
+    ensures { AreNames script.now → IsNumberedText script.now states number result }
 {
-    let found = search(alloc, script, states, teller)?;
-    match numbered(found.endings.as_slice(), number) {
-        Some(ending) => {
-            let text = text_of(alloc, ending)?;
-            Ok(text)
-        }
-        None => Err(ViewStatus::NoOutcome),
+    if number == 0 {
+        return Err(ViewStatus::NoOutcome);
     }
+    let found = search(alloc, script, states, teller)?;
+    found_text(alloc, &found, number)
 }
 
 /// The text of `outcomes --record`: the record of a run that ends in the outcome of this number, counted
-/// from 1, of those that a search of at most so many states finds.
+/// from 1, of those that a search of at most so many states finds; or why there is none.
 pub(crate) fn outcome_record_text<S: Source, T: Teller>(
     alloc: Global,
     states: u64,
@@ -125,7 +137,7 @@ pub(crate) fn outcome_record_text<S: Source, T: Teller>(
     input: &mut S,
     teller: &mut T,
 ) -> Result<Vec<u8>, ViewStatus>
-    ensures { IsRecordFound number (reading (S.left input.old) (S.left input.new) (S.faults input.old) (S.faults input.new)) result }
+    ensures { IsRecordFound states number (reading (S.left input.old) (S.left input.new) (S.faults input.old) (S.faults input.new)) result }
 {
     let script = read_alone(alloc, input)?;
     names_of_scripts_are_name_tokens();

@@ -25,8 +25,9 @@ fn refuse<E: Sink>(err: &mut E, fault: io::Error) -> ViewStatus {
 
 /// The program `sigview`, on the arguments of its runtime and these streams: `view` of both. Where the
 /// arguments can't be had, for want of memory or since one is no text, it tells so as `view` does of a
-/// want of memory or of words that are no command. The exit code is the number of the status, 0 to 9, 11 or 12.
-/// A search that takes longer than a second tells how far it is, where standard error is a terminal.
+/// want of memory or of words that are no command. The exit code is at most 12; that it is the number of the
+/// status, its body says and no clause. A search that takes longer than a second tells how far it is, where
+/// standard error is a terminal.
 pub fn program<R, I, O, E>(rt: &R, stdin: I, stdout: O, stderr: E) -> ExitCode
 where
     R: Env + Clock + Alloc<A = Global>,

@@ -33,16 +33,19 @@ pub enum ViewStatus {
     /// The record is that of a settled run, and more than [`MOST_EVENTS`](sig_chart::MOST_EVENTS) of
     /// its events have the stamps that `chart` is to draw.
     TooManyEvents,
-    /// The search found no outcome of the number for whose record `outcomes` was asked.
+    /// The script has no outcome of the number for whose record `outcomes` was asked: all outcomes of its
+    /// settled runs of fewer than 2^62 events are fewer than that. Or the number is 0.
     NoOutcome,
-    /// The outcomes that the search found were written whole. It has met so many states, and hasn't
-    /// come to its end: there may be more.
+    /// The search of `outcomes` was cut off: it has met so many states, more than it may visit, and there
+    /// may be more outcomes than it found. The list of these was written whole; but nothing was written
+    /// where a record was asked for, and they are fewer than its number.
     Unfinished { states: u64 },
 }
 
 impl ViewStatus {
     /// The number with which the program ends. It is that of the tool for the same cause; 10, which the
-    /// tool has for a cause of its own, isn't used. Where all was written it is 0.
+    /// tool has for a cause of its own, isn't used. It is 0 where all was written, and where a search was
+    /// cut off.
     pub fn number(self) -> u8
         ensures { result ≡ number_of self }
     {

@@ -89,10 +89,11 @@ fn run_words<S: Source, O: Sink, T: Teller>(
 /// FIRST to LAST. The events of a process are counted from 1.
 ///
 /// Or the words are `outcomes`, and behind it `--states N`, `--record K` or both in either order: the input
-/// is a script alone, and it writes in which outcomes its runs may end, as many as a search finds that
-/// visits at most N states (1 to 10,000,000; 200,000 without the option); in the first line `all` says
-/// that no settled run of fewer than 2^62 events ends otherwise, and `more` that the search hasn't come
-/// to its end. With `--record K` it writes the record of a settled run that ends in the outcome K of those.
+/// is a script alone, of which a search visits at most N states (1 to 10,000,000; 200,000 without the
+/// option). It writes a list of outcomes in which settled runs of the script end, each once. In its first
+/// line `all` says that no settled run of fewer than 2^62 events ends otherwise, and `more` that more than
+/// N states were met; how many outcomes are listed then no clause says. With `--record K` it writes the
+/// record of a settled run that ends in the outcome K of such a list.
 ///
 /// Of causes that stand together the first in this order is told:
 ///
@@ -109,15 +110,20 @@ fn run_words<S: Source, O: Sink, T: Teller>(
 /// - `NoEvent`: exactly where the record is that of a settled run, and lacks the event of `concurrent`.
 /// - `TooManyEvents`: exactly where the record is that of a settled run, and more than
 ///   [`MOST_EVENTS`](sig_chart::MOST_EVENTS) of its events have the stamps of `chart`.
-/// - `NoOutcome`: only where the input spells a script, of which the search found no outcome K.
+/// - `NoOutcome`: only where the input spells a script, with `--record K`. All outcomes of its settled runs
+///   of fewer than 2^62 events are fewer than K, or K is 0.
+/// - `Unfinished` with `--record K`: only where the input spells a script, of which the search met so many
+///   states, more than N. K isn't 0, and the search found fewer outcomes than K; that it did is a clause of
+///   the function that looks among them, and none here.
 /// - `WriteFault`: only where a write to `out` failed, which has taken the beginning of the text.
-/// - `Done` or `Unfinished`: `out` has taken the whole text. It is `Unfinished` exactly where that lists
-///   outcomes with the word `more`.
+/// - `Done`, or `Unfinished` without `--record`: `out` has taken the whole text. It is `Unfinished` exactly
+///   where that lists outcomes with the word `more`: so many states were met, more than N.
 ///
 /// `Memory` may come in place of each but `Usage`, where memory was wanting. No read failed, but with
-/// `ReadFault`. Only `Done`, `Unfinished` and `WriteFault` have written to `out`. What a status tells is
-/// written to `err` where no write to it fails, and a fault of `err` changes no status. While a search
-/// goes on the teller is told before each visit how many states were visited and how many were met.
+/// `ReadFault`. Only `Done`, `WriteFault` and the `Unfinished` of a list have written to `out`. What a
+/// status tells is written to `err` where no write to it fails, and a fault of `err` changes no status.
+/// While a search goes on the teller is told before each visit how many states were visited and how many
+/// were met.
 pub fn view<S: Source, O: Sink, E: Sink, T: Teller>(
     alloc: Global,
     words: &[String],

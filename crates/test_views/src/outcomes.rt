@@ -134,16 +134,30 @@ static RECORDING: [&[&str]; 3] = [
     &["outcomes", "--record", "1", "--states", "100"],
 ];
 
-/// Words that ask for another one.
-static MISSING: [&[&str]; 3] = [
+/// Words that ask for another one, where the search comes to its end; or for 0, which is none without it.
+static MISSING: [&[&str]; 4] = [
     &["outcomes", "--record", "0"],
+    &["outcomes", "--states", "1", "--record", "0"],
     &["outcomes", "--record", "2"],
     &[
         "outcomes",
         "--states",
-        "1",
+        "100",
         "--record",
         "18446744073709551615",
+    ],
+];
+
+/// Words that ask for it or for another one, where the search visits the opening alone. There the first
+/// process may send and nothing else may happen, so two states are met.
+static CUT_OFF: [&[&str]; 2] = [
+    &["outcomes", "--states", "1", "--record", "1"],
+    &[
+        "outcomes",
+        "--record",
+        "18446744073709551615",
+        "--states",
+        "1",
     ],
 ];
 
@@ -216,6 +230,47 @@ fn are_numbered(alloc: Global) -> Result<bool, AllocError> {
 fn outcomes_have_their_numbers(rt: HostRuntime) {
     let are = are_numbered(rt.alloc());
     assert!(rt; are == Ok(true));
+}
+
+/// How a search ends that has met two states and may visit one, and what is told of it.
+const TWO_MET: ViewStatus = ViewStatus::Unfinished { states: 2 };
+
+const TWO_TOLD: &[u8] = b"sigview: states met: 2; there may be more outcomes\n";
+
+/// Whether nothing is written where the search was cut off, and it isn't said that there is no such outcome.
+fn are_cut_off(alloc: Global) -> Result<bool, AllocError> {
+    for words in &CUT_OFF {
+        if !is_so(alloc, words, ONE_MESSAGE, TWO_MET, b"", TWO_TOLD)? {
+            return Ok(false);
+        }
+    }
+    Ok(true)
+}
+
+#[test]
+fn an_outcome_may_be_there_that_was_not_found(rt: HostRuntime) {
+    let are = are_cut_off(rt.alloc());
+    assert!(rt; are == Ok(true));
+}
+
+/// A process that ends at once. It has two states: the opening, and the end.
+const ENDING: &[u8] = b"sigscript 1\nprocess a\nexit x\n";
+
+/// Whether its outcome is listed where the search may visit two states, and not where it may visit one.
+fn is_bounded(alloc: Global) -> Result<bool, AllocError> {
+    let listed = b"outcomes 1 all\noutcome 1\nprocess 0 a\nstate ended x\n";
+    let two = &["outcomes", "--states", "2"];
+    let one = &["outcomes", "--states", "1"];
+    Ok(
+        is_so(alloc, two, ENDING, ViewStatus::Done, listed, b"")?
+            && is_so(alloc, one, ENDING, TWO_MET, b"outcomes 0 more\n", TWO_TOLD)?,
+    )
+}
+
+#[test]
+fn a_search_visits_as_many_states_as_it_may(rt: HostRuntime) {
+    let bounded = is_bounded(rt.alloc());
+    assert!(rt; bounded == Ok(true));
 }
 
 /// Whether a search that visits one state says that there may be more, and how many states it has met.
