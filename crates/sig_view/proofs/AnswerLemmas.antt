@@ -12,12 +12,12 @@ use Rattle.sig_tool.specs.Inputs.{IsFault, IsOver, IsWhole}
 use Rattle.sig_view.specs.declared.command.Command.{Command}
 use Rattle.sig_view.specs.declared.command.Command.TheVariants.{Chart, Concurrent, Outcomes, OutcomeRecord}
 use Rattle.sig_view.specs.declared.status.ViewStatus.{ViewStatus}
-use Rattle.sig_view.specs.declared.status.ViewStatus.TheVariants.{Done, BadScript, Usage, ReadFault, WriteFault, Memory, No, BadRecord, TooLong, NoEvent, TooManyEvents, NoOutcome, Unfinished}
+use Rattle.sig_view.specs.declared.status.ViewStatus.TheVariants.{Done, BadScript, Usage, ReadFault, WriteFault, Memory, No, BadRecord, TooLong, NoEvent, TooManyEvents, NoOutcome, NotFound, Unfinished}
 use Rattle.sig_view.specs.Commands.{IsFit, IsTextOf}
 use Rattle.sig_view.specs.Inputs.{IsRecordText, IsRefused, IsUnfitRecord}
 use Rattle.sig_view.specs.Outcomes.{end_with, IsNoOutcomeFor, IsNoScript, IsScript, IsSpelled, LacksScript}
 use Rattle.sig_view.specs.Texts.{IsTextFor, IsUnfitFor}
-use Rattle.sig_view.specs.Answers.{as_done, IsAnswer, IsAnswerTo, IsDue, IsPrinted, IsRanSo, IsRecordDue, IsUnfinished, IsWellGiven}
+use Rattle.sig_view.specs.Answers.{as_done, IsAnswer, IsAnswerTo, IsDue, IsRanSo, IsRecordDue, IsWellGiven}
 use Rattle.sig_view.proofs.DueLemmas.{one_due, spelled_once}
 
 -- ---- nothing was written
@@ -34,11 +34,11 @@ never_cut_off (Concurrent event) r h = h
 never_cut_off (Outcomes states) r h = h
 never_cut_off (OutcomeRecord states number) r h = h
 
-unfinished_unfit : (command : Command) (r : Reading) (w : Writing) (met : ℕ) → IsUnfitFor command r (Unfinished met) → IsUnwritten w → IsUnfinished command r w met
-unfinished_unfit (Chart window) r w met h none = absurd h
-unfinished_unfit (Concurrent event) r w met h none = absurd h
-unfinished_unfit (Outcomes states) r w met h none = absurd h
-unfinished_unfit (OutcomeRecord states number) r w met h none = (h, none)
+never_unfinished : (command : Command) (r : Reading) (seen : ℕ) → IsUnfitFor command r (Unfinished seen) → ⊥
+never_unfinished (Chart window) r seen h = h
+never_unfinished (Concurrent event) r seen h = h
+never_unfinished (Outcomes states) r seen h = h
+never_unfinished (OutcomeRecord states number) r seen h = h
 
 -- where there was nothing to write, it ended so
 pub unfit_ran : (command : Command) (r : Reading) (w : Writing) (status : ViewStatus) → IsUnfitFor command r status → IsUnwritten w → IsRanSo command r w status
@@ -54,7 +54,8 @@ unfit_ran command r w TooLong h none = (h, none)
 unfit_ran command r w NoEvent h none = (h, none)
 unfit_ran command r w TooManyEvents h none = (h, none)
 unfit_ran command r w NoOutcome h none = (h, none)
-unfit_ran command r w (Unfinished states) h none = unfinished_unfit command r w states h none
+unfit_ran command r w (NotFound met) h none = (h, none)
+unfit_ran command r w (Unfinished states) h none = absurd (never_unfinished command r states h)
 
 -- ---- the whole text was written
 
@@ -72,25 +73,13 @@ text_ends (Concurrent event) r text end h = inl h.0
 text_ends (Outcomes most) r text end h = listed_ends h.2.all h.2.states end h.2.ends
 text_ends (OutcomeRecord states number) r text end h = inl h.0
 
--- a record is written whole, where its search was cut off too
-unfinished_printed : (command : Command) (r : Reading) (w : Writing) (met : ℕ) → IsPrinted command r w (Unfinished met) → IsUnfinished command r w met
-unfinished_printed (Chart window) r w met h = h
-unfinished_printed (Concurrent event) r w met h = h
-unfinished_printed (Outcomes states) r w met h = h
-unfinished_printed (OutcomeRecord states number) r w met h = absurd (other h.1.0)
-  where
-    other : Unfinished met ≡ Done → ⊥
-    other e = cc
-
 pub printed_ran : (command : Command) (r : Reading) (w : Writing) (text : List ℕ) (end : ViewStatus) → IsTextFor command r text end → Adds w.held w.new text
     → IsRanSo command r w end
 printed_ran command r w text end h adds = by (text_ends command r text end h)
   where
     by : Ends end → IsRanSo command r w end
     by (inl e) = subst (λ (s : ViewStatus). IsRanSo command r w s) (sym e) (text, subst (λ (s : ViewStatus). IsTextFor command r text s) e h, adds)
-    by (inr e) =
-        subst (λ (s : ViewStatus). IsRanSo command r w s) (sym e.1)
-        (unfinished_printed command r w e.0 (text, subst (λ (s : ViewStatus). IsTextFor command r text s) e.1 h, adds))
+    by (inr e) = subst (λ (s : ViewStatus). IsRanSo command r w s) (sym e.1) (text, subst (λ (s : ViewStatus). IsTextFor command r text s) e.1 h, adds)
 
 ends_done : (end : ViewStatus) → Ends end → as_done end ≡ Done
 ends_done end (inl e) = ap as_done e
@@ -153,6 +142,7 @@ module _ (r : Reading) (bytes : List ℕ) (left : r.left ≡ Some bytes) where
   record_due command NoEvent h = inl (no_event_due command h)
   record_due command TooManyEvents h = inl (many_due command h)
   record_due command NoOutcome h = absurd h
+  record_due command (NotFound met) h = absurd h
   record_due command (Unfinished states) h = absurd h
 
   script_due : (status : ViewStatus) → LacksScript r status → IsDueOr (IsNoScript bytes status) status
@@ -168,6 +158,7 @@ module _ (r : Reading) (bytes : List ℕ) (left : r.left ≡ Some bytes) where
   script_due NoEvent h = absurd h
   script_due TooManyEvents h = absurd h
   script_due NoOutcome h = absurd h
+  script_due (NotFound met) h = absurd h
   script_due (Unfinished states) h = absurd h
 
   list_due : (states : ℕ) (status : ViewStatus) → LacksScript r status → IsDueOr (IsDue (Outcomes states) bytes status) status
@@ -183,6 +174,7 @@ module _ (r : Reading) (bytes : List ℕ) (left : r.left ≡ Some bytes) where
   list_due states NoEvent h = absurd h
   list_due states TooManyEvents h = absurd h
   list_due states NoOutcome h = absurd h
+  list_due states (NotFound met) h = absurd h
   list_due states (Unfinished seen) h = absurd h
 
   -- where none of these bytes' scripts can be found, one is missing
@@ -199,7 +191,8 @@ module _ (r : Reading) (bytes : List ℕ) (left : r.left ≡ Some bytes) where
   numbered_due most number due NoEvent is_due h = absurd h
   numbered_due most number due TooManyEvents is_due h = absurd h
   numbered_due most number due NoOutcome is_due h = absurd (spelled_once bytes h.0 due (spelled_by h.0 h.1) is_due)
-  numbered_due most number due (Unfinished states) is_due h = absurd (spelled_once bytes h.0 due (spelled_by h.0 h.1) is_due)
+  numbered_due most number due (NotFound met) is_due h = absurd (spelled_once bytes h.0 due (spelled_by h.0 h.1) is_due)
+  numbered_due most number due (Unfinished states) is_due h = absurd h
 
   unfit_due : (command : Command) (due status : ViewStatus) → IsDue command bytes due → IsUnfitFor command r status → IsDueOr (IsDue command bytes status) status
   unfit_due (Chart window) due status is_due h = record_due (Chart window) status h
@@ -227,12 +220,6 @@ module _ (r : Reading) (bytes : List ℕ) (left : r.left ≡ Some bytes) where
     printed : (text : List ℕ) (end : ViewStatus) → IsTextFor command r text end → as_done end ≡ due
     printed text end h = ends_done end (text_ends command r text end h) ∙ text_due command due text end is_due h
 
-    unfinished : (c : Command) → IsDue c bytes due → (states : ℕ) → IsUnfinished c r w states → Done ≡ due
-    unfinished (Chart window) its states h = text_due (Chart window) due h.0 (Unfinished states) its h.1
-    unfinished (Concurrent event) its states h = text_due (Concurrent event) due h.0 (Unfinished states) its h.1
-    unfinished (Outcomes most) its states h = text_due (Outcomes most) due h.0 (Unfinished states) its h.1
-    unfinished (OutcomeRecord most number) its states h = absurd (spelled_once bytes h.0.0 due (spelled_by h.0.0 h.0.1) its)
-
     ran : (status : ViewStatus) → IsRanSo command r w status → (as_done status ≡ due) ⊎ (status ≡ Memory)
     ran Done h = inl (printed h.0 Done h.1)
     ran (BadScript line kind) h = unfit (BadScript line kind) h.0
@@ -246,7 +233,8 @@ module _ (r : Reading) (bytes : List ℕ) (left : r.left ≡ Some bytes) where
     ran NoEvent h = unfit NoEvent h.0
     ran TooManyEvents h = unfit TooManyEvents h.0
     ran NoOutcome h = unfit NoOutcome h.0
-    ran (Unfinished states) h = inl (unfinished command is_due states h)
+    ran (NotFound met) h = unfit (NotFound met) h.0
+    ran (Unfinished states) h = inl (printed h.0 (Unfinished states) h.1)
 
 pub complete : (command : Command) (words : List (List ℕ)) (bytes : List ℕ) (due status : ViewStatus) (r : Reading) (w : Writing) → IsDue command bytes due
     → IsWellGiven command words bytes due r w → IsAnswer words r w status → (as_done status ≡ due) ⊎ (status ≡ Memory)

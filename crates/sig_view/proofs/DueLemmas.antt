@@ -23,7 +23,7 @@ use Rattle.sig_tool.proofs.DueLemmas.{one_due as one_of_tool}
 use Rattle.sig_view.specs.declared.command.Command.{Command}
 use Rattle.sig_view.specs.declared.command.Command.TheVariants.{Chart, Concurrent, Outcomes, OutcomeRecord}
 use Rattle.sig_view.specs.declared.status.ViewStatus.{ViewStatus}
-use Rattle.sig_view.specs.declared.status.ViewStatus.TheVariants.{Done, BadScript, Usage, ReadFault, WriteFault, Memory, No, BadRecord, TooLong, NoEvent, TooManyEvents, NoOutcome, Unfinished}
+use Rattle.sig_view.specs.declared.status.ViewStatus.TheVariants.{Done, BadScript, Usage, ReadFault, WriteFault, Memory, No, BadRecord, TooLong, NoEvent, TooManyEvents, NoOutcome, NotFound, Unfinished}
 use Rattle.sig_view.specs.Commands.{IsFit, LacksEvent, HasTooMany}
 use Rattle.sig_view.specs.Statuses.{of_tool}
 use Rattle.sig_view.specs.Outcomes.{IsNoScript, IsSpelled}
@@ -78,6 +78,7 @@ module _ (command : Command) (reports : List Report) where
   by_fit NoEvent p q = absurd (fit_lacks command reports p q)
   by_fit TooManyEvents p q = absurd (fit_many command reports p q)
   by_fit NoOutcome p q = absurd q
+  by_fit (NotFound met) p q = absurd q
   by_fit (Unfinished states) p q = absurd q
 
   by_lack : (b : ViewStatus) → LacksEvent command reports → IsDecided command reports b → NoEvent ≡ b
@@ -93,6 +94,7 @@ module _ (command : Command) (reports : List Report) where
   by_lack NoEvent p q = refl
   by_lack TooManyEvents p q = absurd (lacks_many command reports p q)
   by_lack NoOutcome p q = absurd q
+  by_lack (NotFound met) p q = absurd q
   by_lack (Unfinished states) p q = absurd q
 
   by_many : (b : ViewStatus) → HasTooMany command reports → IsDecided command reports b → TooManyEvents ≡ b
@@ -108,6 +110,7 @@ module _ (command : Command) (reports : List Report) where
   by_many NoEvent p q = absurd (lacks_many command reports q p)
   by_many TooManyEvents p q = refl
   by_many NoOutcome p q = absurd q
+  by_many (NotFound met) p q = absurd q
   by_many (Unfinished states) p q = absurd q
 
   decided : (a b : ViewStatus) → IsDecided command reports a → IsDecided command reports b → a ≡ b
@@ -123,6 +126,7 @@ module _ (command : Command) (reports : List Report) where
   decided NoEvent b p q = by_lack b p q
   decided TooManyEvents b p q = by_many b p q
   decided NoOutcome b p q = absurd p
+  decided (NotFound met) b p q = absurd p
   decided (Unfinished states) b p q = absurd p
 
 -- what the tool would say of the input to `check`
@@ -139,6 +143,7 @@ to_tool TooLong = tool.TooLong
 to_tool NoEvent = tool.Done
 to_tool TooManyEvents = tool.Done
 to_tool NoOutcome = tool.Done
+to_tool (NotFound met) = tool.Done
 to_tool (Unfinished states) = tool.Done
 
 module _ (command : Command) (bytes : List ℕ) where
@@ -164,6 +169,7 @@ module _ (command : Command) (bytes : List ℕ) where
   same_tool NoEvent h = (h.0, h.1, h.2, h.3, tt)
   same_tool TooManyEvents h = (h.0, h.1, h.2, h.3, tt)
   same_tool NoOutcome h = absurd h.4
+  same_tool (NotFound met) h = absurd h.4
   same_tool (Unfinished states) h = absurd h.4
 
   which : (a : ViewStatus) → IsRecordDue command bytes a → IsTools a ⊎ ((to_tool a ≡ tool.Done) × Decided a)
@@ -179,6 +185,7 @@ module _ (command : Command) (bytes : List ℕ) where
   which NoEvent h = inr (refl, h)
   which TooManyEvents h = inr (refl, h)
   which NoOutcome h = absurd h.4
+  which (NotFound met) h = absurd h.4
   which (Unfinished states) h = absurd h.4
 
   one_decided : (a b : ViewStatus) → Decided a → Decided b → a ≡ b
@@ -214,6 +221,7 @@ module _ (bytes : List ℕ) where
   by_refusal n k NoEvent p q = absurd q
   by_refusal n k TooManyEvents p q = absurd q
   by_refusal n k NoOutcome p q = absurd q
+  by_refusal n k (NotFound met) p q = absurd q
   by_refusal n k (Unfinished states) p q = absurd q
 
   by_length : (b : ViewStatus) → MOST_INPUT < length bytes → IsNoScript bytes b → TooLong ≡ b
@@ -229,6 +237,7 @@ module _ (bytes : List ℕ) where
   by_length NoEvent p q = absurd q
   by_length TooManyEvents p q = absurd q
   by_length NoOutcome p q = absurd q
+  by_length (NotFound met) p q = absurd q
   by_length (Unfinished states) p q = absurd q
 
   pub one_no_script : (a b : ViewStatus) → IsNoScript bytes a → IsNoScript bytes b → a ≡ b
@@ -244,6 +253,7 @@ module _ (bytes : List ℕ) where
   one_no_script NoEvent b p q = absurd p
   one_no_script TooManyEvents b p q = absurd p
   one_no_script NoOutcome b p q = absurd p
+  one_no_script (NotFound met) b p q = absurd p
   one_no_script (Unfinished states) b p q = absurd p
 
   -- bytes that spell a script are not refused
@@ -260,6 +270,7 @@ module _ (bytes : List ℕ) where
   spelled_once script NoEvent h q = q
   spelled_once script TooManyEvents h q = q
   spelled_once script NoOutcome h q = q
+  spelled_once script (NotFound met) h q = q
   spelled_once script (Unfinished states) h q = q
 
   is_list : (b : ViewStatus) → IsListDue bytes b → (b ≡ Done) ⊎ IsNoScript bytes b
@@ -275,6 +286,7 @@ module _ (bytes : List ℕ) where
   is_list NoEvent q = inr q
   is_list TooManyEvents q = inr q
   is_list NoOutcome q = inr q
+  is_list (NotFound met) q = inr q
   is_list (Unfinished states) q = inr q
 
   one_list_due : (a b : ViewStatus) → IsListDue bytes a → IsListDue bytes b → a ≡ b

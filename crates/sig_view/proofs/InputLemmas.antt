@@ -6,7 +6,7 @@ use Rattle.sig_tool.specs.declared.status.ToolStatus.TheVariants as tool
 use Rattle.sig_tool.specs.Inputs.{IsUnfit}
 use Rattle.sig_view.specs.declared.command.Command.{Command}
 use Rattle.sig_view.specs.declared.status.ViewStatus.{ViewStatus}
-use Rattle.sig_view.specs.declared.status.ViewStatus.TheVariants.{Done, BadScript, Usage, ReadFault, WriteFault, Memory, No, BadRecord, TooLong, NoEvent, TooManyEvents, NoOutcome, Unfinished}
+use Rattle.sig_view.specs.declared.status.ViewStatus.TheVariants.{Done, BadScript, Usage, ReadFault, WriteFault, Memory, No, BadRecord, TooLong, NoEvent, TooManyEvents, NoOutcome, NotFound, Unfinished}
 use Rattle.sig_view.specs.Statuses.{of_tool}
 use Rattle.sig_view.specs.Inputs.{IsNoInput, IsUnfitRecord}
 
@@ -39,4 +39,5 @@ unfit_record command r TooLong h = h
 unfit_record command r NoEvent h = absurd h
 unfit_record command r TooManyEvents h = absurd h
 unfit_record command r NoOutcome h = h
+unfit_record command r (NotFound met) h = h
 unfit_record command r (Unfinished states) h = h

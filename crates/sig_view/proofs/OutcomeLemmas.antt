@@ -25,7 +25,7 @@ use Rattle.sig_record.specs.RecordText.{head_text, record_text, state_text}
 use Rattle.sig_record.specs.RunRecord.{events_listed, run_report, run_reports}
 use Rattle.sig_check.specs.Verdicts.{IsOfSettledRun}
 use Rattle.sig_view.specs.declared.status.ViewStatus.{ViewStatus}
-use Rattle.sig_view.specs.declared.status.ViewStatus.TheVariants.{Done, BadScript, Usage, ReadFault, WriteFault, Memory, No, BadRecord, TooLong, NoEvent, TooManyEvents, NoOutcome, Unfinished}
+use Rattle.sig_view.specs.declared.status.ViewStatus.TheVariants.{Done, BadScript, Usage, ReadFault, WriteFault, Memory, No, BadRecord, TooLong, NoEvent, TooManyEvents, NoOutcome, NotFound, Unfinished}
 use Rattle.sig_view.specs.OutcomeText.{endings_from, endings_text, first_line, names_of, number_line, outcomes_from, outcomes_text, rest_text, rests_text, unhandled_text}
 use Rattle.sig_view.specs.Outcomes.{AreFound, AreListed, end_with, HasFewer, IsFoundText, IsNotFound, IsNumberedText, IsOutcome, IsOutcomeRecord, IsOutcomesText, numbered}
 
@@ -172,7 +172,8 @@ module _ (script : Program) where
     found_is number (Err NoEvent) some names h = absurd h
     found_is number (Err TooManyEvents) some names h = absurd h
     found_is number (Err NoOutcome) some names h = inr (subst (λ (b : Bool). HasFewer script b number) h.1 (has_fewer number some h.0))
-    found_is number (Err (Unfinished met)) some names h = not_found number met some h.0 h.1 h.2
+    found_is number (Err (NotFound met)) some names h = not_found number met some h.0 h.1 h.2
+    found_is number (Err (Unfinished met)) some names h = absurd h
 
 -- ---- the loop
 

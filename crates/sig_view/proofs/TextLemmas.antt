@@ -11,7 +11,7 @@ use Rattle.sig_order.specs.declared.at.At.{At}
 use Rattle.sig_tool.specs.Inputs.{IsSettledPair}
 use Rattle.sig_view.specs.declared.command.Command.TheVariants.{Chart, Concurrent}
 use Rattle.sig_view.specs.declared.status.ViewStatus.{ViewStatus}
-use Rattle.sig_view.specs.declared.status.ViewStatus.TheVariants.{Done, BadScript, Usage, ReadFault, WriteFault, Memory, No, BadRecord, TooLong, NoEvent, TooManyEvents, NoOutcome, Unfinished}
+use Rattle.sig_view.specs.declared.status.ViewStatus.TheVariants.{Done, BadScript, Usage, ReadFault, WriteFault, Memory, No, BadRecord, TooLong, NoEvent, TooManyEvents, NoOutcome, NotFound, Unfinished}
 use Rattle.sig_view.specs.Charts.{IsDrawn}
 use Rattle.sig_view.specs.Inputs.{IsRecordRead}
 use Rattle.sig_view.specs.Origins.{AreOrigins}
@@ -32,6 +32,7 @@ module _ (r : Reading) (script : Program) (reports : List Report) (origins : Lis
   answer_read event (Err NoEvent) h = (script, reports, pair, h)
   answer_read event (Err TooManyEvents) h = absurd h
   answer_read event (Err NoOutcome) h = absurd h
+  answer_read event (Err (NotFound met)) h = absurd h
   answer_read event (Err (Unfinished states)) h = absurd h
 
   pub chart_read : (window : Window) (result : Result (Vec ℕ Global) ViewStatus) → IsDrawn script reports origins window result → IsRecordRead (Chart window) r result
@@ -48,4 +49,5 @@ module _ (r : Reading) (script : Program) (reports : List Report) (origins : Lis
   chart_read window (Err NoEvent) h = absurd h
   chart_read window (Err TooManyEvents) h = (script, reports, pair, h)
   chart_read window (Err NoOutcome) h = absurd h
+  chart_read window (Err (NotFound met)) h = absurd h
   chart_read window (Err (Unfinished states)) h = absurd h

@@ -25,15 +25,10 @@ abbrev pub IsCutOff : Command → Reading → Writing → Type 0
 IsCutOff command r w =
     Rose w.before w.after × ((text : List ℕ) × (end : ViewStatus) × (n : ℕ) × IsTextFor command r text end × Adds w.held w.new (take n text))
 
--- the search was cut off: its list was written; or nothing, where the record of an outcome is asked for that it didn't find
-abbrev pub IsUnfinished : Command → Reading → Writing → ℕ → Type 0
-IsUnfinished (OutcomeRecord most number) r w states = IsUnfitFor (OutcomeRecord most number) r (Unfinished states) × IsUnwritten w
-IsUnfinished command r w states = IsPrinted command r w (Unfinished states)
-
 -- how the command ended: its text was written, or a part of it; or nothing, for this reason
 abbrev pub IsRanSo : Command → Reading → Writing → ViewStatus → Type 0
 IsRanSo command r w Done = IsPrinted command r w Done
-IsRanSo command r w (Unfinished states) = IsUnfinished command r w states
+IsRanSo command r w (Unfinished states) = IsPrinted command r w (Unfinished states)
 IsRanSo command r w WriteFault = IsCutOff command r w
 IsRanSo command r w status = IsUnfitFor command r status × IsUnwritten w
 
@@ -73,7 +68,7 @@ IsDue (Outcomes states) bytes status = IsListDue bytes status
 IsDue (OutcomeRecord states number) bytes status = IsNoScript bytes status
 IsDue command bytes status = IsRecordDue command bytes status
 
--- the status, which is Done also where the search was cut off
+-- the status, which is Done also where outcomes were listed and there may be more
 abbrev pub as_done : ViewStatus → ViewStatus
 as_done (Unfinished states) = Done
 as_done status = status

@@ -17,7 +17,7 @@ use Rattle.sig_explore.specs.Endings.{AreAllOutcomes}
 use Rattle.sig_tool.specs.declared.given.TheConstants.{MOST_INPUT}
 use Rattle.sig_tool.specs.Inputs.{IsOver, IsShort, IsWhole}
 use Rattle.sig_view.specs.declared.status.ViewStatus.{ViewStatus}
-use Rattle.sig_view.specs.declared.status.ViewStatus.TheVariants.{Done, BadScript, ReadFault, Memory, TooLong, NoOutcome, Unfinished}
+use Rattle.sig_view.specs.declared.status.ViewStatus.TheVariants.{Done, BadScript, ReadFault, Memory, TooLong, NoOutcome, NotFound, Unfinished}
 use Rattle.sig_view.specs.declared.text.Text.{Text}
 use Rattle.sig_view.specs.OutcomeText.{names_of, outcomes_text}
 
@@ -149,7 +149,7 @@ IsOutcomeRecordFor number r text = (script : Program) × IsScript r script × Is
 -- why there is none: the script has no such outcome, or a search that visits at most so many states didn't find it
 abbrev pub IsNoOutcomeFor : ℕ → ℕ → Reading → ViewStatus → Type 0
 IsNoOutcomeFor most number r NoOutcome = (script : Program) × IsScript r script × HasNoOutcome script number
-IsNoOutcomeFor most number r (Unfinished states) = (script : Program) × IsScript r script × IsNotFound script most number states
+IsNoOutcomeFor most number r (NotFound states) = (script : Program) × IsScript r script × IsNotFound script most number states
 IsNoOutcomeFor most number r status = LacksScript r status
 
 -- ---- the steps
@@ -165,7 +165,7 @@ abbrev pub IsFoundText : List (List Report) → ℕ → Bool → ℕ → Result 
 IsFoundText endings states all number (Ok text) =
     (reports : List Report) × (numbered number endings ≡ Some reports) × (text.items ≡ record_text reports) × CanBeReread reports
 IsFoundText endings states all number (Err NoOutcome) = (numbered number endings ≡ None) × (all ≡ true)
-IsFoundText endings states all number (Err (Unfinished met)) = (numbered number endings ≡ None) × (all ≡ false) × (met ≡ states)
+IsFoundText endings states all number (Err (NotFound met)) = (numbered number endings ≡ None) × (all ≡ false) × (met ≡ states)
 IsFoundText endings states all number (Err Memory) = ⊤
 IsFoundText endings states all number (Err _) = ⊥
 
@@ -173,7 +173,7 @@ IsFoundText endings states all number (Err _) = ⊥
 abbrev pub IsNumberedText : Program → ℕ → ℕ → Result (Vec ℕ Global) ViewStatus → Type 0
 IsNumberedText script most number (Ok text) = IsOutcomeRecord script number text.items
 IsNumberedText script most number (Err NoOutcome) = HasNoOutcome script number
-IsNumberedText script most number (Err (Unfinished states)) = IsNotFound script most number states
+IsNumberedText script most number (Err (NotFound states)) = IsNotFound script most number states
 IsNumberedText script most number (Err Memory) = ⊤
 IsNumberedText script most number (Err _) = ⊥
 

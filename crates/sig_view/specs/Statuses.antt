@@ -5,7 +5,7 @@ use Rattle.sig_reader.specs.declared.reader.ScriptError.TheVariants as unread
 use Rattle.sig_tool.specs.declared.status.ToolStatus.{ToolStatus}
 use Rattle.sig_tool.specs.declared.status.ToolStatus.TheVariants as tool
 use Rattle.sig_view.specs.declared.status.ViewStatus.{ViewStatus}
-use Rattle.sig_view.specs.declared.status.ViewStatus.TheVariants.{Done, BadScript, Usage, ReadFault, WriteFault, Memory, No, BadRecord, TooLong, NoEvent, TooManyEvents, NoOutcome, Unfinished}
+use Rattle.sig_view.specs.declared.status.ViewStatus.TheVariants.{Done, BadScript, Usage, ReadFault, WriteFault, Memory, No, BadRecord, TooLong, NoEvent, TooManyEvents, NoOutcome, NotFound, Unfinished}
 
 abbrev pub number_of : ViewStatus → ℕ
 number_of Done = 0
@@ -20,6 +20,7 @@ number_of TooLong = 8
 number_of NoEvent = 9
 number_of TooManyEvents = 11
 number_of NoOutcome = 12
+number_of (NotFound states) = 13
 number_of (Unfinished states) = 0
 
 -- of a status that says why there is no input; reading answers no other

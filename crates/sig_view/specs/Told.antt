@@ -4,7 +4,7 @@ use Rattle.sig_base.specs.Flow.{Adds}
 use Rattle.sig_chart.specs.declared.window.TheConstants.{MOST_EVENTS}
 use Rattle.sig_edge.specs.Told.{memory_text, read_fault_text, refusal_text, write_fault_text}
 use Rattle.sig_view.specs.declared.status.ViewStatus.{ViewStatus}
-use Rattle.sig_view.specs.declared.status.ViewStatus.TheVariants.{Done, BadScript, Usage, ReadFault, WriteFault, Memory, No, BadRecord, TooLong, NoEvent, TooManyEvents, NoOutcome, Unfinished}
+use Rattle.sig_view.specs.declared.status.ViewStatus.TheVariants.{Done, BadScript, Usage, ReadFault, WriteFault, Memory, No, BadRecord, TooLong, NoEvent, TooManyEvents, NoOutcome, NotFound, Unfinished}
 
 abbrev pub program_name : List ℕ
 program_name = codes "sigview"
@@ -26,6 +26,7 @@ told_text TooLong = program_name ++ codes ": too long\n"
 told_text NoEvent = program_name ++ codes ": no such event\n"
 told_text TooManyEvents = number_text (codes "more than") MOST_EVENTS (codes " events: choose some with --from S --to T")
 told_text NoOutcome = program_name ++ codes ": no such outcome\n"
+told_text (NotFound states) = number_text (codes "no such outcome was found; states met:") states (codes "; there may be more outcomes")
 told_text (Unfinished states) = number_text (codes "states met:") states (codes "; there may be more outcomes")
 
 -- how far a search is

@@ -96,7 +96,7 @@ fn text_of(alloc: Global, told: &Record) -> Result<Vec<u8>, AllocError>
 }
 
 /// The text of the record of this number, counted from 1, among those that were found. Where there is
-/// none it is `NoOutcome` if these are all, and else `Unfinished`.
+/// none it is `NoOutcome` if these are all, and else `NotFound`.
 fn found_text(alloc: Global, found: &Outcomes, number: u64) -> Result<Vec<u8>, ViewStatus>
     ensures { IsFoundText found.now.endings.items found.now.states found.now.all number result }
 {
@@ -106,7 +106,9 @@ fn found_text(alloc: Global, found: &Outcomes, number: u64) -> Result<Vec<u8>, V
             Ok(text)
         }
         None if found.all => Err(ViewStatus::NoOutcome),
-        None => Err(end_of(found)),
+        None => Err(ViewStatus::NotFound {
+            states: found.states as u64,
+        }),
     }
 }
 

@@ -25,7 +25,7 @@ fn refuse<E: Sink>(err: &mut E, fault: io::Error) -> ViewStatus {
 
 /// The program `sigview`, on the arguments of its runtime and these streams: `view` of both. Where the
 /// arguments can't be had, for want of memory or since one is no text, it tells so as `view` does of a
-/// want of memory or of words that are no command. The exit code is at most 12; that it is the number of the
+/// want of memory or of words that are no command. The exit code is at most 13; that it is the number of the
 /// status, its body says and no clause. A search that takes longer than a second tells how far it is, where
 /// standard error is a terminal.
 pub fn program<R, I, O, E>(rt: &R, stdin: I, stdout: O, stderr: E) -> ExitCode
@@ -34,7 +34,7 @@ where
     I: Read + Drop,
     O: Write + Drop,
     E: Write + IsTerminal + Copy,
-    ensures { result.status ≤ 12 }
+    ensures { result.status ≤ 13 }
 {
     let mut err = StdSink::new(stderr);
     let status = match arguments(rt) {

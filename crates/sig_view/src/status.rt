@@ -36,16 +36,17 @@ pub enum ViewStatus {
     /// The script has no outcome of the number for whose record `outcomes` was asked: all outcomes of its
     /// settled runs of fewer than 2^62 events are fewer than that. Or the number is 0.
     NoOutcome,
-    /// The search of `outcomes` was cut off: it has met so many states, more than it may visit, and there
-    /// may be more outcomes than it found. The list of these was written whole; but nothing was written
-    /// where a record was asked for, and they are fewer than its number.
+    /// No outcome of this number was found, but the search was cut off: it has met so many states, more
+    /// than it may visit. There may be one.
+    NotFound { states: u64 },
+    /// The outcomes that the search found were written whole. It was cut off: it has met so many states,
+    /// more than it may visit, and there may be more outcomes.
     Unfinished { states: u64 },
 }
 
 impl ViewStatus {
     /// The number with which the program ends. It is that of the tool for the same cause; 10, which the
-    /// tool has for a cause of its own, isn't used. It is 0 where all was written, and where a search was
-    /// cut off.
+    /// tool has for a cause of its own, isn't used. Where all was written it is 0.
     pub fn number(self) -> u8
         ensures { result ≡ number_of self }
     {
@@ -62,6 +63,7 @@ impl ViewStatus {
             ViewStatus::NoEvent => 9,
             ViewStatus::TooManyEvents => 11,
             ViewStatus::NoOutcome => 12,
+            ViewStatus::NotFound { states: _ } => 13,
             ViewStatus::Unfinished { states: _ } => 0,
         }
     }

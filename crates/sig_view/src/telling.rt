@@ -64,6 +64,12 @@ fn tell_status<E: Sink>(err: &mut E, status: ViewStatus) -> Result<(), Untold>
             " events: choose some with --from S --to T",
         ),
         ViewStatus::NoOutcome => tell_pieces(err, &[PROGRAM.as_bytes(), b": no such outcome\n"]),
+        ViewStatus::NotFound { states } => tell_number(
+            err,
+            "no such outcome was found; states met:",
+            states,
+            "; there may be more outcomes",
+        ),
         ViewStatus::Unfinished { states } => {
             tell_number(err, "states met:", states, "; there may be more outcomes")
         }

@@ -112,15 +112,15 @@ fn run_words<S: Source, O: Sink, T: Teller>(
 ///   [`MOST_EVENTS`](sig_chart::MOST_EVENTS) of its events have the stamps of `chart`.
 /// - `NoOutcome`: only where the input spells a script, with `--record K`. All outcomes of its settled runs
 ///   of fewer than 2^62 events are fewer than K, or K is 0.
-/// - `Unfinished` with `--record K`: only where the input spells a script, of which the search met so many
+/// - `NotFound`: only where the input spells a script, with `--record K`, of which the search met so many
 ///   states, more than N. K isn't 0, and the search found fewer outcomes than K; that it did is a clause of
 ///   the function that looks among them, and none here.
 /// - `WriteFault`: only where a write to `out` failed, which has taken the beginning of the text.
-/// - `Done`, or `Unfinished` without `--record`: `out` has taken the whole text. It is `Unfinished` exactly
-///   where that lists outcomes with the word `more`: so many states were met, more than N.
+/// - `Done` or `Unfinished`: `out` has taken the whole text. It is `Unfinished` exactly where that lists
+///   outcomes with the word `more`: so many states were met, more than N.
 ///
 /// `Memory` may come in place of each but `Usage`, where memory was wanting. No read failed, but with
-/// `ReadFault`. Only `Done`, `WriteFault` and the `Unfinished` of a list have written to `out`. What a
+/// `ReadFault`. Only `Done`, `Unfinished` and `WriteFault` have written to `out`. What a
 /// status tells is written to `err` where no write to it fails, and a fault of `err` changes no status.
 /// While a search goes on the teller is told before each visit how many states were visited and how many
 /// were met.

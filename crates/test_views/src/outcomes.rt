@@ -232,15 +232,21 @@ fn outcomes_have_their_numbers(rt: HostRuntime) {
     assert!(rt; are == Ok(true));
 }
 
-/// How a search ends that has met two states and may visit one, and what is told of it.
+/// How a search ends that has met two states and may visit one, and what is told of it: where outcomes are
+/// listed, and where the record of one is asked for.
 const TWO_MET: ViewStatus = ViewStatus::Unfinished { states: 2 };
 
 const TWO_TOLD: &[u8] = b"sigview: states met: 2; there may be more outcomes\n";
 
+const NOT_FOUND: ViewStatus = ViewStatus::NotFound { states: 2 };
+
+const NOT_FOUND_TOLD: &[u8] =
+    b"sigview: no such outcome was found; states met: 2; there may be more outcomes\n";
+
 /// Whether nothing is written where the search was cut off, and it isn't said that there is no such outcome.
 fn are_cut_off(alloc: Global) -> Result<bool, AllocError> {
     for words in &CUT_OFF {
-        if !is_so(alloc, words, ONE_MESSAGE, TWO_MET, b"", TWO_TOLD)? {
+        if !is_so(alloc, words, ONE_MESSAGE, NOT_FOUND, b"", NOT_FOUND_TOLD)? {
             return Ok(false);
         }
     }
