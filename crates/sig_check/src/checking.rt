@@ -49,7 +49,8 @@ fn ends_so<L: Ledger>(
     Ok(so)
 }
 
-/// The same, with the steps counted from this blank.
+/// Whether the record is that of a settled run of the script, and else the first event with which it
+/// is none, with the steps counted from this blank. The error is want of memory.
 fn check_counted<L: Ledger>(
     blank: Blank,
     alloc: Global,

@@ -29,7 +29,8 @@ pub enum Replaying {
     Replayed { crew: Crew, origins: Origins },
 }
 
-/// The same, with the steps counted from this blank.
+/// Makes the choices of the record's events in their order, with the steps counted from this blank.
+/// The error is want of memory.
 fn replay_counted<L: Ledger>(
     blank: Blank,
     alloc: Global,

@@ -23,9 +23,10 @@ ghost use Rattle.sig_linklaw.specs.LinkLaw.{one_link, IsGoing, AreOfOneMind};
 /// The link law of a script's machine. In each settled run, for two different processes that are
 /// neither ended, nor cut, nor late, each has the other as an active peer or neither has, and
 /// neither awaits an acknowledgement of the other. So it is in the runs that look from the marks
-/// on, and in those that look at all messages. At each moment of a run, two processes that haven't
-/// ended agree with what is on its way between them (`always`). (Erlang Reference Manual, Processes,
-/// Links: a link is bidirectional. The acknowledgements are this project's own.)
+/// on, and in those that look at all messages. At each moment of a run that looks from the marks on,
+/// two processes that haven't ended agree with what is on its way between them (`always`). (Erlang
+/// Reference Manual, Processes, Links: a link is bidirectional. The acknowledgements are this
+/// project's own.)
 pub fn processes_agree_on_their_link()
     ensures from_marks { (script : Program) (events : List (At Event)) (end : Machine ProcessState Signal) →
         IsRun (rules_of script) (opening_machine (opening_of script)) events end → IsSettled (rules_of script) end →

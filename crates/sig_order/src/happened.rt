@@ -71,6 +71,7 @@ fn count_event(
     let Some(event) = events.get(at.place as usize) else {
         return Ok(());
     };
+    // For the proof alone, which takes from it how many events there may be.
     let _count = events.len();
     let from = sender(index, at.pid.0, &event.did);
     let of = At {
@@ -97,12 +98,12 @@ fn count_all(alloc: Global, given: &Record, origins: &[Origin]) -> Result<Vec<Ro
 
 impl Happened {
     /// The order of the events of this record, with these origins of its signals. The error is want of
-    /// memory. It takes memory and time in proportion to the events, and for each of them that handled
-    /// a signal of another process in proportion to the processes; looking that signal up takes the
-    /// logarithm of the count of signals.
+    /// memory. It takes memory in proportion to the events and the signals, and for each event that
+    /// handled a signal of another process in proportion to the processes. It takes so much time too,
+    /// and the events and the signals are sorted, which takes n log n of each.
     ///
-    /// Asks that one event sent each signal, and that each step leads to a higher stamp. So it is with
-    /// the record of a run and the origins of its signals: `origins_of_a_run_are_traced`.
+    /// Asks that at most one event sent each signal, and that each step leads to a higher stamp. So it
+    /// is with the record of a run and the origins of its signals: `origins_of_a_run_are_traced`.
     pub fn build(alloc: Global, given: &Record, origins: &Origins) -> Result<Happened, AllocError>
         requires { IsTraced given.now origins.now }
         ensures { IfOk result (λ h. (h.reports ≡ given.now) × (h.origins ≡ origins.now)) }

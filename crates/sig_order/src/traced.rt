@@ -10,10 +10,10 @@ ghost use Rattle.sig_record.specs.RunRecord.{events_listed, IsRecordOfRun};
 ghost use Rattle.sig_order.specs.Happening.{IsTraced};
 
 /// The record of a run of a script's plain machine, and the origins of the run's signals, keep what
-/// `Happened::build` asks for: one event sent each signal, and each step leads to a higher stamp, from
-/// an event to the next one of its process, and from the event that sent a signal to the one that
-/// handled it. (Erlang Reference Manual, Processes, Delivery of Signals; stamps are Lamport's logical
-/// clocks.)
+/// `Happened::build` asks for: at most one event sent each signal, and each step leads to a higher
+/// stamp, from an event to the next one of its process, and from the event that sent a signal to the
+/// one that handled it. (Erlang Reference Manual, Processes, Delivery of Signals; stamps are Lamport's
+/// logical clocks.)
 pub fn origins_of_a_run_are_traced()
     ensures { (script : Program) (machine : Machine ProcessState Signal) (reports : List Report) (origins : List Origin) →
         IsScriptWithin script → All IsWithin script.procs → (run : IsRecordOfRun script machine reports) →

@@ -63,7 +63,7 @@ impl Player {
     }
 
     /// Handles the oldest signal of this other process, where that may be, and tells whether it did.
-    /// After `false` the player is of no more use. The error is want of memory.
+    /// The error is want of memory. After `false` or an error the player is of no more use.
     fn handle_other(&mut self, sender: u32) -> Result<bool, AllocError>
         requires ready { IsReady self.old }
         requires other { sender ≢ self.old.process.running.pid }
@@ -86,8 +86,8 @@ impl Player {
         Ok(true)
     }
 
-    /// Handles the oldest signal of this process, where that may be, and tells whether it did. After
-    /// `false` the player is of no more use. The error is want of memory.
+    /// Handles the oldest signal of this process, where that may be, and tells whether it did. The
+    /// error is want of memory. After `false` or an error the player is of no more use.
     pub(crate) fn handle(&mut self, sender: u32) -> Result<bool, AllocError>
         requires { IsReady self.old }
         ensures ready { IfOk result (λ made. made ≡ true → IsReady self.new) }
@@ -112,8 +112,8 @@ impl Player {
         put_behind(&mut self.waiting, signal)
     }
 
-    /// Does what an event did, where that may be, and tells whether it did. After `false` the player is
-    /// of no more use. The error is want of memory.
+    /// Does what an event did, where that may be, and tells whether it did. The error is want of memory.
+    /// After `false` or an error the player is of no more use.
     pub(crate) fn act<L: Ledger>(
         &mut self,
         did: &Did,

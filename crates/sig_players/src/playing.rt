@@ -74,8 +74,8 @@ fn post_all(players: &mut Vec<Player>, at: usize) -> Result<(), AllocError>
 /// Makes this choice of the process of this pid, where it is possible, and tells whether it was: the
 /// process executes its next instruction, or handles the oldest signal of this sender, and what it
 /// sends joins the signals that wait for their receivers. Of a signal that was handled only the sender
-/// is read. After `false` the players are of no more use. The error is want of memory. (Erlang
-/// Reference Manual, Processes, Receiving Signals; choices are this project's own.)
+/// is read. The error is want of memory. After `false` or an error the players are of no more use.
+/// (Erlang Reference Manual, Processes, Receiving Signals; choices are this project's own.)
 ///
 /// Asks that each process stands at the place of its pid, is one of as many as there are, as
 /// [`sig_process::Process::count`] tells, and has taken in no signal of another; that it has a list for

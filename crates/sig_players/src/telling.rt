@@ -75,8 +75,8 @@ fn tell_own(
 
 impl Player {
     /// Does what an event did, where that may be, and tells whether it did; then the origins of what it
-    /// sends to itself are added. After `false` the player is of no more use. The error is want of
-    /// memory.
+    /// sends to itself are added. The error is want of memory. After `false` or an error the player is
+    /// of no more use, and nothing is told of the origins.
     fn act_telling<L: Ledger>(
         &mut self,
         did: &Did,
@@ -109,8 +109,8 @@ impl Player {
 
 /// Makes this choice as [`crate::choose`] does, and adds the origin of each signal that is sent by it: first
 /// those of the signals of the process to itself, then those to others, each in the order in which
-/// they were sent. Of the origins of what is sent after `false` nothing is told. The error is want of
-/// memory.
+/// they were sent. The error is want of memory. After `false` or an error the players are of no more
+/// use, and nothing is told of the origins.
 ///
 /// Asks what [`crate::choose`] asks.
 pub fn choose_telling<L: Ledger>(

@@ -1,6 +1,6 @@
 -- The text of a chart (Scalable Vector Graphics 1.1): pieces, each of which is one of the texts of src/markup.rt, a number, or bytes of
 -- the script or the record, which are escaped.
-use Rattle.std.specs.Prelude.{◌≡◌, ℕ, ◌+◌, ◌-◌, ◌/◌, Bool, true, false, List, [], ◌∷◌, ◌++◌, take, length, nat_le, nat_lt, decimal, if◌then◌else◌}
+use Rattle.std.specs.Prelude.{◌≡◌, ℕ, ◌+◌, ◌-◌, ◌/◌, Bool, true, false, List, [], ◌∷◌, ◌++◌, take, length, max, nat_le, nat_lt, decimal, if◌then◌else◌}
 use Rattle.std.specs.List.{flat_map}
 use Rattle.sig_svg.specs.declared.sort.Sort.{Sort}
 use Rattle.sig_svg.specs.declared.markup.Markup.{Markup}
@@ -10,7 +10,7 @@ use Rattle.sig_svg.specs.declared.shape.Mark.{Mark}
 use Rattle.sig_svg.specs.declared.shape.Arrow.{Arrow}
 use Rattle.sig_svg.specs.declared.shape.Stub.{Stub}
 use Rattle.sig_svg.specs.declared.shape.Chart.{Chart}
-use Rattle.sig_svg.specs.declared.drawing.TheConstants.{EVENT_BYTES, LANE_BYTES}
+use Rattle.sig_svg.specs.declared.drawing.TheConstants.{EVENT_BYTES, LANE_BYTES, LEGEND_WIDTH}
 use Rattle.sig_svg.specs.Escape.{escape}
 use Rattle.sig_svg.specs.Markups.{markup_text}
 use Rattle.sig_svg.specs.Places.{lane_x, row_y, start_y, bend_x, toward}
@@ -200,7 +200,7 @@ stub_text s = queued_title s.text ++ stub_start_text s ++ stub_way_text s ++ who
 -- the size of the picture, with room for the text of the last lane's events, and for the legend
 abbrev pub head_pieces : ℕ → ℕ → List Piece
 head_pieces count rows =
-    Fixed markup.SvgWidth ∷ Number (lane_x count + 250) ∷ Fixed markup.SvgHeight ∷ Number (row_y rows + 250) ∷ Fixed markup.SvgHead ∷ []
+    Fixed markup.SvgWidth ∷ Number (max (lane_x count + 250) LEGEND_WIDTH) ∷ Fixed markup.SvgHeight ∷ Number (row_y rows + 250) ∷ Fixed markup.SvgHead ∷ []
 
 abbrev pub head_text : ℕ → ℕ → List ℕ
 head_text count rows = text_of (head_pieces count rows)

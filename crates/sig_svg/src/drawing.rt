@@ -47,6 +47,9 @@ const EVENT_BYTES: usize = 40;
 /// The most bytes of a process's name and of its state.
 const LANE_BYTES: usize = 20;
 
+/// How wide the legend is, with what is left beside it.
+const LEGEND_WIDTH: u64 = 760;
+
 /// The line of a lane.
 fn put_line(into: &mut Vec<u8>, rows: u32, pid: u32) -> Result<(), AllocError>
     ensures { OnOk result (into.new.items ≡ into.old.items ++ line_text rows pid) }
@@ -329,7 +332,11 @@ fn put_stub(into: &mut Vec<u8>, stub: &Stub) -> Result<(), AllocError>
 fn put_head(into: &mut Vec<u8>, count: u32, rows: u32) -> Result<(), AllocError>
     ensures { OnOk result (into.new.items ≡ into.old.items ++ head_text count rows) }
 {
-    put_at(into, Markup::SvgWidth, lane_x(count) + 250)?;
+    put_at(
+        into,
+        Markup::SvgWidth,
+        (lane_x(count) + 250).max(LEGEND_WIDTH),
+    )?;
     put_at(into, Markup::SvgHeight, row_y(rows) + 250)?;
     put(into, Markup::SvgHead)
 }

@@ -25,6 +25,7 @@ fn order_of(alloc: Global, given: &Given) -> Result<Happened, AllocError>
     requires { IsOfSettledRun given.now.script given.now.told }
     ensures { IfOk result (IsOrderOf given.now.script given.now.told) }
 {
+    // For the proof alone, which takes from it that the script is within its limits.
     let _count = given.script.count();
     match replay(alloc, &given.script, &given.told)? {
         Replaying::Replayed { origins, .. } => Happened::build(alloc, &given.told, &origins),

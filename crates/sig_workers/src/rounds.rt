@@ -39,8 +39,8 @@ fn doubled(quota: u32) -> u32
 
 /// A round of a crew by several workers, over shared queues: one queue for each process, opened
 /// with this policy and the crew's next numbers. The workers run side by side, each over its part
-/// of the processes, until it has passed over them without an event or has made at least `quota`
-/// events. Then the queues are closed, and what each has left waits for its receiver. Gives the
+/// of the processes, until it has passed over them without an event, however often it tries again,
+/// or has made at least `quota` events. Then the queues are closed, and what each has left waits for its receiver. Gives the
 /// crew, the receipt of each queue, by pid, and whether there was an event. Each process that could
 /// do something has an event more, and one without an event more has a saved place no earlier than
 /// before. The error is want of memory.

@@ -1,4 +1,4 @@
-//! Charts of so many events as may be, and of one more.
+//! Charts of 2,001 events, one more than a chart may have, are refused.
 
 use crate::called::{Called, PLAIN};
 use sig_view::ViewStatus;
