@@ -1,5 +1,6 @@
 pub mod TooLong
 pub mod ReadLemmas
+pub mod TakenLemmas
 pub mod TellingLemmas
 pub mod NumberLemmas
 pub mod PairLemmas

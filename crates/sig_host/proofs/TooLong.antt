@@ -1,5 +1,5 @@
 -- A source that has more bytes than a script may have spells none.
-use Rattle.std.proofs.Common.{◌≡◌, ℕ, ◌+◌, ◌<◌, List, length, length-append, false, Option, Some, None, refl, ap, arith}
+use Rattle.std.proofs.Common.{◌≡◌, ℕ, ◌<◌, List, length, length-append, false, Option, Some, None, refl, ap, arith}
 use Rattle.std.specs.Prelude.{nat_le, IfSome}
 use Rattle.std.proofs.lemmas.Bool.Decides.{nat_tests}
 use Rattle.sig_base.specs.Flow.{Took}
@@ -15,7 +15,7 @@ refused : (bytes : List ℕ) → MOST_BYTES < length bytes → IsRefused 0 TooLo
 unfolding script_of
 refused bytes h = rw (above (length bytes) h) refl
 
-pub too_long : (left after : Option (List ℕ)) (into : List ℕ) → Took left after into → length into ≡ MOST_BYTES + 1 → IfSome left (IsRefused 0 TooLong)
+pub too_long : (left after : Option (List ℕ)) (into : List ℕ) → Took left after into → MOST_BYTES < length into → IfSome left (IsRefused 0 TooLong)
 too_long None after into took h = tt
 too_long (Some bytes) after into took h =
     refused bytes (omega (arith, ap length took.1, length-append {A = ℕ}))

@@ -1,6 +1,6 @@
 -- What each answer of a run says of the bytes that were read and written.
-use Rattle.std.specs.Prelude.{◌≡◌, ◌≢◌, ℕ, Bool, List, take, true, false, Option, Some, None, IfSome, Result, Ok, Err, ⊤}
-use Rattle.sig_base.specs.Flow.{Rose, Adds}
+use Rattle.std.specs.Prelude.{◌≡◌, ◌≢◌, ℕ, ◌≤◌, Bool, List, length, take, true, false, Option, Some, None, IfSome, Result, Ok, Err, ⊤}
+use Rattle.sig_base.specs.Flow.{Rose, Adds, Took}
 use Rattle.sig_tokens.specs.declared.fault.FaultKind.TheVariants.{TooLong}
 use Rattle.sig_edge.specs.Streams.{IsFine, IsReadToEnd, IsRefused, IsUnread, IsUnwritten, Reading, Spells, Writing}
 use Rattle.sig_program.specs.Scripts.{Program}
@@ -47,6 +47,10 @@ summary_for false reports = None
 abbrev pub AreTexts : ℕ → Program → Bool → Texts → Type 0
 AreTexts workers script asked t =
     (reports : List Report) × IsRecordOf workers script reports × (t.record.items ≡ record_text reports) × (text_in t.summary ≡ summary_for asked reports)
+
+-- at most so many bytes were taken from the source, where it tells its bytes
+abbrev pub IsReadWithin : ℕ → Reading → Type 0
+IsReadWithin most r = (bytes : List ℕ) × Took r.left r.rest bytes × (length bytes ≤ most)
 
 -- Reading the script: it is what the source spells, or this is why there is none. The source was read to its end, but for a script that
 -- is too long, a failed read, and want of memory.

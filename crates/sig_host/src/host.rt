@@ -1,4 +1,4 @@
-ghost use Rattle.std.specs.Prelude.{◌≡◌, ◌≢◌, ◌≤◌, ◌⊎◌, ℕ, Bool, true, List, [], map, string_bytes, IfOk, Option, Some};
+ghost use Rattle.std.specs.Prelude.{◌≡◌, ◌≢◌, ◌+◌, ◌≤◌, ◌⊎◌, ℕ, Bool, true, List, [], map, string_bytes, IfOk, Option, Some};
 ghost use Rattle.sig_base.specs.Flow.{Rose, Adds};
 ghost use Rattle.sig_edge.specs.Streams.{reading, writing};
 ghost use Rattle.sig_program.specs.Scripts.{Program, IsScriptWithin};
@@ -11,6 +11,7 @@ ghost use Rattle.sig_workers.specs.Rounds.{HasSettled};
 ghost use Rattle.sig_host.specs.Answers.{
   AreTexts,
   IsAnswer,
+  IsReadWithin,
   IsRecordOf,
   IsRun,
   IsScriptRun,
@@ -55,9 +56,12 @@ fn read_bytes(alloc: Global, bytes: &[u8]) -> Result<Script, Status>
     }
 }
 
-/// Reads the source to its end, and the script that it spells.
+/// Reads the source to its end, but no further than one byte behind [`MOST_BYTES`], and the script that
+/// it spells.
 fn read_source<S: Source>(alloc: Global, source: &mut S) -> Result<Script, Status>
     ensures read { IsSourceRead (reading (S.left source.old) (S.left source.new) (S.faults source.old) (S.faults source.new)) result }
+    ensures taken { IsReadWithin (MOST_BYTES + 1)
+        (reading (S.left source.old) (S.left source.new) (S.faults source.old) (S.faults source.new)) }
     ensures count { S.faults source.old ≤ S.faults source.new }
 {
     let mut bytes = Vec::new(alloc);
@@ -237,10 +241,12 @@ fn run_source<R: Threads + Wait + Sync, S: Source, O: Sink, G: Gate>(
     gate: &G,
 ) -> Ending
     requires { IsInRange settings }
-    ensures { IsSourceRun settings.workers
+    ensures run { IsSourceRun settings.workers
         (reading (S.left script.old) (S.left script.new) (S.faults script.old) (S.faults script.new))
         (writing (O.held out.old) (O.held out.new) (O.faults out.old) (O.faults out.new))
         result.status (text_in result.summary) }
+    ensures taken { IsReadWithin (MOST_BYTES + 1)
+        (reading (S.left script.old) (S.left script.new) (S.faults script.old) (S.faults script.new)) }
 {
     match read_source(alloc, script) {
         Ok(script) => run_script(rt, alloc, settings, script, false, out, gate),
@@ -249,6 +255,7 @@ fn run_source<R: Threads + Wait + Sync, S: Source, O: Sink, G: Gate>(
 }
 
 /// Runs what the settings ask for, and writes the record.
+#[tactic(auto, using(crate::proofs::TakenLemmas::none_taken))]
 fn run_settings<R: Threads + Wait + Sync, S: Source, O: Sink, G: Gate>(
     rt: &R,
     alloc: Global,
@@ -258,10 +265,12 @@ fn run_settings<R: Threads + Wait + Sync, S: Source, O: Sink, G: Gate>(
     gate: &G,
 ) -> Ending
     requires { IsInRange settings }
-    ensures { IsRun settings.workers settings.generate
+    ensures run { IsRun settings.workers settings.generate
         (reading (S.left script.old) (S.left script.new) (S.faults script.old) (S.faults script.new))
         (writing (O.held out.old) (O.held out.new) (O.faults out.old) (O.faults out.new))
         result.status (text_in result.summary) }
+    ensures taken { IsReadWithin (MOST_BYTES + 1)
+        (reading (S.left script.old) (S.left script.new) (S.faults script.old) (S.faults script.new)) }
 {
     match settings.generate {
         Some(calls) => run_generated(rt, alloc, settings, calls, out, gate),
@@ -270,6 +279,7 @@ fn run_settings<R: Threads + Wait + Sync, S: Source, O: Sink, G: Gate>(
 }
 
 /// Reads the arguments, runs what they ask for, and writes the record.
+#[tactic(auto, using(crate::proofs::TakenLemmas::none_taken))]
 fn run_words<R: Threads + Wait + Sync, S: Source, O: Sink, G: Gate>(
     rt: &R,
     alloc: Global,
@@ -278,10 +288,12 @@ fn run_words<R: Threads + Wait + Sync, S: Source, O: Sink, G: Gate>(
     out: &mut O,
     gate: &G,
 ) -> Ending
-    ensures { IsAnswer (map string_bytes arguments.now)
+    ensures answer { IsAnswer (map string_bytes arguments.now)
         (reading (S.left script.old) (S.left script.new) (S.faults script.old) (S.faults script.new))
         (writing (O.held out.old) (O.held out.new) (O.faults out.old) (O.faults out.new))
         result.status (text_in result.summary) }
+    ensures taken { IsReadWithin (MOST_BYTES + 1)
+        (reading (S.left script.old) (S.left script.new) (S.faults script.old) (S.faults script.new)) }
 {
     match words(alloc, arguments) {
         Ok(settings) => run_settings(rt, alloc, settings, script, out, gate),
@@ -310,9 +322,10 @@ fn run_words<R: Threads + Wait + Sync, S: Source, O: Sink, G: Gate>(
 /// - `Memory`: memory was wanting. No read failed, and nothing was written to `out`.
 ///
 /// What a status tells is written to `err` where no write to it fails: with `Done` the summary of
-/// the record, if the script was made. A fault of `err` changes no status. Arguments in the plain
-/// form with a script, and no fault of the source and of `out`, give `Done` or `Memory`, if the call
-/// returns: with more than one worker it waits for threads.
+/// the record, if the script was made. A fault of `err` changes no status. Whatever the status, of the
+/// source at most [`MOST_BYTES`] bytes and one more are taken. Arguments in the plain form with a
+/// script, and no fault of the source and of `out`, give `Done` or `Memory`, if the call returns: with
+/// more than one worker it waits for threads.
 pub fn run<R: Threads + Wait + Sync, S: Source, O: Sink, E: Sink, G: Gate>(
     rt: &R,
     alloc: Global,
@@ -331,6 +344,8 @@ pub fn run<R: Threads + Wait + Sync, S: Source, O: Sink, E: Sink, G: Gate>(
         (reading (S.left script.old) (S.left script.new) (S.faults script.old) (S.faults script.new))
         (writing (O.held out.old) (O.held out.new) (O.faults out.old) (O.faults out.new))
         → (result ≡ Status.Done) ⊎ (result ≡ Status.Memory) }
+    ensures taken { IsReadWithin (MOST_BYTES + 1)
+        (reading (S.left script.old) (S.left script.new) (S.faults script.old) (S.faults script.new)) }
 {
     let ending = run_words(rt, alloc, arguments, script, out, gate);
     tell(err, &ending);

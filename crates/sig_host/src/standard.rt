@@ -1,4 +1,7 @@
-ghost use Rattle.std.specs.Prelude.{◌≤◌};
+ghost use Rattle.std.specs.Prelude.{◌≡◌, ◌≢◌, ◌≤◌, None};
+ghost use Rattle.std.specs.IoError.{error_kind};
+ghost use Rattle.sig_base.specs.Flow.{Rose, Adds};
+ghost use Rattle.sig_host.specs.Told.{told_text};
 
 use crate::ending::Ending;
 use crate::host::run;
@@ -8,16 +11,20 @@ use sig_base::{OpenGate, Sink, StdSink, StdSource};
 use sig_edge::arguments;
 use std::alloc::Global;
 use std::io;
-use std::io::{Read, Write};
+use std::io::{ErrorKind, Read, Write};
 use std::process::ExitCode;
 use std::rt::Env;
 use std::sync::Wait;
 use std::thread::Threads;
 
 /// The status where the arguments can't be had, told on standard error. Nothing was run.
-fn refuse<E: Sink>(err: &mut E, fault: io::Error) -> Status {
+fn refuse<E: Sink>(err: &mut E, fault: io::Error) -> Status
+    ensures memory { error_kind fault ≡ ErrorKind.OutOfMemory → result ≡ Status.Memory }
+    ensures usage { error_kind fault ≢ ErrorKind.OutOfMemory → result ≡ Status.Usage }
+    ensures told { (Rose (E.faults err.old) (E.faults err.new) → ⊥) → Adds (E.held err.old) (E.held err.new) (told_text result None) }
+{
     let status = match fault.kind() {
-        io::ErrorKind::OutOfMemory => Status::Memory,
+        ErrorKind::OutOfMemory => Status::Memory,
         _ => Status::Usage,
     };
     tell(err, &Ending::short(status));

@@ -79,6 +79,8 @@ impl Record {
     /// The same for a program that is about to end, of a lawful crew: the processes' labels and instructions stay as
     /// they lie in memory, and that memory isn't given back. To give back a long script line by line takes nearly as
     /// long as to make it.
+    ///
+    /// Asks what [`Record::gather`] asks.
     pub fn gather_at_end(alloc: Global, crew: Crew) -> Result<Record, AllocError>
         requires clear { IsClear (runnings_of crew) }
         requires by_pid { IsByPid (runnings_of crew) }

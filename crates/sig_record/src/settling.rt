@@ -46,7 +46,8 @@ fn is_settled_report(report: &Report) -> bool
     is_cut(&report.state) || ends_late(report.events.as_slice()) || has_none_or_late(&report.queued)
 }
 
-/// Whether each of the processes can go on no more, as its report tells.
+/// Whether each of the processes is cut, or has no signal to handle or one that it never handles, as its report tells. What
+/// its next instruction is no report tells.
 pub(crate) fn are_settled(reports: &[Report]) -> bool
     ensures { result ≡ is_settled reports.now }
 {

@@ -1,4 +1,7 @@
-ghost use Rattle.std.specs.Prelude.{◌≤◌};
+ghost use Rattle.std.specs.Prelude.{◌≡◌, ◌≢◌, ◌≤◌};
+ghost use Rattle.std.specs.IoError.{error_kind};
+ghost use Rattle.sig_base.specs.Flow.{Rose, Adds};
+ghost use Rattle.sig_tool.specs.Told.{told_text};
 
 use crate::status::ToolStatus;
 use crate::telling::tell;
@@ -7,14 +10,18 @@ use sig_base::{Sink, StdSink, StdSource};
 use sig_edge::arguments;
 use std::alloc::Global;
 use std::io;
-use std::io::{Read, Write};
+use std::io::{ErrorKind, Read, Write};
 use std::process::ExitCode;
 use std::rt::Env;
 
 /// The status where the arguments can't be had, told on standard error. Nothing was read.
-fn refuse<E: Sink>(err: &mut E, fault: io::Error) -> ToolStatus {
+fn refuse<E: Sink>(err: &mut E, fault: io::Error) -> ToolStatus
+    ensures memory { error_kind fault ≡ ErrorKind.OutOfMemory → result ≡ ToolStatus.Memory }
+    ensures usage { error_kind fault ≢ ErrorKind.OutOfMemory → result ≡ ToolStatus.Usage }
+    ensures told { (Rose (E.faults err.old) (E.faults err.new) → ⊥) → Adds (E.held err.old) (E.held err.new) (told_text result) }
+{
     let status = match fault.kind() {
-        io::ErrorKind::OutOfMemory => ToolStatus::Memory,
+        ErrorKind::OutOfMemory => ToolStatus::Memory,
         _ => ToolStatus::Usage,
     };
     tell(err, status);

@@ -6,6 +6,7 @@ use sig_base::{Gate, Point};
 use std::alloc::Global;
 use std::sync::atomic::{AtomicBool, AtomicU64, Ordering};
 use std::sync::{OnceLock, Wait};
+use std::thread;
 use std::thread::Threads;
 
 /// A gate that keeps which workers executed an instruction: bit w is worker w's.
@@ -78,6 +79,7 @@ fn comes_to(count: &AtomicU64, least: u64) -> bool {
         if count.load(Ordering::SeqCst) >= least {
             return true;
         }
+        thread::yield_now();
     }
     false
 }

@@ -11,10 +11,11 @@ use sig_record::read_record;
 use std::alloc::{AllocError, Global};
 use std::sync::Wait;
 use std::sync::atomic::{AtomicBool, Ordering};
+use std::thread;
 use std::thread::Threads;
 
-/// How often a gate looks before it gives up.
-pub(crate) const LOOKS: u64 = 100_000_000;
+/// How often a gate looks before it gives up. It lets other threads run behind each look.
+pub(crate) const LOOKS: u64 = 10_000_000;
 
 /// How often the piece stands in the text.
 pub(crate) fn count(text: &[u8], piece: &[u8]) -> usize {
@@ -166,6 +167,7 @@ pub(crate) fn look(flag: &AtomicBool) -> bool {
         if flag.load(Ordering::SeqCst) {
             return true;
         }
+        thread::yield_now();
     }
     false
 }

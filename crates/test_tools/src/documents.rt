@@ -1,11 +1,13 @@
 //! The examples of the documents. tools/examples compares them with the documents.
 
 use crate::called::{Called, PLAIN};
+use sig_tool::ToolStatus;
 use std::alloc::{AllocError, Global};
 use test_shared::Setting;
 
-/// Each script with a record behind it that a document shows, and what `check` writes or tells of them.
-static EXAMPLES: [(&[u8], &[u8]); 1] = [(
+/// Each script with a record behind it that a document shows, what `check` writes or tells of them, and
+/// its answer.
+static EXAMPLES: [(&[u8], &[u8], ToolStatus); 1] = [(
     br"sigscript 1
 process a
 send @b x
@@ -29,6 +31,7 @@ state ended normal
 ",
     br"sigtool: no at event 4
 ",
+    ToolStatus::No { event: 4 },
 )];
 
 /// Each text of calls that a document shows, and the script that `expand` writes of it.
@@ -63,22 +66,32 @@ end
 ",
 )];
 
-/// Whether this is what the command writes or tells of the input.
-fn is_so(alloc: Global, words: &[&str], input: &[u8], said: &[u8]) -> Result<bool, AllocError> {
+/// Whether the command has this answer to the input, and this is what it writes, where it is done, or
+/// else tells.
+fn is_so(
+    alloc: Global,
+    words: &[&str],
+    input: &[u8],
+    said: &[u8],
+    status: ToolStatus,
+) -> Result<bool, AllocError> {
     let setting = Setting { words, ..PLAIN };
     let called = Called::of(alloc, &setting, input, b"")?;
-    let [written, told] = [called.out.held(), called.err.held()];
-    Ok((written == said && told.is_empty()) || (written.is_empty() && told == said))
+    let so = match status {
+        ToolStatus::Done => called.is(status, said, b""),
+        _ => called.is(status, b"", said),
+    };
+    Ok(so)
 }
 
 #[test]
 fn examples_are_answered_so(rt: HostRuntime) {
-    for (input, said) in &EXAMPLES {
-        let so = is_so(rt.alloc(), &["check"], input, said);
+    for (input, said, status) in &EXAMPLES {
+        let so = is_so(rt.alloc(), &["check"], input, said, *status);
         assert!(rt; so == Ok(true));
     }
     for (input, said) in &EXPANSIONS {
-        let so = is_so(rt.alloc(), &["expand"], input, said);
+        let so = is_so(rt.alloc(), &["expand"], input, said, ToolStatus::Done);
         assert!(rt; so == Ok(true));
     }
 }
