@@ -36,7 +36,7 @@ pub(crate) fn event_at(reports: &[Report], at: MergedAt) -> Option<&Event>
 }
 
 /// Makes the choice of this event of the process of this pid, and tells whether that made this event.
-/// After `false` the players are of no more use. The error is want of memory.
+/// After `false` and after an error the players are of no more use. The error is want of memory.
 fn follow_one<L: Ledger>(
     players: &mut Vec<Player>,
     pid: u32,
