@@ -22,6 +22,7 @@ use Rattle.sig_svg.specs.declared.shape.Mark.{Mark}
 use Rattle.sig_svg.specs.declared.shape.Arrow.{Arrow}
 use Rattle.sig_svg.specs.declared.shape.Stub.{Stub}
 use Rattle.sig_svg.specs.declared.shape.Chart.{Chart}
+use Rattle.sig_chart.specs.declared.sources.Sources.{Sources}
 use Rattle.sig_chart.specs.declared.window.Window.{Window}
 use Rattle.sig_chart.specs.Finding.{event_of, sent_by, row_of}
 use Rattle.sig_chart.specs.Sorts.{sort_of_kind, told_sort}
@@ -69,6 +70,9 @@ pub record Ground : Type 0 where
 
 abbrev pub ground : Program → List Report → List Origin → List MergedAt → Ground
 ground script reports origins shown = record { script = script; reports = reports; origins = origins; shown = shown }
+
+abbrev pub ground_of : Sources → Ground
+ground_of s = ground s.script.now s.reports.now s.origins.now s.shown.now
 
 -- from the sender's event with this number
 abbrev pub arrow_from : Ground → ℕ → ℕ → Event → ℕ → ℕ → ℕ → Arrow

@@ -7,6 +7,7 @@ ghost use Rattle.sig_svg.specs.Svg.{chart_text};
 
 use crate::error::ChartError;
 use crate::laying::chart_of;
+use crate::sources::Sources;
 use crate::window::{MOST_EVENTS, Window, shown_of};
 use sig_model::Origins;
 use sig_program::Script;
@@ -45,14 +46,13 @@ pub fn chart(
     if shown.len() > MOST_EVENTS {
         return Err(ChartError::TooManyEvents);
     }
-    let shapes = chart_of(
-        alloc,
+    let sources = Sources {
         script,
-        told.reports(),
-        origins.as_slice(),
-        window,
-        shown.as_slice(),
-    )?;
+        reports: told.reports(),
+        origins: origins.as_slice(),
+        shown: shown.as_slice(),
+    };
+    let shapes = chart_of(alloc, window, sources)?;
     let text = draw(alloc, &shapes)?;
     Ok(text)
 }

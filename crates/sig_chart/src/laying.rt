@@ -7,7 +7,7 @@ ghost use Rattle.sig_chart.specs.Shapes.{
   lane_of,
   is_handling,
   mark_at,
-  ground,
+  ground_of,
   arrow_from,
   arrow_at,
   stub_of,
@@ -19,12 +19,12 @@ ghost use Rattle.sig_chart.specs.Shapes.{
 
 use crate::finding::{event_at, event_of, row_of, sent_by};
 use crate::sorting::{sort_of_kind, told_sort};
+use crate::sources::Sources;
 use crate::window::{MOST_EVENTS, Window};
 use crate::words::{event_words, kind_words, standing};
 use sig_kinds::Signal;
 use sig_lists::Sequence;
 use sig_model::{Did, Event, Origin};
-use sig_program::Script;
 use sig_record::{MergedAt, Report};
 use sig_svg::{Arrow, Chart, Lane, Mark, Stub};
 use std::alloc::{AllocError, Global};
@@ -102,27 +102,24 @@ fn marks_of(
 /// The arrow of the signal with this number of `from`, which the event of the process `pid` in this
 /// row handled.
 fn arrow_from(
-    script: &Script,
-    reports: &[Report],
-    origins: &[Origin],
-    shown: &[MergedAt],
+    sources: Sources<'_>,
     row: u32,
     pid: u32,
     event: &Event,
     from: u32,
     number: u64,
 ) -> Arrow
-    requires { length shown.now ≤ MOST_EVENTS }
-    ensures { result ≡ arrow_from (ground script.now reports.now origins.now shown.now) row pid event.now from number
-        (sent_by origins.now from pid number) }
+    requires { length sources.shown.now ≤ MOST_EVENTS }
+    ensures { result ≡ arrow_from (ground_of sources.entry) row pid event.now from number
+        (sent_by sources.entry.origins.now from pid number) }
 {
-    let sent = sent_by(origins, from, pid, number);
-    let sender = event_of(reports, from, sent);
+    let sent = sent_by(sources.origins, from, pid, number);
+    let sender = event_of(sources.reports, from, sent);
     Arrow {
-        sort: told_sort(script, from, sender, &event.outcome),
+        sort: told_sort(sources.script, from, sender, &event.outcome),
         number,
         from,
-        start: row_of(shown, from, sent),
+        start: row_of(sources.shown, from, sent),
         to: pid,
         end: row,
     }
@@ -131,50 +128,33 @@ fn arrow_from(
 /// Adds the arrow of the signal that the event in this row handled, if it did. The error is want of
 /// memory.
 fn add_arrow(
-    script: &Script,
-    reports: &[Report],
-    origins: &[Origin],
-    shown: &[MergedAt],
+    sources: Sources<'_>,
     row: u32,
     at: MergedAt,
     arrows: &mut Sequence<Arrow>,
 ) -> Result<(), AllocError>
-    requires { length shown.now ≤ MOST_EVENTS }
-    ensures { OnOk result (arrows.new ≡ arrows.old ++ arrow_at (ground script.now reports.now origins.now shown.now) row at) }
+    requires { length sources.shown.now ≤ MOST_EVENTS }
+    ensures { OnOk result (arrows.new ≡ arrows.old ++ arrow_at (ground_of sources.entry) row at) }
 {
-    let Some(event) = event_at(reports, at) else {
+    let Some(event) = event_at(sources.reports, at) else {
         return Ok(());
     };
     match &event.did {
         Did::Exec { .. } => Ok(()),
-        Did::From { from, number } => arrows.add(arrow_from(
-            script, reports, origins, shown, row, at.pid.0, event, from.0, *number,
-        )),
+        Did::From { from, number } => {
+            arrows.add(arrow_from(sources, row, at.pid.0, event, from.0, *number))
+        }
     }
 }
 
 /// The arrows of the signals that the events in these rows handled. The error is want of memory.
-fn arrows_of(
-    alloc: Global,
-    script: &Script,
-    reports: &[Report],
-    origins: &[Origin],
-    shown: &[MergedAt],
-) -> Result<Sequence<Arrow>, AllocError>
-    requires { length shown.now ≤ MOST_EVENTS }
-    ensures { IfOk result (λ arrows. arrows ≡ by_rows (arrow_at (ground script.now reports.now origins.now shown.now)) 0 shown.now) }
+fn arrows_of(alloc: Global, sources: Sources<'_>) -> Result<Sequence<Arrow>, AllocError>
+    requires { length sources.shown.now ≤ MOST_EVENTS }
+    ensures { IfOk result (λ arrows. arrows ≡ by_rows (arrow_at (ground_of sources.entry)) 0 sources.entry.shown.now) }
 {
     let mut arrows = Sequence::new(alloc);
-    for (row, at) in shown.iter().enumerate() {
-        add_arrow(
-            script,
-            reports,
-            origins,
-            shown,
-            row as u32,
-            *at,
-            &mut arrows,
-        )?;
+    for (row, at) in sources.shown.iter().enumerate() {
+        add_arrow(sources, row as u32, *at, &mut arrows)?;
     }
     Ok(arrows)
 }
@@ -229,20 +209,19 @@ fn add_stubs(
 fn stubs_of(
     alloc: Global,
     window: Window,
-    reports: &[Report],
-    origins: &[Origin],
-    shown: &[MergedAt],
+    sources: Sources<'_>,
 ) -> Result<Sequence<Stub>, AllocError>
-    requires { length shown.now ≤ MOST_EVENTS }
-    ensures { IfOk result (λ stubs. stubs ≡ flat_map (stubs_of window origins.now shown.now) reports.now) }
+    requires { length sources.shown.now ≤ MOST_EVENTS }
+    ensures { IfOk result (λ stubs. stubs
+        ≡ flat_map (stubs_of window sources.entry.origins.now sources.entry.shown.now) sources.entry.reports.now) }
 {
     let mut stubs = Sequence::new(alloc);
-    for report in reports {
+    for report in sources.reports {
         add_stubs(
             alloc,
             window,
-            origins,
-            shown,
+            sources.origins,
+            sources.shown,
             report.queued.as_slice(),
             &mut stubs,
         )?;
@@ -250,25 +229,22 @@ fn stubs_of(
     Ok(stubs)
 }
 
-/// The shapes of the chart with these events. The error is want of memory.
+/// The shapes of the chart. The error is want of memory.
 pub(crate) fn chart_of(
     alloc: Global,
-    script: &Script,
-    reports: &[Report],
-    origins: &[Origin],
     window: Window,
-    shown: &[MergedAt],
+    sources: Sources<'_>,
 ) -> Result<Chart, AllocError>
-    requires { length shown.now ≤ MOST_EVENTS }
-    ensures { IfOk result (λ shapes. shapes ≡ chart_of window (ground script.now reports.now origins.now shown.now)) }
+    requires { length sources.shown.now ≤ MOST_EVENTS }
+    ensures { IfOk result (λ shapes. shapes ≡ chart_of window (ground_of sources.entry)) }
 {
-    let lanes = lanes_of(alloc, reports)?;
-    let marks = marks_of(alloc, reports, shown)?;
-    let arrows = arrows_of(alloc, script, reports, origins, shown)?;
-    let stubs = stubs_of(alloc, window, reports, origins, shown)?;
+    let lanes = lanes_of(alloc, sources.reports)?;
+    let marks = marks_of(alloc, sources.reports, sources.shown)?;
+    let arrows = arrows_of(alloc, sources)?;
+    let stubs = stubs_of(alloc, window, sources)?;
     Ok(Chart {
-        count: script.count(),
-        rows: shown.len() as u32,
+        count: sources.script.count(),
+        rows: sources.shown.len() as u32,
         lanes,
         marks,
         arrows,

@@ -7,6 +7,7 @@ mod finding;
 mod laws;
 mod laying;
 mod sorting;
+mod sources;
 mod window;
 mod words;
 

@@ -1,4 +1,7 @@
-ghost use Rattle.std.specs.Prelude.{◌≤◌};
+ghost use Rattle.std.specs.Prelude.{◌≡◌, ◌≢◌, ◌≤◌};
+ghost use Rattle.std.specs.IoError.{error_kind};
+ghost use Rattle.sig_base.specs.Flow.{Rose, Adds};
+ghost use Rattle.sig_view.specs.Told.{told_text};
 
 use crate::progress::Progress;
 use crate::status::ViewStatus;
@@ -8,15 +11,19 @@ use sig_base::{Sink, StdSink, StdSource};
 use sig_edge::arguments;
 use std::alloc::Global;
 use std::io;
-use std::io::{IsTerminal, Read, Write};
+use std::io::{ErrorKind, IsTerminal, Read, Write};
 use std::process::ExitCode;
 use std::rt::Env;
 use std::time::Clock;
 
 /// The status where the arguments can't be had, told on standard error. Nothing was read.
-fn refuse<E: Sink>(err: &mut E, fault: io::Error) -> ViewStatus {
+fn refuse<E: Sink>(err: &mut E, fault: io::Error) -> ViewStatus
+    ensures memory { error_kind fault ≡ ErrorKind.OutOfMemory → result ≡ ViewStatus.Memory }
+    ensures usage { error_kind fault ≢ ErrorKind.OutOfMemory → result ≡ ViewStatus.Usage }
+    ensures told { (Rose (E.faults err.old) (E.faults err.new) → ⊥) → Adds (E.held err.old) (E.held err.new) (told_text result) }
+{
     let status = match fault.kind() {
-        io::ErrorKind::OutOfMemory => ViewStatus::Memory,
+        ErrorKind::OutOfMemory => ViewStatus::Memory,
         _ => ViewStatus::Usage,
     };
     tell(err, status);

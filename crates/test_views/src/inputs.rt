@@ -137,7 +137,10 @@ fn statuses_have_their_numbers(rt: HostRuntime) {
         NO_RECORD.number(),
         ViewStatus::TooLong.number(),
         ViewStatus::NoEvent.number(),
+        ViewStatus::Unfinished { states: 1 }.number(),
         ViewStatus::TooManyEvents.number(),
+        ViewStatus::NoOutcome.number(),
+        ViewStatus::NotFound { states: 1 }.number(),
     ];
-    assert!(rt; numbers == [0, 1, 2, 3, 4, 5, 6, 7, 8, 9, 11]);
+    assert!(rt; numbers == [0, 1, 2, 3, 4, 5, 6, 7, 8, 9, 0, 11, 12, 13]);
 }
