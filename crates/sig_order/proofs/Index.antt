@@ -17,9 +17,9 @@ use Rattle.sig_record.specs.declared.report.Report.{Report}
 use Rattle.sig_order.specs.declared.at.At.{At}
 use Rattle.sig_model.specs.declared.origin.Origin.{Origin}
 use Rattle.sig_order.specs.declared.senders.SignalKey.{SignalKey}
-use Rattle.sig_order.specs.Senders.{signal_cmp, key_of, told, IsIndex, none_of, sender_told, sender_of}
+use Rattle.sig_order.specs.Senders.{signal_cmp, key_of, told, IsIndex, sender_told, sender_of}
 use Rattle.sig_order.specs.Happening.{handled_by, handled_at, IsSentTo, IsTraced}
-use Rattle.sig_order.proofs.Ats.{same_at}
+use Rattle.sig_order.proofs.Ats.{same_at, or_none}
 
 key_ties : (a b : SignalKey) → ((a.from == b.from) && ((a.to == b.to) && (a.number == b.number))) ≡ eq_by_cmp signal_cmp a b
 key_ties a b =
@@ -98,7 +98,7 @@ module _ (reports : List Report) (origins : List Origin) (traced : IsTraced repo
     key = record { from = sender.0; to = f.pid; number = number }
 
     -- the event that sent the signal is the one that is told
-    told_one : (g : At) → IsSentTo reports origins g f → g ≡ sender_told sender.0 (lookup (is_at (signal_cmp key)) entries)
+    told_one : (g : At) → IsSentTo reports origins g f → g ≡ or_none f.pid (sender_told sender.0 (lookup (is_at (signal_cmp key)) entries))
     told_one g h =
         let pair : (sender.0, number) ≡ (g.pid, h.0) = same_Some (sender.0, number) (g.pid, h.0) (sym e ∙ h.1) in
         let from : sender.0 ≡ g.pid = ap (λ (z : ℕ × ℕ). z.0) pair in
@@ -107,14 +107,14 @@ module _ (reports : List Report) (origins : List Origin) (traced : IsTraced repo
         let some : (event : ℕ) × (told origins key ≡ Some event) = told_some origins (origin_of key g.event) is in
         let same : g.event ≡ some.0 = traced.one (origin_of key g.event) (origin_of key some.0) is (told_sound origins key some.0 some.1) refl refl refl in
         same_at g (record { pid = sender.0; event = some.0 }) (sym from) same
-        ∙ sym (ap (λ (o : Option ℕ). sender_told sender.0 o) (index key ∙ some.1))
+        ∙ sym (ap (λ (o : Option ℕ). or_none f.pid (sender_told sender.0 o)) (index key ∙ some.1))
 
-    told_sent : (t : Option ℕ) → lookup (is_at (signal_cmp key)) entries ≡ t → 0 < (sender_told sender.0 t).event → IsSentTo reports origins (sender_told sender.0 t) f
+    told_sent : (t : Option ℕ) → lookup (is_at (signal_cmp key)) entries ≡ t → 0 < (or_none f.pid (sender_told sender.0 t)).event → IsSentTo reports origins (or_none f.pid (sender_told sender.0 t)) f
     told_sent None q g = absurd (omega (arith, g))
     told_sent (Some n) q g = (number, e, told_sound origins key n (sym (index key) ∙ q))
 
     abbrev tells : Bool → At
-    tells b = cond b (none_of f.pid) (sender_told sender.0 (lookup (is_at (signal_cmp key)) entries))
+    tells b = or_none f.pid (cond b None (sender_told sender.0 (lookup (is_at (signal_cmp key)) entries)))
 
     known_by : (((sender.0 == f.pid) ≡ true) × (sender.0 ≡ f.pid)) ⊎ (((sender.0 == f.pid) ≡ false) × (sender.0 ≢ f.pid)) → (g : At) → IsSentTo reports origins g f
         → (g.pid ≡ f.pid) ⊎ (g ≡ tells (sender.0 == f.pid))
@@ -128,11 +128,11 @@ module _ (reports : List Report) (origins : List Origin) (traced : IsTraced repo
     says_by false g = told_sent (lookup (is_at (signal_cmp key)) entries) refl g
 
   -- an event that sent the signal which f handled is one of the same process, or the sender that is looked up
-  pub sender_known : (did : Did) → handled_at reports f ≡ handled_by did → (g : At) → IsSentTo reports origins g f → (g.pid ≡ f.pid) ⊎ (g ≡ sender_of entries f.pid did)
+  pub sender_known : (did : Did) → handled_at reports f ≡ handled_by did → (g : At) → IsSentTo reports origins g f → (g.pid ≡ f.pid) ⊎ (g ≡ or_none f.pid (sender_of entries f.pid did))
   sender_known (Exec place) e g h = absurd (let w : None ≡ Some (g.pid, h.0) = sym e ∙ h.1 in cc)
   sender_known (From sender number) e g h = known_by sender number e (eqb_tells sender.0 f.pid) g h
 
   -- and that one sent it
-  pub sender_says : (did : Did) → handled_at reports f ≡ handled_by did → 0 < (sender_of entries f.pid did).event → IsSentTo reports origins (sender_of entries f.pid did) f
+  pub sender_says : (did : Did) → handled_at reports f ≡ handled_by did → 0 < (or_none f.pid (sender_of entries f.pid did)).event → IsSentTo reports origins (or_none f.pid (sender_of entries f.pid did)) f
   sender_says (Exec place) e h = absurd (omega (arith, h))
   sender_says (From sender number) e h = says_by sender number e (sender.0 == f.pid) h

@@ -16,7 +16,7 @@ use Rattle.sig_order.specs.declared.senders.SignalKey.{SignalKey}
 use Rattle.sig_order.specs.Senders.{IsIndex, sender_of}
 use Rattle.sig_order.specs.Happening.{is_there, stamp_of, handled_by, handled_at, HappenedBefore, IsTraced}
 use Rattle.sig_order.specs.Counting.{no_rows, rows_of, counted_of, count_at, IsDone, IsLearned, AddsCounts, IsCounted}
-use Rattle.sig_order.proofs.Ats.{at_of, event_of-at, from_one, place_of, event_of-place}
+use Rattle.sig_order.proofs.Ats.{or_none, at_of, event_of-at, from_one, place_of, event_of-place}
 use Rattle.sig_order.proofs.Chains.{before_rises}
 use Rattle.sig_order.proofs.Right.{IsRight, right_more, before_counts, at_most}
 use Rattle.sig_order.proofs.Rows.{IsWell, none_well, counts_of, counts_done, after, after_many, after_counted, after_other, after_wells, more_counts}
@@ -160,11 +160,14 @@ module _ (reports : List Report) (origins : List Origin) (order : List MergedAt)
 
       module _ (entries : List (SignalKey × ℕ)) (index : IsIndex origins entries) (event : Event) (is : event_at reports now ≡ Some event) (row : Option (List ℕ))
           (learned : IsLearned rows (at_of now) (sender_of entries now.pid.0 event.did) row) where
+        abbrev source : Option At
+        source = sender_of entries now.pid.0 event.did
+
         abbrev sender : At
-        sender = sender_of entries now.pid.0 event.did
+        sender = or_none now.pid.0 source
 
         abbrev grown : List Rows
-        grown = after rows (at_of now) sender row process_within
+        grown = after rows (at_of now) source row process_within
 
         handled : handled_at reports (at_of now) ≡ handled_by event.did
         handled = ap (λ (o : Option Event). option_and_then (λ (e : Event). handled_by e.did) o) (event_of-at reports now ∙ is)
@@ -172,7 +175,7 @@ module _ (reports : List Report) (origins : List Origin) (order : List MergedAt)
         grown_right : IsRight reports origins (counts_of grown)
         grown_right =
             right_more reports origins (counts_of rows) (counts_of grown) reached.right (at_of now) sender (omega (arith, next)) (there_place now ∙ there)
-            (more_counts rows (at_of now) sender row process_within reached.wells (omega (arith, next)) (at_most reports origins (counts_of rows) reached.right) learned)
+            (more_counts rows (at_of now) source row process_within reached.wells (omega (arith, next)) (at_most reports origins (counts_of rows) reached.right) learned)
             (counts_done grown)
             (λ g step. lower_done g step.first (traced.rises g (at_of now) step))
             (sender_known reports origins traced entries index (at_of now) event.did handled)
@@ -186,11 +189,11 @@ module _ (reports : List Report) (origins : List Origin) (order : List MergedAt)
         Elsewhere k = rows_for grown (at k) ≡ rows_for rows (at k)
 
         now_more : rows_for grown now ≡ rows_for rows now + 1
-        now_more = after_counted rows (at_of now) sender row process_within reached.wells
+        now_more = after_counted rows (at_of now) source row process_within reached.wells
 
         rows_more : (k : ℕ) → ((at k).pid.0 ≡ now.pid.0) ⊎ ((at k).pid.0 ≡ now.pid.0 → ⊥) → Here k ⊎ Elsewhere k
         rows_more k (inl e) = inl (e, ap (λ p. counted_of grown p) e ∙ now_more, ap (λ p. counted_of rows p) e)
-        rows_more k (inr n) = inr (ap (λ (r : Rows). length r.known) (after_other rows (at_of now) sender row process_within (at k).pid.0 n))
+        rows_more k (inr n) = inr (ap (λ (r : Rows). length r.known) (after_other rows (at_of now) source row process_within (at k).pid.0 n))
 
         seen_more : (k : ℕ) → k < i + 1 → k < length order → (at k).place < rows_for grown (at k)
         seen_more k h l = by (cases_lt k i) (rows_more k (cases_eq (at k).pid.0 now.pid.0))
@@ -224,10 +227,10 @@ module _ (reports : List Report) (origins : List Origin) (order : List MergedAt)
 
         pub reached_more : IsReached (i + 1) grown
         reached_more = record {
-          many = after_many rows (at_of now) sender row process_within ∙ reached.many;
+          many = after_many rows (at_of now) source row process_within ∙ reached.many;
           seen = λ k e h l. subst (λ (m : MergedAt). m.place < rows_for grown m) (sym (default k e l)) (seen_more k h l);
           unseen = λ k e h l. subst (λ (m : MergedAt). rows_for grown m ≤ m.place) (sym (default k e l)) (unseen_more k h l);
-          wells = after_wells rows (at_of now) sender row process_within reached.wells;
+          wells = after_wells rows (at_of now) source row process_within reached.wells;
           right = grown_right;
         }
 

@@ -6,6 +6,7 @@ use Rattle.std.proofs.lemmas.List.{length-set, length_push, get_or-set_same, get
 use Rattle.sig_order.specs.declared.at.At.{At}
 use Rattle.sig_order.specs.declared.counts.Rows.{Rows}
 use Rattle.sig_order.specs.Counting.{no_rows, rows_of, counted_of, last_row, row_at, count_at, IsDone, last_of, IsLearned, with_event}
+use Rattle.sig_order.proofs.Ats.{or_none}
 use Rattle.sig_order.proofs.Right.{Counts, MoreCounts}
 
 -- the count of an event, by the rows of its process
@@ -151,7 +152,7 @@ counts_done rows a q h = by (cases_eq a.event 0) (cases_lt (counted_of rows a.pi
     by (inr n) (inr within) = (omega (arith, n), within)
 
 -- the rows with the counts of the event a
-module _ (rows : List Rows) (a sender : At) (row : Option (List ℕ)) (lt : a.pid < length rows) where
+module _ (rows : List Rows) (a : At) (source : Option At) (row : Option (List ℕ)) (lt : a.pid < length rows) where
   abbrev r : Rows
   r = rows_of rows a.pid
 
@@ -192,7 +193,7 @@ module _ (rows : List Rows) (a sender : At) (row : Option (List ℕ)) (lt : a.pi
             ∙ ap (λ p. count_in (rows_of rows p) f q) (sym e)
         by (inr n) = ap (λ (z : Rows). count_in z f q) (after_other f.pid n)
 
-    module _ (next : a.event ≡ counted_of rows a.pid + 1) (most : (f : At) (q : ℕ) → count_at rows f q ≤ counted_of rows q) (learned : IsLearned rows a sender row) where
+    module _ (next : a.event ≡ counted_of rows a.pid + 1) (most : (f : At) (q : ℕ) → count_at rows f q ≤ counted_of rows q) (learned : IsLearned rows a source row) where
       there_now : a.event ≤ length (with_event r row).known
       there_now = omega (arith, next, more.long)
 
@@ -212,12 +213,15 @@ module _ (rows : List Rows) (a sender : At) (row : Option (List ℕ)) (lt : a.pi
           ap (λ (xs : List ℕ). get_or xs q 0) (sym (row_last r (wells a.pid))) ∙ ap (λ k. get_or (row_at r k) q 0) (sym before)
           ∙ sym (counted_other r (last_of a) q (omega (arith, before)) n)
 
-      newest_by : (o : Option (List ℕ)) → IsLearned rows a sender o → (q : ℕ) → q ≢ a.pid
-          → get_or (last_row (with_event r o).learned (length (with_event r o).learned)) q 0 ≡ max (count_at rows (last_of a) q) (count_at rows sender q)
-      newest_by None h q n =
-          let none : count_at rows sender q ≡ 0 = none_counted (rows_of rows sender.pid) sender q h in
-          as_before q n ∙ (let e : count_at rows (last_of a) q ≡ max (count_at rows (last_of a) q) (count_at rows sender q) = omega (arith, none) in e)
-      newest_by (Some new) h q n = ap (λ (xs : List ℕ). get_or xs q 0) (last_push r.learned new) ∙ by (cases_lt q (length rows))
+      newest_by : (s : Option At) (o : Option (List ℕ)) → IsLearned rows a s o → (q : ℕ) → q ≢ a.pid
+          → get_or (last_row (with_event r o).learned (length (with_event r o).learned)) q 0 ≡ max (count_at rows (last_of a) q) (count_at rows (or_none a.pid s) q)
+      newest_by None None h q n =
+          let nobody : At = or_none a.pid None in
+          let none : count_at rows nobody q ≡ 0 = none_counted (rows_of rows a.pid) nobody q refl in
+          as_before q n ∙ (let e : count_at rows (last_of a) q ≡ max (count_at rows (last_of a) q) (count_at rows nobody q) = omega (arith, none) in e)
+      newest_by None (Some new) h q n = absurd h
+      newest_by (Some sender) None h q n = absurd h
+      newest_by (Some sender) (Some new) h q n = ap (λ (xs : List ℕ). get_or xs q 0) (last_push r.learned new) ∙ by (cases_lt q (length rows))
         where
           by : (q < length rows) ⊎ (length rows ≤ q) → get_or new q 0 ≡ max (count_at rows (last_of a) q) (count_at rows sender q)
           by (inl within) = h.counts q within
@@ -226,11 +230,11 @@ module _ (rows : List Rows) (a sender : At) (row : Option (List ℕ)) (lt : a.pi
               let few : counted_of rows q ≡ 0 = ap (λ (z : Rows). length z.known) (get_or_past rows q no_rows past) in
               omega (arith, none, few, most (last_of a) q, most sender q)
 
-      pub more_counts : MoreCounts (counts_of rows) (counts_of after) a sender
+      pub more_counts : MoreCounts (counts_of rows) (counts_of after) a (or_none a.pid source)
       more_counts = record {
         here = after_counted;
         others = λ q n. ap (λ (z : Rows). length z.known) (after_other q n);
         stays = stays;
         own = own;
-        newest = λ q n. by_last q n ∙ newest_by row learned q n;
+        newest = λ q n. by_last q n ∙ newest_by source row learned q n;
       }

@@ -50,9 +50,11 @@ pub record IsNewRow (rows : List Rows) (a sender : At) (row : List ℕ) : Type 0
   pub counts : (q : ℕ) → q < length rows → get_or row q 0 ≡ max (count_at rows (last_of a) q) (count_at rows sender q)
 
 -- what the event a learned: nothing where no event of another process sent a signal to it
-abbrev pub IsLearned : List Rows → At → At → Option (List ℕ) → Type 0
-IsLearned rows a sender None = sender.event ≡ 0
-IsLearned rows a sender (Some row) = IsNewRow rows a sender row
+abbrev pub IsLearned : List Rows → At → Option At → Option (List ℕ) → Type 0
+IsLearned rows a None None = Unit {0}
+IsLearned rows a None (Some row) = ⊥
+IsLearned rows a (Some sender) None = ⊥
+IsLearned rows a (Some sender) (Some row) = IsNewRow rows a sender row
 
 -- one event more, which goes by the last row
 abbrev pub noted : Rows → Rows
@@ -64,7 +66,7 @@ with_event r None = noted r
 with_event r (Some row) = noted (record r { learned = r.learned ++ row ∷ [] })
 
 -- the rows with the counts of one event more, which may have handled a signal that the event `sender` of another process sent
-abbrev pub AddsEvent : List Rows → At → At → List Rows → Type 0
+abbrev pub AddsEvent : List Rows → At → Option At → List Rows → Type 0
 AddsEvent old a sender new = (row : Option (List ℕ)) × IsLearned old a sender row × (new ≡ slice_set old a.pid (with_event (rows_of old a.pid) row))
 
 -- the same of the event at a place, which did this

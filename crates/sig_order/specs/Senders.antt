@@ -27,17 +27,13 @@ told (o ∷ os) q = option_or (told os q) (cond (is_at (signal_cmp (key_of o)) q
 abbrev pub IsIndex : List Origin → List (SignalKey × ℕ) → Type 0
 IsIndex origins entries = (q : SignalKey) → lookup (is_at (signal_cmp q)) entries ≡ told origins q
 
--- no event
-abbrev pub none_of : ℕ → At
-none_of pid = record { pid = pid; event = 0 }
-
--- the event of the sender, no event where nothing is known of it
-abbrev pub sender_told : ℕ → Option ℕ → At
-sender_told from None = none_of from
-sender_told from (Some event) = record { pid = from; event = event }
+-- the event of the sender, where it is known
+abbrev pub sender_told : ℕ → Option ℕ → Option At
+sender_told from None = None
+sender_told from (Some event) = Some (record { pid = from; event = event })
 
 -- the event that sent the signal which an event of the process `to` handled, where it was one of another process
-abbrev pub sender_of : List (SignalKey × ℕ) → ℕ → Did → At
-sender_of entries to (Exec place) = none_of to
+abbrev pub sender_of : List (SignalKey × ℕ) → ℕ → Did → Option At
+sender_of entries to (Exec place) = None
 sender_of entries to (From sender number) =
-    if sender.0 == to then none_of to else sender_told sender.0 (lookup (is_at (signal_cmp (record { from = sender.0; to = to; number = number }))) entries)
+    if sender.0 == to then None else sender_told sender.0 (lookup (is_at (signal_cmp (record { from = sender.0; to = to; number = number }))) entries)

@@ -127,14 +127,14 @@ fn learned(
     alloc: Global,
     rows: &[Rows],
     at: At,
-    sender: At,
+    sender: Option<At>,
 ) -> Result<Option<Sequence<u64>>, AllocError>
     requires { 0 < at.event }
     ensures { IfOk result (IsLearned rows.now at sender) }
 {
-    if sender.event == 0 {
+    let Some(sender) = sender else {
         return Ok(None);
-    }
+    };
     let row = new_row(alloc, rows, at, sender)?;
     Ok(Some(row))
 }
@@ -144,7 +144,7 @@ pub(crate) fn add_event(
     alloc: Global,
     rows: &mut Vec<Rows>,
     at: At,
-    sender: At,
+    sender: Option<At>,
 ) -> Result<(), AllocError>
     requires event { 0 < at.event }
     requires process { at.pid < length rows.old.items }

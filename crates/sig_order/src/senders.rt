@@ -41,32 +41,29 @@ pub(crate) fn index_of(
     Ok(index)
 }
 
-/// The event that sent this signal. Its number is 0 where nothing is known of it.
-fn sender_known(index: &BTreeMap<SignalKey, u64>, key: SignalKey) -> At
+/// The event that sent this signal. `None` exactly where the index has no such signal.
+fn sender_known(index: &BTreeMap<SignalKey, u64>, key: SignalKey) -> Option<At>
     ensures { result ≡ sender_told key.from (lookup (is_at (signal_cmp key)) index.now.entries) }
 {
     match index.get(&key) {
-        Some(event) => At {
+        Some(event) => Some(At {
             pid: key.from,
             event: *event,
-        },
-        None => At {
-            pid: key.from,
-            event: 0,
-        },
+        }),
+        None => None,
     }
 }
 
-/// The event that sent the signal which an event of the process `to` handled. Its number is 0 where
-/// it handled none, or one of its own process, or nothing is known of the signal.
-pub(crate) fn sender(index: &BTreeMap<SignalKey, u64>, to: u32, did: &Did) -> At
+/// The event that sent the signal which an event of the process `to` handled. `None` exactly where it
+/// handled none, or one of its own process, or one that the index doesn't have.
+pub(crate) fn sender(index: &BTreeMap<SignalKey, u64>, to: u32, did: &Did) -> Option<At>
     ensures { result ≡ sender_of index.now.entries to did.now }
 {
     match did {
-        Did::Exec { place: _ } => At { pid: to, event: 0 },
+        Did::Exec { .. } => None,
         Did::From { from, number } => {
             if from.0 == to {
-                return At { pid: to, event: 0 };
+                return None;
             }
             let key = SignalKey {
                 from: from.0,
