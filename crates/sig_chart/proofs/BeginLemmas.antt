@@ -18,12 +18,12 @@ use Rattle.sig_chart.specs.Laid.{BeginsAtSender}
 -- ---- the row of an event
 
 -- the event with this number of this process stands in the row, among those from a first row on
-record IsRowOf (first : ℕ) (ms : List MergedAt) (pid event row : ℕ) : Type 0 where
-  past : first ≤ row
-  m : MergedAt
-  at : slice_get ms (row - first) ≡ Some m
-  process : m.pid.0 ≡ pid
-  number : m.place + 1 ≡ event
+pub record IsRowOf (first : ℕ) (ms : List MergedAt) (pid event row : ℕ) : Type 0 where
+  pub past : first ≤ row
+  pub m : MergedAt
+  pub at : slice_get ms (row - first) ≡ Some m
+  pub process : m.pid.0 ≡ pid
+  pub number : m.place + 1 ≡ event
 
 of_test : (pid event : ℕ) (m : MergedAt) → is_event pid event m ≡ true → (m.pid.0 ≡ pid) × (m.place + 1 ≡ event)
 of_test pid event m h = grind (arith, nat_tests)
@@ -43,17 +43,17 @@ row_step first x ms pid event row true is rest h =
     record { past = omega arith; m = x; at = ap (λ (k : ℕ). slice_get (x ∷ ms) k) zero_th; process = (of_test pid event x is).0; number = (of_test pid event x is).1 }
 row_step first x ms pid event row false is rest h = behind first x ms pid event row (rest h)
 
-row_is : (first : ℕ) (ms : List MergedAt) (pid event row : ℕ) → row_of first ms pid event ≡ Some row → IsRowOf first ms pid event row
+pub row_is : (first : ℕ) (ms : List MergedAt) (pid event row : ℕ) → row_of first ms pid event ≡ Some row → IsRowOf first ms pid event row
 row_is first [] pid event row h = absurd cc
 row_is first (x ∷ ms) pid event row h =
     row_step first x ms pid event row (is_event pid event x) refl (row_is (first + 1) ms pid event row) h
 
 -- ---- the origin of a signal
 
-abbrev origin_with : ℕ → ℕ → ℕ → ℕ → Origin
+abbrev pub origin_with : ℕ → ℕ → ℕ → ℕ → Origin
 origin_with from to number event = record { from = record { 0 = from }; to = record { 0 = to }; number = number; event = event }
 
-origin_is : (o : Origin) (from to number : ℕ) → is_of o from to number ≡ true → o ≡ origin_with from to number o.event
+pub origin_is : (o : Origin) (from to number : ℕ) → is_of o from to number ≡ true → o ≡ origin_with from to number o.event
 origin_is o from to number h =
     let sender : o.from.0 ≡ from = grind (arith, nat_tests) in
     let receiver : o.to.0 ≡ to = grind (arith, nat_tests) in
@@ -61,7 +61,7 @@ origin_is o from to number h =
     ap (λ (n : ℕ). origin_with n o.to.0 o.number o.event) sender ∙ ap (λ (n : ℕ). origin_with from n o.number o.event) receiver
     ∙ ap (λ (n : ℕ). origin_with from to n o.event) its
 
-further : (o x : Origin) (os : List Origin) → Contains os x → Contains (o ∷ os) x
+pub further : (o x : Origin) (os : List Origin) → Contains os x → Contains (o ∷ os) x
 further o x os h = let lt : h.0 < length os = h.1 in (suc h.0, omega arith, h.2)
 
 known_step : (o : Origin) (os : List Origin) (from to number place : ℕ) (b : Bool) → is_of o from to number ≡ b →
@@ -84,15 +84,21 @@ begins g row pid e from number start h =
     let same : start ≡ start - 0 = omega arith in
     (w.m, ap (λ (k : ℕ). slice_get g.shown k) same ∙ w.at, w.process, known g.origins from pid number w.m.place (sym w.number))
 
-by_did : (g : Ground) (row pid : ℕ) (e : Event) (d : Did) (rest : List Arrow) → All (BeginsAtSender g) rest → All (BeginsAtSender g) (arrow_by g row pid e d ++ rest)
-by_did g row pid e (Exec place) rest h = h
-by_did g row pid e (From sender number) rest h =
-    All-cons (BeginsAtSender g) (arrow_from g row pid e sender.0 number (sent_by g.origins sender.0 pid number)) rest (begins g row pid e sender.0 number) h
+-- what holds of the arrow of each handling holds of all arrows
+module _ (g : Ground) (P : Arrow → Type 0)
+    (each : (row pid : ℕ) (e : Event) (from number : ℕ) → P (arrow_from g row pid e from number (sent_by g.origins from pid number))) where
+  by_did : (row pid : ℕ) (e : Event) (d : Did) (rest : List Arrow) → All P rest → All P (arrow_by g row pid e d ++ rest)
+  by_did row pid e (Exec place) rest h = h
+  by_did row pid e (From sender number) rest h =
+      All-cons P (arrow_from g row pid e sender.0 number (sent_by g.origins sender.0 pid number)) rest (each row pid e sender.0 number) h
 
-by_event : (g : Ground) (row pid : ℕ) (o : Option Event) (rest : List Arrow) → All (BeginsAtSender g) rest → All (BeginsAtSender g) (arrow_of g row pid o ++ rest)
-by_event g row pid None rest h = h
-by_event g row pid (Some e) rest h = by_did g row pid e e.did rest h
+  by_event : (row pid : ℕ) (o : Option Event) (rest : List Arrow) → All P rest → All P (arrow_of g row pid o ++ rest)
+  by_event row pid None rest h = h
+  by_event row pid (Some e) rest h = by_did row pid e e.did rest h
+
+  pub all_arrows : (row : ℕ) (ms : List MergedAt) → All P (by_rows (arrow_at g) row ms)
+  all_arrows row [] = λ k d lt. absurd (omega arith)
+  all_arrows row (m ∷ ms) = by_event row m.pid.0 (event_at g.reports m) (by_rows (arrow_at g) (row + 1) ms) (all_arrows (row + 1) ms)
 
 pub begin_at_senders : (g : Ground) (row : ℕ) (ms : List MergedAt) → All (BeginsAtSender g) (by_rows (arrow_at g) row ms)
-begin_at_senders g row [] = λ k d lt. absurd (omega arith)
-begin_at_senders g row (m ∷ ms) = by_event g row m.pid.0 (event_at g.reports m) (by_rows (arrow_at g) (row + 1) ms) (begin_at_senders g (row + 1) ms)
+begin_at_senders g = all_arrows g (BeginsAtSender g) (begins g)

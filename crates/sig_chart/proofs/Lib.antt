@@ -3,3 +3,5 @@ pub mod MarkLemmas
 pub mod ThereLemmas
 pub mod ArrowLemmas
 pub mod BeginLemmas
+pub mod AboveLemmas
+pub mod QueuedLemmas

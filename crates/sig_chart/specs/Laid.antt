@@ -1,10 +1,13 @@
 -- What the shapes of a chart keep.
-use Rattle.std.specs.Prelude.{◌≡◌, ℕ, ◌+◌, ◌<◌, Some, slice_get}
+use Rattle.std.specs.Prelude.{◌≡◌, ℕ, ◌+◌, ◌<◌, None, Some, slice_get}
 use Rattle.std.specs.List.{Contains}
+use Rattle.sig_kinds.specs.declared.signal.Signal.{Signal}
+use Rattle.sig_model.specs.declared.event.Event.{Event}
 use Rattle.sig_model.specs.declared.origin.Origin.{Origin}
 use Rattle.sig_record.specs.declared.merging.MergedAt.{MergedAt}
 use Rattle.sig_svg.specs.declared.shape.Mark.{Mark}
 use Rattle.sig_svg.specs.declared.shape.Arrow.{Arrow}
+use Rattle.sig_chart.specs.Finding.{event_of, sent_by}
 use Rattle.sig_chart.specs.Shapes.{Ground}
 
 -- a stands above b
@@ -28,3 +31,17 @@ abbrev pub BeginsAtSender : Ground → Arrow → Type 0
 BeginsAtSender g a =
     (row : ℕ) → a.start ≡ Some row →
     (m : MergedAt) × (slice_get g.shown row ≡ Some m) × (m.pid.0 ≡ a.from) × Contains g.origins (origin_of a (m.place + 1))
+
+-- the signal of the arrow has one origin at most
+abbrev pub HasOneOrigin : Ground → Arrow → Type 0
+HasOneOrigin g a = (n k : ℕ) → Contains g.origins (origin_of a n) → Contains g.origins (origin_of a k) → n ≡ k
+
+-- where the arrow begins in no row, none of the events that are shown sent the signal, as far as the origins tell
+abbrev pub BeginsAbove : Ground → Arrow → Type 0
+BeginsAbove g a =
+    a.start ≡ None → (m : MergedAt) → Contains g.shown m → m.pid.0 ≡ a.from → Contains g.origins (origin_of a (m.place + 1)) → ⊥
+
+-- the event that sent the signal, where one is told, has the signal's stamp
+abbrev pub HasItsStamp : Ground → Signal → Type 0
+HasItsStamp g s =
+    (e : Event) → event_of g.reports s.from.0 (sent_by g.origins s.from.0 s.to.0 s.number) ≡ Some e → e.stamp ≡ s.stamp

@@ -1,22 +1,13 @@
 //! What is looked up of a record, a script and origins.
 
 ghost use Rattle.std.specs.Prelude.{◌≡◌, ◌≤◌, length, option_copied};
-ghost use Rattle.sig_record.specs.Merging.{event_at};
 ghost use Rattle.sig_chart.specs.Finding.{event_of, instr_at, is_of, sent_by, is_event, row_of};
 
 use crate::window::MOST_EVENTS;
 use sig_model::{Did, Event, Origin};
 use sig_program::{Instr, Script};
-use sig_record::{MergedAt, Report};
+use sig_record::{MergedAt, Report, event_at};
 use sig_terms::Pid;
-
-/// The event at this place, if there is one.
-pub(crate) fn event_at(reports: &[Report], at: MergedAt) -> Option<&Event>
-    ensures { option_copied result ≡ event_at reports.now at }
-{
-    let report = reports.get(at.pid.0 as usize)?;
-    report.events.get(at.place as usize)
-}
 
 /// The event of a process with this number, from 1, if there is one.
 pub(crate) fn event_of(reports: &[Report], pid: u32, event: u64) -> Option<&Event>

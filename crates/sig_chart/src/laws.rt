@@ -5,8 +5,9 @@ ghost use Rattle.std.specs.Prelude.{◌≡◌, All, length, map};
 ghost use Rattle.std.specs.List.{AllPairs, filter};
 ghost use Rattle.sig_chart.specs.declared.window.Window.{Window as Stamps};
 ghost use Rattle.sig_chart.specs.Drawn.{AreShown};
-ghost use Rattle.sig_chart.specs.Laid.{IsAbove, spot_of, end_of, BeginsAtSender};
-ghost use Rattle.sig_chart.specs.Shapes.{Ground, chart_of};
+ghost use Rattle.sig_kinds.specs.declared.signal.Signal.{Signal};
+ghost use Rattle.sig_chart.specs.Laid.{IsAbove, spot_of, end_of, BeginsAtSender, HasOneOrigin, BeginsAbove, HasItsStamp};
+ghost use Rattle.sig_chart.specs.Shapes.{Ground, chart_of, stub_in, stub_of};
 
 /// Each later mark stands in a lower row, so no two stand at one place. Each event that is shown has its
 /// mark: there are as many.
@@ -16,9 +17,18 @@ pub fn marks_stand_apart()
 {}
 
 /// For each mark of a handling there is one arrow, which ends there, and there is no other. An arrow that
-/// begins in a row begins at the event that sent the signal, as the origin of the signal tells.
+/// begins in a row begins at the event that sent the signal, as the origin of the signal tells (`begins`).
+/// Where one begins in no row, and the signal has one origin, the event that sent it isn't shown (`above`).
 pub fn an_arrow_leads_from_sending_to_handling()
     ensures ends { (w : Stamps) (g : Ground) →
         map end_of (chart_of w g).arrows ≡ map spot_of (filter (λ m. m.handled) (chart_of w g).marks) }
     ensures begins { (w : Stamps) (g : Ground) → All (BeginsAtSender g) (chart_of w g).arrows }
+    ensures above { (w : Stamps) (g : Ground) → All (λ a. HasOneOrigin g a → BeginsAbove g a) (chart_of w g).arrows }
+{}
+
+/// A queued signal is drawn where the event that sent it is shown: that its own stamp is looked at first
+/// leaves none out. So it is of a signal that has the stamp of the event that sent it, as each of a run has.
+pub fn queued_signals_are_drawn()
+    ensures { (w : Stamps) (g : Ground) (s : Signal) → AreShown g.reports w g.shown → HasItsStamp g s →
+        stub_in w g.origins g.shown s ≡ stub_of g.origins g.shown s }
 {}

@@ -17,7 +17,7 @@ ghost use Rattle.sig_chart.specs.Shapes.{
   chart_of,
 };
 
-use crate::finding::{event_at, event_of, row_of, sent_by};
+use crate::finding::{event_of, row_of, sent_by};
 use crate::sorting::{sort_of_kind, told_sort};
 use crate::sources::Sources;
 use crate::window::{MOST_EVENTS, Window};
@@ -25,7 +25,7 @@ use crate::words::{event_words, kind_words, standing};
 use sig_kinds::Signal;
 use sig_lists::Sequence;
 use sig_model::{Did, Event, Origin};
-use sig_record::{MergedAt, Report};
+use sig_record::{MergedAt, Report, event_at};
 use sig_svg::{Arrow, Chart, Lane, Mark, Stub};
 use std::alloc::{AllocError, Global};
 

@@ -13,5 +13,7 @@ mod words;
 
 pub use charting::chart;
 pub use error::ChartError;
-pub use laws::{an_arrow_leads_from_sending_to_handling, marks_stand_apart};
+pub use laws::{
+    an_arrow_leads_from_sending_to_handling, marks_stand_apart, queued_signals_are_drawn,
+};
 pub use window::{MOST_EVENTS, Window};

@@ -4,8 +4,7 @@ ghost use Rattle.std.specs.Prelude.{◌≡◌, IfOk};
 ghost use Rattle.std.specs.List.{filter};
 ghost use Rattle.sig_chart.specs.Shown.{is_within, is_shown};
 
-use crate::finding::event_at;
-use sig_record::{MergedAt, Report};
+use sig_record::{MergedAt, Report, event_at};
 use std::alloc::{AllocError, Global};
 
 /// The most events of a chart.

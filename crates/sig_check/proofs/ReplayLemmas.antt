@@ -1,11 +1,11 @@
 -- The choices of a record, made once more.
 use Rattle.std.proofs.Common.{◌≡◌, ℕ, suc, ◌+◌, Bool, true, false, cond, List, [], ◌∷◌, ◌++◌, take, length, Some, None, refl, sym, ap, ◌∙◌, subst, append_assoc}
-use Rattle.std.specs.Prelude.{◌==◌, slice_get}
+use Rattle.std.specs.Prelude.{◌==◌, All, slice_get}
 use Rattle.std.specs.Bool.{MatchBool}
 use Rattle.std.proofs.Math.Path.{ap₂}
 use Rattle.std.proofs.lemmas.Option.{same_Some, none-some}
 use Rattle.sig_kinds.specs.declared.signal.Signal.{Signal}
-use Rattle.sig_program.specs.Scripts.{Program}
+use Rattle.sig_program.specs.Scripts.{Program, IsWithin}
 use Rattle.sig_runs.specs.Machine.{Machine, At, Applied, IsRun, apply, choice}
 use Rattle.sig_runs.specs.Crew.{opening_machine}
 use Rattle.sig_runs.specs.Order.{events_by}
@@ -105,10 +105,10 @@ module _ (script : Program) where
       ∙ ap (λ m. record_of_run script es m) (sym (clear_machine script crew empty) ∙ same.1)
       ∙ ap (λ o. record_of_run script (events_listed reports o) machine) (sym listed) ∙ sym w.told
 
-  pub its_run : (reports : List Report) (order : List MergedAt) (merged : IsMerged reports order) (first : List Running) → IsLawfulCrew script first → (machine : Machine ProcessState Signal) →
+  pub its_run : (reports : List Report) (order : List MergedAt) (merged : IsMerged reports order) → All IsWithin script.procs → (machine : Machine ProcessState Signal) →
       IsRecordOfRun script machine reports → IsRun (rules_of script) (opening_machine (opening_of script)) (events_listed reports order) machine
-  its_run reports order merged first law machine w =
-      from_mark script (events_listed reports order) machine (all_within script first law)
+  its_run reports order merged within machine w =
+      from_mark script (events_listed reports order) machine within
       (subst (λ o. IsRun (whole_rules script) (opening_machine (opening_of script)) (events_listed reports o) machine) (one_order reports w.order order w.merged merged) w.run)
 
   pub opened_retraced : (crew : List Running) → HasFollowed script [] crew → HasRetraced script [] crew

@@ -3,7 +3,6 @@
 ghost use Rattle.std.specs.Prelude.{◌≡◌, [], true, false, Some, None, IfOk, length, option_copied};
 ghost use Rattle.std.specs.Bool.{MatchBool};
 ghost use Rattle.sig_program.specs.Scripts.{Program};
-ghost use Rattle.sig_record.specs.Merging.{event_at};
 ghost use Rattle.sig_record.specs.RunRecord.{events_listed};
 ghost use Rattle.sig_players.specs.Players.{crew_of, AreReady};
 ghost use Rattle.sig_choices.specs.Choosing.{AreEmptied};
@@ -12,7 +11,7 @@ ghost use Rattle.sig_choices.specs.Following.{HasFollowed, StopsAfter, MakesNext
 use sig_base::Steps;
 use sig_model::Event;
 use sig_players::{Player, choose};
-use sig_record::{MergedAt, Report};
+use sig_record::{MergedAt, Report, event_at};
 use std::alloc::AllocError;
 use std::sync::ledger::Ledger;
 
@@ -23,16 +22,6 @@ pub(crate) struct Way {
     pub(crate) made: u64,
     /// Whether these were all.
     pub(crate) whole: bool,
-}
-
-/// The event at this place, if there is one.
-pub(crate) fn event_at(reports: &[Report], at: MergedAt) -> Option<&Event>
-    ensures { option_copied result ≡ event_at reports.now at }
-{
-    match reports.get(at.pid.0 as usize) {
-        None => None,
-        Some(report) => report.events.get(at.place as usize),
-    }
 }
 
 /// Makes the choice of this event of the process of this pid, and tells whether that made this event.

@@ -74,8 +74,9 @@ fn close_one(player: Player) -> Result<Process, AllocError>
     Ok(process)
 }
 
-/// These processes, each of which takes in all that waits for it, by ascending sender. So they can be
-/// gathered into a record. The error is want of memory.
+/// These processes, each of which takes in all that waits for it, by ascending sender. Where their
+/// outboxes are empty, as [`sig_players::choose`] leaves them, and each stands at the place of its pid,
+/// they can be gathered into a record. The error is want of memory.
 ///
 /// Asks that each process itself has taken in no signal of another, and has a list for each process of
 /// the script, with signals of that sender alone that may arrive.

@@ -9,7 +9,6 @@ ghost use Rattle.sig_runs.specs.Settled.{IsSettled};
 ghost use Rattle.sig_model.specs.declared.event.Event.{Event};
 ghost use Rattle.sig_model.specs.Machine.{rules_of};
 ghost use Rattle.sig_model.specs.Running.{Running};
-ghost use Rattle.sig_model.specs.OneWorker.{IsClear};
 ghost use Rattle.sig_model.specs.Still.{IsStill, IsStillCrew};
 ghost use Rattle.sig_model.specs.CrewLaw.{whole_member};
 ghost use Rattle.sig_process.specs.Standing.{runnings_of};
@@ -28,7 +27,7 @@ use std::sync::ledger::Ledger;
 /// receiver be at rest though it can handle another.
 pub fn a_crew_rests_where_none_can_go()
     ensures rests { (script : Program) (events : List (At Event)) (crew : List Running) → All IsWithin script.procs →
-        HasFollowed script events crew → AreEmptied crew → IsClear crew → IsStillCrew crew →
+        HasFollowed script events crew → AreEmptied crew → IsStillCrew crew →
         IsSettled (whole_rules script) (crew_machine (rules_of script) (map whole_member crew)) }
     ensures goes { (script : Program) (events : List (At Event)) (crew : List Running) → All IsWithin script.procs →
         HasFollowed script events crew → AreEmptied crew → length events < 2 ^ 62 → SomeCanGo crew →

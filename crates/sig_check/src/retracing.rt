@@ -1,9 +1,9 @@
 //! The processes make the choices of a record's events once more.
 
-ghost use Rattle.std.specs.Prelude.{◌≡◌, ℕ, ◌≤◌, ◌++◌, List, [], IfOk, length, true};
+ghost use Rattle.std.specs.Prelude.{◌≡◌, ℕ, ◌≤◌, ◌++◌, List, [], All, IfOk, length, true};
 ghost use Rattle.std.specs.Bool.{MatchBool};
 ghost use Rattle.sig_kinds.specs.declared.signal.Signal.{Signal};
-ghost use Rattle.sig_program.specs.Scripts.{Program};
+ghost use Rattle.sig_program.specs.Scripts.{Program, IsWithin};
 ghost use Rattle.sig_runs.specs.Machine.{Machine};
 ghost use Rattle.sig_model.specs.ProcessState.{ProcessState};
 ghost use Rattle.sig_model.specs.Running.{Running};
@@ -16,27 +16,26 @@ ghost use Rattle.sig_players.specs.Players.{crew_of, AreReady};
 ghost use Rattle.sig_choices.specs.Choosing.{AreEmptied};
 ghost use Rattle.sig_choices.specs.Following.{HasFollowed};
 ghost use Rattle.sig_choices.specs.Origins.{origins_of};
-ghost use Rattle.sig_model.specs.CrewLaw.{IsLawfulCrew};
 ghost use Rattle.sig_check.specs.Replays.{HasRetraced, StopsAt};
 
-use crate::following::{Way, event_at};
+use crate::following::Way;
 use sig_base::Steps;
 use sig_model::Origins;
 use sig_players::{Player, choose_telling};
-use sig_record::{MergedAt, Report};
+use sig_record::{MergedAt, Report, event_at};
 use std::alloc::AllocError;
 use std::sync::ledger::Ledger;
 
 /// A crew that made the choices of the events of a record of a run has that record, and where the
-/// events are a run each of their choices is possible.
+/// events are a run each of their choices is possible, if the script's processes keep their bounds (`goes`).
 pub fn a_retraced_crew_has_the_record()
     ensures same { (script : Program) (reports : List Report) (order : List MergedAt) (crew : List Running)
         (machine : Machine ProcessState Signal) →
         IsMerged reports order → HasRetraced script (events_listed reports order) crew → AreEmptied crew →
         IsRecordOfRun script machine reports → record_of crew ≡ reports }
-    ensures goes { (script : Program) (reports : List Report) (order : List MergedAt) (first : List Running)
+    ensures goes { (script : Program) (reports : List Report) (order : List MergedAt)
         (machine : Machine ProcessState Signal) (count : ℕ) →
-        IsMerged reports order → IsLawfulCrew script first → IsRecordOfRun script machine reports →
+        IsMerged reports order → All IsWithin script.procs → IsRecordOfRun script machine reports →
         StopsAt script (events_listed reports order) count → ⊥ }
 {}
 

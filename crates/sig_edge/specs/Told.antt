@@ -1,9 +1,13 @@
 -- What a program tells when it can't go on: one line, which begins with its name (the texts are this project's own).
-use Rattle.std.specs.Prelude.{ℕ, List, ◌++◌, take, codes, Result, Ok, Err}
+use Rattle.std.specs.Prelude.{ℕ, List, ◌++◌, take, codes, decimal, Result, Ok, Err}
 use Rattle.sig_base.specs.Flow.{Rose, Adds}
 use Rattle.sig_tokens.specs.declared.fault.FaultKind.{FaultKind}
 use Rattle.sig_tokens.specs.FaultWords.{fault_text}
 use Rattle.sig_edge.specs.Streams.{Writing}
+
+-- these words, a number, and what stands right behind it
+abbrev pub number_text : List ℕ → List ℕ → ℕ → List ℕ → List ℕ
+number_text program words number behind = program ++ codes ": " ++ words ++ codes " " ++ decimal number ++ behind ++ codes "\n"
 
 -- the line of a script that is refused, and why
 abbrev pub refusal_text : List ℕ → ℕ → FaultKind → List ℕ

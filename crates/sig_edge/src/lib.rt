@@ -7,5 +7,6 @@ mod telling;
 
 pub use called::arguments;
 pub use telling::{
-    Untold, tell_memory, tell_piece, tell_pieces, tell_read_fault, tell_refusal, tell_write_fault,
+    Untold, tell_line, tell_memory, tell_number, tell_piece, tell_pieces, tell_read_fault,
+    tell_refusal, tell_write_fault,
 };

@@ -1,7 +1,7 @@
 ghost use Rattle.std.specs.Prelude.{◌≤◌, ◌++◌, codes, decimal};
 ghost use Rattle.std.specs.List.{flat_map};
 ghost use Rattle.sig_edge.specs.Streams.{writing};
-ghost use Rattle.sig_edge.specs.Told.{IsTold, memory_text, read_fault_text, refusal_text, write_fault_text};
+ghost use Rattle.sig_edge.specs.Told.{IsTold, memory_text, number_text, read_fault_text, refusal_text, write_fault_text};
 
 use itoa::Buffer;
 use sig_base::{Sink, Written, write_whole};
@@ -36,8 +36,38 @@ pub fn tell_pieces<E: Sink>(err: &mut E, pieces: &[&[u8]]) -> Result<(), Untold>
     Ok(())
 }
 
-/// Writes `PROGRAM: line LINE: WORD`.
-fn tell_line<E: Sink>(err: &mut E, program: &str, line: u64, word: &str) -> Result<(), Untold>
+/// Writes words, a number and what stands right behind it: `PROGRAM: WORDS NUMBER BEHIND`, with no space before
+/// what stands behind. `Untold` only where a write failed, and then the beginning of that line was written.
+pub fn tell_number<'a, E: Sink>(
+    err: &mut E,
+    program: &'a str,
+    words: &'a str,
+    number: u64,
+    behind: &'a str,
+) -> Result<(), Untold>
+    ensures told { IsTold (writing (E.held err.old) (E.held err.new) (E.faults err.old) (E.faults err.new))
+        (number_text program.now words.now number behind.now) result }
+    ensures count { E.faults err.old ≤ E.faults err.new }
+{
+    let mut digits = Buffer::new();
+    let digits = digits.format(number).as_bytes();
+    tell_pieces(
+        err,
+        &[
+            program.as_bytes(),
+            b": ",
+            words.as_bytes(),
+            b" ",
+            digits,
+            behind.as_bytes(),
+            b"\n",
+        ],
+    )
+}
+
+/// Writes what is wrong with a line: `PROGRAM: line LINE: WORD`. `Untold` only where a write failed, and
+/// then the beginning of that line was written.
+pub fn tell_line<E: Sink>(err: &mut E, program: &str, line: u64, word: &str) -> Result<(), Untold>
     ensures told { IsTold (writing (E.held err.old) (E.held err.new) (E.faults err.old) (E.faults err.new))
         (program.now ++ codes ": " ++ (codes "line " ++ decimal line ++ codes ": " ++ word.now) ++ codes "\n") result }
     ensures count { E.faults err.old ≤ E.faults err.new }

@@ -34,7 +34,7 @@ fn refuse<E: Sink>(err: &mut E, fault: io::Error) -> Status
 /// The program `sigrun`, on the arguments of its runtime and these streams: `run` of both, with a gate
 /// that holds nobody. Where the arguments can't be had, for want of memory or since one is no text, it
 /// tells so as `run` does of a want of memory or of arguments that the command doesn't take. The exit
-/// code is the number of the status, 0 to 5.
+/// code is at most 5; that it is the number of the status, its body says and no clause.
 pub fn program<R, I, O, E>(rt: &R, stdin: I, stdout: O, stderr: E) -> ExitCode
 where
     R: Threads + Wait + Sync + Env + Alloc<A = Global>,

@@ -44,6 +44,10 @@ pub record IsLinked (crew : List Running) (p q : ℕ) : Type 0 where
   pub rests : is_waiting other ≡ true
   pub active : is_active one.state.tables.links q ≡ true
 
+-- the lower pid stands first
+abbrev pub HasLowFirst : Pair → Type 0
+HasLowFirst z = z.low.0 < z.high.0
+
 -- the pair a comes before b: by the lower pid, and then by the other
 abbrev pub IsLower : Pair → Pair → Type 0
 IsLower a b = (a.low.0 < b.low.0) ⊎ ((a.low.0 ≡ b.low.0) × (a.high.0 < b.high.0))

@@ -1,7 +1,7 @@
 //! The law in every run, and in a crew that has come to rest. Nothing here runs: the contracts are
 //! what was proved, and the bodies are empty.
 
-ghost use Rattle.std.specs.Prelude.{◌≡◌, ◌≢◌, ◌<◌, ◌↔◌, ℕ, List, Some, slice_get, true};
+ghost use Rattle.std.specs.Prelude.{◌≡◌, ◌≢◌, ◌<◌, ◌↔◌, ℕ, List, Some, slice_get, true, All};
 ghost use Rattle.std.specs.List.{Contains, AllPairs};
 ghost use Rattle.sig_kinds.specs.declared.signal.Signal.{Signal};
 ghost use Rattle.sig_program.specs.Scripts.{Program};
@@ -17,7 +17,7 @@ ghost use Rattle.sig_model.specs.Marking.{whole_of};
 ghost use Rattle.sig_model.specs.PrintedState.{is_waiting};
 ghost use Rattle.sig_model.specs.Running.{Running};
 ghost use Rattle.sig_model.specs.CrewLaw.{IsLawfulCrew};
-ghost use Rattle.sig_linklaw.specs.LinkReport.{HasComeToRest, pair, linked_pairs, IsLinked, IsLower};
+ghost use Rattle.sig_linklaw.specs.LinkReport.{HasComeToRest, pair, linked_pairs, IsLinked, HasLowFirst, IsLower};
 ghost use Rattle.sig_linklaw.specs.LinkLaw.{one_link, IsGoing, AreOfOneMind};
 
 /// The link law of a script's machine. In each settled run, for two different processes that are
@@ -55,5 +55,6 @@ pub fn waiting_processes_agree_on_their_link()
         (p q : ℕ) → p < q → Contains (linked_pairs crew) (pair p q) ↔ IsLinked crew p q }
     ensures second { (script : Program) (crew : List Running) → HasComeToRest script crew →
         (p q : ℕ) → p < q → Contains (linked_pairs crew) (pair p q) ↔ IsLinked crew q p }
+    ensures low { (crew : List Running) → All HasLowFirst (linked_pairs crew) }
     ensures ascending { (script : Program) (crew : List Running) → IsLawfulCrew script crew → AllPairs IsLower (linked_pairs crew) }
 {}

@@ -1,13 +1,13 @@
 //! The report of links.
 
-ghost use Rattle.std.specs.Prelude.{◌≡◌, ◌≢◌, ◌<◌, ◌↔◌, ◌++◌, ℕ, Some, true, slice_get, IfOk, OnOk};
+ghost use Rattle.std.specs.Prelude.{◌≡◌, ◌≢◌, ◌<◌, ◌↔◌, ◌++◌, ℕ, Some, true, slice_get, All, IfOk, OnOk};
 ghost use Rattle.std.specs.List.{Contains, AllPairs};
 ghost use Rattle.sig_program.specs.Scripts.{Program};
 ghost use Rattle.sig_model.specs.PrintedState.{is_waiting};
 ghost use Rattle.sig_model.specs.Running.{Running};
 ghost use Rattle.sig_process.specs.Standing.{runnings_of};
 ghost use Rattle.sig_linklaw.specs.LinkLaw.{AreOfOneMind};
-ghost use Rattle.sig_linklaw.specs.LinkReport.{HasComeToRest, pair, are_linked, pairs_of, linked_pairs, IsLinked, IsLower};
+ghost use Rattle.sig_linklaw.specs.LinkReport.{HasComeToRest, pair, are_linked, pairs_of, linked_pairs, IsLinked, HasLowFirst, IsLower};
 
 use crate::pair::{Pair, Pairs};
 use sig_process::{Crew, Process};
@@ -50,7 +50,7 @@ fn all_pairs(alloc: Global, procs: &[Process]) -> Result<Pairs, AllocError>
 }
 
 /// The pairs of waiting processes with a link between them, each once, in ascending order by the
-/// lower pid and then by the other. A pair is listed exactly where the process with the lower pid has
+/// lower pid and then by the other, and nothing else (`low`, `ascending`). A pair is listed exactly where the process with the lower pid has
 /// the other as an active peer (`first`), and exactly where the other has that one (`second`). No two
 /// waiting processes await an id of each other (`law`). Of a process that has ended, or is cut or
 /// late, nothing is listed. (Erlang Reference Manual, Processes, Links.) The error is want of memory.
@@ -65,6 +65,7 @@ pub fn report(alloc: Global, crew: &Crew) -> Result<Pairs, AllocError>
         AreOfOneMind p q r.state.tables.links t.state.tables.links }
     ensures first { IfOk result (λ r. (p q : ℕ) → p < q → Contains r (pair p q) ↔ IsLinked (runnings_of crew.now) p q) }
     ensures second { IfOk result (λ r. (p q : ℕ) → p < q → Contains r (pair p q) ↔ IsLinked (runnings_of crew.now) q p) }
+    ensures low { IfOk result (All HasLowFirst) }
     ensures ascending { IfOk result (AllPairs IsLower) }
 {
     let pairs = all_pairs(alloc, crew.procs.as_slice())?;

@@ -77,6 +77,8 @@ fn post_all(players: &mut Vec<Player>, at: usize) -> Result<(), AllocError>
 /// is read. The error is want of memory. After `false` or an error the players are of no more use.
 /// (Erlang Reference Manual, Processes, Receiving Signals; choices are this project's own.)
 ///
+/// What it makes, and what it tells, is promised where the processes are a lawful crew of some script.
+///
 /// Asks that each process stands at the place of its pid, is one of as many as there are, as
 /// [`sig_process::Process::count`] tells, and has taken in no signal of another; that it has a list for
 /// each of them, with signals of that sender alone that may arrive; and that the outboxes are empty.

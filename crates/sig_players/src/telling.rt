@@ -110,7 +110,8 @@ impl Player {
 /// Makes this choice as [`crate::choose`] does, and adds the origin of each signal that is sent by it: first
 /// those of the signals of the process to itself, then those to others, each in the order in which
 /// they were sent. The error is want of memory. After `false` or an error the players are of no more
-/// use, and nothing is told of the origins.
+/// use, and nothing is told of the origins. As there, this is promised where the processes are a lawful
+/// crew of some script.
 ///
 /// Asks what [`crate::choose`] asks.
 pub fn choose_telling<L: Ledger>(

@@ -20,8 +20,9 @@ pub fn none_of(alloc: Global, count: u32) -> Result<Vec<Signals>, AllocError>
     Ok(lists)
 }
 
-/// Takes the oldest signal of this sender. `None` exactly where there is none.
-pub fn take_of(waiting: &mut Vec<Signals>, sender: u32) -> Option<Signal>
+/// Takes the oldest signal of this sender. `None` exactly where there is none: then nothing is promised of the
+/// lists.
+pub(crate) fn take_of(waiting: &mut Vec<Signals>, sender: u32) -> Option<Signal>
     ensures { MatchOption result (of_sender sender waiting.old.items ≡ []) (λ x. IsTaken waiting.old.items sender x waiting.new.items) }
 {
     let at = sender as usize;
@@ -33,7 +34,7 @@ pub fn take_of(waiting: &mut Vec<Signals>, sender: u32) -> Option<Signal>
 }
 
 /// Puts a signal behind those of its sender. The error is want of memory.
-pub fn put_behind(waiting: &mut Vec<Signals>, signal: Signal) -> Result<(), AllocError>
+pub(crate) fn put_behind(waiting: &mut Vec<Signals>, signal: Signal) -> Result<(), AllocError>
     requires { signal.from.0 < vec_len waiting.old }
     ensures { OnOk result (IsPut waiting.old.items signal.from.0 signal waiting.new.items) }
 {

@@ -9,6 +9,7 @@ mod merging;
 mod ordering;
 mod outcomes;
 mod parts;
+mod phrases;
 mod pieces;
 mod printing;
 mod reading;
@@ -23,8 +24,9 @@ mod text_parts;
 mod words;
 
 pub use ending_text::print_ends;
-pub use merging::{Merged, MergedAt};
+pub use merging::{Merged, MergedAt, event_at};
 pub use ordering::merged_record_is_the_order;
+pub use phrases::{print_event_words, print_kind};
 pub use printing::{print_header, print_record, print_reports};
 pub use reading::{read_record, texts_tell_records_apart};
 pub use record::Record;

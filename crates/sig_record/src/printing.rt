@@ -66,7 +66,7 @@ fn put_number(into: &mut Vec<u8>, n: u64) -> Result<(), AllocError>
     into.extend_from_slice(buffer.format(n).as_bytes())
 }
 
-fn put_numbered(into: &mut Vec<u8>, word: &[u8], number: u64) -> Result<(), AllocError>
+pub(crate) fn put_numbered(into: &mut Vec<u8>, word: &[u8], number: u64) -> Result<(), AllocError>
     ensures text { IsPut into.old.items into.new.items (word.now ++ decimal number) result }
     ensures wide { IsWide number }
 {
@@ -75,7 +75,7 @@ fn put_numbered(into: &mut Vec<u8>, word: &[u8], number: u64) -> Result<(), Allo
 }
 
 /// A space, and the number.
-fn put_spaced_number(into: &mut Vec<u8>, number: u64) -> Result<(), AllocError>
+pub(crate) fn put_spaced_number(into: &mut Vec<u8>, number: u64) -> Result<(), AllocError>
     ensures text { IsPut into.old.items into.new.items (codes " " ++ decimal number) result }
     ensures wide { IsWide number }
 {
@@ -149,7 +149,7 @@ fn put_spaced_took(
 }
 
 /// A space, and how it went.
-fn put_spaced_outcome(into: &mut Vec<u8>, outcome: &Outcome) -> Result<(), AllocError>
+pub(crate) fn put_spaced_outcome(into: &mut Vec<u8>, outcome: &Outcome) -> Result<(), AllocError>
     ensures text { IsPut into.old.items into.new.items (codes " " ++ outcome_text outcome.now) result }
     ensures stored { OnOk result (IsStoredOutcome outcome.now) }
 {
@@ -277,12 +277,12 @@ impl Part for Left {
 }
 
 fn exit_words(linked: bool) -> &'static [u8]
-    ensures { result.now ≡ codes " exit " ++ link_text linked ++ codes " " }
+    ensures { result.now ≡ codes "exit " ++ link_text linked ++ codes " " }
 {
     if linked {
-        b" exit linked "
+        b"exit linked "
     } else {
-        b" exit plain "
+        b"exit plain "
     }
 }
 
@@ -308,22 +308,30 @@ fn put_referring(
     put_spaced_term(into, term)
 }
 
+pub(crate) fn put_kind(into: &mut Vec<u8>, kind: &Kind) -> Result<(), AllocError>
+    ensures text { IsPut into.old.items into.new.items (kind_text kind.now) result }
+    ensures stored { OnOk result (IsStoredKind kind.now) }
+{
+    match kind {
+        Kind::Message { term } => put_term(into, b"message ", term),
+        Kind::AliasMessage { reference, term } => put_referring(into, b"alias ", *reference, term),
+        Kind::Link => put(into, b"link"),
+        Kind::Unlink { id } => put_numbered(into, b"unlink ", *id),
+        Kind::UnlinkAck { id } => put_numbered(into, b"unlink_ack ", *id),
+        Kind::Monitor { reference } => put_reference(into, b"monitor ", *reference),
+        Kind::Demonitor { reference } => put_reference(into, b"demonitor ", *reference),
+        Kind::Exit { reason, linked } => put_term(into, exit_words(*linked), reason),
+        Kind::Down { reference, reason } => put_referring(into, b"down ", *reference, reason),
+    }
+}
+
 /// A space, and the kind.
 pub(crate) fn put_spaced_kind(into: &mut Vec<u8>, kind: &Kind) -> Result<(), AllocError>
     ensures text { IsPut into.old.items into.new.items (codes " " ++ kind_text kind.now) result }
     ensures stored { OnOk result (IsStoredKind kind.now) }
 {
-    match kind {
-        Kind::Message { term } => put_term(into, b" message ", term),
-        Kind::AliasMessage { reference, term } => put_referring(into, b" alias ", *reference, term),
-        Kind::Link => put(into, b" link"),
-        Kind::Unlink { id } => put_numbered(into, b" unlink ", *id),
-        Kind::UnlinkAck { id } => put_numbered(into, b" unlink_ack ", *id),
-        Kind::Monitor { reference } => put_reference(into, b" monitor ", *reference),
-        Kind::Demonitor { reference } => put_reference(into, b" demonitor ", *reference),
-        Kind::Exit { reason, linked } => put_term(into, exit_words(*linked), reason),
-        Kind::Down { reference, reason } => put_referring(into, b" down ", *reference, reason),
-    }
+    put_byte(into, b' ')?;
+    put_kind(into, kind)
 }
 
 fn put_signal_numbers(into: &mut Vec<u8>, signal: &Signal) -> Result<(), AllocError>

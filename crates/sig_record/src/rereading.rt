@@ -1,5 +1,10 @@
 //! Records, printed and read again.
 
+ghost use Rattle.std.specs.Prelude.{◌≡◌, ◌≢◌, ℕ, List, IfOk, IsErrOf};
+ghost use Rattle.sig_record.specs.declared.refusal.RecordError.TheVariants as RecordError;
+ghost use Rattle.sig_record.specs.declared.report.Report.{Report};
+ghost use Rattle.sig_record.specs.RecordText.{record_text};
+ghost use Rattle.sig_record.specs.ReadableRecord.{IsReadableRecord};
 ghost use Rattle.sig_record.specs.SizedRecord.{IsSizedRecord};
 ghost use Rattle.sig_record.specs.Refusing.{GivesBack};
 
@@ -9,11 +14,15 @@ use crate::record::Record;
 use crate::refusal::RecordError;
 use std::alloc::Global;
 
-/// The record, read from its text. It is equal to the given one, unless memory runs out, where the
-/// names are name tokens and the terms are no larger than what is read: so it is where `gather` gave
-/// the record, of a lawful crew of a script whose processes have such names.
+/// The record, read from its text as [`read_record`] reads it. It is equal to the given one, unless
+/// memory runs out, where the names are name tokens and the terms are no larger than what is read: so it
+/// is where `gather` gave the record, of a lawful crew of a script whose processes have such names.
+/// `BadRecord` only where its text is that of no record that can be read.
 pub fn reread(alloc: Global, given: &Record) -> Result<Record, RecordError>
-    ensures { IsSizedRecord given.now → GivesBack given.now result }
+    ensures found { IfOk result (λ r. IsReadableRecord r × (record_text given.now ≡ record_text r)) }
+    ensures bad { (line : ℕ) → IsErrOf result (RecordError.BadRecord line) →
+        (reports : List Report) → IsReadableRecord reports → record_text given.now ≢ record_text reports }
+    ensures again { IsSizedRecord given.now → GivesBack given.now result }
 {
     let mut text = Vec::new(alloc);
     print_record(given, &mut text)?;

@@ -48,7 +48,7 @@ module _ (script : Program) (reports : List Report) (crew : List Running) (order
   machine = crew_machine (rules_of script) (map whole_member crew)
 
   run : IsRun (rules_of script) (opening_machine (opening_of script)) events w.machine
-  run = its_run script reports order merged crew retraced.lawful w.machine w.run
+  run = its_run script reports order merged (all_within script crew retraced.lawful) w.machine w.run
 
   -- the events lead to one machine
   same : w.machine ≡ machine

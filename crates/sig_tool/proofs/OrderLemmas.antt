@@ -23,6 +23,7 @@ use Rattle.sig_tool.specs.declared.command.Command.TheVariants.{Before}
 use Rattle.sig_tool.specs.declared.status.ToolStatus.{ToolStatus}
 use Rattle.sig_tool.specs.declared.status.ToolStatus.TheVariants.{Done, BadScript, Usage, ReadFault, WriteFault, Memory, No, BadRecord, TooLong, NoEvent, BadCall}
 use Rattle.sig_tool.specs.Ordering.{HasBoth, LacksOne, said, SaysWhether, IsOrderOf, IsBeforeText, IsAnswered}
+use Rattle.sig_tool.specs.Origins.{AreOrigins}
 use Rattle.sig_tool.specs.Inputs.{IsSettledPair}
 use Rattle.sig_tool.specs.Texts.{IsTextRead}
 
@@ -33,12 +34,11 @@ module _ (script : Program) (reports : List Report) (crew : List Running) (origi
       subst (λ os. IsTraced reports os) (sym (replayed.told ∙ ap (λ (o : List MergedAt). origins_of script (events_listed reports o)) same))
       (traced script settled.machine reports sound (all_within script crew replayed.retraced.lawful) settled.run)
 
-  pub replay_order : (told : Told) → told.reports ≡ reports → told.origins ≡ origins → IsOrderOf script reports told
-  replay_order told same its = record { same = same; order = replayed.order; merged = replayed.merged; origins = its ∙ replayed.told }
-
-  pub order_so : {E : Type 0} (result : Result Told E) → IfOk result (λ h. (h.reports ≡ reports) × (h.origins ≡ origins)) → IfOk result (IsOrderOf script reports)
-  order_so (Ok told) h = replay_order told h.0 h.1
-  order_so (Err e) h = h
+-- of these origins
+pub order_so : {E : Type 0} (script : Program) (reports : List Report) (origins : List Origin) → AreOrigins script reports origins → (result : Result Told E) →
+    IfOk result (λ h. (h.reports ≡ reports) × (h.origins ≡ origins)) → IfOk result (IsOrderOf script reports)
+order_so script reports origins are (Ok told) h = record { same = h.0; order = are.order; merged = are.merged; origins = h.1 ∙ are.told }
+order_so script reports origins are (Err e) h = h
 
 -- one of the events isn't there
 pub lacks_first : (reports : List Report) (first second : At) → is_there reports first ≡ false → LacksOne reports first second

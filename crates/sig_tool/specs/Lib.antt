@@ -2,6 +2,7 @@ pub mod Statuses
 pub mod Split
 pub mod Linking
 pub mod Numbers
+pub mod Origins
 pub mod Ordering
 pub mod Commands
 pub mod Inputs

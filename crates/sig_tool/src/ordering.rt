@@ -8,9 +8,9 @@ ghost use Rattle.sig_tool.specs.Texts.{IsTextRead};
 ghost use Rattle.sig_tool.specs.Ordering.{said, IsAnswered, IsOrderOf};
 
 use crate::given::{Given, read_checked};
+use crate::origins::origins_of;
 use crate::status::ToolStatus;
 use sig_base::Source;
-use sig_check::{Replaying, replay};
 use sig_order::{At, Happened};
 use std::alloc::{AllocError, Global};
 
@@ -25,12 +25,8 @@ fn order_of(alloc: Global, given: &Given) -> Result<Happened, AllocError>
     requires { IsOfSettledRun given.now.script given.now.told }
     ensures { IfOk result (IsOrderOf given.now.script given.now.told) }
 {
-    // For the proof alone, which takes from it that the script is within its limits.
-    let _count = given.script.count();
-    match replay(alloc, &given.script, &given.told)? {
-        Replaying::Replayed { origins, .. } => Happened::build(alloc, &given.told, &origins),
-        Replaying::Stopped { event: _ } => unreachable!(),
-    }
+    let origins = origins_of(alloc, given)?;
+    Happened::build(alloc, &given.told, &origins)
 }
 
 /// `yes` where it is so, `no` where it isn't, and a line feed.

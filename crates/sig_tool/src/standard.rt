@@ -30,7 +30,8 @@ fn refuse<E: Sink>(err: &mut E, fault: io::Error) -> ToolStatus
 
 /// The program `sigtool`, on the arguments of its runtime and these streams: `tool` of both. Where the
 /// arguments can't be had, for want of memory or since one is no text, it tells so as `tool` does of a
-/// want of memory or of words that are no command. The exit code is the number of the status, 0 to 10.
+/// want of memory or of words that are no command. The exit code is at most 10; that it is the number of
+/// the status, its body says and no clause.
 pub fn program<R, I, O, E>(rt: &R, stdin: I, stdout: O, stderr: E) -> ExitCode
 where
     R: Env + Alloc<A = Global>,

@@ -14,7 +14,8 @@ pub enum ToolStatus {
     Done,
     /// The script's part of the input is no script, or is too long for one: then it is line 0. Or a text
     /// of calls is expanded to no script: then it is the line of that text from which the refused line
-    /// comes.
+    /// comes; line 0 where what it is expanded to is too long for a script, and the line after the last
+    /// where that ends too early.
     BadScript { line: u64, kind: FaultKind },
     /// The arguments aren't those of a command.
     Usage,

@@ -1,17 +1,16 @@
 //! What is told of an end.
 
-ghost use Rattle.std.specs.Prelude.{◌++◌, codes, decimal};
 ghost use Rattle.sig_base.specs.Flow.{Rose, Adds};
 ghost use Rattle.sig_edge.specs.Streams.{writing};
 ghost use Rattle.sig_edge.specs.Told.{IsTold};
-ghost use Rattle.sig_tool.specs.Told.{call_refusal_text, program_name, told_text};
+ghost use Rattle.sig_tool.specs.Told.{call_refusal_text, told_text};
 
 use crate::status::ToolStatus;
-use itoa::Buffer;
 use sig_base::Sink;
 use sig_call::CallFault;
 use sig_edge::{
-    Untold, tell_memory, tell_piece, tell_pieces, tell_read_fault, tell_refusal, tell_write_fault,
+    Untold, tell_line, tell_memory, tell_number, tell_piece, tell_pieces, tell_read_fault,
+    tell_refusal, tell_write_fault,
 };
 
 /// The program's name, with which what it tells begins.
@@ -20,43 +19,11 @@ const PROGRAM: &str = "sigtool";
 /// How the command is called.
 const USAGE: &[u8] = b"usage: sigtool check|replay|links|before P I Q J|expand\n";
 
-/// Writes these words and a number, behind the program's name.
-fn tell_number<E: Sink>(err: &mut E, words: &str, number: u64) -> Result<(), Untold>
-    ensures { IsTold (writing (E.held err.old) (E.held err.new) (E.faults err.old) (E.faults err.new))
-        (program_name ++ codes ": " ++ words.now ++ codes " " ++ decimal number ++ codes "\n") result }
-{
-    let mut digits = Buffer::new();
-    let digits = digits.format(number).as_bytes();
-    tell_pieces(
-        err,
-        &[
-            PROGRAM.as_bytes(),
-            b": ",
-            words.as_bytes(),
-            b" ",
-            digits,
-            b"\n",
-        ],
-    )
-}
-
-/// Writes the line of a text of calls that is refused, and why, behind the program's name.
+/// Writes the line of a text of calls that is refused, and why.
 fn tell_call<E: Sink>(err: &mut E, line: u64, kind: CallFault) -> Result<(), Untold>
     ensures { IsTold (writing (E.held err.old) (E.held err.new) (E.faults err.old) (E.faults err.new)) (call_refusal_text line kind) result }
 {
-    let mut digits = Buffer::new();
-    let digits = digits.format(line).as_bytes();
-    tell_pieces(
-        err,
-        &[
-            PROGRAM.as_bytes(),
-            b": line ",
-            digits,
-            b": ",
-            kind.word().as_bytes(),
-            b"\n",
-        ],
-    )
+    tell_line(err, PROGRAM, line, kind.word())
 }
 
 /// Writes what there is to tell of an end.
@@ -70,8 +37,8 @@ fn tell_status<E: Sink>(err: &mut E, status: ToolStatus) -> Result<(), Untold>
         ToolStatus::ReadFault => tell_read_fault(err, PROGRAM),
         ToolStatus::WriteFault => tell_write_fault(err, PROGRAM),
         ToolStatus::Memory => tell_memory(err, PROGRAM),
-        ToolStatus::No { event } => tell_number(err, "no at event", event),
-        ToolStatus::BadRecord { line } => tell_number(err, "record line", line),
+        ToolStatus::No { event } => tell_number(err, PROGRAM, "no at event", event, ""),
+        ToolStatus::BadRecord { line } => tell_number(err, PROGRAM, "record line", line, ""),
         ToolStatus::NoEvent => tell_pieces(err, &[PROGRAM.as_bytes(), b": no such event\n"]),
         ToolStatus::TooLong => tell_pieces(err, &[PROGRAM.as_bytes(), b": too long\n"]),
         ToolStatus::BadCall { line, kind } => tell_call(err, line, kind),

@@ -89,7 +89,9 @@ fn run_words<S: Source, O: Sink>(
 ///   first such line and why.
 /// - `BadScript`: exactly where the script's part spells no script; with the first line that is refused
 ///   and why, or line 0 where it has more bytes than a script may have. With `expand`, where the expanded
-///   text spells none; with the line of the input from which the refused line comes.
+///   text spells none; with the line of the input from which the refused line comes, line 0 where the
+///   expanded text has more bytes than a script may have, or the line after the last where it ends too
+///   early.
 /// - `BadRecord`: exactly where the record's part is no record's text; with the first line, counted from
 ///   the first of that part, that isn't whole or can't stand there.
 /// - `No`: exactly where the record isn't that of a settled run of the script; with the first event, of

@@ -9,12 +9,12 @@ use Rattle.sig_record.specs.declared.report.Report.{Report}
 use Rattle.sig_chart.specs.declared.window.Window.{Window}
 use Rattle.sig_order.specs.declared.at.At.{At}
 use Rattle.sig_tool.specs.Inputs.{IsSettledPair}
+use Rattle.sig_tool.specs.Origins.{AreOrigins}
 use Rattle.sig_view.specs.declared.command.Command.TheVariants.{Chart, Concurrent}
 use Rattle.sig_view.specs.declared.status.ViewStatus.{ViewStatus}
 use Rattle.sig_view.specs.declared.status.ViewStatus.TheVariants.{Done, BadScript, Usage, ReadFault, WriteFault, Memory, No, BadRecord, TooLong, NoEvent, TooManyEvents, NoOutcome, NotFound, Unfinished}
 use Rattle.sig_view.specs.Charts.{IsDrawn}
 use Rattle.sig_view.specs.Inputs.{IsRecordRead}
-use Rattle.sig_view.specs.Origins.{AreOrigins}
 use Rattle.sig_view.specs.Ranges.{IsAnswered}
 
 module _ (r : Reading) (script : Program) (reports : List Report) (origins : List Origin) (pair : IsSettledPair r script reports) (are : AreOrigins script reports origins) where

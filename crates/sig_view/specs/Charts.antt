@@ -10,7 +10,7 @@ use Rattle.sig_chart.specs.declared.window.Window.{Window}
 use Rattle.sig_chart.specs.declared.window.TheConstants.{MOST_EVENTS}
 use Rattle.sig_view.specs.declared.status.ViewStatus.{ViewStatus}
 use Rattle.sig_view.specs.declared.status.ViewStatus.TheVariants.{Memory, TooManyEvents}
-use Rattle.sig_view.specs.Origins.{AreOrigins}
+use Rattle.sig_tool.specs.Origins.{AreOrigins}
 
 -- no more events are of the window than a chart draws
 abbrev pub HasFew : List Report → Window → Type 0

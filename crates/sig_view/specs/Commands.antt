@@ -1,5 +1,5 @@
 -- The commands, what each writes, and of what record it refuses to (this project's own).
-use Rattle.std.specs.Prelude.{◌≡◌, ◌&&◌, ℕ, true, false, List, [], ◌∷◌, codes, if◌then◌else◌, Option, Some, None, option_and_then, nat_le, nat_lt}
+use Rattle.std.specs.Prelude.{◌≡◌, ◌&&◌, ◌-◌, ◌^◌, ℕ, true, false, List, [], ◌∷◌, codes, if◌then◌else◌, Option, Some, None, option_and_then, nat_le, nat_lt}
 use Rattle.std.specs.Str.{bytes_eq}
 use Rattle.sig_program.specs.Scripts.{Program}
 use Rattle.sig_record.specs.declared.report.Report.{Report}
@@ -9,7 +9,6 @@ use Rattle.sig_order.specs.Happening.{is_there}
 use Rattle.sig_tool.specs.Numbers.{event_named, number_in}
 use Rattle.sig_view.specs.declared.command.Command.{Command}
 use Rattle.sig_view.specs.declared.command.Command.TheVariants.{Chart, Concurrent, Outcomes, OutcomeRecord}
-use Rattle.sig_view.specs.declared.command.TheConstants.{LOWEST, HIGHEST, STATES, MOST_STATES}
 use Rattle.sig_view.specs.declared.status.ViewStatus.{ViewStatus}
 use Rattle.sig_view.specs.declared.status.ViewStatus.TheVariants.{NoEvent, TooManyEvents}
 use Rattle.sig_view.specs.Charts.{HasFew, IsChartText}
@@ -35,7 +34,7 @@ concurrent_of word event = if bytes_eq word (codes "concurrent") then concurrent
 
 -- the number of states, where a search may visit so many
 abbrev pub allowed : ℕ → Option ℕ
-allowed states = if nat_lt 0 states && nat_le states MOST_STATES then Some states else None
+allowed states = if nat_lt 0 states && nat_le states 10000000 then Some states else None
 
 abbrev pub states_in : List ℕ → Option ℕ
 states_in text = option_and_then allowed (number_in text)
@@ -66,15 +65,15 @@ states_option word value = if bytes_eq word (codes "--states") then states_in va
 
 -- of one word: `outcomes` or `chart`
 abbrev pub of_one : List ℕ → Option Command
-of_one word = if bytes_eq word (codes "outcomes") then Some (Outcomes STATES) else chart_of word (Some LOWEST) (Some HIGHEST)
+of_one word = if bytes_eq word (codes "outcomes") then Some (Outcomes 200000) else chart_of word (Some 0) (Some (2 ^ 64 - 1))
 
 -- of three words: `chart` or `outcomes` with one option, or `concurrent` with a pid and an event
 abbrev pub of_three : List ℕ → List ℕ → List ℕ → Option Command
 of_three word second third =
-    if bytes_eq second (codes "--from") then chart_of word (number_in third) (Some HIGHEST)
-    else (if bytes_eq second (codes "--to") then chart_of word (Some LOWEST) (number_in third)
+    if bytes_eq second (codes "--from") then chart_of word (number_in third) (Some (2 ^ 64 - 1))
+    else (if bytes_eq second (codes "--to") then chart_of word (Some 0) (number_in third)
     else (if bytes_eq second (codes "--states") then outcomes_of word (states_in third)
-    else (if bytes_eq second (codes "--record") then record_of word (Some STATES) (number_in third) else concurrent_of word (event_named second third))))
+    else (if bytes_eq second (codes "--record") then record_of word (Some 200000) (number_in third) else concurrent_of word (event_named second third))))
 
 -- of five words: `outcomes` with two options in either order, or `chart` with two in their order
 abbrev pub of_five : List ℕ → List ℕ → List ℕ → List ℕ → List ℕ → Option Command

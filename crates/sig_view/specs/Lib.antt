@@ -1,5 +1,4 @@
 pub mod Statuses
-pub mod Origins
 pub mod Ranges
 pub mod Charts
 pub mod OutcomeText

@@ -10,7 +10,7 @@ use Rattle.sig_order.specs.Happening.{is_there}
 use Rattle.sig_order.specs.Concurrent.{IsRange}
 use Rattle.sig_view.specs.declared.status.ViewStatus.{ViewStatus}
 use Rattle.sig_view.specs.declared.status.ViewStatus.TheVariants.{Memory, NoEvent}
-use Rattle.sig_view.specs.Origins.{AreOrigins}
+use Rattle.sig_tool.specs.Origins.{AreOrigins}
 
 -- the numbers of the first and the last of these events, and the end of a line
 abbrev pub ends_text : Span → List ℕ

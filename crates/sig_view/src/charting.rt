@@ -6,13 +6,12 @@ ghost use Rattle.sig_view.specs.declared.command.Command.TheVariants.{Chart};
 ghost use Rattle.sig_view.specs.Charts.{IsDrawn};
 ghost use Rattle.sig_view.specs.Inputs.{IsRecordRead};
 
-use crate::origins::origins_of;
 use crate::reading::read_settled;
 use crate::status::ViewStatus;
 use sig_base::Source;
 use sig_chart::{ChartError, Window, chart};
 use sig_model::Origins;
-use sig_tool::Given;
+use sig_tool::{Given, origins_of};
 use std::alloc::Global;
 
 /// The chart of the events of the given record whose stamps lie in the window; `TooManyEvents` where

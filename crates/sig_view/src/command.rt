@@ -39,8 +39,8 @@ pub enum Command {
     Concurrent { event: At },
     /// The outcomes of a script, of whose states a search may visit so many.
     Outcomes { states: u64 },
-    /// The record of a run that ends in the outcome of this number, counted from 1, of those that
-    /// `Outcomes` lists.
+    /// The record of a run that ends in the outcome of this number, counted from 1, of such a list as
+    /// `Outcomes` writes; that it is the same one no clause says.
     OutcomeRecord { states: u64, number: u64 },
 }
 

@@ -7,13 +7,13 @@ ghost use Rattle.sig_view.specs.declared.command.Command.TheVariants.{Concurrent
 ghost use Rattle.sig_view.specs.Inputs.{IsRecordRead};
 ghost use Rattle.sig_view.specs.Ranges.{ends_text, span_line, range_line, range_lines, AreRanges, IsAnswered};
 
-use crate::origins::origins_of;
 use crate::reading::read_settled;
 use crate::status::ViewStatus;
 use itoa::Buffer;
 use sig_base::Source;
 use sig_order::{At, Happened, Span};
 use sig_record::Record;
+use sig_tool::origins_of;
 use std::alloc::{AllocError, Global};
 
 /// Puts this word and the number behind the text.

@@ -6,7 +6,6 @@
 mod charting;
 mod command;
 mod concurrency;
-mod origins;
 mod outcome_text;
 mod progress;
 mod reading;

@@ -1,17 +1,16 @@
 //! What is told of an end.
 
-ghost use Rattle.std.specs.Prelude.{◌++◌, codes, decimal};
 ghost use Rattle.sig_base.specs.Flow.{Rose, Adds};
 ghost use Rattle.sig_edge.specs.Streams.{writing};
 ghost use Rattle.sig_edge.specs.Told.{IsTold};
-ghost use Rattle.sig_view.specs.Told.{program_name, told_text};
+ghost use Rattle.sig_view.specs.Told.{told_text};
 
 use crate::status::ViewStatus;
-use itoa::Buffer;
 use sig_base::Sink;
 use sig_chart::MOST_EVENTS;
 use sig_edge::{
-    Untold, tell_memory, tell_piece, tell_pieces, tell_read_fault, tell_refusal, tell_write_fault,
+    Untold, tell_memory, tell_number, tell_piece, tell_pieces, tell_read_fault, tell_refusal,
+    tell_write_fault,
 };
 
 /// The program's name, with which what it tells begins.
@@ -20,27 +19,6 @@ pub(crate) const PROGRAM: &str = "sigview";
 /// How the command is called.
 const USAGE: &[u8] =
     b"usage: sigview chart [--from S] [--to T]|concurrent P I|outcomes [--states N] [--record K]\n";
-
-/// Writes these words, a number and what stands behind it, behind the program's name.
-fn tell_number<E: Sink>(err: &mut E, words: &str, number: u64, behind: &str) -> Result<(), Untold>
-    ensures { IsTold (writing (E.held err.old) (E.held err.new) (E.faults err.old) (E.faults err.new))
-        (program_name ++ codes ": " ++ words.now ++ codes " " ++ decimal number ++ behind.now ++ codes "\n") result }
-{
-    let mut digits = Buffer::new();
-    let digits = digits.format(number).as_bytes();
-    tell_pieces(
-        err,
-        &[
-            PROGRAM.as_bytes(),
-            b": ",
-            words.as_bytes(),
-            b" ",
-            digits,
-            behind.as_bytes(),
-            b"\n",
-        ],
-    )
-}
 
 /// Writes what there is to tell of an end.
 fn tell_status<E: Sink>(err: &mut E, status: ViewStatus) -> Result<(), Untold>
@@ -53,12 +31,13 @@ fn tell_status<E: Sink>(err: &mut E, status: ViewStatus) -> Result<(), Untold>
         ViewStatus::ReadFault => tell_read_fault(err, PROGRAM),
         ViewStatus::WriteFault => tell_write_fault(err, PROGRAM),
         ViewStatus::Memory => tell_memory(err, PROGRAM),
-        ViewStatus::No { event } => tell_number(err, "no at event", event, ""),
-        ViewStatus::BadRecord { line } => tell_number(err, "record line", line, ""),
+        ViewStatus::No { event } => tell_number(err, PROGRAM, "no at event", event, ""),
+        ViewStatus::BadRecord { line } => tell_number(err, PROGRAM, "record line", line, ""),
         ViewStatus::TooLong => tell_pieces(err, &[PROGRAM.as_bytes(), b": too long\n"]),
         ViewStatus::NoEvent => tell_pieces(err, &[PROGRAM.as_bytes(), b": no such event\n"]),
         ViewStatus::TooManyEvents => tell_number(
             err,
+            PROGRAM,
             "more than",
             MOST_EVENTS as u64,
             " events: choose some with --from S --to T",
@@ -66,12 +45,19 @@ fn tell_status<E: Sink>(err: &mut E, status: ViewStatus) -> Result<(), Untold>
         ViewStatus::NoOutcome => tell_pieces(err, &[PROGRAM.as_bytes(), b": no such outcome\n"]),
         ViewStatus::NotFound { states } => tell_number(
             err,
+            PROGRAM,
             "no such outcome was found; states met:",
             states,
             "; there may be more outcomes",
         ),
         ViewStatus::Unfinished { states } => {
-            tell_number(err, "states met:", states, "; there may be more outcomes")
+            tell_number(
+                err,
+                PROGRAM,
+                "states met:",
+                states,
+                "; there may be more outcomes",
+            )
         }
     }
 }

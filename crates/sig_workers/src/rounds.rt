@@ -43,7 +43,8 @@ fn doubled(quota: u32) -> u32
 /// or has made at least `quota` events. Then the queues are closed, and what each has left waits for its receiver. Gives the
 /// crew, the receipt of each queue, by pid, and whether there was an event. Each process that could
 /// do something has an event more, and one without an event more has a saved place no earlier than
-/// before. The error is want of memory.
+/// before. How many workers there are, and how many events a round has beyond these, no clause says. The
+/// error is want of memory.
 ///
 /// Asks that the crew is lawful, as [`Crew::start`] opens it for a script and as the workers leave
 /// it; that its outboxes are empty; that there are 1 to 16 workers; and that the quota is at least
@@ -86,7 +87,8 @@ pub fn round<R: Threads + Wait + Sync, G: Gate>(
 /// twice that of the round before, up to 1,000,000, and never below what was given. So long runs have
 /// few rounds. Gives the crew, which has settled and of which no process can do anything, and for each
 /// process the receipt of all that was put for it, by pid. It ends, since each round but the last
-/// raises the sum of the processes' stamps, and no stamp is above 2^62. The error is want of memory.
+/// raises the sum of the processes' stamps, and no stamp is above 2^62. As of [`round`], no clause speaks
+/// of the workers or of the quota. The error is want of memory.
 ///
 /// Asks what [`round`] asks.
 pub fn run_rounds<R: Threads + Wait + Sync, G: Gate>(

@@ -1,6 +1,5 @@
 //! The arguments: their settings, and what is told of them.
 
-use crate::runs::ONE_MESSAGE;
 use crate::whole::{PLAIN, Ran, Setting, push_words};
 use crate::workers::{count, is_settled};
 use sig_base::{OpenGate, read_all};
@@ -9,6 +8,7 @@ use sig_layout::Policy;
 use std::alloc::{AllocError, Global};
 use std::sync::Wait;
 use std::thread::Threads;
+use test_shared::ONE_MESSAGE;
 
 const SUMMARY_OF_100: &[u8] = b"processes 9\nevents 9608\nkept 1600\nended 8\nwaiting 1\ncut 0\n";
 

@@ -1,7 +1,7 @@
 //! The refused texts of docs/LANGUAGE.md, through the top call. tools/examples compares them with that page.
 
 /// Each refused text that LANGUAGE.md shows, and what is told of it.
-pub(crate) static REFUSALS: [(&[u8], &[u8]); 17] = [
+pub(crate) static REFUSALS: [(&[u8], &[u8]); 18] = [
     (b"sigscript 3\n", b"sigrun: line 1: header\n"),
     (
         b"sigscript 1\nprocess a\nreceive\non _x\n",
@@ -17,6 +17,10 @@ pub(crate) static REFUSALS: [(&[u8], &[u8]); 17] = [
     ),
     (
         b"sigscript 1\nprocess a\ntrap yes\n",
+        b"sigrun: line 3: syntax\n",
+    ),
+    (
+        b"sigscript 1\nprocess a\nmessage_queue_data off_heap\n",
         b"sigrun: line 3: syntax\n",
     ),
     (

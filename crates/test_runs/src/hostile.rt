@@ -1,7 +1,6 @@
 //! Truncated and malicious input: texts that are cut off, too large or no scripts, and streams that
 //! fail at each of their calls.
 
-use crate::runs::{ONE_MESSAGE, ONE_MESSAGE_RECORD};
 use crate::whole::{PLAIN, Ran, Setting};
 use crate::workers::count;
 use sig_base::OpenGate;
@@ -10,6 +9,7 @@ use sig_record::{RecordError, read_record};
 use std::alloc::{AllocError, Global};
 use std::sync::Wait;
 use std::thread::Threads;
+use test_shared::{ONE_MESSAGE, ONE_MESSAGE_RECORD};
 
 /// What a run answers.
 #[derive(Clone, Copy, Debug)]

@@ -1,13 +1,14 @@
 //! Records: merged, sorted, and read back.
 
 use crate::markers::MARKERS;
-use crate::runs::{LINES, ONE_MESSAGE, ONE_MESSAGE_RECORD};
+use crate::runs::LINES;
 use crate::whole::text_of;
 use sig_process::Crew;
 use sig_record::{MergedAt, Record, RecordError, print_record, read_record, reread};
 use sig_script::{ScriptError, read_script};
 use sig_workers::run_one;
 use std::alloc::{AllocError, Global};
+use test_shared::{ONE_MESSAGE, ONE_MESSAGE_RECORD};
 
 /// `01` where `1` has to stand.
 const PADDED_PID: &[u8] =

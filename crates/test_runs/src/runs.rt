@@ -20,14 +20,7 @@ use sig_script::FaultKind;
 use std::alloc::{AllocError, Global};
 use std::sync::Wait;
 use std::thread::Threads;
-use test_shared::{Example, example_tables};
-
-pub(crate) const ONE_MESSAGE: &[u8] =
-    b"sigscript 1\nprocess a\nsend @b hi\nprocess b\nreceive\non X\nend\n";
-
-pub(crate) const ONE_MESSAGE_RECORD: &[u8] =
-    b"sigrecord 1\nprocess 0 a\n1 exec 1 sent <1> hi\n2 exec 2 ended normal\nstate ended normal\n\
-      process 1 b\n2 from 0 1 kept hi\n3 exec 1 took 1 1 hi\n4 exec 2 ended normal\nstate ended normal\n";
+use test_shared::{Example, ONE_MESSAGE, ONE_MESSAGE_RECORD, example_tables};
 
 const NO_HEADER: Status = Status::BadScript {
     line: 1,

@@ -1,12 +1,12 @@
 //! The verdict on records, and their choices made once more.
 
-use crate::runs::{ONE_MESSAGE, ONE_MESSAGE_RECORD};
 use crate::watches::WATCHES;
 use sig_check::{Replaying, Verdict, check, replay};
 use sig_model::{Origin, Origins};
-use sig_record::{Record, read_record};
+use sig_record::{Record, print_record, read_record};
 use sig_script::read_script;
 use std::alloc::{AllocError, Global};
+use test_shared::{ONE_MESSAGE, ONE_MESSAGE_RECORD};
 
 /// Records of the script of one message, and the verdict on each.
 static VERDICTS: [(&[u8], Verdict); 3] = [
@@ -32,21 +32,37 @@ fn verdict_of(alloc: Global, text: &[u8]) -> Option<Verdict> {
     check(alloc, &script, &record).ok()
 }
 
-/// The record of the crew that makes the choices of the record of one message.
-fn record_again(alloc: Global) -> Option<Record> {
-    let script = read_script(alloc, ONE_MESSAGE).ok()?;
-    let record = read_record(alloc, ONE_MESSAGE_RECORD).ok()?;
+/// Two senders to one process, and the record of a run in which the second one's signal is handled first. With
+/// one worker that of the first one is.
+const TWO_SENDERS: (&[u8], &[u8]) = (
+    b"sigscript 1\nprocess a\nsend @c x\nprocess b\nsend @c y\n\
+      process c\nreceive\non y\nend\nreceive\non x\nend\n",
+    b"sigrecord 1\nprocess 0 a\n1 exec 1 sent <2> x\n2 exec 2 ended normal\nstate ended normal\n\
+      process 1 b\n1 exec 1 sent <2> y\n2 exec 2 ended normal\nstate ended normal\n\
+      process 2 c\n2 from 1 1 kept y\n3 exec 1 took 1 1 y\n4 from 0 1 kept x\n5 exec 2 took 1 1 x\n\
+      6 exec 3 ended normal\nstate ended normal\n",
+);
+
+/// The text of the record of the crew that makes the choices of a record.
+fn text_again(alloc: Global, script: &[u8], record: &[u8]) -> Option<Vec<u8>> {
+    let script = read_script(alloc, script).ok()?;
+    let record = read_record(alloc, record).ok()?;
     match replay(alloc, &script, &record).ok()? {
-        Replaying::Replayed { crew, .. } => Record::gather(alloc, crew).ok(),
+        Replaying::Replayed { crew, .. } => {
+            let again = Record::gather(alloc, crew).ok()?;
+            let mut text = Vec::new(alloc);
+            print_record(&again, &mut text).ok()?;
+            Some(text)
+        }
         Replaying::Stopped { .. } => None,
     }
 }
 
-/// Whether the verdict on it is yes.
-fn is_replayed(alloc: Global) -> bool {
-    match (record_again(alloc), read_script(alloc, ONE_MESSAGE)) {
-        (Some(record), Ok(script)) => check(alloc, &script, &record) == Ok(Verdict::Yes),
-        _ => false,
+/// Whether it is the text of that record.
+fn is_replayed(alloc: Global, script: &[u8], record: &[u8]) -> bool {
+    match text_again(alloc, script, record) {
+        Some(text) => text.as_slice() == record,
+        None => false,
     }
 }
 
@@ -141,8 +157,9 @@ fn records_have_their_verdicts(rt: HostRuntime) {
         let told = verdict_of(rt.alloc(), text);
         assert!(rt; told == Some(*verdict), "{told:?}");
     }
-    let replayed = is_replayed(rt.alloc());
-    assert!(rt; replayed);
+    let one = is_replayed(rt.alloc(), ONE_MESSAGE, ONE_MESSAGE_RECORD);
+    let other = is_replayed(rt.alloc(), TWO_SENDERS.0, TWO_SENDERS.1);
+    assert!(rt; one && other);
 }
 
 #[test]

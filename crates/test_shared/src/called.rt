@@ -4,7 +4,7 @@ use sig_base::{FailingSink, FailingSource, MemorySink};
 use std::alloc::{AllocError, Global};
 
 /// More bytes than a program writes of any input of a test.
-const ROOM: usize = 100000;
+const ROOM: usize = 1_000_000;
 
 /// A call of the program: its answer, which is `BEFORE` until it was made, what is left of its input, and
 /// what it has written and told.

@@ -2,25 +2,25 @@
 
 use crate::called::{Called, PLAIN, Tool};
 use crate::calls::{ITS_SCRIPT, ONE_CALL};
-use crate::rows::{ITS_RECORD, ONE_MESSAGE, YES};
+use crate::rows::YES;
 use sig_call::CallFault;
 use sig_tool::ToolStatus;
 use std::alloc::{AllocError, Global};
-use test_shared::{Program, Setting, Work, first_other};
+use test_shared::{ONE_MESSAGE, ONE_MESSAGE_RECORD, Program, Setting, Work, first_other};
 
 /// Commands, with what they write.
 static WORKS: [Work; 3] = [
     Work {
         words: &["check"],
         script: ONE_MESSAGE,
-        told: ITS_RECORD,
+        told: ONE_MESSAGE_RECORD,
         text: YES,
     },
     Work {
         words: &["replay"],
         script: ONE_MESSAGE,
-        told: ITS_RECORD,
-        text: ITS_RECORD,
+        told: ONE_MESSAGE_RECORD,
+        text: ONE_MESSAGE_RECORD,
     },
     Work {
         words: &["expand"],

@@ -1,12 +1,12 @@
 //! Inputs whose parts are refused, and arguments.
 
 use crate::called::{Called, PLAIN};
-use crate::rows::{ITS_RECORD, ONE_MESSAGE, YES, both_answer};
+use crate::rows::{YES, both_answer};
 use sig_call::CallFault;
 use sig_script::FaultKind;
 use sig_tool::ToolStatus;
 use std::alloc::{AllocError, Global};
-use test_shared::Setting;
+use test_shared::{ONE_MESSAGE, ONE_MESSAGE_RECORD, Setting};
 
 const NO_HEADER: ToolStatus = ToolStatus::BadScript {
     line: 1,
@@ -25,7 +25,7 @@ static INPUTS: [(&[u8], &[u8], ToolStatus, &[u8]); 11] = [
     // no record
     (ONE_MESSAGE, b"", NO_RECORD, TOLD_RECORD),
     // no script
-    (b"", ITS_RECORD, NO_HEADER, TOLD_HEADER),
+    (b"", ONE_MESSAGE_RECORD, NO_HEADER, TOLD_HEADER),
     // the first line of the record isn't ended
     (ONE_MESSAGE, b"sigrecord 1", NO_RECORD, TOLD_RECORD),
     // a record without processes, of a script without any
@@ -113,7 +113,7 @@ fn are_refused(alloc: Global, words: &[&str]) -> Result<bool, AllocError> {
         failing_read: 1,
         ..PLAIN
     };
-    let called = Called::of(alloc, &setting, ONE_MESSAGE, ITS_RECORD)?;
+    let called = Called::of(alloc, &setting, ONE_MESSAGE, ONE_MESSAGE_RECORD)?;
     Ok(called.is(
         ToolStatus::Usage,
         b"",
@@ -132,7 +132,7 @@ fn other_arguments_are_refused(rt: HostRuntime) {
 /// Whether all is as ever where nothing can be told.
 fn is_untold(alloc: Global) -> Result<bool, AllocError> {
     let setting = Setting { room: 0, ..PLAIN };
-    let checked = Called::of(alloc, &setting, ONE_MESSAGE, ITS_RECORD)?;
+    let checked = Called::of(alloc, &setting, ONE_MESSAGE, ONE_MESSAGE_RECORD)?;
     let refused = Called::of(alloc, &setting, ONE_MESSAGE, b"")?;
     Ok(checked.is(ToolStatus::Done, YES, b"") && refused.is(NO_RECORD, b"", b""))
 }

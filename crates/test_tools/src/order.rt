@@ -1,36 +1,12 @@
 //! Which event of a record happened before which.
 
 use crate::called::{Called, PLAIN};
-use crate::rows::{ITS_RECORD, ONE_MESSAGE};
 use sig_tool::ToolStatus;
 use std::alloc::{AllocError, Global};
-use test_shared::Setting;
-
-/// A message goes round three processes. The record was worked out by hand from the tables of the machine.
-const RING: &[u8] =
-    b"sigscript 1\nprocess a\nsend @b x\nreceive\non x\nend\nprocess b\nreceive\non x\nend\nsend @c x\n\
-      process c\nreceive\non x\nend\nsend @a x\n";
-
-const RING_RECORD: &[u8] =
-    b"sigrecord 1\nprocess 0 a\n1 exec 1 sent <1> x\n8 from 2 1 kept x\n9 exec 2 took 1 1 x\n\
-      10 exec 3 ended normal\nstate ended normal\nprocess 1 b\n2 from 0 1 kept x\n3 exec 1 took 1 1 x\n\
-      4 exec 2 sent <2> x\n5 exec 3 ended normal\nstate ended normal\nprocess 2 c\n5 from 1 1 kept x\n\
-      6 exec 1 took 1 1 x\n7 exec 2 sent <0> x\n8 exec 3 ended normal\nstate ended normal\n";
-
-/// Two clients of a server, which has both calls before it replies to the first of them.
-const CLIENTS: &[u8] =
-    b"sigscript 1\nprocess s\nreceive\non {call,P}\nend\nsend P ok\nreceive\non {call,Q}\nend\nsend Q ok\n\
-      process a\nsend @s {call,@a}\nreceive\non ok\nend\nprocess b\nsend @s {call,@b}\nreceive\non ok\nend\n";
-
-const CLIENTS_RECORD: &[u8] =
-    b"sigrecord 1\nprocess 0 s\n2 from 1 1 kept {call,<1>}\n3 from 2 1 kept {call,<2>}\n\
-      4 exec 1 took 1 1 {call,<1>}\n5 exec 2 sent <1> ok\n6 exec 3 took 1 1 {call,<2>}\n7 exec 4 sent <2> ok\n\
-      8 exec 5 ended normal\nstate ended normal\nprocess 1 a\n1 exec 1 sent <0> {call,<1>}\n6 from 0 1 kept ok\n\
-      7 exec 2 took 1 1 ok\n8 exec 3 ended normal\nstate ended normal\nprocess 2 b\n\
-      1 exec 1 sent <0> {call,<2>}\n8 from 0 1 kept ok\n9 exec 2 took 1 1 ok\n10 exec 3 ended normal\nstate ended normal\n";
-
-/// A record that isn't the script's.
-const WRONG: &[u8] = b"sigrecord 1\nprocess 0 a\nstate cut\nprocess 1 b\nstate cut\n";
+use test_shared::{
+    CLIENTS, CLIENTS_RECORD, ONE_MESSAGE, ONE_MESSAGE_RECORD, RING, RING_RECORD, Setting,
+    WRONG_RECORD,
+};
 
 const YES: (ToolStatus, &[u8], &[u8]) = (ToolStatus::Done, b"yes\n", b"");
 
@@ -117,7 +93,7 @@ fn are_answered(
 
 #[test]
 fn events_are_ordered(rt: HostRuntime) {
-    let one = are_answered(rt.alloc(), ONE_MESSAGE, ITS_RECORD, &OF_ONE);
+    let one = are_answered(rt.alloc(), ONE_MESSAGE, ONE_MESSAGE_RECORD, &OF_ONE);
     let ring = are_answered(rt.alloc(), RING, RING_RECORD, &OF_RING);
     let clients = are_answered(rt.alloc(), CLIENTS, CLIENTS_RECORD, &OF_CLIENTS);
     assert!(rt; one == Ok(true));
@@ -132,7 +108,7 @@ fn the_verdict_comes_first(rt: HostRuntime) {
         words: &["before", "0", "3", "1", "1"],
         ..PLAIN
     };
-    let called = Called::of(rt.alloc(), &setting, ONE_MESSAGE, WRONG);
+    let called = Called::of(rt.alloc(), &setting, ONE_MESSAGE, WRONG_RECORD);
     assert!(rt;
         matches!(&called, Ok(called)
         if called.is(ToolStatus::No { event: 1 }, b"", b"sigtool: no at event 1\n"))

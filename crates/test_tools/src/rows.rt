@@ -3,16 +3,7 @@
 use crate::called::{Called, PLAIN};
 use sig_tool::ToolStatus;
 use std::alloc::{AllocError, Global};
-use test_shared::Setting;
-
-/// A process sends a message to another, which takes it.
-pub(crate) const ONE_MESSAGE: &[u8] =
-    b"sigscript 1\nprocess a\nsend @b hi\nprocess b\nreceive\non X\nend\n";
-
-/// Its record.
-pub(crate) const ITS_RECORD: &[u8] =
-    b"sigrecord 1\nprocess 0 a\n1 exec 1 sent <1> hi\n2 exec 2 ended normal\nstate ended normal\n\
-      process 1 b\n2 from 0 1 kept hi\n3 exec 1 took 1 1 hi\n4 exec 2 ended normal\nstate ended normal\n";
+use test_shared::{ONE_MESSAGE, ONE_MESSAGE_RECORD, Setting};
 
 /// What is written where the verdict is yes.
 pub(crate) const YES: &[u8] = b"yes\n";
@@ -147,7 +138,7 @@ const CALL_LOOKED_AT_TWO: &[u8] =
 
 /// Other scripts with records, and what is answered and told of each.
 static OTHERS: [(&[u8], &[u8], ToolStatus, &[u8]); 7] = [
-    (ONE_MESSAGE, ITS_RECORD, ToolStatus::Done, b""),
+    (ONE_MESSAGE, ONE_MESSAGE_RECORD, ToolStatus::Done, b""),
     (SELECTIVE, SELECTIVE_RECORD, ToolStatus::Done, b""),
     (
         SELECTIVE,

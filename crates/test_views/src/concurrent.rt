@@ -2,13 +2,12 @@
 //! which event sent which signal, and were worked out by hand.
 
 use crate::called::{Called, PLAIN};
-use crate::rows::{
-    CLIENTS, CLIENTS_RECORD, ITS_RECORD, ONE_MESSAGE, RING, RING_RECORD, WATCHED, WATCHED_RECORD,
-    WITH_ITS_END,
-};
+use crate::rows::{WATCHED, WATCHED_RECORD, WITH_ITS_END};
 use sig_view::ViewStatus;
 use std::alloc::{AllocError, Global};
-use test_shared::Setting;
+use test_shared::{
+    CLIENTS, CLIENTS_RECORD, ONE_MESSAGE, ONE_MESSAGE_RECORD, RING, RING_RECORD, Setting,
+};
 
 /// The pid and the event of which is asked, and what is written.
 type Row = ([&'static str; 2], &'static [u8]);
@@ -79,7 +78,7 @@ fn are_answered(
 
 #[test]
 fn concurrent_events_are_told(rt: HostRuntime) {
-    let one = are_answered(rt.alloc(), ONE_MESSAGE, ITS_RECORD, &OF_ONE);
+    let one = are_answered(rt.alloc(), ONE_MESSAGE, ONE_MESSAGE_RECORD, &OF_ONE);
     let ring = are_answered(rt.alloc(), RING, RING_RECORD, &OF_RING);
     let clients = are_answered(rt.alloc(), CLIENTS, CLIENTS_RECORD, &OF_CLIENTS);
     let watched = are_answered(rt.alloc(), WATCHED, WATCHED_RECORD, &OF_WATCHED);
@@ -96,7 +95,7 @@ fn are_missing(alloc: Global) -> Result<bool, AllocError> {
             words: &["concurrent", pid, event],
             ..PLAIN
         };
-        let called = Called::of(alloc, &setting, ONE_MESSAGE, ITS_RECORD)?;
+        let called = Called::of(alloc, &setting, ONE_MESSAGE, ONE_MESSAGE_RECORD)?;
         if !called.is(ViewStatus::NoEvent, b"", b"sigview: no such event\n") {
             return Ok(false);
         }

@@ -1,17 +1,19 @@
 //! Reads and writes that fail, each in turn.
 
 use crate::called::{Called, PLAIN, Viewer};
-use crate::rows::{ITS_OUTCOME, ITS_RECORD, ONE_MESSAGE, WITH_ITS_END, WRONG};
+use crate::rows::{ITS_OUTCOME, WITH_ITS_END};
 use sig_view::ViewStatus;
 use std::alloc::{AllocError, Global};
-use test_shared::{Program, Setting, Work, first_other};
+use test_shared::{
+    ONE_MESSAGE, ONE_MESSAGE_RECORD, Program, Setting, WRONG_RECORD, Work, first_other,
+};
 
 /// Commands, with what they write.
 static WORKS: [Work; 2] = [
     Work {
         words: &["concurrent", "0", "2"],
         script: ONE_MESSAGE,
-        told: ITS_RECORD,
+        told: ONE_MESSAGE_RECORD,
         text: WITH_ITS_END,
     },
     Work {
@@ -38,7 +40,7 @@ fn are_in_order(alloc: Global) -> Result<bool, AllocError> {
         failing_write: 1,
         ..PLAIN
     };
-    let refused = Called::of(alloc, &setting, ONE_MESSAGE, WRONG)?;
+    let refused = Called::of(alloc, &setting, ONE_MESSAGE, WRONG_RECORD)?;
     let unread = Setting {
         words: &["chart"],
         failing_read: 1,

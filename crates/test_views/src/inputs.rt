@@ -1,11 +1,11 @@
 //! Inputs whose parts are refused, and arguments.
 
 use crate::called::{Called, PLAIN};
-use crate::rows::{ITS_RECORD, ONE_MESSAGE, WITH_ITS_END, WRONG};
+use crate::rows::WITH_ITS_END;
 use sig_script::FaultKind;
 use sig_view::ViewStatus;
 use std::alloc::{AllocError, Global};
-use test_shared::Setting;
+use test_shared::{ONE_MESSAGE, ONE_MESSAGE_RECORD, Setting, WRONG_RECORD};
 
 const NO_HEADER: ViewStatus = ViewStatus::BadScript {
     line: 1,
@@ -24,7 +24,7 @@ static INPUTS: [(&[u8], &[u8], ViewStatus, &[u8]); 5] = [
     // no record
     (ONE_MESSAGE, b"", NO_RECORD, TOLD_RECORD),
     // no script
-    (b"", ITS_RECORD, NO_HEADER, TOLD_HEADER),
+    (b"", ONE_MESSAGE_RECORD, NO_HEADER, TOLD_HEADER),
     // a line of the record is cut off
     (
         ONE_MESSAGE,
@@ -35,7 +35,7 @@ static INPUTS: [(&[u8], &[u8], ViewStatus, &[u8]); 5] = [
     // a record of another run
     (
         ONE_MESSAGE,
-        WRONG,
+        WRONG_RECORD,
         ViewStatus::No { event: 1 },
         b"sigview: no at event 1\n",
     ),
@@ -94,7 +94,7 @@ fn are_refused(alloc: Global, words: &[&str]) -> Result<bool, AllocError> {
         failing_read: 1,
         ..PLAIN
     };
-    let called = Called::of(alloc, &setting, ONE_MESSAGE, ITS_RECORD)?;
+    let called = Called::of(alloc, &setting, ONE_MESSAGE, ONE_MESSAGE_RECORD)?;
     Ok(called.is(
         ViewStatus::Usage,
         b"",
@@ -113,7 +113,7 @@ fn other_arguments_are_refused(rt: HostRuntime) {
 /// Whether all is as ever where nothing can be told.
 fn is_untold(alloc: Global) -> Result<bool, AllocError> {
     let setting = Setting { room: 0, ..PLAIN };
-    let answered = Called::of(alloc, &setting, ONE_MESSAGE, ITS_RECORD)?;
+    let answered = Called::of(alloc, &setting, ONE_MESSAGE, ONE_MESSAGE_RECORD)?;
     let refused = Called::of(alloc, &setting, ONE_MESSAGE, b"")?;
     Ok(answered.is(ViewStatus::Done, WITH_ITS_END, b"") && refused.is(NO_RECORD, b"", b""))
 }

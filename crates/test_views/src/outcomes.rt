@@ -3,11 +3,11 @@
 use crate::called::{Called, PLAIN};
 use crate::outcome_rows::{ROWS, Row};
 use crate::recorded::recorded;
-use crate::rows::{CLIENTS, ITS_OUTCOME, ITS_RECORD, ONE_MESSAGE};
+use crate::rows::ITS_OUTCOME;
 use sig_script::FaultKind;
 use sig_view::ViewStatus;
 use std::alloc::{AllocError, Global};
-use test_shared::Setting;
+use test_shared::{CLIENTS, ONE_MESSAGE, ONE_MESSAGE_RECORD, Setting};
 
 /// What follows the outcome of this number, with the place of that among these. `None` where it is none
 /// of them.
@@ -212,8 +212,7 @@ fn are_numbered(alloc: Global) -> Result<bool, AllocError> {
     for words in &RECORDING {
         let setting = Setting { words, ..PLAIN };
         let called = Called::of(alloc, &setting, ONE_MESSAGE, b"")?;
-        let again = Called::of(alloc, &PLAIN, ONE_MESSAGE, called.out.held())?;
-        if called.status != ViewStatus::Done || again.status != ViewStatus::Done {
+        if !called.is(ViewStatus::Done, ONE_MESSAGE_RECORD, b"") {
             return Ok(false);
         }
     }
@@ -315,7 +314,7 @@ fn are_refused(alloc: Global) -> Result<bool, AllocError> {
         kind: FaultKind::Syntax,
     };
     let empty = Called::of(alloc, &setting, b"", b"")?;
-    let behind = Called::of(alloc, &setting, ONE_MESSAGE, ITS_RECORD)?;
+    let behind = Called::of(alloc, &setting, ONE_MESSAGE, ONE_MESSAGE_RECORD)?;
     Ok(
         empty.is(header, b"", b"sigview: line 1: header\n")
             && behind.is(syntax, b"", b"sigview: line 8: syntax\n"),

@@ -1,11 +1,11 @@
 use Rattle.std.proofs.Common.{◌<◌, ◌↔◌, ℕ, List, rules, sym, subst}
-use Rattle.std.specs.List.{Contains, AllPairs}
+use Rattle.std.specs.List.{All, Contains, AllPairs}
 use Rattle.sig_model.specs.Running.{Running}
 use Rattle.sig_process.specs.Standing.{runnings_of}
 use Rattle.sig_linklaw.specs.declared.pair.Pair.{Pair}
-use Rattle.sig_linklaw.specs.LinkReport.{pair, IsLinked, IsLower}
+use Rattle.sig_linklaw.specs.LinkReport.{pair, IsLinked, HasLowFirst, IsLower}
 use Rattle.sig_linklaw.proofs.CrewLemmas.{crew_of_one_mind}
-use Rattle.sig_linklaw.proofs.OrderLemmas.{pairs_ascend}
+use Rattle.sig_linklaw.proofs.OrderLemmas.{pairs_ascend, pairs_have_low_first}
 use Rattle.sig_linklaw.proofs.ReportLemmas.{listed_first, listed_second}
 use Rattle.sig_linklaw.proofs.reporting.report.Goals as goal
 
@@ -27,6 +27,11 @@ pub returns-clause-second : goal.returns-clause-second
 returns-clause-second c =
     let crew : List Running = runnings_of c.args.crew.now in
     subst (λ (pairs : List Pair). (p q : ℕ) → p < q → Contains pairs (pair p q) ↔ IsLinked crew q p) (sym (returns-clause-pairs c)) (listed_second c.requires.rest.0 crew c.requires.rest.1)
+
+pub returns-clause-low : goal.returns-clause-low
+returns-clause-low c =
+    let crew : List Running = runnings_of c.args.crew.now in
+    subst (All HasLowFirst) (sym (returns-clause-pairs c)) (pairs_have_low_first crew)
 
 pub returns-clause-ascending : goal.returns-clause-ascending
 returns-clause-ascending c =

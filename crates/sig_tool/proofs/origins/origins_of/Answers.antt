@@ -3,7 +3,7 @@ use Rattle.sig_check.specs.declared.replaying.Replaying.{Replaying}
 use Rattle.sig_check.specs.Replays.{IsReplay, IsReplayed, GivesAgain}
 use Rattle.sig_process.specs.Standing.{runnings_of}
 use Rattle.sig_tool.proofs.OrderLemmas.{replay_traced}
-use Rattle.sig_view.proofs.origins.origins_of.Goals as goal
+use Rattle.sig_tool.proofs.origins.origins_of.Goals as goal
 
 pub unreachable-requires : goal.unreachable-requires
 unreachable-requires c = subst (λ (r : Replaying). GivesAgain c.args.given.now.told r) c.in-Stopped.is (c.in_ok-origins.ensures.again c.requires.machine c.requires.run)
