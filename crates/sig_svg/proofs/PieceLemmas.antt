@@ -7,8 +7,7 @@ use Rattle.sig_svg.specs.declared.shape.Mark.{Mark}
 use Rattle.sig_svg.specs.declared.shape.Arrow.{Arrow}
 use Rattle.sig_svg.specs.declared.shape.Stub.{Stub}
 use Rattle.sig_svg.specs.declared.shape.Chart.{Chart}
-use Rattle.sig_svg.specs.declared.drawing.TheConstants.{EVENT_BYTES, LANE_BYTES}
-use Rattle.sig_svg.specs.Svg.{Piece, piece_text, text_of, IsOfPieces, short, title_pieces, end_pieces, name_front, state_front, line_pieces, line_text, name_text, pid_pieces, pid_text, state_text, lane_text, row_pieces, row_text, event_title, event_title_pieces, sign_pieces, sign_text, label_front, label_text, mark_text, about_pieces, about_text, start_pieces, start_text, way_pieces, way_text, word_pieces, word_text, arrow_text, queued_title, queued_title_pieces, stub_start_pieces, stub_start_text, stub_way_pieces, stub_way_text, whom_at, whom_at_pieces, whom_pieces, whom_text, stub_text, head_pieces, head_text, foot_pieces, foot_text, chart_text}
+use Rattle.sig_svg.specs.Svg.{Piece, piece_text, text_of, IsOfPieces, event_bytes, lane_bytes, short, title_pieces, end_pieces, name_front, state_front, line_pieces, line_text, name_text, pid_pieces, pid_text, state_text, lane_text, row_pieces, row_text, event_title, event_title_pieces, sign_pieces, sign_text, label_front, label_text, mark_text, about_pieces, about_text, start_pieces, start_text, way_pieces, way_text, word_pieces, word_text, arrow_text, queued_title, queued_title_pieces, stub_start_pieces, stub_start_text, stub_way_pieces, stub_way_text, whom_at, whom_at_pieces, whom_pieces, whom_text, stub_text, head_pieces, head_text, foot_pieces, foot_text, chart_text}
 
 text_of-append : (ps qs : List Piece) → text_of (ps ++ qs) ≡ text_of ps ++ text_of qs
 text_of-append [] qs = refl
@@ -47,11 +46,11 @@ titled-pieces bytes front most =
 lane-pieces : (rows : ℕ) (l : Lane) → IsOfPieces (lane_text rows l)
 lane-pieces rows l =
     four (line_text rows l.pid) (name_text l.pid l.name) (pid_text l.pid) (state_text rows l.pid l.state)
-    (of (line_pieces rows l.pid)) (titled-pieces l.name (name_front l.pid) LANE_BYTES) (of (pid_pieces l.pid)) (titled-pieces l.state (state_front rows l.pid) LANE_BYTES)
+    (of (line_pieces rows l.pid)) (titled-pieces l.name (name_front l.pid) lane_bytes) (of (pid_pieces l.pid)) (titled-pieces l.state (state_front rows l.pid) lane_bytes)
 
 label-pieces : (m : Mark) → IsOfPieces (label_text m)
 label-pieces m =
-    three (text_of (label_front m)) (text_of (short EVENT_BYTES m.text)) (text_of end_pieces) (of (label_front m)) (of (short EVENT_BYTES m.text)) (of end_pieces)
+    three (text_of (label_front m)) (text_of (short event_bytes m.text)) (text_of end_pieces) (of (label_front m)) (of (short event_bytes m.text)) (of end_pieces)
 
 mark-pieces : (m : Mark) → IsOfPieces (mark_text m)
 mark-pieces m = three (event_title m) (sign_text m) (label_text m) (of (event_title_pieces m)) (of (sign_pieces m)) (label-pieces m)

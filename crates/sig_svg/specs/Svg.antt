@@ -10,7 +10,6 @@ use Rattle.sig_svg.specs.declared.shape.Mark.{Mark}
 use Rattle.sig_svg.specs.declared.shape.Arrow.{Arrow}
 use Rattle.sig_svg.specs.declared.shape.Stub.{Stub}
 use Rattle.sig_svg.specs.declared.shape.Chart.{Chart}
-use Rattle.sig_svg.specs.declared.drawing.TheConstants.{EVENT_BYTES, LANE_BYTES, LEGEND_WIDTH}
 use Rattle.sig_svg.specs.Escape.{escape}
 use Rattle.sig_svg.specs.Markups.{markup_text}
 use Rattle.sig_svg.specs.Places.{lane_x, row_y, start_y, bend_x, toward}
@@ -30,6 +29,17 @@ abbrev pub text_of : List Piece → List ℕ
 text_of [] = []
 text_of (p ∷ []) = piece_text p
 text_of (p ∷ q ∷ ps) = piece_text p ++ text_of (q ∷ ps)
+
+-- how many bytes are shown of what an event says, and of a name or a state
+abbrev pub event_bytes : ℕ
+event_bytes = 40
+
+abbrev pub lane_bytes : ℕ
+lane_bytes = 20
+
+-- the width that the legend needs
+abbrev pub legend_width : ℕ
+legend_width = 760
 
 -- the bytes, or where they are more than so many the first of them, and dots
 abbrev pub short : ℕ → List ℕ → List Piece
@@ -61,7 +71,7 @@ abbrev pub state_front : ℕ → ℕ → List Piece
 state_front rows pid = Fixed markup.MiddleX ∷ Number (lane_x pid) ∷ Fixed markup.Y ∷ Number (row_y rows + 16) ∷ Fixed markup.Body ∷ []
 
 abbrev pub name_text : ℕ → List ℕ → List ℕ
-name_text pid name = titled name ++ text_of (name_front pid) ++ text_of (short LANE_BYTES name) ++ text_of end_pieces
+name_text pid name = titled name ++ text_of (name_front pid) ++ text_of (short lane_bytes name) ++ text_of end_pieces
 
 abbrev pub pid_pieces : ℕ → List Piece
 pid_pieces pid =
@@ -71,7 +81,7 @@ abbrev pub pid_text : ℕ → List ℕ
 pid_text pid = text_of (pid_pieces pid)
 
 abbrev pub state_text : ℕ → ℕ → List ℕ → List ℕ
-state_text rows pid state = titled state ++ text_of (state_front rows pid) ++ text_of (short LANE_BYTES state) ++ text_of end_pieces
+state_text rows pid state = titled state ++ text_of (state_front rows pid) ++ text_of (short lane_bytes state) ++ text_of end_pieces
 
 abbrev pub lane_text : ℕ → Lane → List ℕ
 lane_text rows lane = line_text rows lane.pid ++ name_text lane.pid lane.name ++ pid_text lane.pid ++ state_text rows lane.pid lane.state
@@ -110,7 +120,7 @@ abbrev pub label_front : Mark → List Piece
 label_front m = Fixed markup.LabelX ∷ Number (lane_x m.pid + 8) ∷ Fixed markup.Y ∷ Number (label_y m.handled m.row) ∷ Fixed markup.Body ∷ []
 
 abbrev pub label_text : Mark → List ℕ
-label_text m = text_of (label_front m) ++ text_of (short EVENT_BYTES m.text) ++ text_of end_pieces
+label_text m = text_of (label_front m) ++ text_of (short event_bytes m.text) ++ text_of end_pieces
 
 abbrev pub mark_text : Mark → List ℕ
 mark_text m = event_title m ++ sign_text m ++ label_text m
@@ -200,7 +210,7 @@ stub_text s = queued_title s.text ++ stub_start_text s ++ stub_way_text s ++ who
 -- the size of the picture, with room for the text of the last lane's events, and for the legend
 abbrev pub head_pieces : ℕ → ℕ → List Piece
 head_pieces count rows =
-    Fixed markup.SvgWidth ∷ Number (max (lane_x count + 250) LEGEND_WIDTH) ∷ Fixed markup.SvgHeight ∷ Number (row_y rows + 250) ∷ Fixed markup.SvgHead ∷ []
+    Fixed markup.SvgWidth ∷ Number (max (lane_x count + 250) legend_width) ∷ Fixed markup.SvgHeight ∷ Number (row_y rows + 250) ∷ Fixed markup.SvgHead ∷ []
 
 abbrev pub head_text : ℕ → ℕ → List ℕ
 head_text count rows = text_of (head_pieces count rows)
