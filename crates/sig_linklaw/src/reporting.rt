@@ -50,10 +50,11 @@ fn all_pairs(alloc: Global, procs: &[Process]) -> Result<Pairs, AllocError>
 }
 
 /// The pairs of waiting processes with a link between them, each once, in ascending order by the
-/// lower pid and then by the other, and nothing else (`low`, `ascending`). A pair is listed exactly where the process with the lower pid has
-/// the other as an active peer (`first`), and exactly where the other has that one (`second`). No two
-/// waiting processes await an id of each other (`law`). Of a process that has ended, or is cut or
-/// late, nothing is listed. (Erlang Reference Manual, Processes, Links.) The error is want of memory.
+/// lower pid and then by the other, and nothing else (`low`, `ascending`). A pair is listed exactly
+/// where the process with the lower pid has the other as an active peer (`first`), and exactly where
+/// the other has that one (`second`). No two waiting processes await an id of each other (`law`). Of a
+/// process that has ended, or is cut or late, nothing is listed. (Erlang Reference Manual, Processes,
+/// Links.) The error is want of memory.
 ///
 /// Asks that the crew is a lawful one of some script, that nothing lies in an outbox, and that it has
 /// come to rest, as a crew has at the end of a run.
