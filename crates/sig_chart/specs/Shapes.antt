@@ -14,7 +14,7 @@ use Rattle.sig_model.specs.declared.state.State.TheVariants as state
 use Rattle.sig_terms.specs.TermText.{term_text}
 use Rattle.sig_record.specs.declared.report.Report.{Report}
 use Rattle.sig_record.specs.declared.merging.MergedAt.{MergedAt}
-use Rattle.sig_record.specs.EventRows.{did_text, outcome_text}
+use Rattle.sig_record.specs.RecordText.{event_words}
 use Rattle.sig_record.specs.KindRows.{kind_text}
 use Rattle.sig_record.specs.Merging.{event_at}
 use Rattle.sig_svg.specs.declared.shape.Lane.{Lane}
@@ -43,10 +43,6 @@ lane_of r = record { pid = r.pid.0; name = r.name; state = standing r.state }
 abbrev pub is_handling : Did → Bool
 is_handling (Exec place) = false
 is_handling (From sender number) = true
-
--- what the process did, and what came of it, in the words of the record
-abbrev pub event_words : Event → List ℕ
-event_words e = did_text e.did ++ codes " " ++ outcome_text e.outcome
 
 abbrev pub mark : ℕ → ℕ → Event → Mark
 mark row pid e = record { pid = pid; row = row; stamp = e.stamp; handled = is_handling e.did; text = event_words e }

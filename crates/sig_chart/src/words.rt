@@ -3,7 +3,8 @@
 ghost use Rattle.std.specs.Prelude.{◌≡◌, ◌++◌, IfOk, OnOk};
 ghost use Rattle.sig_terms.specs.TermText.{term_text};
 ghost use Rattle.sig_record.specs.KindRows.{kind_text};
-ghost use Rattle.sig_chart.specs.Shapes.{standing, event_words};
+ghost use Rattle.sig_record.specs.RecordText.{event_words};
+ghost use Rattle.sig_chart.specs.Shapes.{standing};
 
 use sig_kinds::Kind;
 use sig_lists::Sequence;

@@ -4,9 +4,7 @@
 
 mod alias_answer;
 mod alias_mode;
-mod naming;
 mod queue_data;
-mod resembling;
 mod signal;
 mod signals;
 

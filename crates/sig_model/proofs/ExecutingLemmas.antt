@@ -1,8 +1,8 @@
 -- What is shown of each instruction: one case for each row of the table of instructions gives the whole bundle, of names, bounds,
 -- sizes, marks, monitors and links. The laws of each are parts of it, so that a new instruction has its case here alone.
-use Rattle.std.proofs.Common.{◌≡◌, ℕ, suc, ◌+◌, ◌-◌, ◌≤◌, ◌<◌, List, [], ◌∷◌, length, drop, Bool, true, false, cond, All, IfSome, Option, Some, None, slice_get, codes, refl, sym, subst, arith}
-use Rattle.std.specs.Prelude.{remove}
-use Rattle.std.specs.Option.{option_map_or}
+use Rattle.std.proofs.Common.{◌≡◌, ℕ, suc, ◌+◌, ◌-◌, ◌≤◌, ◌<◌, List, [], ◌∷◌, length, drop, Bool, true, false, cond, All, IfSome, Option, Some, None, slice_get, codes, refl, sym, ap, subst, arith}
+use Rattle.std.specs.Prelude.{remove, if◌then◌else◌}
+use Rattle.std.specs.Option.{option_map, option_map_or}
 use Rattle.std.specs.FinMap.{insert}
 use Rattle.std.proofs.lemmas.Bool.{cond_both}
 use Rattle.std.proofs.lemmas.List.Elements.{All-nil, All-head, All-tail, All-append, All-push, All-take, All-drop, All-filter, All-map, All-weaker}
@@ -38,10 +38,13 @@ use Rattle.sig_program.specs.Parts.{exprs_of}
 use Rattle.sig_program.specs.Scripts.{Declared, IsInstrBelow, IsProcBelow, IsPlace, IsWithin}
 use Rattle.sig_model.specs.declared.event.Outcome.{Outcome}
 use Rattle.sig_model.specs.declared.event.Outcome.TheVariants as outcome
+use Rattle.sig_model.specs.declared.target.Target.{Target}
+use Rattle.sig_model.specs.declared.target.Target.TheVariants as target
 use Rattle.sig_model.specs.ProcessState.{ProcessState, owner_of, Post, rewatched, InboxNames, TableNames}
 use Rattle.sig_model.specs.Bodies.{Body, at_next, place_after, going_on, ending, system_limit}
-use Rattle.sig_model.specs.Executing.{with_value, with_pid, with_ref, with_target, sending, setting, linked_by, unlink_posts, unlinked_by, new_ref, making, monitored_by, monitoring, aliasing, flushed_into, demonitoring, unaliasing, reserving, ref_in, ref_of_var, marked_by, at_marker, binding, clearing, marked_start, from_mark, hit_from, receiving, exec_body, executing}
+use Rattle.sig_model.specs.Executing.{built, with_value, with_pid, with_ref, with_target, sending, setting, linked_by, unlink_posts, unlinked_by, new_ref, making, monitored_by, monitoring, aliasing, flushed_into, demonitoring, unaliasing, reserving, ref_in, ref_of_var, marked_by, at_marker, binding, clearing, marked_start, from_mark, hit_from, receiving, exec_body, executing}
 use Rattle.sig_model.specs.LinkPair.{side_of}
+use Rattle.sig_model.specs.Stampless.{plain_state}
 use Rattle.sig_model.specs.Bounds.{IsBounded}
 use Rattle.sig_model.specs.Names.{ScriptNames}
 use Rattle.sig_model.specs.TermSizes.{IsKeptTerm, TableSizes, BodySizes}
@@ -426,3 +429,60 @@ next_links begin p s =
 -- a script that names processes of the script alone
 pub script_names : (count : ℕ) (p : Declared) → IsProcBelow count p → ScriptNames (IsNameBelow count) p
 script_names count p h = All-weaker (IsInstrBelow count) (InstrNames (IsNameBelow count)) (λ i g. g.0) p.instrs h
+
+-- what a row does, with stamps and numbers forgotten in the state
+abbrev pub bare : Body → Body
+bare b = record b { state = plain_state b.state }
+
+pub cond_bare : (c : Bool) (x y z w : Body) → x ≡ bare z → y ≡ bare w → (if c then x else y) ≡ bare (if c then z else w)
+cond_bare true x y z w e g = e
+cond_bare false x y z w e g = g
+
+value_bare : (s : ProcessState) (e : Expr) (go go' : Term → Body) → ((t : Term) → go' t ≡ bare (go t)) → with_value (plain_state s) e go' ≡ bare (with_value s e go)
+value_bare s e go go' h = by_option (built s.tables.env e)
+  where
+    by_option : (o : Option Term) → option_map_or go' o (ending (plain_state s) system_limit) ≡ bare (option_map_or go o (ending s system_limit))
+    by_option None = refl
+    by_option (Some t) = h t
+
+pid_bare : (s : ProcessState) (t : Term) (go go' : Pid → Body) → ((p : Pid) → go' p ≡ bare (go p)) → with_pid (plain_state s) t go' ≡ bare (with_pid s t go)
+pid_bare s (term.Pid p) go go' h = h p
+pid_bare s _ go go' h = refl
+
+ref_bare : (s : ProcessState) (t : Term) (go go' : Ref → Body) → ((r : Ref) → go' r ≡ bare (go r)) → with_ref (plain_state s) t go' ≡ bare (with_ref s t go)
+ref_bare s (term.Ref r) go go' h = h r
+ref_bare s _ go go' h = refl
+
+target_bare : (s : ProcessState) (t : Term) (go go' : Target → Body) → ((r : Target) → go' r ≡ bare (go r)) → with_target (plain_state s) t go' ≡ bare (with_target s t go)
+target_bare s (term.Pid p) go go' h = h (target.Process p)
+target_bare s (term.Ref r) go go' h = h (target.Alias r)
+target_bare s _ go go' h = refl
+
+send_bare : (s : ProcessState) (m : Term) (t : Target) → sending (plain_state s) m t ≡ bare (sending s m t)
+send_bare s m (target.Process p) = refl
+send_bare s m (target.Alias r) = refl
+
+flush_bare : (s : ProcessState) (flush : Bool) (r : Ref) → demonitoring (plain_state s) flush r ≡ bare (demonitoring s flush r)
+flush_bare s true r = refl
+flush_bare s false r = refl
+
+receive_bare : (p : Declared) (s : ProcessState) (after : Option After) (start from : ℕ) (h : Option Hit) → receiving p (plain_state s) after start from h ≡ option_map bare (receiving p s after start from h)
+receive_bare p s after start from (Some h) = refl
+receive_bare p s (Some after) start from None = refl
+receive_bare p s None start from None = refl
+
+-- A row that builds no value computes to the same.
+pub exec_bare : (begin : ℕ → ℕ) (p : Declared) (s : ProcessState) (o : Option Instr) → exec_body begin p (plain_state s) o ≡ option_map bare (exec_body begin p s o)
+exec_bare begin p s None = refl
+exec_bare begin p s (Some (instr.Send to message)) = ap Some (value_bare s to _ _ (λ t. value_bare s message _ _ (λ m. target_bare s t _ _ (λ r. send_bare s m r))))
+exec_bare begin p s (Some (instr.Set var value)) = ap Some (value_bare s value _ _ (λ t. refl))
+exec_bare begin p s (Some (instr.Link peer)) = ap Some (value_bare s peer _ _ (λ t. pid_bare s t _ _ (λ q. refl)))
+exec_bare begin p s (Some (instr.Unlink peer)) = ap Some (value_bare s peer _ _ (λ t. pid_bare s t _ _ (λ q. refl)))
+exec_bare begin p s (Some (instr.Monitor var to mode)) = ap Some (value_bare s to _ _ (λ t. pid_bare s t _ _ (λ q. refl)))
+exec_bare begin p s (Some (instr.Demonitor which flush)) = ap Some (value_bare s which _ _ (λ t. ref_bare s t _ _ (λ r. flush_bare s flush r)))
+exec_bare begin p s (Some (instr.Unalias which)) = ap Some (value_bare s which _ _ (λ t. ref_bare s t _ _ (λ r. refl)))
+exec_bare begin p s (Some (instr.Exit reason)) = ap Some (value_bare s reason _ _ (λ t. refl))
+exec_bare begin p s (Some (instr.ExitTo to reason)) = ap Some (value_bare s to _ _ (λ t. value_bare s reason _ _ (λ r. pid_bare s t _ _ (λ q. refl))))
+exec_bare begin p s (Some (instr.Receive r)) =
+    receive_bare p s r.after (marked_start s r.using) (begin (marked_start s r.using)) (hit_from (begin (marked_start s r.using)) r.clauses s)
+exec_bare begin p s (Some _) = refl

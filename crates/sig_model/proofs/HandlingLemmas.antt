@@ -37,13 +37,14 @@ use Rattle.sig_model.specs.ExitRule.{exit_message, exit_rule, plain_exit, linked
 use Rattle.sig_model.specs.Executing.{demonitor_posts}
 use Rattle.sig_model.specs.Handling.{linking_up, unlinking_from, acknowledging, through_alias, watching, unwatching, down_message, told_down, answering_noproc, live_body, ended_body, handling, words_if}
 use Rattle.sig_model.specs.Bounds.{IsBounded, IsBoundedBody}
+use Rattle.sig_model.specs.Stampless.{plain_state}
 use Rattle.sig_model.specs.TermSizes.{IsKeptTerm, KindSizes, OutcomeSizes, TableSizes, BodySizes}
 use Rattle.sig_model.proofs.AnyNames.{Any, any_signal, no_part}
 use Rattle.sig_model.proofs.TermSizeLemmas.{atom_small, exit_kept, down_kept}
 use Rattle.sig_model.proofs.TableLemmas.{OfRef, any_tables, BearsAlike, same_watch, owes_alike, Shown, IsBuilt, IsHeld, held, linked, watched, messaged}
 use Rattle.sig_model.proofs.LinkMoves.{LinkMoves, said_by, IsIdle, nothing_idle, idle_moves, on_link_moves, on_unlink_moves, on_ack_moves, exit_idle, left_inactive, exited_moves}
 use Rattle.sig_model.proofs.BodyLemmas.{IsAt, IsKeptBody, IsMoved, AnyInbox, AnyWatch, IsWatching, IsRewatched, any_rewatched, near, Came, heard_from, LinkPart, HearsNothing, AreSent, none_sent, one_sent, ArePosts, no_posts, demonitor_sent, IsRow, IsBefore, row, sending, few_row, relinking, dropping_row, ending_row, ending_atom, on_link_id, on_ack_id}
-use Rattle.sig_model.proofs.ExecutingLemmas.{unmonitored_alike}
+use Rattle.sig_model.proofs.ExecutingLemmas.{unmonitored_alike, bare, cond_bare}
 
 -- what the rules for the signals do to the monitors that are borne
 fewer : {X : Type 0} (b : Bool) (x : X) (xs : List X) (n : ℕ) → length xs ≤ n → length (cond b (x ∷ xs) xs) ≤ n + 1
@@ -348,3 +349,23 @@ words_to_others (Unlink id) = refl
 words_to_others (UnlinkAck id) = refl
 words_to_others (Exit reason true) = refl
 words_to_others _ = refl
+
+rule_bare : (pid : ℕ) (s : ProcessState) (sender : ℕ) (reason : Term) → exit_rule pid (plain_state s) sender reason ≡ bare (exit_rule pid s sender reason)
+rule_bare pid s sender reason = cond_bare s.traps _ _ _ _ refl (cond_bare (same_term reason normal && not (sender == pid)) _ _ _ _ refl refl)
+
+alias_bare : (s : ProcessState) (r : Ref) (message : Term) (answer : AliasAnswer) (watch : WatchState) → through_alias (plain_state s) r message (answer, watch) ≡ bare (through_alias s r message (answer, watch))
+alias_bare s r message alias_answer.Dropped watch = refl
+alias_bare s r message (alias_answer.Kept tell) watch = refl
+
+-- A cell that asks for nothing computes to the same.
+pub live_bare : (pid : ℕ) (s : ProcessState) (sender : ℕ) (k : Kind) → live_body pid (plain_state s) sender k ≡ bare (live_body pid s sender k)
+live_bare pid s sender (AliasMessage r message) = alias_bare s r message (on_alias_message s.tables.watch r).0 (on_alias_message s.tables.watch r).1
+live_bare pid s sender (Exit reason true) = cond_bare (is_active s.tables.links sender) _ _ _ _ (rule_bare pid (relinked s (deactivated s.tables.links sender)) sender reason) refl
+live_bare pid s sender (Exit reason false) = cond_bare (same_term reason kill) _ _ _ _ refl (rule_bare pid s sender reason)
+live_bare pid s sender (Down r reason) = cond_bare (on_down s.tables.watch r).0 _ _ _ _ refl refl
+live_bare pid s sender _ = refl
+
+pub ended_bare : (s : ProcessState) (sender : ℕ) (k : Kind) → ended_body (plain_state s) sender k ≡ bare (ended_body s sender k)
+ended_bare s sender Link = refl
+ended_bare s sender (Monitor r) = refl
+ended_bare s sender _ = refl

@@ -35,14 +35,7 @@ alive (Some reason) o t e = no_message t e
 
 live_kept : (pid : ℕ) (s : ProcessState) (sender : ℕ) (k : Kind) (t : Term) → message_of k ≡ Some t → live_body pid s sender k ≡ appending s t
 live_kept pid s sender (kind.Message term) t e = ap (appending s) (ap (λ (o : Option Term). unwrap_or o t) e)
-live_kept pid s sender (kind.AliasMessage r term) t e = no_message t e
-live_kept pid s sender kind.Link t e = no_message t e
-live_kept pid s sender (kind.Unlink id) t e = no_message t e
-live_kept pid s sender (kind.UnlinkAck id) t e = no_message t e
-live_kept pid s sender (kind.Monitor r) t e = no_message t e
-live_kept pid s sender (kind.Demonitor r) t e = no_message t e
-live_kept pid s sender (kind.Exit reason linked) t e = no_message t e
-live_kept pid s sender (kind.Down r reason) t e = no_message t e
+live_kept pid s sender _ t e = no_message t e
 
 handling_kept : (pid : ℕ) (s : ProcessState) (x : Signal) (t : Term) → s.tables.end ≡ None → message_of x.kind ≡ Some t → handling pid s x ≡ appending s t
 unfolding handling

@@ -38,25 +38,11 @@ module _ (w : WatchState) (r : Ref) (m : AliasMode) where
 
   kind_mode : (k : Kind) → alias_of w k ≡ Some (r, m) → mode_of w r ≡ Some m
   kind_mode (kind.AliasMessage its term) e = mode_at its e
-  kind_mode (kind.Message term) e = none_there (r, m) e
-  kind_mode kind.Link e = none_there (r, m) e
-  kind_mode (kind.Unlink id) e = none_there (r, m) e
-  kind_mode (kind.UnlinkAck id) e = none_there (r, m) e
-  kind_mode (kind.Monitor its) e = none_there (r, m) e
-  kind_mode (kind.Demonitor its) e = none_there (r, m) e
-  kind_mode (kind.Exit reason linked) e = none_there (r, m) e
-  kind_mode (kind.Down its reason) e = none_there (r, m) e
+  kind_mode _ e = none_there (r, m) e
 
   kind_message : (k : Kind) → alias_of w k ≡ Some (r, m) → IsSome (alias_message_of k)
   kind_message (kind.AliasMessage its term) e = refl
-  kind_message (kind.Message term) e = none_there (r, m) e
-  kind_message kind.Link e = none_there (r, m) e
-  kind_message (kind.Unlink id) e = none_there (r, m) e
-  kind_message (kind.UnlinkAck id) e = none_there (r, m) e
-  kind_message (kind.Monitor its) e = none_there (r, m) e
-  kind_message (kind.Demonitor its) e = none_there (r, m) e
-  kind_message (kind.Exit reason linked) e = none_there (r, m) e
-  kind_message (kind.Down its reason) e = none_there (r, m) e
+  kind_message _ e = none_there (r, m) e
 
 module _ (pid : ℕ) (s : ProcessState) (r : Ref) (m : AliasMode) (t : Term) (b : Body) (through : through_alias s r t (by_mode s.tables.watch r (Some m)) ≡ b) where
   live_through : (sender : ℕ) (k : Kind) → alias_of s.tables.watch k ≡ Some (r, m) → alias_message_of k ≡ Some t → live_body pid s sender k ≡ b
@@ -67,14 +53,7 @@ module _ (pid : ℕ) (s : ProcessState) (r : Ref) (m : AliasMode) (t : Term) (b 
       ∙ ap (λ (x : Ref). through_alias s x t (by_mode s.tables.watch x (mode_of s.tables.watch x))) there.0
       ∙ ap (λ (o : Option AliasMode). through_alias s r t (by_mode s.tables.watch r o)) (mode_at s.tables.watch r m its e)
       ∙ through
-  live_through sender (kind.Message term) e f = none_there (r, m) e
-  live_through sender kind.Link e f = none_there (r, m) e
-  live_through sender (kind.Unlink id) e f = none_there (r, m) e
-  live_through sender (kind.UnlinkAck id) e f = none_there (r, m) e
-  live_through sender (kind.Monitor its) e f = none_there (r, m) e
-  live_through sender (kind.Demonitor its) e f = none_there (r, m) e
-  live_through sender (kind.Exit reason linked) e f = none_there (r, m) e
-  live_through sender (kind.Down its reason) e f = none_there (r, m) e
+  live_through sender _ e f = none_there (r, m) e
 
   handling_through : (x : Signal) → s.tables.end ≡ None → alias_of s.tables.watch x.kind ≡ Some (r, m) → alias_message_of x.kind ≡ Some t → handling pid s x ≡ b
   unfolding handling

@@ -1,6 +1,6 @@
-ghost use Rattle.std.specs.Prelude.{◌≡◌, [], ◌∷◌, IfOk};
+ghost use Rattle.std.specs.Prelude.{◌≡◌, [], ◌∷◌, true, IfOk};
 ghost use Rattle.sig_program.specs.Instructions.{word_of};
-ghost use Rattle.sig_program.specs.Parts.{exprs_of, vars_of};
+ghost use Rattle.sig_program.specs.Parts.{exprs_of, vars_of, IsInstrAmong};
 ghost use Rattle.sig_program.specs.declared.instruction.Instr.TheVariants as instr;
 
 use sig_kinds::AliasMode;
@@ -280,6 +280,34 @@ impl Instr {
             Instr::Goto { label } => Ok(Instr::Goto { label: *label }),
             Instr::Reserve => Ok(Instr::Reserve),
             Instr::Stop => Ok(Instr::Stop),
+        }
+    }
+
+    /// True only where each process that stands in an expression of the instruction is known: `known`
+    /// is true at its place.
+    pub fn names_only(&self, known: &[bool]) -> bool
+        ensures { result ≡ true → IsInstrAmong known.now self.now }
+    {
+        match self {
+            Instr::Send {
+                to: first,
+                message: second,
+            }
+            | Instr::ExitTo {
+                target: first,
+                reason: second,
+            } => first.names_only(known) && second.names_only(known),
+            Instr::Set { value: expr, .. }
+            | Instr::Link { peer: expr }
+            | Instr::Unlink { peer: expr }
+            | Instr::Monitor { target: expr, .. }
+            | Instr::Demonitor {
+                reference: expr,
+                ..
+            }
+            | Instr::Unalias { reference: expr }
+            | Instr::Exit { reason: expr } => expr.names_only(known),
+            _ => true,
         }
     }
 }

@@ -3,7 +3,6 @@
 
 mod instruction;
 mod label;
-mod naming;
 mod process;
 mod script;
 mod version;

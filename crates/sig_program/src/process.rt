@@ -7,11 +7,14 @@ ghost use Rattle.std.specs.Prelude.{
   ◌^◌,
   length,
   slice_get,
+  true,
+  All,
   IfOk,
   IfSome,
   option_copied,
   option_map,
 };
+ghost use Rattle.sig_program.specs.Parts.{IsInstrAmong};
 ghost use Rattle.sig_program.specs.Scripts.{IsWithin, IsInstrWithin};
 
 use crate::instruction::{Instr, Instrs};
@@ -99,5 +102,18 @@ impl Proc {
             labels,
             instrs,
         })
+    }
+
+    /// True only where each process that stands in an expression of its instructions is known:
+    /// `known` is true at its place.
+    pub fn names_only(&self, known: &[bool]) -> bool
+        ensures { result ≡ true → All (IsInstrAmong known.now) self.now.instrs }
+    {
+        for instr in self.instrs.as_slice() {
+            if !instr.names_only(known) {
+                return false;
+            }
+        }
+        true
     }
 }

@@ -11,6 +11,10 @@ use Rattle.sig_record.specs.Phrases.{phrase_text}
 use Rattle.sig_record.specs.EventRows.{did_text, outcome_text, state_phrase}
 use Rattle.sig_record.specs.KindRows.{kind_text}
 
+-- what the line of an event says behind its stamp: what the process did, and what came of it
+abbrev pub event_words : Event → List ℕ
+event_words e = did_text e.did ++ codes " " ++ outcome_text e.outcome
+
 unfoldable pub event_text : Event → List ℕ
 event_text e = decimal e.stamp ++ codes " " ++ did_text e.did ++ codes " " ++ outcome_text e.outcome ++ codes "\n"
 

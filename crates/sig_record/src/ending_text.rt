@@ -7,7 +7,8 @@ ghost use Rattle.sig_terms.specs.Putting.{IsPut};
 ghost use Rattle.sig_record.specs.RecordText.{head_text};
 ghost use Rattle.sig_record.specs.EndText.{left_end, queued_end, end_text, ends_text};
 
-use crate::printing::{put_byte, put_head, put_pid, put_spaced_kind, put_state, put_term};
+use crate::kinds::put_spaced_kind;
+use crate::printing::{put_byte, put_head, put_pid, put_state, put_term};
 use crate::report::{Left, Report};
 use sig_kinds::Signal;
 use std::alloc::AllocError;

@@ -4,6 +4,7 @@
 mod ending_text;
 mod gathering;
 mod items;
+mod kinds;
 mod lines;
 mod merging;
 mod ordering;

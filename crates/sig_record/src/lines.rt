@@ -22,7 +22,8 @@ ghost use Rattle.sig_record.specs.RecordFronts.{
 };
 
 use crate::items::Item;
-use crate::outcomes::{did, kind, outcome};
+use crate::kinds::kind;
+use crate::outcomes::{did, outcome};
 use crate::pieces::{after, name, narrow, past, term, term_field, wide, wide_field};
 use crate::refusal::Refusal;
 use crate::report::Left;

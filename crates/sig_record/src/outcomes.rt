@@ -1,5 +1,4 @@
-//! Readers of what an event did, of how it went, and of what a signal says. Each reads what stands
-//! behind its word.
+//! Readers of what an event did, and of how it went. Each reads what stands behind its word.
 
 ghost use Rattle.std.specs.Prelude.{◌≡◌};
 ghost use Rattle.std.specs.Option.{option_map};
@@ -7,11 +6,8 @@ ghost use Rattle.sig_terms.specs.Fronts.{Gives};
 ghost use Rattle.sig_record.specs.Phrases.{row_front, rows_front};
 ghost use Rattle.sig_record.specs.EventRows as rows;
 ghost use Rattle.sig_record.specs.EventRows.{did_front, word_rows, outcome_front};
-ghost use Rattle.sig_record.specs.KindRows as kinds;
-ghost use Rattle.sig_record.specs.KindRows.{kind_front};
 
-use crate::pieces::{after, choice_field, narrow_field, reference_field, term_field, wide_field};
-use sig_kinds::Kind;
+use crate::pieces::{after, choice_field, narrow_field, term_field, wide_field};
 use sig_model::{Did, Outcome};
 use sig_terms::{Pid, ReadTerm};
 use std::alloc::Global;
@@ -165,106 +161,4 @@ pub(crate) fn outcome(alloc: Global, bytes: &[u8]) -> Result<(Outcome, &[u8]), R
         return kept(alloc, rest);
     }
     word(bytes).ok_or(ReadTerm::BadTerm)
-}
-
-fn message(alloc: Global, bytes: &[u8]) -> Result<(Kind, &[u8]), ReadTerm>
-    ensures { Gives (λ x. (x.0, x.1.now)) result (row_front kinds.message bytes.now) }
-{
-    let (term, rest) = term_field(alloc, bytes)?;
-    Ok((Kind::Message { term }, rest))
-}
-
-fn alias_message(alloc: Global, bytes: &[u8]) -> Result<(Kind, &[u8]), ReadTerm>
-    ensures { Gives (λ x. (x.0, x.1.now)) result (row_front kinds.alias_message bytes.now) }
-{
-    let (reference, rest) = reference_field(bytes).ok_or(ReadTerm::BadTerm)?;
-    let (term, rest) = term_field(alloc, rest)?;
-    Ok((Kind::AliasMessage { reference, term }, rest))
-}
-
-fn unlink(bytes: &[u8]) -> Result<(Kind, &[u8]), ReadTerm>
-    ensures { Gives (λ x. (x.0, x.1.now)) result (row_front kinds.unlink bytes.now) }
-{
-    match wide_field(bytes) {
-        Some((id, rest)) => Ok((Kind::Unlink { id }, rest)),
-        None => Err(ReadTerm::BadTerm),
-    }
-}
-
-fn unlink_ack(bytes: &[u8]) -> Result<(Kind, &[u8]), ReadTerm>
-    ensures { Gives (λ x. (x.0, x.1.now)) result (row_front kinds.unlink_ack bytes.now) }
-{
-    match wide_field(bytes) {
-        Some((id, rest)) => Ok((Kind::UnlinkAck { id }, rest)),
-        None => Err(ReadTerm::BadTerm),
-    }
-}
-
-fn monitor(bytes: &[u8]) -> Result<(Kind, &[u8]), ReadTerm>
-    ensures { Gives (λ x. (x.0, x.1.now)) result (row_front kinds.monitor bytes.now) }
-{
-    match reference_field(bytes) {
-        Some((reference, rest)) => Ok((Kind::Monitor { reference }, rest)),
-        None => Err(ReadTerm::BadTerm),
-    }
-}
-
-fn demonitor(bytes: &[u8]) -> Result<(Kind, &[u8]), ReadTerm>
-    ensures { Gives (λ x. (x.0, x.1.now)) result (row_front kinds.demonitor bytes.now) }
-{
-    match reference_field(bytes) {
-        Some((reference, rest)) => Ok((Kind::Demonitor { reference }, rest)),
-        None => Err(ReadTerm::BadTerm),
-    }
-}
-
-fn exit(alloc: Global, bytes: &[u8]) -> Result<(Kind, &[u8]), ReadTerm>
-    ensures { Gives (λ x. (x.0, x.1.now)) result (row_front kinds.exit bytes.now) }
-{
-    let (linked, rest) = choice_field(b"linked", b"plain", bytes).ok_or(ReadTerm::BadTerm)?;
-    let (reason, rest) = term_field(alloc, rest)?;
-    Ok((Kind::Exit { reason, linked }, rest))
-}
-
-fn down(alloc: Global, bytes: &[u8]) -> Result<(Kind, &[u8]), ReadTerm>
-    ensures { Gives (λ x. (x.0, x.1.now)) result (row_front kinds.down bytes.now) }
-{
-    let (reference, rest) = reference_field(bytes).ok_or(ReadTerm::BadTerm)?;
-    let (reason, rest) = term_field(alloc, rest)?;
-    Ok((Kind::Down { reference, reason }, rest))
-}
-
-/// What a signal says, at the front of the bytes.
-#[tactic(auto, unfolding(crate::specs::KindRows::kind_front))]
-pub(crate) fn kind(alloc: Global, bytes: &[u8]) -> Result<(Kind, &[u8]), ReadTerm>
-    ensures { Gives (λ x. (x.0, x.1.now)) result (kind_front bytes.now) }
-{
-    if let Some(rest) = after(b"message", bytes) {
-        return message(alloc, rest);
-    }
-    if let Some(rest) = after(b"alias", bytes) {
-        return alias_message(alloc, rest);
-    }
-    if let Some(rest) = after(b"link", bytes) {
-        return Ok((Kind::Link, rest));
-    }
-    if let Some(rest) = after(b"unlink_ack", bytes) {
-        return unlink_ack(rest);
-    }
-    if let Some(rest) = after(b"unlink", bytes) {
-        return unlink(rest);
-    }
-    if let Some(rest) = after(b"monitor", bytes) {
-        return monitor(rest);
-    }
-    if let Some(rest) = after(b"demonitor", bytes) {
-        return demonitor(rest);
-    }
-    if let Some(rest) = after(b"exit", bytes) {
-        return exit(alloc, rest);
-    }
-    if let Some(rest) = after(b"down", bytes) {
-        return down(alloc, rest);
-    }
-    Err(ReadTerm::BadTerm)
 }

@@ -1,12 +1,14 @@
 //! What a record says of an event and of a kind of signal, without stamps, for those who print no
 //! whole record.
 
-ghost use Rattle.std.specs.Prelude.{◌≡◌, ◌++◌, OnOk, OnErr, codes, decimal};
+ghost use Rattle.std.specs.Prelude.{◌≡◌, ◌++◌, OnOk, OnErr};
 ghost use Rattle.sig_terms.specs.Putting.{IsPut};
-ghost use Rattle.sig_record.specs.EventRows.{did_text, outcome_text};
+ghost use Rattle.sig_record.specs.EventRows.{did_text};
 ghost use Rattle.sig_record.specs.KindRows.{kind_text};
+ghost use Rattle.sig_record.specs.RecordText.{event_words};
 
-use crate::printing::{put_kind, put_numbered, put_pid, put_spaced_number, put_spaced_outcome};
+use crate::kinds::put_kind;
+use crate::printing::{put_numbered, put_pid, put_spaced_number, put_spaced_outcome};
 use sig_kinds::Kind;
 use sig_model::{Did, Event};
 use std::alloc::AllocError;
@@ -24,8 +26,7 @@ fn put_did(into: &mut Vec<u8>, did: &Did) -> Result<(), AllocError>
 }
 
 fn put_event_words(into: &mut Vec<u8>, event: &Event) -> Result<(), AllocError>
-    ensures { IsPut into.old.items into.new.items
-        (did_text event.now.did ++ codes " " ++ outcome_text event.now.outcome) result }
+    ensures { IsPut into.old.items into.new.items (event_words event.now) result }
 {
     put_did(into, &event.did)?;
     put_spaced_outcome(into, &event.outcome)
@@ -34,8 +35,7 @@ fn put_event_words(into: &mut Vec<u8>, event: &Event) -> Result<(), AllocError>
 /// Appends what a record's line says of an event behind its stamp: what the process did, and what came
 /// of it. Where memory is refused, `into` is as before.
 pub fn print_event_words(event: &Event, into: &mut Vec<u8>) -> Result<(), AllocError>
-    ensures text { OnOk result (into.new.items ≡ into.old.items ++
-        (did_text event.now.did ++ codes " " ++ outcome_text event.now.outcome)) }
+    ensures text { OnOk result (into.new.items ≡ into.old.items ++ event_words event.now) }
     ensures err { OnErr result (into.new.items ≡ into.old.items) }
 {
     let before = into.len();

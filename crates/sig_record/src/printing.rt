@@ -1,12 +1,11 @@
 ghost use Rattle.std.specs.Prelude.{◌≡◌, ◌++◌, ◌∷◌, ℕ, List, [], OnOk, OnErr, All, true, codes, decimal};
 ghost use Rattle.std.specs.List.{flat_map};
-ghost use Rattle.sig_terms.specs.TermText.{term_text, reference_text};
+ghost use Rattle.sig_terms.specs.TermText.{term_text};
 ghost use Rattle.sig_terms.specs.Readable.{IsTerm};
 ghost use Rattle.sig_terms.specs.Words.{is_token};
 ghost use Rattle.sig_terms.specs.Putting.{IsPut};
-ghost use Rattle.sig_record.specs.Phrases.{truth_text, link_text, IsNarrow, IsWide, IsStoredRef};
+ghost use Rattle.sig_record.specs.Phrases.{truth_text, IsNarrow, IsWide};
 ghost use Rattle.sig_record.specs.EventRows.{did_text, outcome_text};
-ghost use Rattle.sig_record.specs.KindRows.{kind_text};
 ghost use Rattle.sig_record.specs.RecordText.{
   event_text,
   left_text,
@@ -23,7 +22,6 @@ ghost use Rattle.sig_record.specs.StoredRecord.{
   IsStoredOutcome,
   IsStoredEvent,
   IsStoredLeft,
-  IsStoredKind,
   IsStoredSignal,
   IsStoredState,
   IsStoredReport,
@@ -31,13 +29,14 @@ ghost use Rattle.sig_record.specs.StoredRecord.{
 };
 ghost use Rattle.sig_record.specs.ReadableRecord.{CanBeReread};
 
+use crate::kinds::put_spaced_kind;
 use crate::record::Record;
 use crate::report::{Left, Report};
 use crate::words::write_word;
 use itoa::{Buffer, write_digits};
-use sig_kinds::{Kind, Signal};
+use sig_kinds::Signal;
 use sig_model::{Did, Event, Outcome, State};
-use sig_terms::{Name, Pid, Ref, Term};
+use sig_terms::{Name, Pid, Term};
 use std::alloc::AllocError;
 
 /// About how many bytes the line of an event has.
@@ -46,7 +45,7 @@ const EVENT_LINE: usize = 40;
 /// No fewer bytes than the numbers of an event take, with the words between them.
 const LINE: usize = 72;
 
-fn put(into: &mut Vec<u8>, text: &[u8]) -> Result<(), AllocError>
+pub(crate) fn put(into: &mut Vec<u8>, text: &[u8]) -> Result<(), AllocError>
     ensures { IsPut into.old.items into.new.items text.now result }
 {
     into.extend_from_slice(text)
@@ -99,7 +98,7 @@ pub(crate) fn put_term(into: &mut Vec<u8>, word: &[u8], term: &Term) -> Result<(
 }
 
 /// A space, and the term.
-fn put_spaced_term(into: &mut Vec<u8>, term: &Term) -> Result<(), AllocError>
+pub(crate) fn put_spaced_term(into: &mut Vec<u8>, term: &Term) -> Result<(), AllocError>
     ensures text { IsPut into.old.items into.new.items (codes " " ++ term_text term.now) result }
     ensures stored { OnOk result (IsTerm term.now) }
 {
@@ -274,64 +273,6 @@ impl Part for Left {
         put_spaced_term(into, &self.message)?;
         put_byte(into, b'\n')
     }
-}
-
-fn exit_words(linked: bool) -> &'static [u8]
-    ensures { result.now ≡ codes "exit " ++ link_text linked ++ codes " " }
-{
-    if linked {
-        b"exit linked "
-    } else {
-        b"exit plain "
-    }
-}
-
-fn put_reference(into: &mut Vec<u8>, word: &[u8], reference: Ref) -> Result<(), AllocError>
-    ensures text { IsPut into.old.items into.new.items (word.now ++ reference_text reference) result }
-    ensures stored { OnOk result (IsStoredRef reference) }
-{
-    put(into, word)?;
-    reference.print(into)
-}
-
-fn put_referring(
-    into: &mut Vec<u8>,
-    word: &[u8],
-    reference: Ref,
-    term: &Term,
-) -> Result<(), AllocError>
-    ensures text { IsPut into.old.items into.new.items (word.now ++ reference_text reference ++ codes " " ++ term_text term.now) result }
-    ensures reference { OnOk result (IsStoredRef reference) }
-    ensures term { OnOk result (IsTerm term.now) }
-{
-    put_reference(into, word, reference)?;
-    put_spaced_term(into, term)
-}
-
-pub(crate) fn put_kind(into: &mut Vec<u8>, kind: &Kind) -> Result<(), AllocError>
-    ensures text { IsPut into.old.items into.new.items (kind_text kind.now) result }
-    ensures stored { OnOk result (IsStoredKind kind.now) }
-{
-    match kind {
-        Kind::Message { term } => put_term(into, b"message ", term),
-        Kind::AliasMessage { reference, term } => put_referring(into, b"alias ", *reference, term),
-        Kind::Link => put(into, b"link"),
-        Kind::Unlink { id } => put_numbered(into, b"unlink ", *id),
-        Kind::UnlinkAck { id } => put_numbered(into, b"unlink_ack ", *id),
-        Kind::Monitor { reference } => put_reference(into, b"monitor ", *reference),
-        Kind::Demonitor { reference } => put_reference(into, b"demonitor ", *reference),
-        Kind::Exit { reason, linked } => put_term(into, exit_words(*linked), reason),
-        Kind::Down { reference, reason } => put_referring(into, b"down ", *reference, reason),
-    }
-}
-
-/// A space, and the kind.
-pub(crate) fn put_spaced_kind(into: &mut Vec<u8>, kind: &Kind) -> Result<(), AllocError>
-    ensures text { IsPut into.old.items into.new.items (codes " " ++ kind_text kind.now) result }
-    ensures stored { OnOk result (IsStoredKind kind.now) }
-{
-    put_byte(into, b' ')?;
-    put_kind(into, kind)
 }
 
 fn put_signal_numbers(into: &mut Vec<u8>, signal: &Signal) -> Result<(), AllocError>

@@ -5,6 +5,8 @@ ghost use Rattle.sig_workers.specs.Visits.{IsRemoved, IsFetched};
 
 use crate::bells::Bells;
 use crate::putting::Me;
+use crate::shared::Shared;
+use sig_base::Gate;
 use sig_kinds::Signals;
 use sig_process::Process;
 use sig_queue::{Fetch, QSeat, SigQueue};
@@ -57,53 +59,57 @@ fn fetch_at<R: Wait>(
 
 /// Takes in what was put for the process, if another worker doesn't hold its queue. It lies in the
 /// empty list on its way. The error is want of memory.
-fn fetch<R: Wait>(
-    rt: &R,
-    queues: &[SigQueue],
-    bells: &Bells,
+fn fetch<R: Wait, G: Gate>(
+    shared: &Shared<'_, R, G>,
     me: Me,
     process: &mut Process,
     seats: &mut Vec<QSeat>,
     fetched: &mut Signals,
 ) -> Result<(), AllocError>
-    requires ready { IsReady queues.now me.pid process.old.running seats.old.items }
+    requires ready { IsReady shared.now.queues.now me.pid process.old.running seats.old.items }
     requires within { me.pid < vec_len seats.old }
     requires empty { fetched.old.items ≡ [] }
-    ensures goes { OnOk result (Goes queues.now me.pid process.old.running seats.old.items process.new.running seats.new.items) }
+    ensures goes { OnOk result (Goes shared.now.queues.now me.pid process.old.running seats.old.items process.new.running seats.new.items) }
     ensures outbox { OnOk result (process.new.running.outbox ≡ process.old.running.outbox) }
     ensures events { OnOk result (process.new.running.events ≡ process.old.running.events) }
     ensures saved { OnOk result (process.new.saved ≡ process.old.saved) }
     ensures empty { OnOk result (fetched.new.items ≡ []) }
 {
     let at = me.pid as usize;
-    fetch_at(rt, &queues[at], bells, me.pid, &mut seats[at], fetched)?;
+    let (queues, bells) = (shared.queues, shared.bells);
+    fetch_at(
+        shared.rt,
+        &queues[at],
+        bells,
+        me.pid,
+        &mut seats[at],
+        fetched,
+    )?;
     process.take_in(fetched)
 }
 
 /// Takes in what was put for the process, where its bell rings: it is hushed first, so that what is
 /// put from then on rings again. Where the bell is quiet there is nothing that a fetch would have to
 /// take now. What it takes lies in the empty list on its way. The error is want of memory.
-pub(crate) fn fetch_rung<R: Wait>(
-    rt: &R,
-    queues: &[SigQueue],
-    bells: &Bells,
+pub(crate) fn fetch_rung<R: Wait, G: Gate>(
+    shared: &Shared<'_, R, G>,
     me: Me,
     process: &mut Process,
     seats: &mut Vec<QSeat>,
     fetched: &mut Signals,
 ) -> Result<(), AllocError>
-    requires ready { IsReady queues.now me.pid process.old.running seats.old.items }
+    requires ready { IsReady shared.now.queues.now me.pid process.old.running seats.old.items }
     requires within { me.pid < vec_len seats.old }
     requires empty { fetched.old.items ≡ [] }
-    ensures goes { OnOk result (Goes queues.now me.pid process.old.running seats.old.items process.new.running seats.new.items) }
+    ensures goes { OnOk result (Goes shared.now.queues.now me.pid process.old.running seats.old.items process.new.running seats.new.items) }
     ensures outbox { OnOk result (process.new.running.outbox ≡ process.old.running.outbox) }
     ensures events { OnOk result (process.new.running.events ≡ process.old.running.events) }
     ensures saved { OnOk result (process.new.saved ≡ process.old.saved) }
     ensures empty { OnOk result (fetched.new.items ≡ []) }
 {
-    if !bells.rings(me.pid) {
+    if !shared.bells.rings(me.pid) {
         return Ok(());
     }
-    bells.hush(me.pid);
-    fetch(rt, queues, bells, me, process, seats, fetched)
+    shared.bells.hush(me.pid);
+    fetch(shared, me, process, seats, fetched)
 }

@@ -14,6 +14,7 @@ mod opening;
 mod part;
 mod putting;
 mod rounds;
+mod shared;
 mod side_by_side;
 mod stepping;
 mod visiting;

@@ -7,6 +7,7 @@ ghost use Rattle.sig_workers.specs.Gone.{IsReady, Goes};
 ghost use Rattle.sig_workers.specs.Visits.{MayPut, HasPut, WasPut};
 
 use crate::bells::Bells;
+use crate::shared::Shared;
 use sig_base::{Gate, Point};
 use sig_kinds::Signal;
 use sig_layout::Via;
@@ -75,21 +76,18 @@ fn buffer_of(via: Via) -> Option<u8> {
 /// Puts all that lies in the process's outbox, the oldest signal first, rings the bell of each
 /// receiver, and tells the gate of each put. The error is want of memory.
 pub(crate) fn put_all<R: Wait, G: Gate>(
-    rt: &R,
-    queues: &[SigQueue],
-    bells: &Bells,
-    gate: &G,
+    shared: &Shared<'_, R, G>,
     me: Me,
     process: &mut Process,
     seats: &mut Vec<QSeat>,
 ) -> Result<(), AllocError>
-    requires { IsReady queues.now me.pid process.old.running seats.old.items }
-    ensures goes { OnOk result (Goes queues.now me.pid process.old.running seats.old.items process.new.running seats.new.items) }
+    requires { IsReady shared.now.queues.now me.pid process.old.running seats.old.items }
+    ensures goes { OnOk result (Goes shared.now.queues.now me.pid process.old.running seats.old.items process.new.running seats.new.items) }
     ensures process { OnOk result (process.new.running ≡ record process.old.running { outbox = [] }) }
 {
     while let Some(signal) = process.next_out() {
-        let via = put_one(rt, queues, bells, seats, signal)?;
-        gate.at(
+        let via = put_one(shared.rt, shared.queues, shared.bells, seats, signal)?;
+        shared.gate.at(
             me.worker,
             me.pid,
             Point::Put {

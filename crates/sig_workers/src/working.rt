@@ -7,6 +7,7 @@ ghost use Rattle.sig_workers.specs.declared.working.TheConstants.{PATIENCE};
 use crate::bells::Bells;
 use crate::part::{Part, Worked};
 use crate::putting::Me;
+use crate::shared::Shared;
 use crate::stepping::visit;
 use sig_base::{Gate, Steps};
 use sig_kinds::Signals;
@@ -24,20 +25,17 @@ const PATIENCE: u32 = 1000;
 /// to `made`. What it takes in lies in the list on its way, which is empty before and after. The
 /// error is want of memory.
 fn visit_at<R: Wait, G: Gate, L: Ledger>(
-    rt: &R,
-    queues: &[SigQueue],
-    bells: &Bells,
-    gate: &G,
+    shared: &Shared<'_, R, G>,
     part: &mut Part,
     at: usize,
     fetched: &mut Signals,
     made: &mut usize,
     steps: &mut Steps<L>,
 ) -> Result<bool, AllocError>
-    requires part { IsPart queues.now part.old }
+    requires part { IsPart shared.now.queues.now part.old }
     requires within { at < vec_len part.old.procs }
     requires empty { fetched.old.items ≡ [] }
-    ensures part { OnOk result (IsPart queues.now part.new) }
+    ensures part { OnOk result (IsPart shared.now.queues.now part.new) }
     ensures same { OnOk result (IsSamePart part.old part.new) }
     ensures visited { IfOk result (HasVisited at (procs_of part.old) (procs_of part.new)) }
     ensures acted { OnOk result (HasActedAt at part.old.procs.items part.new.procs.items) }
@@ -49,17 +47,7 @@ fn visit_at<R: Wait, G: Gate, L: Ledger>(
     };
     let process = &mut part.procs[at];
     let before = process.events().len();
-    let moved = visit(
-        rt,
-        queues,
-        bells,
-        gate,
-        me,
-        process,
-        &mut part.seats,
-        fetched,
-        steps,
-    )?;
+    let moved = visit(shared, me, process, &mut part.seats, fetched, steps)?;
     *made = made.saturating_add(process.events().len().saturating_sub(before));
     Ok(moved)
 }
@@ -67,18 +55,15 @@ fn visit_at<R: Wait, G: Gate, L: Ledger>(
 /// One pass over the part's processes, by ascending pid. Tells whether it had an event, and adds the
 /// events to `made`. The error is want of memory.
 fn pass<R: Wait, G: Gate, L: Ledger>(
-    rt: &R,
-    queues: &[SigQueue],
-    bells: &Bells,
-    gate: &G,
+    shared: &Shared<'_, R, G>,
     part: &mut Part,
     fetched: &mut Signals,
     made: &mut usize,
     steps: &mut Steps<L>,
 ) -> Result<bool, AllocError>
-    requires part { IsPart queues.now part.old }
+    requires part { IsPart shared.now.queues.now part.old }
     requires empty { fetched.old.items ≡ [] }
-    ensures part { OnOk result (IsPart queues.now part.new) }
+    ensures part { OnOk result (IsPart shared.now.queues.now part.new) }
     ensures same { OnOk result (IsSamePart part.old part.new) }
     ensures grow { OnOk result (Grow (procs_of part.old) (procs_of part.new)) }
     ensures passed { IfOk result (HavePassed (procs_of part.old) (procs_of part.new)) }
@@ -87,7 +72,7 @@ fn pass<R: Wait, G: Gate, L: Ledger>(
 {
     let mut moved = false;
     for at in 0..part.procs.len() {
-        let here = visit_at(rt, queues, bells, gate, part, at, fetched, made, steps)?;
+        let here = visit_at(shared, part, at, fetched, made, steps)?;
         moved |= here;
     }
     Ok(moved)
@@ -109,31 +94,28 @@ fn patience(queues: &[SigQueue], part: &Part) -> u32
 /// away in between: a signal of another worker may be on its way. Tells whether there was an event, and
 /// adds the events to `made`. The error is want of memory.
 fn pass_patiently<R: Wait, G: Gate, L: Ledger>(
-    rt: &R,
-    queues: &[SigQueue],
-    bells: &Bells,
-    gate: &G,
+    shared: &Shared<'_, R, G>,
     part: &mut Part,
     fetched: &mut Signals,
     made: &mut usize,
     steps: &mut Steps<L>,
 ) -> Result<bool, AllocError>
-    requires part { IsPart queues.now part.old }
+    requires part { IsPart shared.now.queues.now part.old }
     requires empty { fetched.old.items ≡ [] }
-    ensures part { OnOk result (IsPart queues.now part.new) }
+    ensures part { OnOk result (IsPart shared.now.queues.now part.new) }
     ensures same { OnOk result (IsSamePart part.old part.new) }
     ensures grow { OnOk result (Grow (procs_of part.old) (procs_of part.new)) }
     ensures passed { IfOk result (HavePassed (procs_of part.old) (procs_of part.new)) }
     ensures acted { OnOk result (ActBelow (length part.new.procs.items) part.old.procs.items part.new.procs.items) }
     ensures empty { OnOk result (fetched.new.items ≡ []) }
 {
-    let mut moved = pass(rt, queues, bells, gate, part, fetched, made, steps)?;
-    for _again in 0..patience(queues, part) {
+    let mut moved = pass(shared, part, fetched, made, steps)?;
+    for _again in 0..patience(shared.queues, part) {
         if moved {
             return Ok(true);
         }
         thread::yield_now();
-        moved = pass(rt, queues, bells, gate, part, fetched, made, steps)?;
+        moved = pass(shared, part, fetched, made, steps)?;
     }
     Ok(moved)
 }
@@ -141,11 +123,8 @@ fn pass_patiently<R: Wait, G: Gate, L: Ledger>(
 /// Passes until so many in a row have no event, or until there are at least as many events as the quota
 /// says. Tells whether there was one. The error is want of memory.
 fn work_with<R: Wait, G: Gate, L: Ledger>(
-    rt: &R,
+    shared: &Shared<'_, R, G>,
     alloc: Global,
-    queues: &[SigQueue],
-    bells: &Bells,
-    gate: &G,
     quota: u32,
     part: &mut Part,
     blank: Blank,
@@ -154,8 +133,8 @@ fn work_with<R: Wait, G: Gate, L: Ledger>(
     requires parts { blank.parts ≡ L.parts }
     requires some { 0 < blank.parts }
     requires quota { 1 ≤ quota }
-    requires part { IsPart queues.now part.old }
-    ensures part { OnOk result (IsPart queues.now part.new) }
+    requires part { IsPart shared.now.queues.now part.old }
+    ensures part { OnOk result (IsPart shared.now.queues.now part.new) }
     ensures same { OnOk result (IsSamePart part.old part.new) }
     ensures passed { IfOk result (HavePassed (procs_of part.old) (procs_of part.new)) }
     ensures acted { OnOk result (ActBelow (length part.new.procs.items) part.old.procs.items part.new.procs.items) }
@@ -165,16 +144,7 @@ fn work_with<R: Wait, G: Gate, L: Ledger>(
     let mut moved = false;
     let mut made = 0;
     for _turn in 0..quota {
-        let here = pass_patiently(
-            rt,
-            queues,
-            bells,
-            gate,
-            part,
-            &mut fetched,
-            &mut made,
-            &mut steps,
-        )?;
+        let here = pass_patiently(shared, part, &mut fetched, &mut made, &mut steps)?;
         moved |= here;
         if !here || made >= quota as usize {
             return Ok(moved);
@@ -199,7 +169,13 @@ pub(crate) fn work<R: Wait, G: Gate>(
     requires part { IsPart queues.now part }
     ensures { IfOk result (HasWorked queues.now part) }
 {
+    let shared = Shared {
+        rt,
+        queues,
+        bells,
+        gate,
+    };
     let blank = Blank::new(1);
-    let moved = work_with::<R, G, Brand>(rt, alloc, queues, bells, gate, quota, &mut part, blank)?;
+    let moved = work_with::<R, G, Brand>(&shared, alloc, quota, &mut part, blank)?;
     Ok(Worked { part, moved })
 }

@@ -4,7 +4,7 @@ use Rattle.sig_workers.proofs.putting.put_all.Given as goal
 
 abbrev pub invariant-loop-signal : goal.invariant-loop-signal
 invariant-loop-signal g l = record {
-  goes : Goes l.queues l.me.pid l.fn.process.running l.fn.seats.items l.process.running l.seats.items;
+  goes : Goes l.shared.queues.now l.me.pid l.fn.process.running l.fn.seats.items l.process.running l.seats.items;
   process : l.process.running ≡ record l.fn.process.running { outbox = l.process.running.outbox };
 }
 

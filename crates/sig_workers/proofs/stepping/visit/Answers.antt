@@ -6,7 +6,7 @@ use Rattle.sig_workers.proofs.stepping.visit.Goals as goal
 
 pub returns-clause-goes : goal.returns-clause-goes
 returns-clause-goes g c =
-    let queues = c.args.queues.now in
+    let queues = c.args.shared.now.queues.now in
     let pid = c.args.me.pid in
     let fetched = c.fetch_rung.new.process.running in
     let handled = c.handle_all.new.process.running in
@@ -29,7 +29,7 @@ returns-clause-acted g c =
 
 -- it was passed over
 pub returns-then-is_quiet-clause-goes : goal.returns-then-is_quiet-clause-goes
-returns-then-is_quiet-clause-goes g c = goes_refl c.args.queues.now c.args.me.pid c.args.process.now.running c.args.seats.now.items c.requires.ready
+returns-then-is_quiet-clause-goes g c = goes_refl c.args.shared.now.queues.now c.args.me.pid c.args.process.now.running c.args.seats.now.items c.requires.ready
 
 pub returns-then-is_quiet-clause-moved : goal.returns-then-is_quiet-clause-moved
 returns-then-is_quiet-clause-moved g c = (refl, idle_still c.args.process.now.running (c.is_quiet.ensures c.if-is_quiet.true))

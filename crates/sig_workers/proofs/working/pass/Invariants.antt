@@ -7,7 +7,7 @@ use Rattle.sig_workers.proofs.working.pass.Given as goal
 abbrev pub invariant-loop-at : goal.invariant-loop-at
 invariant-loop-at g l = record {
   many : length l.part.procs.items ≡ length l.fn.part.procs.items;
-  part : IsPart l.queues l.part;
+  part : IsPart l.shared.queues.now l.part;
   empty : l.fetched.items ≡ [];
   same : IsSamePart l.fn.part l.part;
   grow : Grow (procs_of l.fn.part) (procs_of l.part);

@@ -5,7 +5,7 @@ use Rattle.sig_workers.proofs.working.pass_patiently.Given as goal
 
 abbrev pub invariant-loop-again : goal.invariant-loop-again
 invariant-loop-again g l = record {
-  part : IsPart l.queues l.part;
+  part : IsPart l.shared.queues.now l.part;
   empty : l.fetched.items ≡ [];
   same : IsSamePart l.fn.part l.part;
   grow : Grow (procs_of l.fn.part) (procs_of l.part);

@@ -17,7 +17,7 @@ pub returns-clause-part : goal.returns-clause-part
 returns-clause-part g c =
     let lt : c.args.at < length c.args.part.now.procs.items = grind (arith, common_steps) in
     let there = running_at c.args.part.now.procs.items c.args.at c.index_mut-process.result.now lt c.index_mut-process.ensures.value in
-    visited_part c.args.queues.now c.args.part.now _ c.requires.part c.args.at c.index_mut-process.result.now c.visit.new.process there refl refl refl c.in_ok-moved.ensures.goes c.in_ok-moved.ensures.empty
+    visited_part c.args.shared.now.queues.now c.args.part.now _ c.requires.part c.args.at c.index_mut-process.result.now c.visit.new.process there refl refl refl c.in_ok-moved.ensures.goes c.in_ok-moved.ensures.empty
 
 pub returns-clause-visited : goal.returns-clause-visited
 returns-clause-visited g c =

@@ -6,7 +6,7 @@ use Rattle.sig_workers.proofs.working.work_with.Given as goal
 
 abbrev pub invariant-loop-turn : goal.invariant-loop-turn
 invariant-loop-turn g l = record {
-  part : IsPart l.queues l.part;
+  part : IsPart l.shared.queues.now l.part;
   empty : l.fetched.items ≡ [];
   same : IsSamePart l.fn.part l.part;
   first : 0 < l._turn → l.moved ≡ true;

@@ -2,7 +2,7 @@ use Rattle.std.proofs.Common.{ℕ, List, ◌++◌}
 use Rattle.std.specs.Prelude.{codes}
 use Rattle.sig_terms.specs.TermText.{term_text, reference_text}
 use Rattle.sig_record.proofs.Fronts.{put_with_gap}
-use Rattle.sig_record.proofs.printing.put_referring.Goals as goal
+use Rattle.sig_record.proofs.kinds.put_referring.Goals as goal
 
 pub returns-clause-text : goal.returns-clause-text
 returns-clause-text c =

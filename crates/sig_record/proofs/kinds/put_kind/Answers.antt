@@ -3,7 +3,7 @@ use Rattle.std.specs.Prelude.{codes}
 use Rattle.sig_terms.specs.TermText.{term_text}
 use Rattle.sig_terms.specs.Putting.{IsPut}
 use Rattle.sig_record.specs.Phrases.{link_text}
-use Rattle.sig_record.proofs.printing.put_kind.Goals as goal
+use Rattle.sig_record.proofs.kinds.put_kind.Goals as goal
 
 pub returns-in-Exit-clause-text : goal.returns-in-Exit-clause-text
 returns-in-Exit-clause-text c =
