@@ -67,10 +67,10 @@ abbrev pub IsPrinted : ℕ → Program → Bool → Writing → Option (List ℕ
 IsPrinted workers script asked w summary =
     (reports : List Report) × IsRecordOf workers script reports × Adds w.held w.new (record_text reports) × (summary ≡ summary_for asked reports)
 
--- a write failed, and the beginning of that text was written
+-- a write failed, and only the beginning of that text was written
 abbrev pub IsCutOff : ℕ → Program → Writing → Type 0
 IsCutOff workers script w =
-    Rose w.before w.after × ((reports : List Report) × (n : ℕ) × IsRecordOf workers script reports × Adds w.held w.new (take n (record_text reports)))
+    Rose w.before w.after × ((reports : List Report) × (n : ℕ) × IsRecordOf workers script reports × (n < length (record_text reports)) × Adds w.held w.new (take n (record_text reports)))
 
 -- running a script with so many workers and writing its record, and how that ended: with this text of a summary or none
 abbrev pub IsScriptRun : ℕ → Program → Bool → Writing → Status → Option (List ℕ) → Type 0

@@ -19,9 +19,9 @@ use Rattle.sig_tool.specs.Texts.{IsTextFor, IsUnfitFor}
 abbrev pub IsPrinted : Command → Reading → Writing → Type 0
 IsPrinted command r w = (text : List ℕ) × IsTextFor command r text × Adds w.held w.new text
 
--- a write failed, and the beginning of that text was written
+-- a write failed, and only the beginning of that text was written
 abbrev pub IsCutOff : Command → Reading → Writing → Type 0
-IsCutOff command r w = Rose w.before w.after × ((text : List ℕ) × (n : ℕ) × IsTextFor command r text × Adds w.held w.new (take n text))
+IsCutOff command r w = Rose w.before w.after × ((text : List ℕ) × (n : ℕ) × IsTextFor command r text × (n < length text) × Adds w.held w.new (take n text))
 
 -- how the command ended: its text was written, or a part of it; or nothing, for this reason
 abbrev pub IsRanSo : Command → Reading → Writing → ToolStatus → Type 0

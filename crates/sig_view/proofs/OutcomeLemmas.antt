@@ -27,6 +27,7 @@ use Rattle.sig_check.specs.Verdicts.{IsOfSettledRun}
 use Rattle.sig_view.specs.declared.status.ViewStatus.{ViewStatus}
 use Rattle.sig_view.specs.declared.status.ViewStatus.TheVariants.{Done, BadScript, Usage, ReadFault, WriteFault, Memory, No, BadRecord, TooLong, NoEvent, TooManyEvents, NoOutcome, NotFound, Unfinished}
 use Rattle.sig_view.specs.OutcomeText.{endings_from, endings_text, first_line, names_of, number_line, outcomes_from, outcomes_text, rest_text, rests_text, unhandled_text}
+use Rattle.sig_explore.specs.Seen.{HaveSeen}
 use Rattle.sig_view.specs.Outcomes.{AreFound, AreListed, end_with, HasFewer, IsFoundText, IsNotFound, IsNumberedText, IsOutcome, IsOutcomeRecord, IsOutcomesText, numbered}
 
 -- ---- one process
@@ -102,6 +103,7 @@ module _ (script : Program) where
       all = all;
       listed = are_listed;
       met = found.met;
+      seen = found.seen;
       lines = is ∙ text_is endings all found.each;
       ends = ends;
     }
@@ -144,17 +146,27 @@ module _ (script : Program) where
         by (inl h) = let there : slice_get endings place ≡ Some h.0 = h.2 in absurd (cc)
         by (inr h) = omega (arith, h.0)
 
-    has_fewer : (number : ℕ) → number ≢ 0 → numbered number endings ≡ None → HasFewer script all number
-    has_fewer number some is = record {
+    fewer_told : (number : ℕ) → number ≢ 0 → numbered number endings ≡ None → length (map outcome_told endings) < number
+    fewer_told number some is = subst (λ n. n < number) (sym (length-map endings outcome_told)) (past_end number some is)
+
+    has_fewer : (number : ℕ) → number ≢ 0 → numbered number endings ≡ None → all ≡ true → HasFewer script number
+    has_fewer number some is whole = record {
       outcomes = map outcome_told endings;
-      listed = are_listed;
-      fewer = subst (λ n. n < number) (sym (length-map endings outcome_told)) (past_end number some is);
+      listed = subst (AreListed script (map outcome_told endings)) whole are_listed;
+      fewer = fewer_told number some is;
     }
 
     not_found : (number met : ℕ) → number ≢ 0 → numbered number endings ≡ None → all ≡ false → met ≡ states → IsNotFound script most number met
     not_found number met some is cut same =
         let over : states ≤ most → ⊥ = λ le. false≢true (sym cut ∙ found.met.1 le) in
-        record { over = omega (arith, over, same); found = subst (λ (b : Bool). HasFewer script b number) cut (has_fewer number some is) }
+        let outcomes : List (List Rest) = map outcome_told endings in
+        record {
+          over = omega (arith, over, same);
+          outcomes = outcomes;
+          listed = subst (AreListed script outcomes) cut are_listed;
+          seen = subst (λ n. HaveSeen script most n false outcomes) (sym same) (subst (λ b. HaveSeen script most states b outcomes) cut found.seen);
+          fewer = fewer_told number some is;
+        }
 
     -- what was found of this number, as it is said of the script
     pub found_is : (number : ℕ) (result : Result (Vec ℕ Global) ViewStatus) → number ≢ 0 → AreNames script → IsFoundText endings states all number result
@@ -171,7 +183,7 @@ module _ (script : Program) where
     found_is number (Err TooLong) some names h = absurd h
     found_is number (Err NoEvent) some names h = absurd h
     found_is number (Err TooManyEvents) some names h = absurd h
-    found_is number (Err NoOutcome) some names h = inr (subst (λ (b : Bool). HasFewer script b number) h.1 (has_fewer number some h.0))
+    found_is number (Err NoOutcome) some names h = inr (has_fewer number some h.0 h.1)
     found_is number (Err (NotFound met)) some names h = not_found number met some h.0 h.1 h.2
     found_is number (Err (Unfinished met)) some names h = absurd h
 

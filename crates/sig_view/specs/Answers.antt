@@ -20,10 +20,10 @@ use Rattle.sig_view.specs.Texts.{IsTextFor, IsUnfitFor}
 abbrev pub IsPrinted : Command → Reading → Writing → ViewStatus → Type 0
 IsPrinted command r w end = (text : List ℕ) × IsTextFor command r text end × Adds w.held w.new text
 
--- a write failed, and the beginning of that text was written
+-- a write failed, and only the beginning of that text was written
 abbrev pub IsCutOff : Command → Reading → Writing → Type 0
 IsCutOff command r w =
-    Rose w.before w.after × ((text : List ℕ) × (end : ViewStatus) × (n : ℕ) × IsTextFor command r text end × Adds w.held w.new (take n text))
+    Rose w.before w.after × ((text : List ℕ) × (end : ViewStatus) × (n : ℕ) × IsTextFor command r text end × (n < length text) × Adds w.held w.new (take n text))
 
 -- how the command ended: its text was written, or a part of it; or nothing, for this reason
 abbrev pub IsRanSo : Command → Reading → Writing → ViewStatus → Type 0

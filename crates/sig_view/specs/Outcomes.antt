@@ -14,6 +14,7 @@ use Rattle.sig_record.specs.RecordText.{record_text}
 use Rattle.sig_record.specs.SizedRecord.{IsSizedRecord}
 use Rattle.sig_check.specs.Verdicts.{IsOfSettledRun}
 use Rattle.sig_explore.specs.Endings.{AreAllOutcomes}
+use Rattle.sig_explore.specs.Seen.{HaveSeen}
 use Rattle.sig_tool.specs.declared.given.TheConstants.{MOST_INPUT}
 use Rattle.sig_tool.specs.Inputs.{IsOver, IsShort, IsWhole}
 use Rattle.sig_view.specs.declared.status.ViewStatus.{ViewStatus}
@@ -39,12 +40,14 @@ numbered zero items = None
 numbered (suc place) items = slice_get items place
 
 -- Each of these is the record of a settled run, of names and terms that can be read, and no two tell the same outcome. So many states
--- were met; that these are all is said exactly where no more were met than may be visited, and then the records tell all outcomes.
+-- were met, and of those that may be visited each without a choice has its outcome told; that these are all is said exactly where no
+-- more were met than may be visited, and then the records tell all outcomes.
 pub record AreFound (script : Program) (most : ℕ) (endings : List (List Report)) (states : ℕ) (all : Bool) : Type 0 where
   pub each : All (IsOfSettledRun script) endings
   pub sized : AreNames script → All IsSizedRecord endings
   pub distinct : AllPairs (λ a b. outcome_told a ≢ outcome_told b) endings
   pub met : IsTrue all ↔ (states ≤ most)
+  pub seen : HaveSeen script most states all (map outcome_told endings)
   pub whole : all ≡ true → AreAllOutcomes script (map outcome_told endings)
 
 -- ---- what is written
@@ -54,14 +57,16 @@ abbrev pub end_with : Bool → ℕ → ViewStatus
 end_with true states = Done
 end_with false states = Unfinished states
 
--- The text lists outcomes of the script, all of them where it says so. So many states were met, and it says so exactly where these are no
--- more than may be visited; else the call ends with their number.
+-- The text lists outcomes of the script, all of them where it says so. So many states were met, and of those that may be visited each
+-- without a choice has its outcome listed; it says so exactly where these are no more than may be visited; else the call ends with their
+-- number.
 pub record IsOutcomesText (script : Program) (most : ℕ) (text : List ℕ) (end : ViewStatus) : Type 0 where
   pub outcomes : List (List Rest)
   pub states : ℕ
   pub all : Bool
   pub listed : AreListed script outcomes all
   pub met : IsTrue all ↔ (states ≤ most)
+  pub seen : HaveSeen script most states all outcomes
   pub lines : text ≡ outcomes_text (names_of script) outcomes all
   pub ends : end ≡ end_with all states
 
@@ -76,21 +81,24 @@ pub record IsOutcomeRecord (script : Program) (number : ℕ) (text : List ℕ) :
   pub there : numbered number outcomes ≡ Some (outcome_told reports)
   pub printed : text ≡ record_text reports
 
--- a list of outcomes of the script, which are all where that is said, doesn't come to this number
-pub record HasFewer (script : Program) (all : Bool) (number : ℕ) : Type 0 where
+-- a list of all outcomes of the script doesn't come to this number
+pub record HasFewer (script : Program) (number : ℕ) : Type 0 where
   pub outcomes : List (List Rest)
-  pub listed : AreListed script outcomes all
+  pub listed : AreListed script outcomes true
   pub fewer : length outcomes < number
 
 -- all outcomes of the script are fewer than this number; or it is 0, which numbers none
 abbrev pub HasNoOutcome : Program → ℕ → Type 0
-HasNoOutcome script number = (number ≡ 0) ⊎ HasFewer script true number
+HasNoOutcome script number = (number ≡ 0) ⊎ HasFewer script number
 
--- More states were met than may be visited, so the search was cut off; it found fewer outcomes than this number. Which these are isn't
--- said, so of them this says no more than that the number isn't 0.
+-- More states were met than may be visited, so the search was cut off. What it listed, which has the outcome of each state without a
+-- choice that it visited, is fewer outcomes than this number.
 pub record IsNotFound (script : Program) (most : ℕ) (number : ℕ) (states : ℕ) : Type 0 where
   pub over : most < states
-  pub found : HasFewer script false number
+  pub outcomes : List (List Rest)
+  pub listed : AreListed script outcomes false
+  pub seen : HaveSeen script most states false outcomes
+  pub fewer : length outcomes < number
 
 -- ---- what is read
 
