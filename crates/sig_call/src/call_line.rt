@@ -27,9 +27,13 @@ use std::marker::Model;
 /// that stands behind them.
 #[derive(Drop)]
 pub struct CallLine<'l> {
+    /// The variable that the reply is bound to.
     pub var: &'l [u8],
+    /// The expression of the process that is called.
     pub target: &'l [u8],
+    /// The expression of what it is asked.
     pub message: &'l [u8],
+    /// Where it goes on when that process has ended.
     pub label: Option<&'l [u8]>,
 }
 

@@ -3,9 +3,11 @@
 #![tactic(auto)]
 
 mod called;
+mod digits;
 mod telling;
 
 pub use called::arguments;
+pub use digits::are_digits;
 pub use telling::{
     Untold, tell_line, tell_memory, tell_number, tell_piece, tell_pieces, tell_read_fault,
     tell_refusal, tell_write_fault,

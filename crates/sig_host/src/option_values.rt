@@ -1,8 +1,6 @@
 //! What the values of the options ask for.
 
 ghost use Rattle.std.specs.Prelude.{◌≡◌, ◌≤◌, None, IfSome, option_map, option_and_then};
-ghost use Rattle.std.specs.Char.{is_ascii_digit};
-ghost use Rattle.std.specs.List.{list_all};
 ghost use Rattle.sig_layout.specs.declared.policy.Policy.TheVariants.{Auto};
 ghost use Rattle.sig_host.specs.Words.{
   after_churn,
@@ -15,15 +13,9 @@ ghost use Rattle.sig_host.specs.Words.{
 };
 
 use crate::settings::MOST_CHURN;
+use sig_edge::are_digits;
 use sig_layout::Policy;
 use sig_script::MOST_CALLS;
-
-/// Whether each byte of the text is a decimal digit.
-fn are_digits(text: &str) -> bool
-    ensures { result ≡ list_all is_ascii_digit text.now }
-{
-    text.as_bytes().iter().all(|byte| byte.is_ascii_digit())
-}
 
 /// The number, where it lies between these two.
 fn within(least: u32, most: u32, number: u32) -> Option<u32>

@@ -22,8 +22,11 @@ use std::snapshot::Snapshot;
 /// process that are at it or before it. Contracts see the record and the origins of its signals.
 #[derive(Drop)]
 pub struct Happened {
+    /// The counts of each process's events, by pid.
     rows: Vec<Rows>,
+    /// The record, as contracts see it.
     given: Snapshot<Record>,
+    /// The origins of its signals, as contracts see them.
     origins: Snapshot<Origins>,
 }
 

@@ -17,8 +17,11 @@ use std::sync::ledger::Ledger;
 /// A whole pattern, what it meets, and the environment before the match.
 #[derive(Clone, Copy)]
 pub(crate) struct Against<'a> {
+    /// The whole pattern.
     pub(crate) pattern: &'a Pattern,
+    /// What it meets.
     pub(crate) seen: Seen<'a>,
+    /// The environment before the match.
     pub(crate) env: &'a Env,
 }
 

@@ -16,7 +16,9 @@ use std::alloc::{AllocError, Global};
 /// own in memory.
 #[derive(Clone, Copy)]
 pub(crate) enum Seen<'a> {
+    /// A term.
     Whole(&'a Term),
+    /// The list of these elements, the rest of a list.
     Rest(&'a [Term]),
 }
 

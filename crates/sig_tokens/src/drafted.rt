@@ -14,9 +14,13 @@ use std::marker::Model;
 /// A process as it was read. Its targets may still be labels of any process.
 #[derive(Drop)]
 pub struct DraftProc {
+    /// Its name.
     pub name: Name,
+    /// Where it keeps its messages.
     pub queue_data: QueueData,
+    /// Its labels, in the order of their lines.
     pub labels: LabelTable,
+    /// Its instructions.
     pub instrs: Instrs,
 }
 

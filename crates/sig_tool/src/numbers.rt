@@ -1,18 +1,10 @@
 //! Numbers of the arguments, and the events that they name.
 
 ghost use Rattle.std.specs.Prelude.{◌≡◌};
-ghost use Rattle.std.specs.Char.{is_ascii_digit};
-ghost use Rattle.std.specs.List.{list_all};
 ghost use Rattle.sig_tool.specs.Numbers.{event_named, narrow, number_in, pid_in};
 
+use sig_edge::are_digits;
 use sig_order::At;
-
-/// Whether each byte of the text is a decimal digit.
-fn are_digits(text: &str) -> bool
-    ensures { result ≡ list_all is_ascii_digit text.now }
-{
-    text.as_bytes().iter().all(|byte| byte.is_ascii_digit())
-}
 
 /// The number that the text spells in one decimal digit or more, where 64 bits hold it. `None` exactly
 /// where it spells none.

@@ -59,7 +59,8 @@ pub(crate) fn before_text<S: Source>(
     second: At,
     input: &mut S,
 ) -> Result<Vec<u8>, ToolStatus>
-    ensures { IsTextRead (Before first second) (reading (S.left input.old) (S.left input.new) (S.faults input.old) (S.faults input.new)) result }
+    ensures { IsTextRead (Before first second)
+        (reading (S.left input.old) (S.left input.new) (S.faults input.old) (S.faults input.new)) result }
 {
     let given = read_checked(alloc, input)?;
     let order = order_of(alloc, &given)?;

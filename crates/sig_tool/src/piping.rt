@@ -10,5 +10,6 @@ ghost use Rattle.sig_call.specs.Expansion.{expansion};
 /// The text that `expand` writes, read as a script, gives the script that the text of calls spells, if it
 /// has at most [`MOST_BYTES`](sig_script::MOST_BYTES) bytes.
 pub fn an_expanded_script_is_read_back()
-    ensures { (calls : List ℕ) (script : Program) → expansion calls ≡ Ok script → length (script_text script) ≤ MOST_BYTES → script_of (script_text script) ≡ Ok script }
+    ensures { (calls : List ℕ) (script : Program) → expansion calls ≡ Ok script → length (script_text script) ≤ MOST_BYTES →
+        script_of (script_text script) ≡ Ok script }
 {}

@@ -21,7 +21,8 @@ const USAGE: &[u8] = b"usage: sigtool check|replay|links|before P I Q J|expand\n
 
 /// Writes the line of a text of calls that is refused, and why.
 fn tell_call<E: Sink>(err: &mut E, line: u64, kind: CallFault) -> Result<(), Untold>
-    ensures { IsTold (writing (E.held err.old) (E.held err.new) (E.faults err.old) (E.faults err.new)) (call_refusal_text line kind) result }
+    ensures { IsTold (writing (E.held err.old) (E.held err.new) (E.faults err.old) (E.faults err.new))
+        (call_refusal_text line kind) result }
 {
     tell_line(err, PROGRAM, line, kind.word())
 }

@@ -103,7 +103,8 @@ pub(crate) fn concurrent_text<S: Source>(
     event: At,
     input: &mut S,
 ) -> Result<Vec<u8>, ViewStatus>
-    ensures { IsRecordRead (Concurrent event) (reading (S.left input.old) (S.left input.new) (S.faults input.old) (S.faults input.new)) result }
+    ensures { IsRecordRead (Concurrent event)
+        (reading (S.left input.old) (S.left input.new) (S.faults input.old) (S.faults input.new)) result }
 {
     let given = read_settled(alloc, input)?;
     let origins = origins_of(alloc, &given)?;

@@ -26,7 +26,8 @@ fn add_row(columns: &mut Vec<Numbers>, process: &Process, at: usize) -> Result<(
     requires short { (p : ℕ) → p < length columns.old.items → length (slice_index_or columns.old.items p []) ≤ at }
     requires numbered { (p : ℕ) → p < length columns.old.items → 1 ≤ slice_index process.now.running.state.counts.next_numbers p }
     ensures many { OnOk result (length columns.new.items ≡ length columns.old.items) }
-    ensures next { OnOk result ((p : ℕ) → p < length columns.old.items → HasNext at (slice_index process.now.running.state.counts.next_numbers p)
+    ensures next { OnOk result ((p : ℕ) → p < length columns.old.items → HasNext at
+        (slice_index process.now.running.state.counts.next_numbers p)
         (slice_index_or columns.old.items p []) (slice_index_or columns.new.items p [])) }
 {
     let (low, high) = process.sent_between();

@@ -5,8 +5,9 @@ use std::snapshot::Snapshot;
 /// What a crew was at the begin of a round, as contracts see it.
 #[derive(Drop)]
 pub(crate) struct Base {
-    // So that it has a size.
+    // Nothing but a size, which a snapshot alone doesn't have.
     pub(crate) size: u8,
+    /// The crew's processes.
     pub(crate) crew: Snapshot<Vec<Process>>,
 }
 
@@ -28,6 +29,8 @@ pub(crate) struct Part {
 /// A part at the end of its work, and whether it had an event.
 #[derive(Drop)]
 pub(crate) struct Worked {
+    /// The part.
     pub(crate) part: Part,
+    /// Whether it had an event.
     pub(crate) moved: bool,
 }

@@ -143,7 +143,7 @@ fn work_with<R: Wait, G: Gate, L: Ledger>(
     let mut fetched = Signals::new(alloc);
     let mut moved = false;
     let mut made = 0;
-    for _turn in 0..quota {
+    for _pass in 0..quota {
         let here = pass_patiently(shared, part, &mut fetched, &mut made, &mut steps)?;
         moved |= here;
         if !here || made >= quota as usize {

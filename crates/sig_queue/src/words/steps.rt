@@ -70,7 +70,8 @@ pub(crate) fn push_outer(
     requires table { place.old.table_id ≡ table_of words.now }
     requires out { (o : Outer) × (place.old.me.1 ≡ (0, Slot.Outer o) ∷ rest place.old.me.1) }
     ensures same { IsSameSeat place.new place.old }
-    ensures due { IfOk result (λ switched. switched ≡ is_install (due_at policy ((outer_in place.old.me.1).journal ++ Direct refused ∷ []))) }
+    ensures due { IfOk result (λ switched. switched ≡
+        is_install (due_at policy ((outer_in place.old.me.1).journal ++ Direct refused ∷ []))) }
     ensures ok { IfOk result (λ switched. place.new.me ≡ (
       place.old.me.0,
       (0, Slot.Outer (added (outer_in place.old.me.1) signal refused switched)) ∷ rest place.old.me.1,

@@ -5,24 +5,24 @@ use Rattle.sig_workers.proofs.working.work_with.Goals as goal
 pub returns-then-not-here-clause-passed : goal.returns-then-not-here-clause-passed
 returns-then-not-here-clause-passed g c =
     let e = c.in_ok-here.ensures in
-    one_pass c.args.part.now c.loop-turn.part c.pass_patiently.new.part e.same e.grow c.loop-turn.moved c.in_ok-here.here c.loop-turn.invariant.passed e.passed
+    one_pass c.args.part.now c.loop-pass.part c.pass_patiently.new.part e.same e.grow c.loop-pass.moved c.in_ok-here.here c.loop-pass.invariant.passed e.passed
 
-pub loop-turn-preserved : goal.loop-turn-preserved
-loop-turn-preserved g c =
+pub loop-pass-preserved : goal.loop-pass-preserved
+loop-pass-preserved g c =
     let e = c.in_ok-here.ensures in
-    let inv = c.loop-turn.invariant in
+    let inv = c.loop-pass.invariant in
     record {
       part = e.part;
       empty = e.empty;
-      same = same_part c.args.part.now c.loop-turn.part c.pass_patiently.new.part inv.same e.same;
-      first = λ _. or_true c.loop-turn.moved c.in_ok-here.here c.if-not-here.false;
-      acted = λ _. acted_pass c.args.part.now c.loop-turn.part c.pass_patiently.new.part c.loop-turn.moved inv.passed inv.acted e.acted;
-      passed = one_turn c.args.part.now c.loop-turn.part c.pass_patiently.new.part e.same e.grow c.loop-turn.moved c.in_ok-here.here c.if-not-here.false inv.passed e.passed;
+      same = same_part c.args.part.now c.loop-pass.part c.pass_patiently.new.part inv.same e.same;
+      first = λ _. or_true c.loop-pass.moved c.in_ok-here.here c.if-not-here.false;
+      acted = λ _. acted_pass c.args.part.now c.loop-pass.part c.pass_patiently.new.part c.loop-pass.moved inv.passed inv.acted e.acted;
+      passed = one_turn c.args.part.now c.loop-pass.part c.pass_patiently.new.part e.same e.grow c.loop-pass.moved c.in_ok-here.here c.if-not-here.false inv.passed e.passed;
     }
 
 pub returns-then-not-here-clause-acted : goal.returns-then-not-here-clause-acted
 returns-then-not-here-clause-acted g c =
-    acted_pass c.args.part.now c.loop-turn.part c.pass_patiently.new.part c.loop-turn.moved c.loop-turn.invariant.passed c.loop-turn.invariant.acted c.in_ok-here.ensures.acted
+    acted_pass c.args.part.now c.loop-pass.part c.pass_patiently.new.part c.loop-pass.moved c.loop-pass.invariant.passed c.loop-pass.invariant.acted c.in_ok-here.ensures.acted
 
 pub returns-clause-acted : goal.returns-clause-acted
-returns-clause-acted g c = c.loop-turn.invariant.acted (c.loop-turn.invariant.first (omega arith))
+returns-clause-acted g c = c.loop-pass.invariant.acted (c.loop-pass.invariant.first (omega arith))
