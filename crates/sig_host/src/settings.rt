@@ -1,3 +1,6 @@
+ghost use Rattle.std.specs.Prelude.{◌≡◌};
+ghost use Rattle.sig_host.specs.declared.settings.TheConstants.{MOST_CHURN, MOST_QUOTA, MOST_WORKERS};
+
 use sig_layout::Policy;
 
 /// What the arguments ask for.
@@ -25,3 +28,10 @@ pub const MOST_QUOTA: u32 = 1_000_000;
 
 /// The largest number of the policy [`Policy::Churn`].
 pub const MOST_CHURN: u32 = 1_000_000;
+
+/// The limits in numbers: [`MOST_WORKERS`] is 16, and [`MOST_QUOTA`] and [`MOST_CHURN`] are 1,000,000.
+pub fn the_limits_of_settings()
+    ensures workers { MOST_WORKERS ≡ 16 }
+    ensures quota { MOST_QUOTA ≡ 1000000 }
+    ensures churn { MOST_CHURN ≡ 1000000 }
+{}
