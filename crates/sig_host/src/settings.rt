@@ -6,11 +6,12 @@ use sig_layout::Policy;
 /// What the arguments ask for.
 #[derive(Clone, Copy, Debug, PartialEq, Eq)]
 pub struct Settings {
-    /// How many workers run the processes, from 1 to [`MOST_WORKERS`].
+    /// How many workers run the processes, from 1 to [`MOST_WORKERS`]. That so many run them, no
+    /// clause says.
     pub workers: u32,
     /// How many events a worker makes before its part of the first round is over, at least: from 1 to
-    /// [`MOST_QUOTA`]. Each later round asks for twice as many as the one before, up to 1,000,000. With
-    /// one worker it counts for nothing.
+    /// [`MOST_QUOTA`]. Each later round asks for twice as many as the one before, up to 1,000,000. No
+    /// clause speaks of what a quota does. With one worker it counts for nothing.
     pub quota: u32,
     /// When the shared queues have buffers; the number of [`Policy::Churn`] is from 1 to
     /// [`MOST_CHURN`]. With one worker it counts for nothing.
