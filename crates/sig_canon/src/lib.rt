@@ -11,5 +11,8 @@ mod printing;
 mod putting;
 
 pub use generating::{MOST_CALLS, generate};
-pub use laws::{a_printed_script_is_read_back, names_of_scripts_are_name_tokens};
+pub use laws::{
+    a_printed_script_is_read_back, names_of_scripts_are_name_tokens,
+    the_limits_of_generated_scripts,
+};
 pub use printing::print_script;

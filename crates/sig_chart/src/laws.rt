@@ -3,6 +3,7 @@
 
 ghost use Rattle.std.specs.Prelude.{◌≡◌, All, length, map};
 ghost use Rattle.std.specs.List.{AllPairs, filter};
+ghost use Rattle.sig_chart.specs.declared.window.TheConstants.{MOST_EVENTS};
 ghost use Rattle.sig_chart.specs.declared.window.Window.{Window as Stamps};
 ghost use Rattle.sig_chart.specs.Drawn.{AreShown};
 ghost use Rattle.sig_kinds.specs.declared.signal.Signal.{Signal};
@@ -31,4 +32,9 @@ pub fn an_arrow_leads_from_sending_to_handling()
 pub fn queued_signals_are_drawn()
     ensures { (w : Stamps) (g : Ground) (s : Signal) → AreShown g.reports w g.shown → HasItsStamp g s →
         stub_in w g.origins g.shown s ≡ stub_of g.origins g.shown s }
+{}
+
+/// The limit in numbers: [`MOST_EVENTS`](crate::MOST_EVENTS) is 2,000.
+pub fn the_limits_of_charts()
+    ensures events { MOST_EVENTS ≡ 2000 }
 {}

@@ -15,5 +15,6 @@ pub use charting::chart;
 pub use error::ChartError;
 pub use laws::{
     an_arrow_leads_from_sending_to_handling, marks_stand_apart, queued_signals_are_drawn,
+    the_limits_of_charts,
 };
 pub use window::{MOST_EVENTS, Window};

@@ -307,7 +307,8 @@ fn run_words<R: Threads + Wait + Sync, S: Source, O: Sink, G: Gate>(
 /// tells is a settled run of the script's machine, however many workers there are and whatever the
 /// policy of buffers; with one worker it is the one-worker run, of which a script has one. With
 /// `--generate` the source isn't read. With one worker the gate is told of nothing, and no thread is
-/// started.
+/// started. How many workers there are, what the gate is told and which threads are started, no clause
+/// says.
 ///
 /// - `Done`: `out` has taken the whole text. No read failed, and without `--generate` the source
 ///   has nothing left.

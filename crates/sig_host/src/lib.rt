@@ -16,7 +16,7 @@ mod words_error;
 
 pub use command_line::words;
 pub use host::run;
-pub use settings::{MOST_CHURN, MOST_QUOTA, MOST_WORKERS, Settings};
+pub use settings::{MOST_CHURN, MOST_QUOTA, MOST_WORKERS, Settings, the_limits_of_settings};
 pub use standard::program;
 pub use status::Status;
 pub use words_error::WordsError;

@@ -31,7 +31,7 @@ pub use held_buffer::HeldBuffer;
 pub use item::Item;
 pub use journal::{Journal, MOST_ENTRIES};
 pub use knows::Knows;
-pub use laws::{due_is_one, lawful_is_allowed, rule};
+pub use laws::{due_is_one, lawful_is_allowed, rule, the_limits_of_queues};
 pub use layout::{APART, BUFFERS, FILLED, FIRST_TURN, MODE, OUTER, SLOTS, WORDS};
 pub use numbers::Numbers;
 pub use opening::Opening;

@@ -26,6 +26,8 @@ ghost use Rattle.sig_terms.specs.TermTest.{same_term};
 ghost use Rattle.sig_terms.specs.declared.reference.Ref.{Ref};
 ghost use Rattle.sig_terms.specs.declared.term.Term.{Term};
 ghost use Rattle.sig_terms.specs.declared.term.Term.TheVariants as term;
+ghost use Rattle.sig_patterns.specs.declared.building.TheConstants.{MOST_DEPTH, MOST_NODES};
+ghost use Rattle.sig_patterns.specs.declared.mark.TheConstants.{MOST_MARKS};
 ghost use Rattle.sig_patterns.specs.declared.clause.Clause.{Clause};
 ghost use Rattle.sig_patterns.specs.declared.guard.Op.{Op};
 ghost use Rattle.sig_patterns.specs.declared.guard.TermKind.TheVariants as kind;
@@ -109,4 +111,12 @@ pub fn older_messages_are_skipped()
     ensures places { (clauses : List Clause) (env : Environment) (r : Ref) (older rest : List Term) →
         AskFor env r clauses → All (λ t. holds r t ≡ false) older →
         scan clauses env (older ++ rest) ≡ option_map (found_behind (length older)) (scan clauses env rest) }
+{}
+
+/// The limits in numbers: [`MOST_NODES`](crate::MOST_NODES) is 1,024, [`MOST_DEPTH`](crate::MOST_DEPTH) is 64, and
+/// [`MOST_MARKS`](crate::MOST_MARKS) is 8.
+pub fn the_limits_of_patterns()
+    ensures nodes { MOST_NODES ≡ 1024 }
+    ensures depth { MOST_DEPTH ≡ 64 }
+    ensures marks { MOST_MARKS ≡ 8 }
 {}

@@ -32,7 +32,7 @@ pub use guard::{Alternatives, Guard, Op, Operand, TermKind, Test, Tests};
 pub use laws::{
     a_clause_takes_what_it_matches, a_comparison_is_of_integers, a_hit_tells_its_match,
     a_list_is_a_head_and_a_list, a_pin_compares_with_the_value_before, a_pinned_reference_is_held,
-    a_repeated_variable_compares, older_messages_are_skipped,
+    a_repeated_variable_compares, older_messages_are_skipped, the_limits_of_patterns,
 };
 pub use mark::{MOST_MARKS, Mark, Reserve};
 pub use matching::matches;

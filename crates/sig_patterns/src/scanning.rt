@@ -9,7 +9,7 @@ use sig_terms::Term;
 use std::sync::ledger::Ledger;
 
 /// The first of the clauses that takes the message, from 0. `None` exactly where none does. Counts
-/// one step for each clause that it tries. (Erlang Reference Manual, Expressions, Receive.)
+/// at most one step for each clause. (Erlang Reference Manual, Expressions, Receive.)
 pub fn first_match<L: Ledger>(
     clauses: &[Clause],
     env: &Env,

@@ -19,3 +19,6 @@ pub record IsPartsOf (r : Running) (parts : Parts) : Type 0 where
   pub own : parts.own.items ≡ r.own
   pub taken_in : parts.taken_in.items ≡ r.taken_in
   pub state : parts.state ≡ printed_state r
+  -- of its part of the script
+  pub labels : parts.labels ≡ r.proc.labels
+  pub instrs : parts.instrs ≡ r.proc.instrs

@@ -1,4 +1,5 @@
 ghost use Rattle.std.specs.Prelude.{◌≡◌, ◌≤◌, length, slice_get, option_copied};
+ghost use Rattle.sig_program.specs.declared.script.TheConstants.{DEFAULT_TURNS, MOST_TURNS};
 ghost use Rattle.sig_program.specs.Scripts.{most_processes, IsScriptWithin};
 
 use crate::process::{Proc, Procs};
@@ -79,3 +80,9 @@ impl Script {
         self.procs.get(pid as usize)
     }
 }
+
+/// The limits in numbers: [`MOST_TURNS`] is 20,000, and [`DEFAULT_TURNS`] is 1,000.
+pub fn the_limits_of_programs()
+    ensures most { MOST_TURNS ≡ 20000 }
+    ensures default { DEFAULT_TURNS ≡ 1000 }
+{}

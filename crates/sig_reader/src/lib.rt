@@ -10,4 +10,4 @@ mod reader;
 mod same_names;
 
 pub use guards::MOST_TESTS;
-pub use reader::{MOST_BYTES, ScriptError, read_header, read_script};
+pub use reader::{MOST_BYTES, ScriptError, read_header, read_script, the_limits_of_scripts};

@@ -1,4 +1,6 @@
 ghost use Rattle.std.specs.Prelude.{◌≡◌, ◌+◌, ◌<◌, ◌^◌, length, IfOk, IfSome, Ok, Some, drop, All};
+ghost use Rattle.sig_reader.specs.declared.guards.TheConstants.{MOST_TESTS};
+ghost use Rattle.sig_reader.specs.declared.reader.TheConstants.{MOST_BYTES};
 ghost use Rattle.sig_reader.specs.ErrorTexts.{error_text};
 ghost use Rattle.sig_tokens.specs.Lines.{lines_of};
 ghost use Rattle.sig_tokens.specs.Tokens.{tokens_of};
@@ -303,3 +305,9 @@ pub fn read_script(alloc: Global, bytes: &[u8]) -> Result<Script, ScriptError>
     }
     read_text(alloc, bytes)
 }
+
+/// The limits in numbers: [`MOST_BYTES`] is 1,048,576, and [`MOST_TESTS`](crate::MOST_TESTS) is 64.
+pub fn the_limits_of_scripts()
+    ensures bytes { MOST_BYTES ≡ 1048576 }
+    ensures tests { MOST_TESTS ≡ 64 }
+{}

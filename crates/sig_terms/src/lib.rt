@@ -21,7 +21,9 @@ mod tokens;
 pub use atom::Atom;
 pub use name::Name;
 pub use pid::Pid;
-pub use reading::{Front, READ_DEPTH, READ_NODES, read, read_front, texts_tell_terms_apart};
+pub use reading::{
+    Front, READ_DEPTH, READ_NODES, read, read_front, texts_tell_terms_apart, the_limits_of_terms,
+};
 pub use reference::Ref;
 pub use refusal::ReadTerm;
 pub use sig_lists::Pushed;

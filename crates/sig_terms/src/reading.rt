@@ -1,6 +1,8 @@
 //! Terms from their texts.
 
 ghost use Rattle.std.specs.Prelude.{◌≡◌, ◌≢◌, ◌≤◌, IfOk, IsErrOf, Some, take, length};
+ghost use Rattle.sig_terms.specs.declared.bytes.TheConstants.{MOST_WORD_BYTES};
+ghost use Rattle.sig_terms.specs.declared.reading.TheConstants.{READ_DEPTH, READ_NODES};
 ghost use Rattle.sig_terms.specs.declared.term.Term.{Term};
 ghost use Rattle.sig_terms.specs.TermText.{term_text};
 ghost use Rattle.sig_terms.specs.Readable.{IsTerm, IsReadable, Begins};
@@ -65,4 +67,12 @@ pub fn read(alloc: Global, bytes: &[u8]) -> Result<Term, ReadTerm>
 /// Different terms have different texts.
 pub fn texts_tell_terms_apart()
     ensures { (t u : Term) → IsTerm t → IsTerm u → term_text t ≡ term_text u → t ≡ u }
+{}
+
+/// The limits in numbers: [`READ_DEPTH`] is 65, [`READ_NODES`] is 1,029, and
+/// [`MOST_WORD_BYTES`](crate::bytes::MOST_WORD_BYTES) is 255.
+pub fn the_limits_of_terms()
+    ensures depth { READ_DEPTH ≡ 65 }
+    ensures nodes { READ_NODES ≡ 1029 }
+    ensures word { MOST_WORD_BYTES ≡ 255 }
 {}
