@@ -1,7 +1,8 @@
 //! The input: a script, and behind it a record, which is that of a settled run of the script.
 
-ghost use Rattle.std.specs.Prelude.{◌≤◌, length};
+ghost use Rattle.std.specs.Prelude.{◌≡◌, ◌≤◌, length};
 ghost use Rattle.sig_edge.specs.Streams.{reading};
+ghost use Rattle.sig_tool.specs.declared.given.TheConstants.{MOST_INPUT};
 ghost use Rattle.sig_tool.specs.Inputs.{ArePartsOf, IsApproved, IsChecked, IsPair};
 
 use crate::input::read_input;
@@ -56,3 +57,8 @@ pub fn read_checked<S: Source>(alloc: Global, input: &mut S) -> Result<Given, To
     let given = parts_of(alloc, bytes.as_slice())?;
     approved(alloc, given)
 }
+
+/// The limit in numbers: [`MOST_INPUT`] is 67,108,864.
+pub fn the_limits_of_inputs()
+    ensures bytes { MOST_INPUT ≡ 67108864 }
+{}

@@ -21,7 +21,7 @@ mod telling;
 mod top;
 
 pub use command::Command;
-pub use given::{Given, MOST_INPUT, read_checked};
+pub use given::{Given, MOST_INPUT, read_checked, the_limits_of_inputs};
 pub use joining::a_record_is_cut_from_its_script;
 pub use numbers::{event_named, number_in};
 pub use origins::origins_of;
