@@ -1,12 +1,12 @@
 -- The text of outcomes is that of the records that tell them; and what was found, as it is listed.
-use Rattle.std.proofs.Common.{◌≡◌, ◌≢◌, ◌⊎◌, inl, inr, ℕ, zero, suc, ◌+◌, ◌<◌, ◌≤◌, Bool, true, false, List, [], ◌∷◌, ◌++◌, map, length, drop, get_or, Option, Some, None, Result, Ok, Err, refl, sym, ap, ◌∙◌, append_assoc, drop-cons, add-one, subst, arith}
-use Rattle.std.specs.Prelude.{All, AllPairs, slice_get, Vec}
+use Rattle.std.proofs.Common.{◌≡◌, ◌≢◌, ◌⊎◌, inl, inr, ℕ, zero, suc, ◌+◌, ◌<◌, ◌≤◌, Bool, true, false, List, [], ◌∷◌, ◌++◌, map, length, drop, get_or, IsTrue, ◌↔◌, Option, Some, None, Result, Ok, Err, refl, sym, ap, ◌∙◌, append_assoc, drop-cons, add-one, subst, arith}
+use Rattle.std.specs.Prelude.{All, AllPairs, IfOk, slice_get, Vec}
 use Rattle.std.specs.Global.{Global}
 use Rattle.std.specs.List.{flat_map}
 use Rattle.std.specs.Option.{option_map}
 use Rattle.std.proofs.lemmas.Bool.{false≢true}
 use Rattle.std.proofs.lemmas.List.{get_or-map, length-map}
-use Rattle.std.proofs.lemmas.List.Elements.{All-head, All-tail, All-map}
+use Rattle.std.proofs.lemmas.List.Elements.{All-head, All-tail, All-map, All-weaker}
 use Rattle.std.proofs.lemmas.List.Folds.{flat_map-map}
 use Rattle.std.proofs.lemmas.Option.{slice_get-map, slice_get_cases, slice_get_within, get_or_from_slice_get}
 use Rattle.sig_program.specs.Scripts.{Declared, Program}
@@ -14,7 +14,7 @@ use Rattle.sig_runs.specs.Machine.{At, Machine}
 use Rattle.sig_kinds.specs.declared.signal.Signal.{Signal}
 use Rattle.sig_model.specs.declared.event.Event.{Event}
 use Rattle.sig_model.specs.ProcessState.{ProcessState}
-use Rattle.sig_outcomes.specs.Outcomes.{unhandled}
+use Rattle.sig_outcomes.specs.Outcomes.{Rest, unhandled}
 use Rattle.sig_outcomelaw.specs.Told.{message_of, outcome_told, rest_told}
 use Rattle.sig_record.specs.declared.report.Report.{Report}
 use Rattle.sig_record.specs.EndText.{end_text, ends_text, left_end, message_text, queued_end}
@@ -27,6 +27,8 @@ use Rattle.sig_check.specs.Verdicts.{IsOfSettledRun}
 use Rattle.sig_view.specs.declared.status.ViewStatus.{ViewStatus}
 use Rattle.sig_view.specs.declared.status.ViewStatus.TheVariants.{Done, BadScript, Usage, ReadFault, WriteFault, Memory, No, BadRecord, TooLong, NoEvent, TooManyEvents, NoOutcome, NotFound, Unfinished}
 use Rattle.sig_view.specs.OutcomeText.{endings_from, endings_text, first_line, names_of, number_line, outcomes_from, outcomes_text, rest_text, rests_text, unhandled_text}
+use Rattle.sig_explore.specs.declared.outcomes.Outcomes.{Outcomes}
+use Rattle.sig_explore.specs.Endings.{AreAllOutcomes, IsEnding, TellOthers}
 use Rattle.sig_explore.specs.Seen.{HaveSeen}
 use Rattle.sig_view.specs.Outcomes.{AreFound, AreListed, end_with, HasFewer, IsFoundText, IsNotFound, IsNumberedText, IsOutcome, IsOutcomeRecord, IsOutcomesText, numbered}
 
@@ -88,7 +90,8 @@ module _ (script : Program) where
       let second : get_or (map outcome_told endings) j d ≡ outcome_told (get_or endings j []) = get_or-map outcome_told endings j [] d lt in
       h i j [] less lt (sym first ∙ same ∙ second)
 
-  module _ (most : ℕ) (endings : List (List Report)) (states : ℕ) (all : Bool) (found : AreFound script most endings states all) where
+  module _ (most : ℕ) (endings : List (List Report)) (states : ℕ) (all : Bool) (found : AreFound script most endings states all)
+      (seen : HaveSeen script most states all (map outcome_told endings)) where
     are_listed : AreListed script (map outcome_told endings) all
     are_listed = record {
       each = All-map (IsOutcome script) outcome_told endings (λ k d lt. (get_or endings k d, found.each k d lt, refl));
@@ -103,7 +106,7 @@ module _ (script : Program) where
       all = all;
       listed = are_listed;
       met = found.met;
-      seen = found.seen;
+      seen = seen;
       lines = is ∙ text_is endings all found.each;
       ends = ends;
     }
@@ -164,7 +167,7 @@ module _ (script : Program) where
           over = omega (arith, over, same);
           outcomes = outcomes;
           listed = subst (AreListed script outcomes) cut are_listed;
-          seen = subst (λ n. HaveSeen script most n false outcomes) (sym same) (subst (λ b. HaveSeen script most states b outcomes) cut found.seen);
+          seen = subst (λ n. HaveSeen script most n false outcomes) (sym same) (subst (λ b. HaveSeen script most states b outcomes) cut seen);
           fewer = fewer_told number some is;
         }
 
@@ -186,6 +189,19 @@ module _ (script : Program) where
     found_is number (Err NoOutcome) some names h = inr (has_fewer number some h.0 h.1)
     found_is number (Err (NotFound met)) some names h = not_found number met some h.0 h.1 h.2
     found_is number (Err (Unfinished met)) some names h = absurd h
+
+-- what a search says of what it has found
+pub all_found : {E : Type 0} (script : Program) (most : ℕ) (found : Result Outcomes E) → IfOk found (λ (o : Outcomes). All (IsEnding script) o.endings.items) → IfOk found (λ (o : Outcomes). AllPairs TellOthers o.endings.items)
+    → IfOk found (λ (o : Outcomes). IsTrue o.all ↔ (o.states ≤ most)) → (AreNames script → IfOk found (λ (o : Outcomes). All IsSizedRecord o.endings.items))
+    → IfOk found (λ (o : Outcomes). o.all ≡ true → AreAllOutcomes script (map outcome_told o.endings.items)) → IfOk found (λ (o : Outcomes). AreFound script most o.endings.items o.states o.all)
+all_found script most (Ok o) endings once states sized whole = record {
+  each = All-weaker (IsEnding script) (IsOfSettledRun script) (λ r h. record { machine = h.machine; run = h.run; settled = h.settled }) o.endings.items endings;
+  sized = sized;
+  distinct = once;
+  met = states;
+  whole = whole;
+}
+all_found script most (Err e) endings once states sized whole = tt
 
 -- ---- the loop
 

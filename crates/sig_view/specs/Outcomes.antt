@@ -40,14 +40,12 @@ numbered zero items = None
 numbered (suc place) items = slice_get items place
 
 -- Each of these is the record of a settled run, of names and terms that can be read, and no two tell the same outcome. So many states
--- were met, and of those that may be visited each without a choice has its outcome told; that these are all is said exactly where no
--- more were met than may be visited, and then the records tell all outcomes.
+-- were met; that these are all is said exactly where no more were met than may be visited, and then the records tell all outcomes.
 pub record AreFound (script : Program) (most : ℕ) (endings : List (List Report)) (states : ℕ) (all : Bool) : Type 0 where
   pub each : All (IsOfSettledRun script) endings
   pub sized : AreNames script → All IsSizedRecord endings
   pub distinct : AllPairs (λ a b. outcome_told a ≢ outcome_told b) endings
   pub met : IsTrue all ↔ (states ≤ most)
-  pub seen : HaveSeen script most states all (map outcome_told endings)
   pub whole : all ≡ true → AreAllOutcomes script (map outcome_told endings)
 
 -- ---- what is written

@@ -1,11 +1,13 @@
 //! The command `outcomes`.
 
-ghost use Rattle.std.specs.Prelude.{◌≡◌, IfOk, OnOk};
+ghost use Rattle.std.specs.Prelude.{◌≡◌, IfOk, OnOk, map};
 ghost use Rattle.std.specs.Option.{option_copied};
 ghost use Rattle.sig_edge.specs.Streams.{reading};
 ghost use Rattle.sig_program.specs.ScriptNames.{AreNames};
 ghost use Rattle.sig_record.specs.ReadableRecord.{CanBeReread};
 ghost use Rattle.sig_record.specs.RecordText.{record_text};
+ghost use Rattle.sig_outcomelaw.specs.Told.{outcome_told};
+ghost use Rattle.sig_explore.specs.Seen.{HaveSeen};
 ghost use Rattle.sig_view.specs.declared.command.Command.TheVariants.{Outcomes as Listing};
 ghost use Rattle.sig_view.specs.Outcomes.{AreFound, end_with, IsFoundText, IsListText, IsNumberedText, IsRecordFound, numbered};
 ghost use Rattle.sig_view.specs.Texts.{IsTextRead};
@@ -28,7 +30,8 @@ fn search<T: Teller>(
     states: u64,
     teller: &mut T,
 ) -> Result<Outcomes, AllocError>
-    ensures { IfOk result (λ found. AreFound script.now states found.endings.items found.states found.all) }
+    ensures found { IfOk result (λ found. AreFound script.now states found.endings.items found.states found.all) }
+    ensures seen { IfOk result (λ found. HaveSeen script.now states found.states found.all (map outcome_told found.endings.items)) }
 {
     list_outcomes(alloc, script, states as usize, teller)
 }
