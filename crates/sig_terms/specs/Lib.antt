@@ -8,3 +8,4 @@ pub mod Tokens
 pub mod Fronts
 pub mod Putting
 pub mod Names
+pub mod Hashing
