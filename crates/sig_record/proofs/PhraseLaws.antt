@@ -1,14 +1,15 @@
 -- The laws of phrases: what is written by a table is read by it again, and nothing else is. What is read can lie in memory, and its
 -- terms are no larger than what is read.
-use Rattle.std.proofs.Common.{◌≡◌, ℕ, Bool, true, false, List, [], ◌∷◌, ◌++◌, Some, None, refl, sym, ap, subst, ◌∙◌, append_assoc}
-use Rattle.std.specs.Prelude.{IfSome, codes}
+use Rattle.std.proofs.Common.{◌≡◌, ℕ, Bool, true, false, if◌then◌else◌, List, [], ◌∷◌, ◌++◌, Option, Some, None, refl, sym, ap, subst, ◌∙◌, append_assoc}
+use Rattle.std.specs.Prelude.{IfSome, IsSomeAnd, codes}
+use Rattle.std.specs.Str.{bytes_eq}
 use Rattle.std.proofs.lemmas.List.{append-nil}
-use Rattle.sig_terms.specs.Tokens.{after_text}
+use Rattle.sig_terms.specs.Tokens.{◌>>=◌, after_text}
 use Rattle.sig_terms.specs.Readable.{IsTerm, IsReadable}
 use Rattle.sig_terms.specs.declared.term.Term.{Term}
 use Rattle.sig_terms.proofs.TokenReads.{Stops}
 use Rattle.sig_model.specs.TermSizes.{IsKeptTerm}
-use Rattle.sig_record.specs.Phrases.{Field, a_narrow, a_wide, a_reference, a_term, a_truth, a_link, Said, AllSaid, choice_text, said_text, values, values_text, choice_front, said_front, fields_front, IsStoredSaid, IsStoredValue, terms_of, Each, Row, Phrase, says, phrase_text, IsStoredPhrase, row_front, rows_front}
+use Rattle.sig_record.specs.Phrases.{Field, a_narrow, a_wide, a_reference, a_term, a_truth, a_link, Said, AllSaid, choice_text, said_text, Value, values, values_text, choice_front, said_front, fields_front, IsStoredSaid, IsStoredValue, terms_of, Each, Row, Phrase, says, phrase_text, IsStoredPhrase, row_front, rows_front}
 use Rattle.sig_record.specs.SizedRecord.{IsSizedPhrase}
 use Rattle.sig_record.proofs.ReaderLaws.{text_law, IsReadAs, Law, after_again, joined_law, behind_law, stopped_law, word_found, alone_found, made_again}
 use Rattle.sig_record.proofs.PieceLaws.{narrow_law, wide_law, term_law, ref_law}
@@ -137,6 +138,32 @@ readable (f ∷ fs) x s k =
 
 -- ---- tables
 
+-- a row, and what its fields say
+pub record Wording (A : Type 0) : Type 0 where
+  pub row : Row A
+  pub said : AllSaid row.fields
+
+-- what the value says, if it is one of this field
+abbrev pub said_by : (f : Field) → Value → Option (Said f)
+said_by a_narrow (a_narrow, n) = Some n
+said_by a_wide (a_wide, n) = Some n
+said_by a_reference (a_reference, r) = Some r
+said_by a_term (a_term, t) = Some t
+said_by a_truth (a_truth, b) = Some b
+said_by a_link (a_link, b) = Some b
+said_by _ _ = None
+
+-- what the values say, if they are of these fields
+abbrev pub all_said : (fs : List Field) → List Value → Option (AllSaid fs)
+all_said [] [] = Some tt
+all_said (f ∷ fs) (v ∷ vs) = said_by f v >>= λ x. all_said fs vs >>= λ y. Some (x, y)
+all_said _ _ = None
+
+-- the row whose word the phrase has, with what is said
+abbrev pub wording : {A : Type 0} → List (Row A) → Phrase → Option (Wording A)
+wording [] p = None
+wording (r ∷ rs) p = if bytes_eq r.word p.word then (all_said r.fields p.values >>= λ x. Some (record { row = r; said = x })) else wording rs p
+
 abbrev pub IsReadablePhrase : Phrase → Type 0
 IsReadablePhrase p = IsStoredPhrase p × IsSizedPhrase p
 
@@ -158,21 +185,26 @@ module _ {A : Type 0} (phrase : A → Phrase) where
       word_found text ok r.word (all_law r.fields) r.make (λ x. ap phrase_text (each.0 x))
       (λ x k. subst IsReadablePhrase (sym (each.0 x)) (stored r.fields x k, kept r.fields x k)) bytes (rows_front rs bytes) (rows_found rs each.1 bytes)
 
-  -- the value is said by a row, the first whose word its text begins with, and that row makes it again
-  pub record IsFound (rows : List (Row A)) (a : A) : Type 0 where
-    pub row : Row A
-    pub said : AllSaid row.fields
-    pub is : phrase a ≡ says row said
-    pub first : (rest : List ℕ) → rows_front rows (row.word ++ (all_text row.fields said ++ rest)) ≡ row_front row (all_text row.fields said ++ rest)
-    pub made : row.make said ≡ a
+  -- the value is said by this row, the first whose word its text begins with, and the row makes it again
+  pub record IsSaidBy (rows : List (Row A)) (a : A) (w : Wording A) : Type 0 where
+    pub is : phrase a ≡ says w.row w.said
+    pub first : (rest : List ℕ) → rows_front rows (w.row.word ++ (all_text w.row.fields w.said ++ rest)) ≡ row_front w.row (all_text w.row.fields w.said ++ rest)
+    pub made : w.row.make w.said ≡ a
+
+  abbrev pub IsFound : List (Row A) → A → Type 0
+  IsFound rows a = IsSomeAnd (wording rows (phrase a)) (IsSaidBy rows a)
+
+  said_again : (rows : List (Row A)) (a : A) (o : Option (Wording A)) → IsSomeAnd o (IsSaidBy rows a) → (rest : List ℕ) → ok a → Stops rest
+      → rows_front rows (text a ++ rest) ≡ Some (a, rest)
+  said_again rows a None f rest k stop = absurd f
+  said_again rows a (Some w) f rest k stop =
+      let written : List ℕ = all_text w.row.fields w.said in
+      let good : IsReadablePhrase (says w.row w.said) = subst IsReadablePhrase f.is k in
+      ap (λ (p : Phrase). rows_front rows (phrase_text p ++ rest)) f.is ∙ ap (rows_front rows) (append_assoc w.row.word written rest) ∙ f.first rest
+      ∙ made_again (all_law w.row.fields) w.row.make w.said rest (readable w.row.fields w.said good.0 good.1) stop ∙ ap (λ (b : A). Some (b, rest)) f.made
 
   pub rows_law : (rows : List (Row A)) → AreSaid rows → ((a : A) → IsFound rows a) → Law Stops text ok (rows_front rows)
   rows_law rows each found = record {
     found = rows_found rows each;
-    again = λ a rest k stop.
-        let f : IsFound rows a = found a in
-        let written : List ℕ = all_text f.row.fields f.said in
-        let good : IsReadablePhrase (says f.row f.said) = subst IsReadablePhrase f.is k in
-        ap (λ (p : Phrase). rows_front rows (phrase_text p ++ rest)) f.is ∙ ap (rows_front rows) (append_assoc f.row.word written rest) ∙ f.first rest
-        ∙ made_again (all_law f.row.fields) f.row.make f.said rest (readable f.row.fields f.said good.0 good.1) stop ∙ ap (λ (b : A). Some (b, rest)) f.made;
+    again = λ a rest k stop. said_again rows a (wording rows (phrase a)) (found a) rest k stop;
   }
