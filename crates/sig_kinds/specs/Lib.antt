@@ -5,3 +5,4 @@ pub mod WatchRules
 pub mod Counting
 pub mod SignalNames
 pub mod Plainly
+pub mod Hashing

@@ -1,6 +1,7 @@
 pub mod ByteKeyLemmas
 pub mod EnvironmentLemmas
 pub mod SameEntries
+pub mod FedEntries
 pub mod PastTheEnd
 pub mod NextPlace
 pub mod PartWalks

@@ -8,3 +8,4 @@ pub mod Building
 pub mod Scanning
 pub mod Pinning
 pub mod Pids
+pub mod Hashing

@@ -15,3 +15,4 @@ pub mod PartsOf
 pub mod Portraits
 pub mod Lending
 pub mod Idling
+pub mod Hashing

@@ -1,3 +1,4 @@
 pub mod Arrivals
 pub mod Tables
 pub mod WatchTable
+pub mod Hashing

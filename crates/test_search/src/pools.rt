@@ -1,28 +1,32 @@
 //! Pools of many things, from a table: the numbers follow from the order in which the things are given.
 
 ghost use Rattle.std.specs.Prelude.{ℕ};
+ghost use Rattle.std.specs.Hash as fed;
 
 use sig_search::{Plain, Pool};
 use std::alloc::{AllocError, Global};
+use std::hash::Hasher;
 
-// A thing that has one of so many marks.
+// A thing, and what a hasher is fed of it.
 #[derive(Drop)]
 struct Marked {
     value: u32,
-    marks: u64,
+    mark: u32,
 }
 
 impl Plain for Marked {
-    ghost Sight = { ℕ };
+    ghost Sight = { ℕ × ℕ };
 
-    ghost shown = { λ m. m.value };
+    ghost shown = { λ m. (m.value, m.mark) };
+
+    ghost fed = { λ m. fed.u32 m.1 };
 
     fn same(&self, other: &Marked) -> bool {
-        self.value == other.value
+        self.value == other.value && self.mark == other.mark
     }
 
-    fn mark(&self) -> u64 {
-        u64::from(self.value).checked_rem(self.marks).unwrap_or(0)
+    fn hash<H: Hasher>(&self, hasher: &mut H) {
+        hasher.write_u32(self.mark);
     }
 }
 
@@ -30,7 +34,7 @@ impl Plain for Marked {
 struct Row {
     count: u32,
     step: u32,
-    marks: u64,
+    marks: u32,
 }
 
 static ROWS: [Row; 9] = [
@@ -54,40 +58,41 @@ static ROWS: [Row; 9] = [
     Row {
         count: 8,
         step: 1,
-        marks: 1 << 32,
+        marks: u32::MAX,
     },
     Row {
         count: 9,
         step: 1,
-        marks: 1 << 32,
+        marks: u32::MAX,
     },
     Row {
         count: 64,
         step: 3,
-        marks: 1 << 32,
+        marks: u32::MAX,
     },
     Row {
         count: 65,
         step: 3,
-        marks: 1 << 32,
+        marks: u32::MAX,
     },
     // many, each with a mark of its own: in a row, and alike in their lower 16 bits
     Row {
         count: 20000,
         step: 1,
-        marks: 1 << 32,
+        marks: u32::MAX,
     },
     Row {
         count: 20000,
         step: 1 << 16,
-        marks: 1 << 32,
+        marks: u32::MAX,
     },
 ];
 
 fn thing(row: &Row, at: u32) -> Marked {
+    let value = at.wrapping_mul(row.step);
     Marked {
-        value: at.wrapping_mul(row.step),
-        marks: row.marks,
+        value,
+        mark: value.checked_rem(row.marks).unwrap_or(0),
     }
 }
 
