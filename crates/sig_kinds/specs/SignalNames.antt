@@ -5,22 +5,20 @@ use Rattle.std.specs.FinMap.{get, contains_key}
 use Rattle.sig_terms.specs.declared.reference.Ref.{Ref}
 use Rattle.sig_terms.specs.Names.{Named, process, names_of_ref, names_of, IsNameBelow}
 use Rattle.sig_kinds.specs.declared.signal.Kind.{Kind}
-use Rattle.sig_kinds.specs.declared.signal.Kind.TheVariants.{Message, AliasMessage, Link, Unlink, UnlinkAck, Monitor, Demonitor, Exit, Down}
+use Rattle.sig_kinds.specs.declared.signal.Kind.TheVariants.{Message, AliasMessage, Monitor, Demonitor, Exit, Down}
 use Rattle.sig_kinds.specs.declared.signal.Signal.{Signal}
 use Rattle.sig_kinds.specs.LinkRules.{LinkState, is_active, awaited_from}
 use Rattle.sig_kinds.specs.WatchRules.{WatchState}
 
--- the names in what a signal says
+-- the names in what a signal says; the other kinds name nothing
 abbrev pub names_of_kind : Kind → List Named
 names_of_kind (Message term) = names_of term
 names_of_kind (AliasMessage r term) = names_of_ref r ++ names_of term
-names_of_kind Link = []
-names_of_kind (Unlink id) = []
-names_of_kind (UnlinkAck id) = []
 names_of_kind (Monitor r) = names_of_ref r
 names_of_kind (Demonitor r) = names_of_ref r
 names_of_kind (Exit reason linked) = names_of reason
 names_of_kind (Down r reason) = names_of_ref r ++ names_of reason
+names_of_kind _ = []
 
 -- what holds of every name in a signal: its sender, its receiver, and those in what it says
 pub record SignalNames (P : Named → Type 0) (x : Signal) : Type 0 where
