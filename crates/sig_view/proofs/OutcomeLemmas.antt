@@ -2,19 +2,22 @@
 use Rattle.std.proofs.Common.{◌≡◌, ◌≢◌, ◌⊎◌, inl, inr, ℕ, zero, suc, ◌+◌, ◌<◌, ◌≤◌, Bool, true, false, List, [], ◌∷◌, ◌++◌, map, length, drop, get_or, IsTrue, ◌↔◌, Option, Some, None, Result, Ok, Err, refl, sym, ap, ◌∙◌, append_assoc, drop-cons, add-one, subst, arith}
 use Rattle.std.specs.Prelude.{All, AllPairs, IfOk, slice_get, Vec}
 use Rattle.std.specs.Global.{Global}
-use Rattle.std.specs.List.{flat_map}
+use Rattle.std.specs.List.{Contains, flat_map}
+use Rattle.std.specs.List.Sorted.{IsPermutation}
 use Rattle.std.specs.Option.{option_map}
 use Rattle.std.proofs.lemmas.Bool.{false≢true}
 use Rattle.std.proofs.lemmas.List.{get_or-map, length-map}
 use Rattle.std.proofs.lemmas.List.Elements.{All-head, All-tail, All-map, All-weaker}
 use Rattle.std.proofs.lemmas.List.Folds.{flat_map-map}
+use Rattle.std.proofs.lemmas.List.Sorted.{All-permutation, Contains-permutation, IsPermutation-map}
 use Rattle.std.proofs.lemmas.Option.{slice_get-map, slice_get_cases, slice_get_within, get_or_from_slice_get}
 use Rattle.sig_program.specs.Scripts.{Declared, Program}
 use Rattle.sig_runs.specs.Machine.{At, Machine}
 use Rattle.sig_kinds.specs.declared.signal.Signal.{Signal}
 use Rattle.sig_model.specs.declared.event.Event.{Event}
 use Rattle.sig_model.specs.ProcessState.{ProcessState}
-use Rattle.sig_outcomes.specs.Outcomes.{Rest, unhandled}
+use Rattle.sig_outcomes.specs.Crews.{machine_of_crew}
+use Rattle.sig_outcomes.specs.Outcomes.{Rest, outcome_of, unhandled}
 use Rattle.sig_outcomelaw.specs.Told.{message_of, outcome_told, rest_told}
 use Rattle.sig_record.specs.declared.report.Report.{Report}
 use Rattle.sig_record.specs.EndText.{end_text, ends_text, left_end, message_text, queued_end}
@@ -26,7 +29,8 @@ use Rattle.sig_record.specs.RunRecord.{events_listed, run_report, run_reports}
 use Rattle.sig_check.specs.Verdicts.{IsOfSettledRun}
 use Rattle.sig_view.specs.declared.status.ViewStatus.{ViewStatus}
 use Rattle.sig_view.specs.declared.status.ViewStatus.TheVariants.{Done, BadScript, Usage, ReadFault, WriteFault, Memory, No, BadRecord, TooLong, NoEvent, TooManyEvents, NoOutcome, NotFound, Unfinished}
-use Rattle.sig_view.specs.OutcomeText.{endings_from, endings_text, first_line, names_of, number_line, outcomes_from, outcomes_text, rest_text, rests_text, unhandled_text}
+use Rattle.sig_view.proofs.OrderLemmas.{elements_ascend, pairs_rearranged}
+use Rattle.sig_view.specs.OutcomeText.{AreEndingsAscending, endings_from, endings_text, first_line, names_of, number_line, outcomes_from, outcomes_text, rest_text, rests_text, unhandled_text}
 use Rattle.sig_explore.specs.declared.outcomes.Outcomes.{Outcomes}
 use Rattle.sig_explore.specs.Endings.{AreAllOutcomes, IsEnding, TellOthers}
 use Rattle.sig_explore.specs.Seen.{HaveSeen}
@@ -91,11 +95,15 @@ module _ (script : Program) where
       h i j [] less lt (sym first ∙ same ∙ second)
 
   module _ (most : ℕ) (endings : List (List Report)) (states : ℕ) (all : Bool) (found : AreFound script most endings states all)
-      (seen : HaveSeen script most states all (map outcome_told endings)) where
-    are_listed : AreListed script (map outcome_told endings) all
+      (seen : HaveSeen script most states all (map outcome_told endings)) (ascending : AreEndingsAscending endings) where
+    are_listed : AreListed script most (map outcome_told endings) states all
     are_listed = record {
       each = All-map (IsOutcome script) outcome_told endings (λ k d lt. (get_or endings k d, found.each k d lt, refl));
       distinct = pairs_told endings found.distinct;
+      ascending = elements_ascend outcome_told ends_text (rests_text 0 (names_of script)) endings
+          (λ k d lt. ends_of_settled (get_or endings k d) (found.each k d lt)) ascending;
+      met = found.met;
+      seen = seen;
       whole = found.whole;
     }
 
@@ -105,8 +113,6 @@ module _ (script : Program) where
       states = states;
       all = all;
       listed = are_listed;
-      met = found.met;
-      seen = seen;
       lines = is ∙ text_is endings all found.each;
       ends = ends;
     }
@@ -126,10 +132,11 @@ module _ (script : Program) where
         subst IsSizedRecord (get_or_from_slice_get endings place reports reports is) (found.sized names place reports (slice_get_within endings place reports is))
 
     listed_record : (number : ℕ) (reports : List Report) (text : List ℕ) → numbered number endings ≡ Some reports → text ≡ record_text reports → CanBeReread reports
-        → AreNames script → IsOutcomeRecord script number text
+        → AreNames script → IsOutcomeRecord script most number text
     unfolding CanBeReread
     listed_record number reports text is printed can names = record {
       outcomes = map outcome_told endings;
+      states = states;
       all = all;
       listed = are_listed;
       reports = reports;
@@ -152,10 +159,11 @@ module _ (script : Program) where
     fewer_told : (number : ℕ) → number ≢ 0 → numbered number endings ≡ None → length (map outcome_told endings) < number
     fewer_told number some is = subst (λ n. n < number) (sym (length-map endings outcome_told)) (past_end number some is)
 
-    has_fewer : (number : ℕ) → number ≢ 0 → numbered number endings ≡ None → all ≡ true → HasFewer script number
+    has_fewer : (number : ℕ) → number ≢ 0 → numbered number endings ≡ None → all ≡ true → HasFewer script most number
     has_fewer number some is whole = record {
       outcomes = map outcome_told endings;
-      listed = subst (AreListed script (map outcome_told endings)) whole are_listed;
+      states = states;
+      listed = subst (AreListed script most (map outcome_told endings) states) whole are_listed;
       fewer = fewer_told number some is;
     }
 
@@ -166,8 +174,7 @@ module _ (script : Program) where
         record {
           over = omega (arith, over, same);
           outcomes = outcomes;
-          listed = subst (AreListed script outcomes) cut are_listed;
-          seen = subst (λ n. HaveSeen script most n false outcomes) (sym same) (subst (λ b. HaveSeen script most states b outcomes) cut seen);
+          listed = subst (λ n. AreListed script most outcomes n false) (sym same) (subst (AreListed script most outcomes states) cut are_listed);
           fewer = fewer_told number some is;
         }
 
@@ -190,7 +197,34 @@ module _ (script : Program) where
     found_is number (Err (NotFound met)) some names h = not_found number met some h.0 h.1 h.2
     found_is number (Err (Unfinished met)) some names h = absurd h
 
--- what a search says of what it has found
+-- ---- in another order
+
+module _ (script : Program) (most : ℕ) (old new : List (List Report)) (states : ℕ) (all : Bool) (same : IsPermutation old new) where
+  told_still : (outcome : List Rest) → Contains (map outcome_told old) outcome → Contains (map outcome_told new) outcome
+  told_still outcome = Contains-permutation (map outcome_told old) (map outcome_told new) outcome (IsPermutation-map outcome_told old new same)
+
+  pub found_still : AreFound script most old states all → AreFound script most new states all
+  found_still found = record {
+    each = All-permutation (IsOfSettledRun script) old new same found.each;
+    sized = λ names. All-permutation IsSizedRecord old new same (found.sized names);
+    distinct = pairs_rearranged TellOthers (λ a b differ alike. differ (sym alike)) old new same found.distinct;
+    met = found.met;
+    whole = λ is machine reports run few settled. told_still (outcome_told reports) (found.whole is machine reports run few settled);
+  }
+
+  pub seen_still : HaveSeen script most states all (map outcome_told old) → HaveSeen script most states all (map outcome_told new)
+  seen_still seen = record {
+    crews = seen.crews;
+    many = seen.many;
+    first = seen.first;
+    met = seen.met;
+    once = seen.once;
+    told = λ n crew within there stuck. told_still (outcome_of script (machine_of_crew crew)) (seen.told n crew within there stuck);
+    closed = seen.closed;
+  }
+
+-- ---- what a search says of what it has found
+
 pub all_found : {E : Type 0} (script : Program) (most : ℕ) (found : Result Outcomes E) → IfOk found (λ (o : Outcomes). All (IsEnding script) o.endings.items) → IfOk found (λ (o : Outcomes). AllPairs TellOthers o.endings.items)
     → IfOk found (λ (o : Outcomes). IsTrue o.all ↔ (o.states ≤ most)) → (AreNames script → IfOk found (λ (o : Outcomes). All IsSizedRecord o.endings.items))
     → IfOk found (λ (o : Outcomes). o.all ≡ true → AreAllOutcomes script (map outcome_told o.endings.items)) → IfOk found (λ (o : Outcomes). AreFound script most o.endings.items o.states o.all)

@@ -20,7 +20,7 @@ use Rattle.sig_tool.specs.Inputs.{IsOver, IsShort, IsWhole}
 use Rattle.sig_view.specs.declared.status.ViewStatus.{ViewStatus}
 use Rattle.sig_view.specs.declared.status.ViewStatus.TheVariants.{Done, BadScript, ReadFault, Memory, TooLong, NoOutcome, NotFound, Unfinished}
 use Rattle.sig_view.specs.declared.text.Text.{Text}
-use Rattle.sig_view.specs.OutcomeText.{names_of, outcomes_text}
+use Rattle.sig_view.specs.OutcomeText.{AreAscending, names_of, outcomes_text}
 
 -- ---- outcomes of a script
 
@@ -28,10 +28,15 @@ use Rattle.sig_view.specs.OutcomeText.{names_of, outcomes_text}
 abbrev pub IsOutcome : Program → List Rest → Type 0
 IsOutcome script outcome = (reports : List Report) × IsOfSettledRun script reports × (outcome ≡ outcome_told reports)
 
--- Each is an outcome of the script, and none is there twice; and where that is said, these are all.
-pub record AreListed (script : Program) (outcomes : List (List Rest)) (all : Bool) : Type 0 where
+-- What is listed where a search may visit so many states: outcomes of the script, none of them twice, by ascending text. So many states
+-- were met, and of those that may be visited each without a choice has its outcome here. That these are all is said exactly where no more
+-- were met than may be visited, and then they are.
+pub record AreListed (script : Program) (most : ℕ) (outcomes : List (List Rest)) (states : ℕ) (all : Bool) : Type 0 where
   pub each : All (IsOutcome script) outcomes
   pub distinct : AllPairs (λ a b. a ≢ b) outcomes
+  pub ascending : AreAscending (names_of script) outcomes
+  pub met : IsTrue all ↔ (states ≤ most)
+  pub seen : HaveSeen script most states all outcomes
   pub whole : all ≡ true → AreAllOutcomes script outcomes
 
 -- the one of this number, counted from 1
@@ -55,47 +60,43 @@ abbrev pub end_with : Bool → ℕ → ViewStatus
 end_with true states = Done
 end_with false states = Unfinished states
 
--- The text lists outcomes of the script, all of them where it says so. So many states were met, and of those that may be visited each
--- without a choice has its outcome listed; it says so exactly where these are no more than may be visited; else the call ends with their
--- number.
+-- the text is that of such a list, and the call ends as one that has written it
 pub record IsOutcomesText (script : Program) (most : ℕ) (text : List ℕ) (end : ViewStatus) : Type 0 where
   pub outcomes : List (List Rest)
   pub states : ℕ
   pub all : Bool
-  pub listed : AreListed script outcomes all
-  pub met : IsTrue all ↔ (states ≤ most)
-  pub seen : HaveSeen script most states all outcomes
+  pub listed : AreListed script most outcomes states all
   pub lines : text ≡ outcomes_text (names_of script) outcomes all
   pub ends : end ≡ end_with all states
 
--- the text is that of the record of a settled run, which can be read, that ends in the outcome of this number among such
-pub record IsOutcomeRecord (script : Program) (number : ℕ) (text : List ℕ) : Type 0 where
+-- the text is that of the record of a settled run, which can be read, that ends in the outcome of this number of such a list
+pub record IsOutcomeRecord (script : Program) (most : ℕ) (number : ℕ) (text : List ℕ) : Type 0 where
   pub outcomes : List (List Rest)
+  pub states : ℕ
   pub all : Bool
-  pub listed : AreListed script outcomes all
+  pub listed : AreListed script most outcomes states all
   pub reports : List Report
   pub settled : IsOfSettledRun script reports
   pub readable : IsReadableRecord reports
   pub there : numbered number outcomes ≡ Some (outcome_told reports)
   pub printed : text ≡ record_text reports
 
--- a list of all outcomes of the script doesn't come to this number
-pub record HasFewer (script : Program) (number : ℕ) : Type 0 where
+-- such a list of all outcomes of the script doesn't come to this number
+pub record HasFewer (script : Program) (most : ℕ) (number : ℕ) : Type 0 where
   pub outcomes : List (List Rest)
-  pub listed : AreListed script outcomes true
+  pub states : ℕ
+  pub listed : AreListed script most outcomes states true
   pub fewer : length outcomes < number
 
 -- all outcomes of the script are fewer than this number; or it is 0, which numbers none
-abbrev pub HasNoOutcome : Program → ℕ → Type 0
-HasNoOutcome script number = (number ≡ 0) ⊎ HasFewer script number
+abbrev pub HasNoOutcome : Program → ℕ → ℕ → Type 0
+HasNoOutcome script most number = (number ≡ 0) ⊎ HasFewer script most number
 
--- More states were met than may be visited, so the search was cut off. What it listed, which has the outcome of each state without a
--- choice that it visited, is fewer outcomes than this number.
+-- more states were met than may be visited, so the search was cut off, and what it listed is fewer outcomes than this number
 pub record IsNotFound (script : Program) (most : ℕ) (number : ℕ) (states : ℕ) : Type 0 where
   pub over : most < states
   pub outcomes : List (List Rest)
-  pub listed : AreListed script outcomes false
-  pub seen : HaveSeen script most states false outcomes
+  pub listed : AreListed script most outcomes states false
   pub fewer : length outcomes < number
 
 -- ---- what is read
@@ -148,13 +149,13 @@ IsScriptRead r (Err status) = LacksScript r status
 abbrev pub IsOutcomesFor : ℕ → Reading → List ℕ → ViewStatus → Type 0
 IsOutcomesFor most r text end = (script : Program) × IsScript r script × IsOutcomesText script most text end
 
--- this text is that of the record of a run which ends in the outcome of this number
-abbrev pub IsOutcomeRecordFor : ℕ → Reading → List ℕ → Type 0
-IsOutcomeRecordFor number r text = (script : Program) × IsScript r script × IsOutcomeRecord script number text
+-- this text is that of the record of a run which ends in the outcome of this number, of those that such a search lists
+abbrev pub IsOutcomeRecordFor : ℕ → ℕ → Reading → List ℕ → Type 0
+IsOutcomeRecordFor most number r text = (script : Program) × IsScript r script × IsOutcomeRecord script most number text
 
 -- why there is none: the script has no such outcome, or a search that visits at most so many states didn't find it
 abbrev pub IsNoOutcomeFor : ℕ → ℕ → Reading → ViewStatus → Type 0
-IsNoOutcomeFor most number r NoOutcome = (script : Program) × IsScript r script × HasNoOutcome script number
+IsNoOutcomeFor most number r NoOutcome = (script : Program) × IsScript r script × HasNoOutcome script most number
 IsNoOutcomeFor most number r (NotFound states) = (script : Program) × IsScript r script × IsNotFound script most number states
 IsNoOutcomeFor most number r status = LacksScript r status
 
@@ -177,13 +178,13 @@ IsFoundText endings states all number (Err _) = ⊥
 
 -- the same of the script
 abbrev pub IsNumberedText : Program → ℕ → ℕ → Result (Vec ℕ Global) ViewStatus → Type 0
-IsNumberedText script most number (Ok text) = IsOutcomeRecord script number text.items
-IsNumberedText script most number (Err NoOutcome) = HasNoOutcome script number
+IsNumberedText script most number (Ok text) = IsOutcomeRecord script most number text.items
+IsNumberedText script most number (Err NoOutcome) = HasNoOutcome script most number
 IsNumberedText script most number (Err (NotFound states)) = IsNotFound script most number states
 IsNumberedText script most number (Err Memory) = ⊤
 IsNumberedText script most number (Err _) = ⊥
 
 -- the same of the script that the source spells
 abbrev pub IsRecordFound : ℕ → ℕ → Reading → Result (Vec ℕ Global) ViewStatus → Type 0
-IsRecordFound most number r (Ok text) = IsOutcomeRecordFor number r text.items
+IsRecordFound most number r (Ok text) = IsOutcomeRecordFor most number r text.items
 IsRecordFound most number r (Err status) = IsNoOutcomeFor most number r status

@@ -6,6 +6,7 @@
 mod charting;
 mod command;
 mod concurrency;
+mod ordering;
 mod outcome_text;
 mod progress;
 mod reading;

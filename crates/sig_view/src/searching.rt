@@ -10,8 +10,10 @@ ghost use Rattle.sig_outcomelaw.specs.Told.{outcome_told};
 ghost use Rattle.sig_explore.specs.Seen.{HaveSeen};
 ghost use Rattle.sig_view.specs.declared.command.Command.TheVariants.{Outcomes as Listing};
 ghost use Rattle.sig_view.specs.Outcomes.{AreFound, end_with, IsFoundText, IsListText, IsNumberedText, IsRecordFound, numbered};
+ghost use Rattle.sig_view.specs.OutcomeText.{AreEndingsAscending};
 ghost use Rattle.sig_view.specs.Texts.{IsTextRead};
 
+use crate::ordering::arranged;
 use crate::outcome_text::endings_text;
 use crate::reading::read_alone;
 use crate::status::ViewStatus;
@@ -36,6 +38,26 @@ fn search<T: Teller>(
     list_outcomes(alloc, script, states as usize, teller)
 }
 
+/// The same, with the records in the order of their texts.
+fn search_in_order<T: Teller>(
+    alloc: Global,
+    script: &Script,
+    states: u64,
+    teller: &mut T,
+) -> Result<Outcomes, AllocError>
+    ensures found { IfOk result (λ found. AreFound script.now states found.endings.items found.states found.all) }
+    ensures seen { IfOk result (λ found. HaveSeen script.now states found.states found.all (map outcome_told found.endings.items)) }
+    ensures ascending { IfOk result (λ found. AreEndingsAscending found.endings.items) }
+{
+    let found = search(alloc, script, states, teller)?;
+    let endings = arranged(alloc, found.endings)?;
+    Ok(Outcomes {
+        endings,
+        states: found.states,
+        all: found.all,
+    })
+}
+
 /// How the call ends that has written what was found.
 fn end_of(found: &Outcomes) -> ViewStatus
     ensures { result ≡ end_with found.now.all found.now.states }
@@ -58,7 +80,7 @@ fn list_text<T: Teller>(
 ) -> Result<Text, ViewStatus>
     ensures { IsListText script.now states result }
 {
-    let found = search(alloc, script, states, teller)?;
+    let found = search_in_order(alloc, script, states, teller)?;
     let bytes = endings_text(alloc, found.endings.as_slice(), found.all)?;
     let end = end_of(&found);
     Ok(Text { bytes, end })
@@ -129,7 +151,7 @@ fn numbered_text<T: Teller>(
     if number == 0 {
         return Err(ViewStatus::NoOutcome);
     }
-    let found = search(alloc, script, states, teller)?;
+    let found = search_in_order(alloc, script, states, teller)?;
     found_text(alloc, &found, number)
 }
 

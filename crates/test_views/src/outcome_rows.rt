@@ -1,6 +1,7 @@
-//! Scripts, and the outcomes in which their runs may end, as an independent search of all choices lists them.
+//! Scripts, and the outcomes in which their runs may end, as an independent search of all choices finds them,
+//! by ascending text.
 
-/// A script, and what is told of each of its outcomes behind the line with its number.
+/// A script, and what is told of each of its outcomes below the line with its number.
 pub(crate) type Row = (&'static [u8], &'static [&'static [u8]]);
 
 pub(crate) static ROWS: [Row; 12] = [

@@ -9,52 +9,18 @@ use sig_view::ViewStatus;
 use std::alloc::{AllocError, Global};
 use test_shared::{CLIENTS, ONE_MESSAGE, ONE_MESSAGE_RECORD, Setting};
 
-/// What follows the outcome of this number, with the place of that among these. `None` where it is none
-/// of them.
-fn past_outcome<'a>(
-    alloc: Global,
-    text: &'a [u8],
-    number: usize,
-    outcomes: &[&[u8]],
-) -> Result<Option<(usize, &'a [u8])>, AllocError> {
-    let line = format!(in alloc; "outcome {number}\n")?;
-    let Some(outcome) = text.strip_prefix(line.as_bytes()) else {
-        return Ok(None);
-    };
-    for place in 0..outcomes.len() {
-        if let Some(rest) = outcome.strip_prefix(outcomes[place]) {
-            return Ok(Some((place, rest)));
-        }
-    }
-    Ok(None)
-}
-
-/// The places of the listed outcomes among these, where the text lists all of them, each once.
-fn places_in(
-    alloc: Global,
-    text: &[u8],
-    outcomes: &[&[u8]],
-) -> Result<Option<Vec<usize>>, AllocError> {
+/// The list of these outcomes, which are all.
+fn listed(alloc: Global, outcomes: &[&[u8]]) -> Result<Vec<u8>, AllocError> {
     let count = outcomes.len();
     let first = format!(in alloc; "outcomes {count} all\n")?;
-    let Some(mut rest) = text.strip_prefix(first.as_bytes()) else {
-        return Ok(None);
-    };
-    let mut places = Vec::new(alloc);
-    for number in 1..=count {
-        match past_outcome(alloc, rest, number, outcomes)? {
-            Some((place, behind)) if !places.contains(&place) => {
-                places.push(place)?;
-                rest = behind;
-            }
-            _ => return Ok(None),
-        }
+    let mut text = Vec::from_slice(alloc, first.as_bytes())?;
+    for at in 0..count {
+        let number = at.saturating_add(1);
+        let line = format!(in alloc; "outcome {number}\n")?;
+        text.extend_from_slice(line.as_bytes())?;
+        text.extend_from_slice(outcomes[at])?;
     }
-    if rest.is_empty() {
-        Ok(Some(places))
-    } else {
-        Ok(None)
-    }
+    Ok(text)
 }
 
 /// Whether the record that is written for this number tells of this outcome.
@@ -70,7 +36,17 @@ fn is_recorded(
     }
 }
 
-/// Whether the outcomes of the row's script are listed, and each has its record.
+/// Whether the record that is written for each number tells of the outcome of that number.
+fn are_recorded(alloc: Global, script: &[u8], outcomes: &[&[u8]]) -> Result<bool, AllocError> {
+    for at in 0..outcomes.len() {
+        if !is_recorded(alloc, script, at.saturating_add(1), outcomes[at])? {
+            return Ok(false);
+        }
+    }
+    Ok(true)
+}
+
+/// Whether the outcomes of the row's script are listed in its order, and each has its record.
 fn is_listed(alloc: Global, row: &Row) -> Result<bool, AllocError> {
     let (script, outcomes) = row;
     let setting = Setting {
@@ -78,16 +54,9 @@ fn is_listed(alloc: Global, row: &Row) -> Result<bool, AllocError> {
         ..PLAIN
     };
     let called = Called::of(alloc, &setting, script, b"")?;
-    let Some(places) = places_in(alloc, called.out.held(), outcomes)? else {
-        return Ok(false);
-    };
-    for at in 0..places.len() {
-        match outcomes.get(places[at]) {
-            Some(outcome) if is_recorded(alloc, script, at.saturating_add(1), outcome)? => {}
-            _ => return Ok(false),
-        }
-    }
-    Ok(called.status == ViewStatus::Done && called.err.held().is_empty())
+    let text = listed(alloc, outcomes)?;
+    let is_so = called.is(ViewStatus::Done, text.as_slice(), b"");
+    Ok(is_so && are_recorded(alloc, script, outcomes)?)
 }
 
 /// The first row of which that isn't so.
