@@ -30,7 +30,7 @@ impl Plain for Marked {
     }
 }
 
-// How many things there are, the difference of each to the one before it, and how many marks they have.
+// How many things there are, the difference of each to the one before it, and how many numbers they feed.
 struct Row {
     count: u32,
     step: u32,
@@ -38,7 +38,7 @@ struct Row {
 }
 
 static ROWS: [Row; 9] = [
-    // one mark for all, two, and a few
+    // one number for all, two, and a few
     Row {
         count: 600,
         step: 1,
@@ -75,7 +75,7 @@ static ROWS: [Row; 9] = [
         step: 3,
         marks: u32::MAX,
     },
-    // many, each with a mark of its own: in a row, and alike in their lower 16 bits
+    // many, each with a number of its own: in a row, and alike in their lower 16 bits
     Row {
         count: 20000,
         step: 1,
