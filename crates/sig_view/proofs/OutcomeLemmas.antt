@@ -30,7 +30,7 @@ use Rattle.sig_check.specs.Verdicts.{IsOfSettledRun}
 use Rattle.sig_view.specs.declared.status.ViewStatus.{ViewStatus}
 use Rattle.sig_view.specs.declared.status.ViewStatus.TheVariants.{Done, BadScript, Usage, ReadFault, WriteFault, Memory, No, BadRecord, TooLong, NoEvent, TooManyEvents, NoOutcome, NotFound, Unfinished}
 use Rattle.sig_view.proofs.OrderLemmas.{elements_ascend, pairs_rearranged}
-use Rattle.sig_view.specs.OutcomeText.{AreEndingsAscending, endings_from, endings_text, first_line, names_of, number_line, outcomes_from, outcomes_text, rest_text, rests_text, unhandled_text}
+use Rattle.sig_view.specs.OutcomeText.{AreEndingsInTextOrder, endings_from, endings_text, first_line, names_of, number_line, outcomes_from, outcomes_text, rest_text, rests_text, unhandled_text}
 use Rattle.sig_explore.specs.declared.outcomes.Outcomes.{Outcomes}
 use Rattle.sig_explore.specs.Endings.{AreAllOutcomes, IsEnding, TellOthers}
 use Rattle.sig_explore.specs.Seen.{HaveSeen}
@@ -95,7 +95,7 @@ module _ (script : Program) where
       h i j [] less lt (sym first ∙ same ∙ second)
 
   module _ (most : ℕ) (endings : List (List Report)) (states : ℕ) (all : Bool) (found : AreFound script most endings states all)
-      (seen : HaveSeen script most states all (map outcome_told endings)) (ascending : AreEndingsAscending endings) where
+      (seen : HaveSeen script most states all (map outcome_told endings)) (ascending : AreEndingsInTextOrder endings) where
     are_listed : AreListed script most (map outcome_told endings) states all
     are_listed = record {
       each = All-map (IsOutcome script) outcome_told endings (λ k d lt. (get_or endings k d, found.each k d lt, refl));

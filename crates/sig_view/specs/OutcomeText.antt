@@ -33,8 +33,8 @@ abbrev pub IsNotBehind : List ℕ → List ℕ → Type 0
 IsNotBehind bytes others = IsTrue (is_le (slice_cmp nat_cmp bytes others))
 
 -- the texts of these outcomes ascend, where the processes have these names
-abbrev pub AreAscending : List (List ℕ) → List (List Rest) → Type 0
-AreAscending names outcomes = AllPairs (λ a b. IsNotBehind (rests_text 0 names a) (rests_text 0 names b)) outcomes
+abbrev pub AreInTextOrder : List (List ℕ) → List (List Rest) → Type 0
+AreInTextOrder names outcomes = AllPairs (λ a b. IsNotBehind (rests_text 0 names a) (rests_text 0 names b)) outcomes
 
 -- the line with which an outcome begins
 abbrev pub number_line : ℕ → List ℕ
@@ -60,8 +60,8 @@ outcomes_text names outcomes all = first_line (length outcomes) all ++ outcomes_
 
 -- ---- the same of records
 
-abbrev pub AreEndingsAscending : List (List Report) → Type 0
-AreEndingsAscending endings = AllPairs (λ a b. IsNotBehind (ends_text a) (ends_text b)) endings
+abbrev pub AreEndingsInTextOrder : List (List Report) → Type 0
+AreEndingsInTextOrder endings = AllPairs (λ a b. IsNotBehind (ends_text a) (ends_text b)) endings
 
 -- the ends of these records from this number on
 abbrev pub endings_from : ℕ → List (List Report) → List ℕ

@@ -20,7 +20,7 @@ use Rattle.sig_tool.specs.Inputs.{IsOver, IsShort, IsWhole}
 use Rattle.sig_view.specs.declared.status.ViewStatus.{ViewStatus}
 use Rattle.sig_view.specs.declared.status.ViewStatus.TheVariants.{Done, BadScript, ReadFault, Memory, TooLong, NoOutcome, NotFound, Unfinished}
 use Rattle.sig_view.specs.declared.text.Text.{Text}
-use Rattle.sig_view.specs.OutcomeText.{AreAscending, names_of, outcomes_text}
+use Rattle.sig_view.specs.OutcomeText.{AreInTextOrder, names_of, outcomes_text}
 
 -- ---- outcomes of a script
 
@@ -34,7 +34,7 @@ IsOutcome script outcome = (reports : List Report) × IsOfSettledRun script repo
 pub record AreListed (script : Program) (most : ℕ) (outcomes : List (List Rest)) (states : ℕ) (all : Bool) : Type 0 where
   pub each : All (IsOutcome script) outcomes
   pub distinct : AllPairs (λ a b. a ≢ b) outcomes
-  pub ascending : AreAscending (names_of script) outcomes
+  pub ascending : AreInTextOrder (names_of script) outcomes
   pub met : IsTrue all ↔ (states ≤ most)
   pub seen : HaveSeen script most states all outcomes
   pub whole : all ≡ true → AreAllOutcomes script outcomes

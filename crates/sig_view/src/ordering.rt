@@ -3,7 +3,7 @@
 ghost use Rattle.std.specs.Prelude.{◌≡◌, IfOk, All, AllPairs, map};
 ghost use Rattle.std.specs.List.Sorted.{IsPermutation};
 ghost use Rattle.sig_record.specs.EndText.{ends_text};
-ghost use Rattle.sig_view.specs.OutcomeText.{AreEndingsAscending, IsNotBehind};
+ghost use Rattle.sig_view.specs.OutcomeText.{AreEndingsInTextOrder, IsNotBehind};
 ghost use Rattle.sig_view.specs.declared.ordering.Listed.{Listed};
 
 use sig_record::{Record, print_ends};
@@ -59,7 +59,7 @@ fn endings_of(alloc: Global, listed: Vec<Listed>) -> Result<Vec<Record>, AllocEr
 /// The same records, by ascending text of the outcomes that they tell.
 pub(crate) fn arranged(alloc: Global, endings: Vec<Record>) -> Result<Vec<Record>, AllocError>
     ensures same { IfOk result (λ arranged. IsPermutation endings.items arranged.items) }
-    ensures ascending { IfOk result (λ arranged. AreEndingsAscending arranged.items) }
+    ensures ascending { IfOk result (λ arranged. AreEndingsInTextOrder arranged.items) }
 {
     let mut listed = with_texts(alloc, endings)?;
     sort(&mut listed);

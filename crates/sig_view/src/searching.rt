@@ -10,7 +10,7 @@ ghost use Rattle.sig_outcomelaw.specs.Told.{outcome_told};
 ghost use Rattle.sig_explore.specs.Seen.{HaveSeen};
 ghost use Rattle.sig_view.specs.declared.command.Command.TheVariants.{Outcomes as Listing};
 ghost use Rattle.sig_view.specs.Outcomes.{AreFound, end_with, IsFoundText, IsListText, IsNumberedText, IsRecordFound, numbered};
-ghost use Rattle.sig_view.specs.OutcomeText.{AreEndingsAscending};
+ghost use Rattle.sig_view.specs.OutcomeText.{AreEndingsInTextOrder};
 ghost use Rattle.sig_view.specs.Texts.{IsTextRead};
 
 use crate::ordering::arranged;
@@ -47,7 +47,7 @@ fn search_in_order<T: Teller>(
 ) -> Result<Outcomes, AllocError>
     ensures found { IfOk result (λ found. AreFound script.now states found.endings.items found.states found.all) }
     ensures seen { IfOk result (λ found. HaveSeen script.now states found.states found.all (map outcome_told found.endings.items)) }
-    ensures ascending { IfOk result (λ found. AreEndingsAscending found.endings.items) }
+    ensures ascending { IfOk result (λ found. AreEndingsInTextOrder found.endings.items) }
 {
     let found = search(alloc, script, states, teller)?;
     let endings = arranged(alloc, found.endings)?;

@@ -4,7 +4,7 @@ use Rattle.std.specs.List.Sorted.{IsPermutation}
 use Rattle.std.proofs.lemmas.List.Sorted.{All-permutation, IsPermutation-map}
 use Rattle.std.proofs.lemmas.Result.{IfOk-weaker}
 use Rattle.sig_record.specs.EndText.{ends_text}
-use Rattle.sig_view.specs.OutcomeText.{AreEndingsAscending}
+use Rattle.sig_view.specs.OutcomeText.{AreEndingsInTextOrder}
 use Rattle.sig_record.specs.declared.report.Report.{Report}
 use Rattle.sig_view.specs.declared.ordering.Listed.{Listed}
 use Rattle.sig_view.proofs.OrderLemmas.{elements_ascend}
@@ -22,4 +22,4 @@ returns-clause-ascending c =
     let texts : All (λ (l : Listed). l.text.items ≡ ends_text l.ending) c.sort.new.listed.items =
     All-permutation (λ (l : Listed). l.text.items ≡ ends_text l.ending) _ _ c.sort.ensures.same c.in_ok-listed.ensures.texts in
     let ascend = elements_ascend (λ (l : Listed). l.ending) (λ (l : Listed). l.text.items) ends_text _ texts c.sort.ensures.ascending in
-    IfOk-weaker c.endings_of.result _ _ (λ new is. subst AreEndingsAscending (sym is) ascend) c.endings_of.ensures
+    IfOk-weaker c.endings_of.result _ _ (λ new is. subst AreEndingsInTextOrder (sym is) ascend) c.endings_of.ensures
