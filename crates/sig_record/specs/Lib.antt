@@ -20,3 +20,4 @@ pub mod Refusing
 pub mod Summarizing
 pub mod SizedRecord
 pub mod StoredRecord
+pub mod StoredEnds
