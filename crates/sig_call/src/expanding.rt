@@ -104,7 +104,8 @@ fn read_expanded(alloc: Global, expanded: &ExpandedText, behind: u64) -> Result<
 /// L`: it sends `{call,Ref,M}` to the process `T` and waits for `{Ref,Reply}`, which binds `X` to the
 /// reply, or for the down of `T`, which binds `X` to its reason and goes on at the label. Each such line
 /// stands for a monitor with an alias for one reply, the request, and a receive, as
-/// `gen_server:call/2` does it since OTP 24; so a late reply enters no mailbox.
+/// `gen_server:call/2` does it since OTP 24; so behind a message through the alias, or the down, no
+/// other of these enters the mailbox.
 ///
 /// Errors, tried in this order: `TooLong` exactly where there are more than
 /// [`MOST_BYTES`](sig_reader::MOST_BYTES) bytes; `Call` at the first line that is refused as a call, or

@@ -1,5 +1,6 @@
-//! Calls: a request to which one reply, or the end of the process that was asked, enters the
-//! caller's list. A text in which calls stand as lines is expanded to a script.
+//! Calls: a request of which at most one of the replies through its alias and the message of the end
+//! of the process that was asked enters the caller's list. A text in which calls stand as lines is
+//! expanded to a script.
 #![tactic(auto)]
 
 mod call_law;
