@@ -3,6 +3,9 @@ pub mod InputLemmas
 pub mod RangeLemmas
 pub mod TextLemmas
 pub mod OrderLemmas
+pub mod RestReads
+pub mod OneList
+pub mod WholeLists
 pub mod OutcomeLemmas
 pub mod DueLemmas
 pub mod AnswerLemmas

@@ -12,10 +12,11 @@ use Rattle.std.proofs.lemmas.Cmp.{nat_list_cmp_total}
 use Rattle.std.proofs.lemmas.Fn.{always_returns_same}
 use Rattle.std.proofs.lemmas.List.{get_or-map, length-map}
 use Rattle.std.proofs.lemmas.List.Edits.{Swapped, swapped_from_swap, length-swap}
+use Rattle.std.proofs.lemmas.Map.Lookups.{exact_bytes}
 use Rattle.std.proofs.lemmas.List.Sorted.{IsPermutation-keeps, ranks_by, sorted_far}
 use denote.Ref.{Bor}
 use denote.Param.Members.{Mut}
-use Rattle.sig_view.specs.OutcomeText.{IsNotBehind}
+use Rattle.sig_view.specs.OutcomeText.{IsBefore, IsNotBehind}
 
 -- ---- pairs, in another order
 
@@ -64,6 +65,15 @@ not_behind xs ys h = by (slice_cmp nat_cmp xs ys) (nat_list_cmp_total.antisymm y
     by Equal e = search rules
     by Greater e = let bad : true ≡ false = sym (ap is_lt e) ∙ h in cc
 
+-- of two texts that differ the one that isn't behind is before the other
+pub strictly_before : (xs ys : List ℕ) → IsNotBehind xs ys → (xs ≡ ys → ⊥) → IsBefore xs ys
+strictly_before xs ys h differ = by (slice_cmp nat_cmp xs ys) refl
+  where
+    by : (o : Ordering) → slice_cmp nat_cmp xs ys ≡ o → IsBefore xs ys
+    by Less e = subst (λ o. IsTrue (is_lt o)) (sym e) (search rules)
+    by Equal e = absurd (differ (exact_bytes xs ys e))
+    by Greater e = let g : IsTrue (is_le Greater) = subst (λ o. IsTrue (is_le o)) e h in absurd (search (rules, g))
+
 module _ {X : Type 0} (text : X → List ℕ) where
   -- what `sort_unstable_by` says where each call compares the texts of the two elements
   pub texts_ascend : {F : Type 0} {g : Mut F (Bor X × (Bor X × Unit {0})) Ordering} {f : F} (xs : List X)
@@ -83,17 +93,17 @@ some_of : {L : Type 0} (j : ℕ) (ls : List L) → j < length ls → L
 some_of j [] within = let no : ⊥ = omega arith in absurd no
 some_of j (l ∷ ls) within = l
 
-module _ {L X : Type 0} (element : L → X) (text : L → List ℕ) (text_of : X → List ℕ) where
+module _ {L X : Type 0} (R : List ℕ → List ℕ → Type 0) (element : L → X) (text : L → List ℕ) (text_of : X → List ℕ) where
   -- where each has its text, the elements stand in the order of the texts as those do
-  pub elements_ascend : (ls : List L) → All (λ l. text l ≡ text_of (element l)) ls → AllPairs (λ a b. IsNotBehind (text a) (text b)) ls
-      → AllPairs (λ a b. IsNotBehind (text_of a) (text_of b)) (map element ls)
+  pub elements_ascend : (ls : List L) → All (λ l. text l ≡ text_of (element l)) ls → AllPairs (λ a b. R (text a) (text b)) ls
+      → AllPairs (λ a b. R (text_of a) (text_of b)) (map element ls)
   elements_ascend ls texts ascend i j d less within =
       let long : length (map element ls) ≡ length ls = length-map ls element in
       let lt : j < length ls = omega (arith, long) in
       let l : L = some_of j ls lt in
       let first : get_or (map element ls) i d ≡ element (get_or ls i l) = get_or-map element ls i l d (omega (arith, less, lt)) in
       let second : get_or (map element ls) j d ≡ element (get_or ls j l) = get_or-map element ls j l d lt in
-      subst (λ t. IsNotBehind (text_of t) (text_of (get_or (map element ls) j d))) (sym first)
-      (subst (λ t. IsNotBehind (text_of (element (get_or ls i l))) (text_of t)) (sym second)
-      (subst (λ t. IsNotBehind t (text_of (element (get_or ls j l)))) (texts i l (omega (arith, less, lt)))
-      (subst (λ t. IsNotBehind (text (get_or ls i l)) t) (texts j l lt) (ascend i j l less lt))))
+      subst (λ t. R (text_of t) (text_of (get_or (map element ls) j d))) (sym first)
+      (subst (λ t. R (text_of (element (get_or ls i l))) (text_of t)) (sym second)
+      (subst (λ t. R t (text_of (element (get_or ls j l)))) (texts i l (omega (arith, less, lt)))
+      (subst (λ t. R (text (get_or ls i l)) t) (texts j l lt) (ascend i j l less lt))))

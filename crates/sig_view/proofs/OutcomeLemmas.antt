@@ -19,22 +19,25 @@ use Rattle.sig_model.specs.ProcessState.{ProcessState}
 use Rattle.sig_outcomes.specs.Crews.{machine_of_crew}
 use Rattle.sig_outcomes.specs.Outcomes.{Rest, outcome_of, unhandled}
 use Rattle.sig_outcomelaw.specs.Told.{message_of, outcome_told, rest_told}
+use Rattle.sig_outcomelaw.specs.SettledOutcomes.{IsOutcome}
 use Rattle.sig_record.specs.declared.report.Report.{Report}
 use Rattle.sig_record.specs.EndText.{end_text, ends_text, left_end, message_text, queued_end}
 use Rattle.sig_program.specs.ScriptNames.{AreNames}
 use Rattle.sig_record.specs.ReadableRecord.{CanBeReread}
 use Rattle.sig_record.specs.SizedRecord.{IsSizedRecord}
 use Rattle.sig_record.specs.RecordText.{head_text, record_text, state_text}
-use Rattle.sig_record.specs.RunRecord.{events_listed, run_report, run_reports}
+use Rattle.sig_record.specs.RunRecord.{events_listed, record_of_run, run_report, run_reports}
+use Rattle.sig_record.specs.StoredEnds.{AreStoredEnds}
 use Rattle.sig_check.specs.Verdicts.{IsOfSettledRun}
 use Rattle.sig_view.specs.declared.status.ViewStatus.{ViewStatus}
 use Rattle.sig_view.specs.declared.status.ViewStatus.TheVariants.{Done, BadScript, Usage, ReadFault, WriteFault, Memory, No, BadRecord, TooLong, NoEvent, TooManyEvents, NoOutcome, NotFound, Unfinished}
-use Rattle.sig_view.proofs.OrderLemmas.{elements_ascend, pairs_rearranged}
-use Rattle.sig_view.specs.OutcomeText.{AreEndingsInTextOrder, endings_from, endings_text, first_line, names_of, number_line, outcomes_from, outcomes_text, rest_text, rests_text, unhandled_text}
+use Rattle.sig_view.proofs.OrderLemmas.{elements_ascend, pairs_rearranged, strictly_before}
+use Rattle.sig_view.proofs.RestReads.{IsReadableRest, one_outcome, readable_told}
+use Rattle.sig_view.specs.OutcomeText.{AreEndingsInTextOrder, IsBefore, endings_from, endings_text, first_line, names_of, number_line, outcomes_from, outcomes_text, rest_text, rests_text, unhandled_text}
 use Rattle.sig_explore.specs.declared.outcomes.Outcomes.{Outcomes}
 use Rattle.sig_explore.specs.Endings.{AreAllOutcomes, IsEnding, TellOthers}
 use Rattle.sig_explore.specs.Seen.{HaveSeen}
-use Rattle.sig_view.specs.Outcomes.{AreFound, AreListed, end_with, HasFewer, IsFoundText, IsNotFound, IsNumberedText, IsOutcome, IsOutcomeRecord, IsOutcomesText, numbered}
+use Rattle.sig_view.specs.Outcomes.{AreFound, AreListed, end_with, HasFewer, IsFoundText, IsNotFound, IsNumberedText, IsOutcomeRecord, IsOutcomesText, IsTold, numbered}
 
 -- ---- one process
 
@@ -87,21 +90,47 @@ module _ (script : Program) where
 
   -- ---- what was found
 
-  pairs_told : (endings : List (List Report)) → AllPairs (λ a b. outcome_told a ≢ outcome_told b) endings → AllPairs (λ a b. a ≢ b) (map outcome_told endings)
-  pairs_told endings h i j d less within same =
-      let lt : j < length endings = subst (λ n. j < n) (length-map endings outcome_told) within in
-      let first : get_or (map outcome_told endings) i d ≡ outcome_told (get_or endings i []) = get_or-map outcome_told endings i [] d (omega (arith, less, lt)) in
-      let second : get_or (map outcome_told endings) j d ≡ outcome_told (get_or endings j []) = get_or-map outcome_told endings j [] d lt in
-      h i j [] less lt (sym first ∙ same ∙ second)
+  -- no report is of more than the script's processes
+  no_more : (count turns : ℕ) (events : List (At Event)) (m : Machine ProcessState Signal) (pid : ℕ) (ds : List Declared) (ss : List ProcessState)
+      → length (run_reports count turns events m pid ds ss) ≤ length ds
+  no_more count turns events m pid [] ss = omega arith
+  no_more count turns events m pid (d ∷ ds) [] = omega arith
+  no_more count turns events m pid (d ∷ ds) (s ∷ ss) =
+      let g : length (run_reports count turns events m (pid + 1) ds ss) ≤ length ds = no_more count turns events m (pid + 1) ds ss in omega (arith, g)
+
+  few_told : (reports : List Report) → IsOfSettledRun script reports → length (outcome_told reports) ≤ length (names_of script)
+  few_told reports h =
+      let told : length (outcome_told reports) ≡ length reports = length-map reports rest_told in
+      let named : length (names_of script) ≡ length script.procs = length-map script.procs (λ (d : Declared). d.name) in
+      let same : length reports ≡ length (record_of_run script (events_listed reports h.run.order) h.machine) = ap (λ (rs : List Report). length rs) h.run.told in
+      let few : length (record_of_run script (events_listed reports h.run.order) h.machine) ≤ length script.procs =
+      no_more (length script.procs) script.turns (events_listed reports h.run.order) h.machine 0 script.procs h.machine.procs in
+      omega (arith, told, named, same, few)
 
   module _ (most : ℕ) (endings : List (List Report)) (states : ℕ) (all : Bool) (found : AreFound script most endings states all)
-      (seen : HaveSeen script most states all (map outcome_told endings)) (ascending : AreEndingsInTextOrder endings) where
+      (seen : HaveSeen script most states all (map outcome_told endings)) (ascending : AreEndingsInTextOrder endings) (stored : All AreStoredEnds endings)
+      (names : AreNames script) where
+    readable : (k : ℕ) (d : List Report) → k < length endings → All IsReadableRest (outcome_told (get_or endings k d))
+    readable k d lt = readable_told (get_or endings k d) (stored k d lt) (found.sized names k d lt)
+
+    -- two of the records have different texts
+    differ : (i j : ℕ) (d : List Report) → i < j → j < length endings → ends_text (get_or endings i d) ≡ ends_text (get_or endings j d) → ⊥
+    differ i j d less lt same =
+        let li : i < length endings = omega (arith, less, lt) in
+        found.distinct i j d less lt
+        (one_outcome 0 (names_of script) (outcome_told (get_or endings i d)) (outcome_told (get_or endings j d))
+        (few_told (get_or endings i d) (found.each i d li)) (few_told (get_or endings j d) (found.each j d lt)) (readable i d li) (readable j d lt)
+        (sym (ends_of_settled (get_or endings i d) (found.each i d li)) ∙ same ∙ ends_of_settled (get_or endings j d) (found.each j d lt)))
+
+    strictly : AllPairs (λ a b. IsBefore (ends_text a) (ends_text b)) endings
+    strictly i j d less lt = strictly_before (ends_text (get_or endings i d)) (ends_text (get_or endings j d)) (ascending i j d less lt) (differ i j d less lt)
+
     are_listed : AreListed script most (map outcome_told endings) states all
     are_listed = record {
-      each = All-map (IsOutcome script) outcome_told endings (λ k d lt. (get_or endings k d, found.each k d lt, refl));
-      distinct = pairs_told endings found.distinct;
-      ascending = elements_ascend outcome_told ends_text (rests_text 0 (names_of script)) endings
-          (λ k d lt. ends_of_settled (get_or endings k d) (found.each k d lt)) ascending;
+      each = All-map (IsOutcome script) outcome_told endings found.outcomes;
+      told = All-map (IsTold script) outcome_told endings (λ k d lt. (get_or endings k d, found.each k d lt, refl));
+      ascending = elements_ascend IsBefore outcome_told ends_text (rests_text 0 (names_of script)) endings
+          (λ k d lt. ends_of_settled (get_or endings k d) (found.each k d lt)) strictly;
       met = found.met;
       seen = seen;
       whole = found.whole;
@@ -126,22 +155,22 @@ module _ (script : Program) where
     settled_at (suc place) reports is =
         subst (IsOfSettledRun script) (get_or_from_slice_get endings place reports reports is) (found.each place reports (slice_get_within endings place reports is))
 
-    sized_at : AreNames script → (number : ℕ) (reports : List Report) → numbered number endings ≡ Some reports → IsSizedRecord reports
-    sized_at names zero reports is = absurd (cc)
-    sized_at names (suc place) reports is =
+    sized_at : (number : ℕ) (reports : List Report) → numbered number endings ≡ Some reports → IsSizedRecord reports
+    sized_at zero reports is = absurd (cc)
+    sized_at (suc place) reports is =
         subst IsSizedRecord (get_or_from_slice_get endings place reports reports is) (found.sized names place reports (slice_get_within endings place reports is))
 
     listed_record : (number : ℕ) (reports : List Report) (text : List ℕ) → numbered number endings ≡ Some reports → text ≡ record_text reports → CanBeReread reports
-        → AreNames script → IsOutcomeRecord script most number text
+        → IsOutcomeRecord script most number text
     unfolding CanBeReread
-    listed_record number reports text is printed can names = record {
+    listed_record number reports text is printed can = record {
       outcomes = map outcome_told endings;
       states = states;
       all = all;
       listed = are_listed;
       reports = reports;
       settled = settled_at number reports is;
-      readable = can (sized_at names number reports is);
+      readable = can (sized_at number reports is);
       there = numbered_told number ∙ ap (λ (o : Option (List Report)). option_map outcome_told o) is;
       printed = printed;
     }
@@ -179,23 +208,23 @@ module _ (script : Program) where
         }
 
     -- what was found of this number, as it is said of the script
-    pub found_is : (number : ℕ) (result : Result (Vec ℕ Global) ViewStatus) → number ≢ 0 → AreNames script → IsFoundText endings states all number result
+    pub found_is : (number : ℕ) (result : Result (Vec ℕ Global) ViewStatus) → number ≢ 0 → IsFoundText endings states all number result
         → IsNumberedText script most number result
-    found_is number (Ok text) some names h = listed_record number h.0 text.items h.1 h.2 h.3 names
-    found_is number (Err Done) some names h = absurd h
-    found_is number (Err (BadScript line kind)) some names h = absurd h
-    found_is number (Err Usage) some names h = absurd h
-    found_is number (Err ReadFault) some names h = absurd h
-    found_is number (Err WriteFault) some names h = absurd h
-    found_is number (Err Memory) some names h = h
-    found_is number (Err (No event)) some names h = absurd h
-    found_is number (Err (BadRecord line)) some names h = absurd h
-    found_is number (Err TooLong) some names h = absurd h
-    found_is number (Err NoEvent) some names h = absurd h
-    found_is number (Err TooManyEvents) some names h = absurd h
-    found_is number (Err NoOutcome) some names h = inr (has_fewer number some h.0 h.1)
-    found_is number (Err (NotFound met)) some names h = not_found number met some h.0 h.1 h.2
-    found_is number (Err (Unfinished met)) some names h = absurd h
+    found_is number (Ok text) some h = listed_record number h.0 text.items h.1 h.2 h.3
+    found_is number (Err Done) some h = absurd h
+    found_is number (Err (BadScript line kind)) some h = absurd h
+    found_is number (Err Usage) some h = absurd h
+    found_is number (Err ReadFault) some h = absurd h
+    found_is number (Err WriteFault) some h = absurd h
+    found_is number (Err Memory) some h = h
+    found_is number (Err (No event)) some h = absurd h
+    found_is number (Err (BadRecord line)) some h = absurd h
+    found_is number (Err TooLong) some h = absurd h
+    found_is number (Err NoEvent) some h = absurd h
+    found_is number (Err TooManyEvents) some h = absurd h
+    found_is number (Err NoOutcome) some h = inr (has_fewer number some h.0 h.1)
+    found_is number (Err (NotFound met)) some h = not_found number met some h.0 h.1 h.2
+    found_is number (Err (Unfinished met)) some h = absurd h
 
 -- ---- in another order
 
@@ -206,10 +235,14 @@ module _ (script : Program) (most : ℕ) (old new : List (List Report)) (states 
   pub found_still : AreFound script most old states all → AreFound script most new states all
   found_still found = record {
     each = All-permutation (IsOfSettledRun script) old new same found.each;
+    outcomes = All-permutation (λ reports. IsOutcome script (outcome_told reports)) old new same found.outcomes;
     sized = λ names. All-permutation IsSizedRecord old new same (found.sized names);
     distinct = pairs_rearranged TellOthers (λ a b differ alike. differ (sym alike)) old new same found.distinct;
     met = found.met;
-    whole = λ is machine reports run few settled. told_still (outcome_told reports) (found.whole is machine reports run few settled);
+    whole = λ is. record {
+      each = λ outcome ends. told_still outcome ((found.whole is).each outcome ends);
+      told = λ machine reports run few settled. told_still (outcome_told reports) ((found.whole is).told machine reports run few settled);
+    };
   }
 
   pub seen_still : HaveSeen script most states all (map outcome_told old) → HaveSeen script most states all (map outcome_told new)
@@ -217,6 +250,7 @@ module _ (script : Program) (most : ℕ) (old new : List (List Report)) (states 
     crews = seen.crews;
     many = seen.many;
     first = seen.first;
+    taken = seen.taken;
     met = seen.met;
     once = seen.once;
     told = λ n crew within there stuck. told_still (outcome_of script (machine_of_crew crew)) (seen.told n crew within there stuck);
@@ -230,6 +264,7 @@ pub all_found : {E : Type 0} (script : Program) (most : ℕ) (found : Result Out
     → IfOk found (λ (o : Outcomes). o.all ≡ true → AreAllOutcomes script (map outcome_told o.endings.items)) → IfOk found (λ (o : Outcomes). AreFound script most o.endings.items o.states o.all)
 all_found script most (Ok o) endings once states sized whole = record {
   each = All-weaker (IsEnding script) (IsOfSettledRun script) (λ r h. record { machine = h.machine; run = h.run; settled = h.settled }) o.endings.items endings;
+  outcomes = All-weaker (IsEnding script) (λ reports. IsOutcome script (outcome_told reports)) (λ r h. h.outcome) o.endings.items endings;
   sized = sized;
   distinct = once;
   met = states;

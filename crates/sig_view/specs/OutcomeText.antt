@@ -3,7 +3,7 @@
 use Rattle.std.specs.Prelude.{ℕ, ◌+◌, Bool, true, false, IsTrue, List, [], ◌∷◌, ◌++◌, map, length, AllPairs, codes, decimal}
 use Rattle.std.specs.Cmp.Lexicographic.{slice_cmp}
 use Rattle.std.specs.List.{flat_map}
-use Rattle.std.specs.Ordering.{is_le, nat_cmp}
+use Rattle.std.specs.Ordering.{is_le, is_lt, nat_cmp}
 use Rattle.sig_program.specs.Scripts.{Declared, Program}
 use Rattle.sig_outcomes.specs.Outcomes.{Rest, Unhandled}
 use Rattle.sig_record.specs.declared.report.Report.{Report}
@@ -27,14 +27,13 @@ rests_text pid [] rests = []
 rests_text pid (name ∷ names) [] = []
 rests_text pid (name ∷ names) (rest ∷ rests) = head_text pid name ++ rest_text rest ++ rests_text (pid + 1) names rests
 
--- These bytes don't stand behind those: they are the same or a beginning of those, or have the lower byte at the first place at which the
--- two differ.
-abbrev pub IsNotBehind : List ℕ → List ℕ → Type 0
-IsNotBehind bytes others = IsTrue (is_le (slice_cmp nat_cmp bytes others))
+-- these bytes stand before those: they are a beginning of those, or have the lower byte at the first place at which the two differ
+abbrev pub IsBefore : List ℕ → List ℕ → Type 0
+IsBefore bytes others = IsTrue (is_lt (slice_cmp nat_cmp bytes others))
 
--- the texts of these outcomes ascend, where the processes have these names
+-- the texts of these outcomes ascend, where the processes have these names: no two have the same text, so none stands there twice
 abbrev pub AreInTextOrder : List (List ℕ) → List (List Rest) → Type 0
-AreInTextOrder names outcomes = AllPairs (λ a b. IsNotBehind (rests_text 0 names a) (rests_text 0 names b)) outcomes
+AreInTextOrder names outcomes = AllPairs (λ a b. IsBefore (rests_text 0 names a) (rests_text 0 names b)) outcomes
 
 -- the line with which an outcome begins
 abbrev pub number_line : ℕ → List ℕ
@@ -59,6 +58,10 @@ abbrev pub outcomes_text : List (List ℕ) → List (List Rest) → Bool → Lis
 outcomes_text names outcomes all = first_line (length outcomes) all ++ outcomes_from 1 names outcomes
 
 -- ---- the same of records
+
+-- these bytes don't stand behind those
+abbrev pub IsNotBehind : List ℕ → List ℕ → Type 0
+IsNotBehind bytes others = IsTrue (is_le (slice_cmp nat_cmp bytes others))
 
 abbrev pub AreEndingsInTextOrder : List (List Report) → Type 0
 AreEndingsInTextOrder endings = AllPairs (λ a b. IsNotBehind (ends_text a) (ends_text b)) endings

@@ -8,6 +8,7 @@ use Rattle.sig_program.specs.ScriptNames.{AreNames}
 use Rattle.sig_reader.specs.Grammar.{script_of}
 use Rattle.sig_outcomes.specs.Outcomes.{Rest}
 use Rattle.sig_outcomelaw.specs.Told.{outcome_told}
+use Rattle.sig_outcomelaw.specs.SettledOutcomes.{IsOutcome}
 use Rattle.sig_record.specs.declared.report.Report.{Report}
 use Rattle.sig_record.specs.ReadableRecord.{CanBeReread, IsReadableRecord}
 use Rattle.sig_record.specs.RecordText.{record_text}
@@ -25,15 +26,15 @@ use Rattle.sig_view.specs.OutcomeText.{AreInTextOrder, names_of, outcomes_text}
 -- ---- outcomes of a script
 
 -- the record of a settled run of the script tells this outcome
-abbrev pub IsOutcome : Program → List Rest → Type 0
-IsOutcome script outcome = (reports : List Report) × IsOfSettledRun script reports × (outcome ≡ outcome_told reports)
+abbrev pub IsTold : Program → List Rest → Type 0
+IsTold script outcome = (reports : List Report) × IsOfSettledRun script reports × (outcome ≡ outcome_told reports)
 
--- What is listed where a search may visit so many states: outcomes of the script, none of them twice, by ascending text. So many states
--- were met, and of those that may be visited each without a choice has its outcome here. That these are all is said exactly where no more
--- were met than may be visited, and then they are.
+-- What is listed where a search may visit so many states: outcomes of the script, by ascending text. So many states were met, and of those
+-- that may be visited each without a choice has its outcome here. That these are all is said exactly where no more were met than may be
+-- visited, and then they are.
 pub record AreListed (script : Program) (most : ℕ) (outcomes : List (List Rest)) (states : ℕ) (all : Bool) : Type 0 where
   pub each : All (IsOutcome script) outcomes
-  pub distinct : AllPairs (λ a b. a ≢ b) outcomes
+  pub told : All (IsTold script) outcomes
   pub ascending : AreInTextOrder (names_of script) outcomes
   pub met : IsTrue all ↔ (states ≤ most)
   pub seen : HaveSeen script most states all outcomes
@@ -44,10 +45,11 @@ abbrev pub numbered : {X : Type 0} → ℕ → List X → Option X
 numbered zero items = None
 numbered (suc place) items = slice_get items place
 
--- Each of these is the record of a settled run, of names and terms that can be read, and no two tell the same outcome. So many states
--- were met; that these are all is said exactly where no more were met than may be visited, and then the records tell all outcomes.
+-- Each of these is the record of a settled run, of names and terms that can be read, and tells an outcome of the script, no two the same. So
+-- many states were met; that these are all is said exactly where no more were met than may be visited, and then the records tell all outcomes.
 pub record AreFound (script : Program) (most : ℕ) (endings : List (List Report)) (states : ℕ) (all : Bool) : Type 0 where
   pub each : All (IsOfSettledRun script) endings
+  pub outcomes : All (λ reports. IsOutcome script (outcome_told reports)) endings
   pub sized : AreNames script → All IsSizedRecord endings
   pub distinct : AllPairs (λ a b. outcome_told a ≢ outcome_told b) endings
   pub met : IsTrue all ↔ (states ≤ most)

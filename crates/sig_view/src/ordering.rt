@@ -1,8 +1,9 @@
 //! The order in which outcomes are listed: that of their texts.
 
-ghost use Rattle.std.specs.Prelude.{◌≡◌, IfOk, All, AllPairs, map};
+ghost use Rattle.std.specs.Prelude.{◌≡◌, IfOk, OnOk, All, AllPairs, map};
 ghost use Rattle.std.specs.List.Sorted.{IsPermutation};
 ghost use Rattle.sig_record.specs.EndText.{ends_text};
+ghost use Rattle.sig_record.specs.StoredEnds.{AreStoredEnds};
 ghost use Rattle.sig_view.specs.OutcomeText.{AreEndingsInTextOrder, IsNotBehind};
 ghost use Rattle.sig_view.specs.declared.ordering.Listed.{Listed};
 
@@ -18,7 +19,8 @@ struct Listed {
 
 /// The record, with that text.
 fn with_text(alloc: Global, ending: Record) -> Result<Listed, AllocError>
-    ensures { IfOk result (λ listed. (listed.ending ≡ ending) × (listed.text.items ≡ ends_text ending)) }
+    ensures text { IfOk result (λ listed. (listed.ending ≡ ending) × (listed.text.items ≡ ends_text ending)) }
+    ensures stored { OnOk result (AreStoredEnds ending) }
 {
     let mut text = Vec::new(alloc);
     print_ends(ending.reports(), &mut text)?;
@@ -29,6 +31,7 @@ fn with_text(alloc: Global, ending: Record) -> Result<Listed, AllocError>
 fn with_texts(alloc: Global, endings: Vec<Record>) -> Result<Vec<Listed>, AllocError>
     ensures endings { IfOk result (λ listed. map (λ (l : Listed). l.ending) listed.items ≡ endings.items) }
     ensures texts { IfOk result (λ listed. All (λ (l : Listed). l.text.items ≡ ends_text l.ending) listed.items) }
+    ensures stored { IfOk result (λ listed. All (λ (l : Listed). AreStoredEnds l.ending) listed.items) }
 {
     let mut listed = Vec::new(alloc);
     for ending in endings {
@@ -60,6 +63,7 @@ fn endings_of(alloc: Global, listed: Vec<Listed>) -> Result<Vec<Record>, AllocEr
 pub(crate) fn arranged(alloc: Global, endings: Vec<Record>) -> Result<Vec<Record>, AllocError>
     ensures same { IfOk result (λ arranged. IsPermutation endings.items arranged.items) }
     ensures ascending { IfOk result (λ arranged. AreEndingsInTextOrder arranged.items) }
+    ensures stored { IfOk result (λ arranged. All AreStoredEnds arranged.items) }
 {
     let mut listed = with_texts(alloc, endings)?;
     sort(&mut listed);

@@ -1,11 +1,12 @@
 //! The command `outcomes`.
 
-ghost use Rattle.std.specs.Prelude.{◌≡◌, IfOk, OnOk, map};
+ghost use Rattle.std.specs.Prelude.{◌≡◌, All, IfOk, OnOk, map};
 ghost use Rattle.std.specs.Option.{option_copied};
 ghost use Rattle.sig_edge.specs.Streams.{reading};
 ghost use Rattle.sig_program.specs.ScriptNames.{AreNames};
 ghost use Rattle.sig_record.specs.ReadableRecord.{CanBeReread};
 ghost use Rattle.sig_record.specs.RecordText.{record_text};
+ghost use Rattle.sig_record.specs.StoredEnds.{AreStoredEnds};
 ghost use Rattle.sig_outcomelaw.specs.Told.{outcome_told};
 ghost use Rattle.sig_explore.specs.Seen.{HaveSeen};
 ghost use Rattle.sig_view.specs.declared.command.Command.TheVariants.{Outcomes as Listing};
@@ -48,6 +49,7 @@ fn search_in_order<T: Teller>(
     ensures found { IfOk result (λ found. AreFound script.now states found.endings.items found.states found.all) }
     ensures seen { IfOk result (λ found. HaveSeen script.now states found.states found.all (map outcome_told found.endings.items)) }
     ensures ascending { IfOk result (λ found. AreEndingsInTextOrder found.endings.items) }
+    ensures stored { IfOk result (λ found. All AreStoredEnds found.endings.items) }
 {
     let found = search(alloc, script, states, teller)?;
     let endings = arranged(alloc, found.endings)?;
@@ -78,7 +80,7 @@ fn list_text<T: Teller>(
     states: u64,
     teller: &mut T,
 ) -> Result<Text, ViewStatus>
-    ensures { IsListText script.now states result }
+    ensures { AreNames script.now → IsListText script.now states result }
 {
     let found = search_in_order(alloc, script, states, teller)?;
     let bytes = endings_text(alloc, found.endings.as_slice(), found.all)?;
@@ -97,6 +99,7 @@ pub(crate) fn outcomes_text<S: Source, T: Teller>(
     ensures { IsTextRead (Listing states) (reading (S.left input.old) (S.left input.new) (S.faults input.old) (S.faults input.new)) result }
 {
     let script = read_alone(alloc, input)?;
+    names_of_scripts_are_name_tokens();
     list_text(alloc, &script, states, teller)
 }
 

@@ -1,0 +1,8 @@
+use Rattle.sig_view.proofs.WholeLists.{one_whole_list, one_whole_text}
+use Rattle.sig_view.proofs.laws.a_whole_list_is_told_by_the_script.Goals as goal
+
+pub returns-clause-list : goal.returns-clause-list
+returns-clause-list c = one_whole_list
+
+pub returns-clause-text : goal.returns-clause-text
+returns-clause-text c = one_whole_text
