@@ -6,3 +6,4 @@ pub mod OrderLemmas
 pub mod OutcomeLemmas
 pub mod DueLemmas
 pub mod AnswerLemmas
+pub mod QueuedLemmas

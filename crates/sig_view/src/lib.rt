@@ -6,6 +6,7 @@
 mod charting;
 mod command;
 mod concurrency;
+mod laws;
 mod ordering;
 mod outcome_text;
 mod progress;
@@ -18,6 +19,7 @@ mod text;
 mod top;
 
 pub use command::Command;
+pub use laws::queued_signals_of_a_run_are_drawn;
 pub use progress::Progress;
 pub use standard::program;
 pub use status::ViewStatus;
