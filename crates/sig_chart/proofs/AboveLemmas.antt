@@ -31,7 +31,7 @@ module _ (from to number event : ℕ) where
   found_step o os false is (inl e) rest = absurd (false≢true (sym is ∙ ap (λ x. is_of x from to number) e ∙ its_own from to number event))
   found_step o os false is (inr h) rest = further o (origin_with from to number (sent_by os from to number)) os (rest h)
 
-  found : (os : List Origin) → Contains os (origin_with from to number event) → Contains os (origin_with from to number (sent_by os from to number))
+  pub found : (os : List Origin) → Contains os (origin_with from to number event) → Contains os (origin_with from to number (sent_by os from to number))
   found [] h = absurd (omega (arith, h.1))
   found (o ∷ os) h = found_step o os (is_of o from to number) refl (first_or_later o (origin_with from to number event) os h) (found os)
 

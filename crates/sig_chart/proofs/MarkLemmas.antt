@@ -1,16 +1,17 @@
--- Marks stand apart, and each event that is shown has one.
+-- Marks stand apart, each event that is shown has one, and each is that of the event in its row.
 use Rattle.std.proofs.Common.{◌≡◌, ℕ, suc, ◌+◌, ◌≤◌, List, [], ◌∷◌, ◌++◌, length, Option, Some, None, refl, ap, true, get_or, arith}
-use Rattle.std.specs.Prelude.{All, is_some}
+use Rattle.std.specs.Prelude.{All, is_some, slice_get}
 use Rattle.std.specs.List.{AllPairs}
-use Rattle.std.proofs.lemmas.List.Elements.{All-cons}
+use Rattle.std.proofs.lemmas.List.Elements.{All-nil, All-cons}
 use Rattle.std.proofs.lemmas.List.Kept.{AllPairs-cons}
 use Rattle.sig_model.specs.declared.event.Event.{Event}
 use Rattle.sig_record.specs.declared.report.Report.{Report}
 use Rattle.sig_record.specs.declared.merging.MergedAt.{MergedAt}
 use Rattle.sig_record.specs.Merging.{event_at}
 use Rattle.sig_svg.specs.declared.shape.Mark.{Mark}
-use Rattle.sig_chart.specs.Shapes.{mark, mark_of, mark_at, by_rows}
-use Rattle.sig_chart.specs.Laid.{IsAbove}
+use Rattle.sig_chart.specs.Shapes.{Ground, mark, mark_of, mark_at, by_rows}
+use Rattle.sig_chart.specs.Laid.{IsAbove, IsOfItsRow}
+use Rattle.sig_chart.proofs.RowLemmas.{all_rows}
 
 -- each of the marks stands at this row or below it
 abbrev AreFrom : ℕ → List Mark → Type 0
@@ -52,3 +53,13 @@ one_each reports row [] h = refl
 one_each reports row (m ∷ ms) h =
     one_of row m.pid.0 (event_at reports m) (by_rows (mark_at reports) (row + 1) ms) (length ms) (h 0 m (omega arith))
     (one_each reports (row + 1) ms (λ k d lt. h (suc k) d (omega arith)))
+
+-- ---- each is that of the event in its row
+
+mark_is : (g : Ground) (row : ℕ) (m : MergedAt) → slice_get g.shown row ≡ Some m → (o : Option Event) → event_at g.reports m ≡ o →
+    All (IsOfItsRow g) (mark_of row m.pid.0 o)
+mark_is g row m at None there = All-nil (IsOfItsRow g)
+mark_is g row m at (Some e) there = All-cons (IsOfItsRow g) (mark row m.pid.0 e) [] (m, e, at, there, refl) (All-nil (IsOfItsRow g))
+
+pub marks_of_rows : (g : Ground) → All (IsOfItsRow g) (by_rows (mark_at g.reports) 0 g.shown)
+marks_of_rows g = all_rows (mark_at g.reports) (IsOfItsRow g) g.shown (λ row m at. mark_is g row m at (event_at g.reports m) refl)

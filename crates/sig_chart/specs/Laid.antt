@@ -2,17 +2,24 @@
 use Rattle.std.specs.Prelude.{◌≡◌, ℕ, ◌+◌, ◌<◌, None, Some, slice_get}
 use Rattle.std.specs.List.{Contains}
 use Rattle.sig_kinds.specs.declared.signal.Signal.{Signal}
+use Rattle.sig_model.specs.declared.event.Did.TheVariants.{From}
 use Rattle.sig_model.specs.declared.event.Event.{Event}
 use Rattle.sig_model.specs.declared.origin.Origin.{Origin}
 use Rattle.sig_record.specs.declared.merging.MergedAt.{MergedAt}
+use Rattle.sig_record.specs.Merging.{event_at}
 use Rattle.sig_svg.specs.declared.shape.Mark.{Mark}
 use Rattle.sig_svg.specs.declared.shape.Arrow.{Arrow}
 use Rattle.sig_chart.specs.Finding.{event_of, sent_by}
-use Rattle.sig_chart.specs.Shapes.{Ground}
+use Rattle.sig_chart.specs.Shapes.{Ground, mark}
 
 -- a stands above b
 abbrev pub IsAbove : Mark → Mark → Type 0
 IsAbove a b = a.row < b.row
+
+-- the mark is that of the event that is shown in its row
+abbrev pub IsOfItsRow : Ground → Mark → Type 0
+IsOfItsRow g m =
+    (at : MergedAt) × (e : Event) × (slice_get g.shown m.row ≡ Some at) × (event_at g.reports at ≡ Some e) × (m ≡ mark m.row at.pid.0 e)
 
 -- where a mark stands: its lane and its row
 abbrev pub spot_of : Mark → ℕ × ℕ
@@ -21,6 +28,12 @@ spot_of m = (m.pid, m.row)
 -- where an arrow ends
 abbrev pub end_of : Arrow → ℕ × ℕ
 end_of a = (a.to, a.end)
+
+-- the event that is shown where the arrow ends is one of the arrow's receiver, and handled the signal with the arrow's number of its sender
+abbrev pub EndsAtHandling : Ground → Arrow → Type 0
+EndsAtHandling g a =
+    (m : MergedAt) × (e : Event) × (slice_get g.shown a.end ≡ Some m) × (m.pid.0 ≡ a.to) × (event_at g.reports m ≡ Some e) ×
+    (e.did ≡ From (record { 0 = a.from }) a.number)
 
 -- the origin of the signal of an arrow, sent by its sender's event with this number
 abbrev pub origin_of : Arrow → ℕ → Origin

@@ -46,6 +46,7 @@ origin s t number event = record { from = record { 0 = s }; to = record { 0 = t 
 -- the signal x, on its way from s to t: an origin tells its event, which has its stamp
 pub record IsSent (es : List (At Event)) (os : List Origin) (s t : ℕ) (x : Signal) : Type 0 where
   pub from : x.from.0 ≡ s
+  pub to : x.to.0 ≡ t
   pub place : ℕ
   pub sender : Event
   pub there : event_in es s place ≡ Some sender
@@ -212,6 +213,7 @@ module _ (count : ℕ) (es : List (At Event)) (m : Machine ProcessState Signal) 
   sent_stays : (f t : ℕ) (x : Signal) → IsSent es os f t x → IsSent now all f t x
   sent_stays f t x h = record {
     from = h.from;
+    to = h.to;
     place = h.place;
     sender = h.sender;
     there = stays f h.place h.sender h.there;
@@ -232,6 +234,7 @@ module _ (count : ℕ) (es : List (At Event)) (m : Machine ProcessState Signal) 
   sent_now : (t : ℕ) (x : Signal) → (x.from.0 ≡ p) × (x.stamp ≡ effect.event.stamp) → x.to.0 ≡ t → Contains new (origin_of (k + 1) x) → IsSent now all p t x
   sent_now t x h to g = record {
     from = h.0;
+    to = to;
     place = k;
     sender = effect.event;
     there = here;

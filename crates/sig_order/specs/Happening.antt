@@ -1,12 +1,14 @@
 -- Which event happened before which (Lamport's relation; that it is told of a record and of the origins of its signals is this project's
 -- own).
-use Rattle.std.specs.Prelude.{◌≡◌, ℕ, zero, suc, ◌+◌, ◌-◌, ◌<◌, ◌==◌, ◌⊎◌, Bool, true, is_some, List, Option, Some, None, option_and_then, if◌then◌else◌}
+use Rattle.std.specs.Prelude.{◌≡◌, ℕ, zero, suc, ◌+◌, ◌-◌, ◌<◌, ◌==◌, ◌⊎◌, Bool, true, is_some, List, All, Option, Some, None, option_and_then, if◌then◌else◌}
 use Rattle.std.specs.List.{Contains}
 use Rattle.std.specs.Option.{option_map_or}
+use Rattle.sig_kinds.specs.declared.signal.Signal.{Signal}
 use Rattle.sig_model.specs.declared.event.Event.{Event}
 use Rattle.sig_model.specs.declared.event.Did.{Did}
 use Rattle.sig_model.specs.declared.event.Did.TheVariants.{Exec, From}
 use Rattle.sig_model.specs.declared.origin.Origin.{Origin}
+use Rattle.sig_choices.specs.Origins.{origin_of}
 use Rattle.sig_record.specs.declared.report.Report.{Report}
 use Rattle.sig_record.specs.Merging.{event_at}
 use Rattle.sig_order.specs.declared.at.At.{At}
@@ -56,7 +58,23 @@ Chain reports origins (suc n) e f = (mid : At) × IsStep reports origins e mid �
 abbrev pub HappenedBefore : List Report → List Origin → At → At → Type 0
 HappenedBefore reports origins e f = (n : ℕ) × Chain reports origins n e f
 
--- What the record of a run and the origins of its signals keep: one event sent each signal, and each step leads to a higher stamp.
+-- What the order of events asks of a record and the origins of its signals: at most one event sent each signal, and each step leads to a
+-- higher stamp. That each signal has an origin isn't said by it.
 pub record IsTraced (reports : List Report) (origins : List Origin) : Type 0 where
   pub one : (a b : Origin) → Contains origins a → Contains origins b → a.from.0 ≡ b.from.0 → a.to.0 ≡ b.to.0 → a.number ≡ b.number → a.event ≡ b.event
   pub rises : (e f : At) → IsStep reports origins e f → stamp_of reports e < stamp_of reports f
+
+-- Of each signal that an event of the record handled one of the origins tells the event that sent it, and the record has that event.
+abbrev pub HandledAreTold : List Report → List Origin → Type 0
+HandledAreTold reports origins =
+    (f : At) (from number : ℕ) → handled_at reports f ≡ Some (from, number) →
+    (e : At) × (e.pid ≡ from) × (is_there reports e ≡ true) × Contains origins (origin_by e f.pid number)
+
+-- one of the origins tells the event that sent the signal, and the record has that event, with the signal's stamp
+abbrev pub IsTold : List Report → List Origin → Signal → Type 0
+IsTold reports origins x =
+    (e : At) × (e.pid ≡ x.from.0) × (is_there reports e ≡ true) × (stamp_of reports e ≡ x.stamp) × Contains origins (origin_of e.event x)
+
+-- so it is of each signal that is still queued
+abbrev pub QueuedAreTold : List Report → List Origin → Type 0
+QueuedAreTold reports origins = All (λ (r : Report). All (IsTold reports origins) r.queued) reports

@@ -9,3 +9,4 @@ pub mod WholeLists
 pub mod OutcomeLemmas
 pub mod DueLemmas
 pub mod AnswerLemmas
+pub mod QueuedLemmas

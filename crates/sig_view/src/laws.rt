@@ -1,7 +1,18 @@
-//! What is said of lists of outcomes: a whole one is told by the script alone.
+//! What lists of outcomes and charts keep. Nothing here runs: each contract is what was proved, and the bodies
+//! are empty.
 
-ghost use Rattle.std.specs.Prelude.{◌≡◌, ℕ, List, true};
-ghost use Rattle.sig_program.specs.Scripts.{Program};
+ghost use Rattle.std.specs.Prelude.{◌≡◌, ℕ, All, List, true};
+ghost use Rattle.sig_kinds.specs.declared.signal.Signal.{Signal};
+ghost use Rattle.sig_program.specs.Scripts.{Program, IsWithin, IsScriptWithin};
+ghost use Rattle.sig_runs.specs.Machine.{Machine};
+ghost use Rattle.sig_model.specs.ProcessState.{ProcessState};
+ghost use Rattle.sig_choices.specs.Origins.{origins_of};
+ghost use Rattle.sig_record.specs.declared.report.Report.{Report};
+ghost use Rattle.sig_record.specs.declared.merging.MergedAt.{MergedAt};
+ghost use Rattle.sig_record.specs.RunRecord.{events_listed, IsRecordOfRun};
+ghost use Rattle.sig_chart.specs.declared.window.Window.{Window as Stamps};
+ghost use Rattle.sig_chart.specs.Drawn.{AreShown};
+ghost use Rattle.sig_view.specs.Charts.{IsDrawnFromSender};
 ghost use Rattle.sig_outcomes.specs.Outcomes.{Rest};
 ghost use Rattle.sig_view.specs.Outcomes.{AreListed, IsOutcomesText};
 ghost use Rattle.sig_view.specs.declared.status.ViewStatus.TheVariants.{Done};
@@ -13,4 +24,12 @@ pub fn a_whole_list_is_told_by_the_script()
         AreListed script most outcomes states true → AreListed script other listed met true → outcomes ≡ listed }
     ensures text { (script : Program) (most other : ℕ) (text written : List ℕ) →
         IsOutcomesText script most text Done → IsOutcomesText script other written Done → text ≡ written }
+{}
+
+/// In a chart of the record of a run each queued signal is drawn from the event that sent it, wherever that
+/// event is shown: that the signal's own stamp is looked at first leaves none out.
+pub fn queued_signals_of_a_run_are_drawn()
+    ensures { (script : Program) (machine : Machine ProcessState Signal) (reports : List Report) (w : Stamps) (shown : List MergedAt) →
+        IsScriptWithin script → All IsWithin script.procs → (run : IsRecordOfRun script machine reports) → AreShown reports w shown →
+        All (λ r. All (IsDrawnFromSender reports (origins_of script (events_listed reports run.order)) w shown) r.queued) reports }
 {}

@@ -19,7 +19,7 @@ mod text;
 mod top;
 
 pub use command::Command;
-pub use laws::a_whole_list_is_told_by_the_script;
+pub use laws::{a_whole_list_is_told_by_the_script, queued_signals_of_a_run_are_drawn};
 pub use progress::Progress;
 pub use standard::program;
 pub use status::ViewStatus;

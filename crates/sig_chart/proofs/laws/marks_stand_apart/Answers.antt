@@ -1,4 +1,4 @@
-use Rattle.sig_chart.proofs.MarkLemmas.{apart, one_each}
+use Rattle.sig_chart.proofs.MarkLemmas.{apart, one_each, marks_of_rows}
 use Rattle.sig_chart.proofs.ThereLemmas.{shown_there}
 use Rattle.sig_chart.proofs.laws.marks_stand_apart.Goals as goal
 
@@ -7,3 +7,6 @@ returns-clause-apart c = λ w g. apart g.reports 0 g.shown
 
 pub returns-clause-each : goal.returns-clause-each
 returns-clause-each c = λ w g shown. one_each g.reports 0 g.shown (shown_there g.reports w g.shown shown)
+
+pub returns-clause-of : goal.returns-clause-of
+returns-clause-of c = λ w g. marks_of_rows g
