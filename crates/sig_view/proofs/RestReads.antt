@@ -1,5 +1,5 @@
 -- What is told of how processes stand can be read back, so different outcomes have different texts.
-use Rattle.std.proofs.Common.{◌≡◌, ◌≢◌, ℕ, ◌+◌, ◌≤◌, ◌×◌, true, false, List, [], ◌∷◌, ◌++◌, map, length, Option, Some, None, refl, sym, ap, ◌∙◌, subst, arith, append_assoc}
+use Rattle.std.proofs.Common.{◌≡◌, ◌≢◌, ℕ, ◌+◌, ◌≤◌, true, false, List, [], ◌∷◌, ◌++◌, length, get_or, Option, Some, None, refl, sym, ap, ◌∙◌, subst, arith, append_assoc}
 use Rattle.std.specs.Prelude.{All, codes, decimal}
 use Rattle.std.specs.List.{flat_map}
 use Rattle.std.proofs.lemmas.List.Elements.{All-head, All-map, All-tail}
@@ -33,7 +33,7 @@ use Rattle.sig_view.specs.OutcomeText.{rest_text, rests_text, unhandled_text}
 
 -- ---- lines
 
-message_front : Reader Term
+abbrev message_front : Reader Term
 message_front = behind (codes "left ") (ended (codes "\n") term_front)
 
 message_law : Law Anything message_text IsReadable message_front
@@ -48,10 +48,7 @@ message_begins t rest = refl
 abbrev IsReadableWaiting : Unhandled → Type 0
 IsReadableWaiting u = IsNarrow u.sender × (IsStoredKind u.kind × IsSizedKind u.kind)
 
-made_of : ℕ × Kind → Unhandled
-made_of x = record { sender = x.0; kind = x.1 }
-
-waiting_front : Reader Unhandled
+abbrev waiting_front : Reader Unhandled
 waiting_front = read_as (λ (x : ℕ × Kind). record { sender = x.0; kind = x.1 }) (behind (codes "queued ") (spaced narrow (ended (codes "\n") kind_front)))
 
 waiting_law : Law Anything unhandled_text IsReadableWaiting waiting_front
@@ -74,10 +71,10 @@ NoLeft rest = begins_by (codes "left ") rest ≡ false
 abbrev NoWaiting : List ℕ → Type 0
 NoWaiting rest = NoLeft rest × (begins_by (codes "queued ") rest ≡ false)
 
-lefts_front : Reader (List Term)
+abbrev lefts_front : Reader (List Term)
 lefts_front = many (begins_by (codes "left ")) (λ _. message_front)
 
-waits_front : Reader (List Unhandled)
+abbrev waits_front : Reader (List Unhandled)
 waits_front = many (begins_by (codes "queued ")) (λ _. waiting_front)
 
 lefts_law : Law NoLeft (flat_map message_text) (Fits (λ _ t. IsReadable t) []) lefts_front
@@ -113,7 +110,7 @@ pub record IsReadableRest (r : Rest) : Type 0 where
 abbrev parts_of : Rest → (List Term × List Unhandled) × State
 parts_of r = ((r.left, r.queued), r.state)
 
-rest_front : Reader ((List Term × List Unhandled) × State)
+abbrev rest_front : Reader ((List Term × List Unhandled) × State)
 rest_front = joined (joined lefts_front waits_front) state_front
 
 read_again : (r : Rest) (more : List ℕ) → IsReadableRest r → rest_front (rest_text r ++ more) ≡ Some (parts_of r, more)
@@ -169,16 +166,13 @@ one_outcome pid (name ∷ names) (r ∷ rs) (s ∷ ss) la lb ra rb same =
 
 -- ---- records
 
-readable_left : (l : List Left) → All (λ (x : Left). IsReadable (message_of x)) l → All IsReadable (map message_of l)
-readable_left l all = All-map IsReadable message_of l all
-
 readable_report : (r : Report) → IsStoredEnd r → IsSizedReport r → IsReadableRest (rest_told r)
 readable_report r stored sized = record {
-  left = All-map IsReadable message_of r.left (λ k d lt. readable_term (message_of _) (stored.left k d lt) (sized.left k d lt));
+  left = All-map IsReadable message_of r.left (λ k d lt. readable_term (message_of (get_or r.left k d)) (stored.left k d lt) (sized.left k d lt));
   queued = All-map IsReadableWaiting unhandled r.queued (λ k d lt. ((stored.queued k d lt).0, ((stored.queued k d lt).1, sized.queued k d lt)));
   state = (stored.state, sized.state);
 }
 
 -- what a record tells can be read, where it lies in memory and is no larger than what is read
 pub readable_told : (reports : List Report) → AreStoredEnds reports → IsSizedRecord reports → All IsReadableRest (outcome_told reports)
-readable_told reports stored sized = All-map IsReadableRest rest_told reports (λ k d lt. readable_report _ (stored k d lt) (sized k d lt))
+readable_told reports stored sized = All-map IsReadableRest rest_told reports (λ k d lt. readable_report (get_or reports k d) (stored k d lt) (sized k d lt))
