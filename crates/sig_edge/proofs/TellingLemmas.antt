@@ -1,13 +1,13 @@
--- Pieces that are told one after another.
+-- Pieces that are told one after another; and what was written whatever came of it.
 use Rattle.std.proofs.Common.{◌≡◌, ℕ, ◌+◌, ◌<◌, ◌≤◌, List, [], ◌∷◌, ◌++◌, length, get_or, take, drop, Option, Result, Ok, Err, refl, sym, ap, ◌∙◌, subst, arith, append_assoc}
 use Rattle.std.specs.List.{flat_map}
-use Rattle.std.proofs.lemmas.List.{take-append-drop, take_at, take_more, append-nil}
+use Rattle.std.proofs.lemmas.List.{take-append-drop, take_all, take_at, take_more, append-nil}
 use Rattle.std.proofs.lemmas.Grind.{flat_map-append}
 use Rattle.std.specs.Prelude.{IsErr}
 use Rattle.sig_base.specs.Flow.{Rose, Adds}
 use Rattle.sig_base.proofs.Pieces.{Adds-more}
 use Rattle.sig_edge.specs.Streams.{writing}
-use Rattle.sig_edge.specs.Told.{IsTold}
+use Rattle.sig_edge.specs.Told.{AddsBeginning, IsTold}
 
 module _ {X : Type 0} (text : X → List ℕ) (pieces : List X) (i : ℕ) (d : X) (lt : i < length pieces) where
   -- the texts so far, and that of one piece more
@@ -49,3 +49,8 @@ module _ {X : Type 0} (text : X → List ℕ) (pieces : List X) (i : ℕ) (d : X
           subst (Adds a c) begin.1 (Adds-more a b c (flat_map text (take i pieces)) (take n (text (get_or pieces i d))) h more),
         ),
       )
+
+-- whatever came of it, the beginning of the text was written
+pub begun : {T E : Type 0} (a b : Option (List ℕ)) (before after : ℕ) (text : List ℕ) (r : Result T E) → IsTold (writing a b before after) text r → AddsBeginning a b text
+begun a b before after text (Ok t) h = (length text, subst (Adds a b) (sym (take_all (length text) text (omega arith))) h)
+begun a b before after text (Err e) h = h.1

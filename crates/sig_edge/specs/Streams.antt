@@ -1,5 +1,6 @@
 -- What a program has read and written, and what its source spells.
-use Rattle.std.specs.Prelude.{◌≡◌, ℕ, List, [], Option, Some, IfSome, Ok, Err}
+use Rattle.std.specs.Prelude.{◌≡◌, ℕ, ◌≤◌, List, [], length, Option, Some, IfSome, Ok, Err}
+use Rattle.sig_base.specs.Flow.{Took}
 use Rattle.sig_program.specs.Scripts.{Program}
 use Rattle.sig_reader.specs.Grammar.{script_of}
 use Rattle.sig_tokens.specs.declared.fault.FaultKind.{FaultKind}
@@ -35,6 +36,10 @@ IsUnread r = (r.rest ≡ r.left) × IsFine r
 -- the source has nothing left, where it tells its bytes
 abbrev pub IsReadToEnd : Reading → Type 0
 IsReadToEnd r = IfSome r.left (λ bytes. r.rest ≡ Some [])
+
+-- at most so many bytes were taken from the source, where it tells its bytes
+abbrev pub IsReadWithin : ℕ → Reading → Type 0
+IsReadWithin most r = (bytes : List ℕ) × Took r.left r.rest bytes × (length bytes ≤ most)
 
 -- nothing was written
 abbrev pub IsUnwritten : Writing → Type 0

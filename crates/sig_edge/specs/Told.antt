@@ -1,5 +1,5 @@
 -- What a program tells when it can't go on: one line, which begins with its name (the texts are this project's own).
-use Rattle.std.specs.Prelude.{ℕ, List, ◌++◌, take, codes, decimal, Result, Ok, Err}
+use Rattle.std.specs.Prelude.{ℕ, List, ◌++◌, take, codes, decimal, Option, Result, Ok, Err}
 use Rattle.sig_base.specs.Flow.{Rose, Adds}
 use Rattle.sig_tokens.specs.declared.fault.FaultKind.{FaultKind}
 use Rattle.sig_tokens.specs.FaultWords.{fault_text}
@@ -22,7 +22,15 @@ write_fault_text program = program ++ codes ": write fault\n"
 abbrev pub memory_text : List ℕ → List ℕ
 memory_text program = program ++ codes ": out of memory\n"
 
+-- the beginning of the text was added, which may be nothing or the whole
+abbrev pub AddsBeginning : Option (List ℕ) → Option (List ℕ) → List ℕ → Type 0
+AddsBeginning held new text = (n : ℕ) × Adds held new (take n text)
+
 -- the text was written whole; or a write failed, and the beginning of the text was written
 abbrev pub IsTold : {T E : Type 0} → Writing → List ℕ → Result T E → Type 0
 IsTold w text (Ok t) = Adds w.held w.new text
-IsTold w text (Err e) = Rose w.before w.after × ((n : ℕ) × Adds w.held w.new (take n text))
+IsTold w text (Err e) = Rose w.before w.after × AddsBeginning w.held w.new text
+
+-- the text was written where no write failed, and else its beginning
+abbrev pub IsSaid : Writing → List ℕ → Type 0
+IsSaid w text = ((Rose w.before w.after → ⊥) → Adds w.held w.new text) × AddsBeginning w.held w.new text

@@ -1,6 +1,5 @@
 pub mod TooLong
 pub mod ReadLemmas
-pub mod TakenLemmas
 pub mod TellingLemmas
 pub mod NumberLemmas
 pub mod PairLemmas

@@ -1,6 +1,7 @@
 ghost use Rattle.std.specs.Prelude.{◌≡◌, ◌≢◌, ◌+◌, ◌≤◌, ◌⊎◌, ℕ, Bool, true, List, [], map, string_bytes, IfOk, Option, Some};
 ghost use Rattle.sig_base.specs.Flow.{Rose, Adds};
-ghost use Rattle.sig_edge.specs.Streams.{reading, writing};
+ghost use Rattle.sig_edge.specs.Streams.{IsReadWithin, reading, writing};
+ghost use Rattle.sig_edge.specs.Told.{AddsBeginning};
 ghost use Rattle.sig_program.specs.Scripts.{Program, IsScriptWithin};
 ghost use Rattle.sig_canon.specs.Generated.{generated};
 ghost use Rattle.sig_record.specs.RecordText.{record_text};
@@ -11,7 +12,6 @@ ghost use Rattle.sig_workers.specs.Rounds.{HasSettled};
 ghost use Rattle.sig_host.specs.Answers.{
   AreTexts,
   IsAnswer,
-  IsReadWithin,
   IsRecordOf,
   IsRun,
   IsScriptRun,
@@ -255,7 +255,7 @@ fn run_source<R: Threads + Wait + Sync, S: Source, O: Sink, G: Gate>(
 }
 
 /// Runs what the settings ask for, and writes the record.
-#[tactic(auto, using(crate::proofs::TakenLemmas::none_taken))]
+#[tactic(auto, using(sig_edge::proofs::TakenLemmas::none_taken))]
 fn run_settings<R: Threads + Wait + Sync, S: Source, O: Sink, G: Gate>(
     rt: &R,
     alloc: Global,
@@ -279,7 +279,7 @@ fn run_settings<R: Threads + Wait + Sync, S: Source, O: Sink, G: Gate>(
 }
 
 /// Reads the arguments, runs what they ask for, and writes the record.
-#[tactic(auto, using(crate::proofs::TakenLemmas::none_taken))]
+#[tactic(auto, using(sig_edge::proofs::TakenLemmas::none_taken))]
 fn run_words<R: Threads + Wait + Sync, S: Source, O: Sink, G: Gate>(
     rt: &R,
     alloc: Global,
@@ -322,8 +322,8 @@ fn run_words<R: Threads + Wait + Sync, S: Source, O: Sink, G: Gate>(
 ///   No read failed, and without `--generate` the source has nothing left.
 /// - `Memory`: memory was wanting. No read failed, and nothing was written to `out`.
 ///
-/// What a status tells is written to `err` where no write to it fails: with `Done` the summary of
-/// the record, if the script was made. A fault of `err` changes no status. Whatever the status, of the
+/// What a status tells is written to `err` where no write to it fails, and else its beginning: with `Done`
+/// the summary of the record, if the script was made. A fault of `err` changes no status. Whatever the status, of the
 /// source at most [`MOST_BYTES`] bytes and one more are taken. Arguments in the plain form with a
 /// script, and no fault of the source and of `out`, give `Done` or `Memory`, if the call returns: with
 /// more than one worker it waits for threads.
@@ -340,7 +340,8 @@ pub fn run<R: Threads + Wait + Sync, S: Source, O: Sink, E: Sink, G: Gate>(
         (reading (S.left script.old) (S.left script.new) (S.faults script.old) (S.faults script.new))
         (writing (O.held out.old) (O.held out.new) (O.faults out.old) (O.faults out.new))
         result summary
-        × ((Rose (E.faults err.old) (E.faults err.new) → ⊥) → Adds (E.held err.old) (E.held err.new) (told_text result summary)) }
+        × ((Rose (E.faults err.old) (E.faults err.new) → ⊥) → Adds (E.held err.old) (E.held err.new) (told_text result summary))
+        × AddsBeginning (E.held err.old) (E.held err.new) (told_text result summary) }
     ensures complete { IsWellGiven (map string_bytes arguments.now)
         (reading (S.left script.old) (S.left script.new) (S.faults script.old) (S.faults script.new))
         (writing (O.held out.old) (O.held out.new) (O.faults out.old) (O.faults out.new))

@@ -2,7 +2,7 @@
 
 ghost use Rattle.sig_base.specs.Flow.{Rose, Adds};
 ghost use Rattle.sig_edge.specs.Streams.{writing};
-ghost use Rattle.sig_edge.specs.Told.{IsTold};
+ghost use Rattle.sig_edge.specs.Told.{AddsBeginning, IsTold};
 ghost use Rattle.sig_host.specs.Told.{text_in, text_or_none, told_text};
 
 use crate::ending::Ending;
@@ -45,8 +45,10 @@ fn tell_status<E: Sink>(err: &mut E, ending: &Ending) -> Result<(), Untold>
 
 /// Writes what there is to tell of a run's end. A fault there changes no status.
 pub fn tell<E: Sink>(err: &mut E, ending: &Ending)
-    ensures { (Rose (E.faults err.old) (E.faults err.new) → ⊥) →
+    ensures told { (Rose (E.faults err.old) (E.faults err.new) → ⊥) →
         Adds (E.held err.old) (E.held err.new) (told_text ending.now.status (text_in ending.now.summary)) }
+    ensures beginning { AddsBeginning (E.held err.old) (E.held err.new)
+        (told_text ending.now.status (text_in ending.now.summary)) }
 {
     let _ = tell_status(err, ending);
 }

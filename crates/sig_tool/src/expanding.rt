@@ -1,7 +1,7 @@
 //! The command `expand`.
 
-ghost use Rattle.std.specs.Prelude.{◌≤◌, length};
-ghost use Rattle.sig_edge.specs.Streams.{reading};
+ghost use Rattle.std.specs.Prelude.{◌+◌, ◌≤◌, length};
+ghost use Rattle.sig_edge.specs.Streams.{IsReadWithin, reading};
 ghost use Rattle.sig_tool.specs.declared.command.Command.TheVariants.{Expand};
 ghost use Rattle.sig_tool.specs.Expanding.{IsExpandedOf};
 ghost use Rattle.sig_tool.specs.Texts.{IsTextRead};
@@ -26,7 +26,9 @@ fn expanded_text(alloc: Global, bytes: &[u8]) -> Result<Vec<u8>, ToolStatus>
 
 /// The text of `expand`: the canonical text of the script that the input spells as a text of calls.
 pub(crate) fn expand_text<S: Source>(alloc: Global, input: &mut S) -> Result<Vec<u8>, ToolStatus>
-    ensures { IsTextRead Expand (reading (S.left input.old) (S.left input.new) (S.faults input.old) (S.faults input.new)) result }
+    ensures text { IsTextRead Expand (reading (S.left input.old) (S.left input.new) (S.faults input.old) (S.faults input.new)) result }
+    ensures taken { IsReadWithin (MOST_BYTES + 1)
+        (reading (S.left input.old) (S.left input.new) (S.faults input.old) (S.faults input.new)) }
 {
     let bytes = read_input(alloc, MOST_BYTES, input)?;
     expanded_text(alloc, bytes.as_slice())

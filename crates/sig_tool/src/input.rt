@@ -1,7 +1,7 @@
 //! The bytes of the input.
 
-ghost use Rattle.std.specs.Prelude.{◌<◌};
-ghost use Rattle.sig_edge.specs.Streams.{reading};
+ghost use Rattle.std.specs.Prelude.{◌+◌, ◌<◌};
+ghost use Rattle.sig_edge.specs.Streams.{IsReadWithin, reading};
 ghost use Rattle.sig_tool.specs.Inputs.{IsInput};
 
 use crate::status::ToolStatus;
@@ -15,7 +15,9 @@ pub(crate) fn read_input<S: Source>(
     input: &mut S,
 ) -> Result<Vec<u8>, ToolStatus>
     requires { most < usize.MAX }
-    ensures { IsInput most (reading (S.left input.old) (S.left input.new) (S.faults input.old) (S.faults input.new)) result }
+    ensures input { IsInput most (reading (S.left input.old) (S.left input.new) (S.faults input.old) (S.faults input.new)) result }
+    ensures taken { IsReadWithin (most + 1)
+        (reading (S.left input.old) (S.left input.new) (S.faults input.old) (S.faults input.new)) }
 {
     let mut bytes = Vec::new(alloc);
     match read_all(input, most, &mut bytes) {

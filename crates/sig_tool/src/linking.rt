@@ -1,9 +1,10 @@
 //! The command `links`.
 
-ghost use Rattle.std.specs.Prelude.{◌≡◌, ◌++◌, IfOk, OnOk, decimal};
-ghost use Rattle.sig_edge.specs.Streams.{reading};
+ghost use Rattle.std.specs.Prelude.{◌≡◌, ◌+◌, ◌++◌, IfOk, OnOk, decimal};
+ghost use Rattle.sig_edge.specs.Streams.{IsReadWithin, reading};
 ghost use Rattle.sig_check.specs.Verdicts.{IsOfSettledRun};
 ghost use Rattle.sig_tool.specs.declared.command.Command.TheVariants.{Links};
+ghost use Rattle.sig_tool.specs.declared.given.TheConstants.{MOST_INPUT};
 ghost use Rattle.sig_tool.specs.Texts.{IsTextRead};
 ghost use Rattle.sig_tool.specs.Linking.{link_line, link_lines, IsLinksText};
 
@@ -61,7 +62,9 @@ fn text_of_links(alloc: Global, given: &Given) -> Result<Vec<u8>, AllocError>
 
 /// The text of `links`: a line `link P Q` for each pair of waiting processes with a link between them.
 pub(crate) fn links_text<S: Source>(alloc: Global, input: &mut S) -> Result<Vec<u8>, ToolStatus>
-    ensures { IsTextRead Links (reading (S.left input.old) (S.left input.new) (S.faults input.old) (S.faults input.new)) result }
+    ensures text { IsTextRead Links (reading (S.left input.old) (S.left input.new) (S.faults input.old) (S.faults input.new)) result }
+    ensures taken { IsReadWithin (MOST_INPUT + 1)
+        (reading (S.left input.old) (S.left input.new) (S.faults input.old) (S.faults input.new)) }
 {
     let given = read_checked(alloc, input)?;
     let text = text_of_links(alloc, &given)?;

@@ -1,9 +1,10 @@
 //! The command `before`.
 
-ghost use Rattle.std.specs.Prelude.{◌≡◌, IfOk};
-ghost use Rattle.sig_edge.specs.Streams.{reading};
+ghost use Rattle.std.specs.Prelude.{◌≡◌, ◌+◌, IfOk};
+ghost use Rattle.sig_edge.specs.Streams.{IsReadWithin, reading};
 ghost use Rattle.sig_check.specs.Verdicts.{IsOfSettledRun};
 ghost use Rattle.sig_tool.specs.declared.command.Command.TheVariants.{Before};
+ghost use Rattle.sig_tool.specs.declared.given.TheConstants.{MOST_INPUT};
 ghost use Rattle.sig_tool.specs.Texts.{IsTextRead};
 ghost use Rattle.sig_tool.specs.Ordering.{said, IsAnswered, IsOrderOf};
 
@@ -59,8 +60,10 @@ pub(crate) fn before_text<S: Source>(
     second: At,
     input: &mut S,
 ) -> Result<Vec<u8>, ToolStatus>
-    ensures { IsTextRead (Before first second)
+    ensures text { IsTextRead (Before first second)
         (reading (S.left input.old) (S.left input.new) (S.faults input.old) (S.faults input.new)) result }
+    ensures taken { IsReadWithin (MOST_INPUT + 1)
+        (reading (S.left input.old) (S.left input.new) (S.faults input.old) (S.faults input.new)) }
 {
     let given = read_checked(alloc, input)?;
     let order = order_of(alloc, &given)?;

@@ -1,10 +1,11 @@
 //! The command `replay`.
 
-ghost use Rattle.std.specs.Prelude.{◌≡◌, IfOk};
-ghost use Rattle.sig_edge.specs.Streams.{reading};
+ghost use Rattle.std.specs.Prelude.{◌≡◌, ◌+◌, IfOk};
+ghost use Rattle.sig_edge.specs.Streams.{IsReadWithin, reading};
 ghost use Rattle.sig_check.specs.Verdicts.{IsOfSettledRun};
 ghost use Rattle.sig_record.specs.RecordText.{record_text};
 ghost use Rattle.sig_tool.specs.declared.command.Command.TheVariants.{Replay};
+ghost use Rattle.sig_tool.specs.declared.given.TheConstants.{MOST_INPUT};
 ghost use Rattle.sig_tool.specs.Texts.{IsTextRead};
 
 use crate::given::{Given, read_checked};
@@ -40,7 +41,9 @@ fn text_again(alloc: Global, given: &Given) -> Result<Vec<u8>, AllocError>
 /// The text of `replay`: that of the record that is gathered from processes which made the given
 /// record's choices. It is the given record's.
 pub(crate) fn replay_text<S: Source>(alloc: Global, input: &mut S) -> Result<Vec<u8>, ToolStatus>
-    ensures { IsTextRead Replay (reading (S.left input.old) (S.left input.new) (S.faults input.old) (S.faults input.new)) result }
+    ensures text { IsTextRead Replay (reading (S.left input.old) (S.left input.new) (S.faults input.old) (S.faults input.new)) result }
+    ensures taken { IsReadWithin (MOST_INPUT + 1)
+        (reading (S.left input.old) (S.left input.new) (S.faults input.old) (S.faults input.new)) }
 {
     let given = read_checked(alloc, input)?;
     let text = text_again(alloc, &given)?;

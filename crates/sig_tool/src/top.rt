@@ -1,7 +1,9 @@
-ghost use Rattle.std.specs.Prelude.{◌≡◌, ◌⊎◌, ℕ, List, map, string_bytes};
+ghost use Rattle.std.specs.Prelude.{◌≡◌, ◌+◌, ◌⊎◌, ℕ, List, map, string_bytes};
 ghost use Rattle.sig_base.specs.Flow.{Rose, Adds};
-ghost use Rattle.sig_edge.specs.Streams.{reading, writing};
+ghost use Rattle.sig_edge.specs.Streams.{IsReadWithin, reading, writing};
+ghost use Rattle.sig_edge.specs.Told.{AddsBeginning};
 ghost use Rattle.sig_tool.specs.declared.command.Command.{Command as Asked};
+ghost use Rattle.sig_tool.specs.declared.given.TheConstants.{MOST_INPUT};
 ghost use Rattle.sig_tool.specs.declared.status.ToolStatus.{ToolStatus};
 ghost use Rattle.sig_tool.specs.Answers.{IsAnswer, IsDue, IsRanSo, IsWellGiven};
 ghost use Rattle.sig_tool.specs.Texts.{IsTextRead};
@@ -20,7 +22,9 @@ use std::alloc::Global;
 
 /// What the command writes of the input.
 fn text_of<S: Source>(alloc: Global, command: Command, input: &mut S) -> Result<Vec<u8>, ToolStatus>
-    ensures { IsTextRead command (reading (S.left input.old) (S.left input.new) (S.faults input.old) (S.faults input.new)) result }
+    ensures text { IsTextRead command (reading (S.left input.old) (S.left input.new) (S.faults input.old) (S.faults input.new)) result }
+    ensures taken { IsReadWithin (MOST_INPUT + 1)
+        (reading (S.left input.old) (S.left input.new) (S.faults input.old) (S.faults input.new)) }
 {
     match command {
         Command::Check => check_text(alloc, input),
@@ -39,8 +43,10 @@ fn run_command<S: Source, O: Sink>(
     input: &mut S,
     out: &mut O,
 ) -> ToolStatus
-    ensures { IsRanSo command (reading (S.left input.old) (S.left input.new) (S.faults input.old) (S.faults input.new))
+    ensures run { IsRanSo command (reading (S.left input.old) (S.left input.new) (S.faults input.old) (S.faults input.new))
         (writing (O.held out.old) (O.held out.new) (O.faults out.old) (O.faults out.new)) result }
+    ensures taken { IsReadWithin (MOST_INPUT + 1)
+        (reading (S.left input.old) (S.left input.new) (S.faults input.old) (S.faults input.new)) }
 {
     match text_of(alloc, command, input) {
         Ok(text) => match write_whole(out, text.as_slice()) {
@@ -52,15 +58,18 @@ fn run_command<S: Source, O: Sink>(
 }
 
 /// Reads the arguments, and writes what their command says of the input.
+#[tactic(auto, using(sig_edge::proofs::TakenLemmas::none_taken))]
 fn run_words<S: Source, O: Sink>(
     alloc: Global,
     words: &[String],
     input: &mut S,
     out: &mut O,
 ) -> ToolStatus
-    ensures { IsAnswer (map string_bytes words.now)
+    ensures answer { IsAnswer (map string_bytes words.now)
         (reading (S.left input.old) (S.left input.new) (S.faults input.old) (S.faults input.new))
         (writing (O.held out.old) (O.held out.new) (O.faults out.old) (O.faults out.new)) result }
+    ensures taken { IsReadWithin (MOST_INPUT + 1)
+        (reading (S.left input.old) (S.left input.new) (S.faults input.old) (S.faults input.new)) }
 {
     match Command::of(words) {
         Some(command) => run_command(alloc, command, input, out),
@@ -102,8 +111,9 @@ fn run_words<S: Source, O: Sink>(
 /// - `Done`: `out` has taken the whole text.
 ///
 /// `Memory` may come in place of each but `Usage`, where memory was wanting. No read failed, but with
-/// `ReadFault`. Only `Done` and `WriteFault` have written to `out`. What a status tells is written to
-/// `err` where no write to it fails, and a fault of `err` changes no status.
+/// `ReadFault`. Whatever the status, of the input at most [`MOST_INPUT`](crate::MOST_INPUT) bytes and one
+/// more are taken. Only `Done` and `WriteFault` have written to `out`. What a status tells is written to
+/// `err` where no write to it fails, and else its beginning; a fault of `err` changes no status.
 pub fn tool<S: Source, O: Sink, E: Sink>(
     alloc: Global,
     words: &[String],
@@ -115,6 +125,9 @@ pub fn tool<S: Source, O: Sink, E: Sink>(
         (reading (S.left input.old) (S.left input.new) (S.faults input.old) (S.faults input.new))
         (writing (O.held out.old) (O.held out.new) (O.faults out.old) (O.faults out.new)) result }
     ensures told { (Rose (E.faults err.old) (E.faults err.new) → ⊥) → Adds (E.held err.old) (E.held err.new) (told_text result) }
+    ensures beginning { AddsBeginning (E.held err.old) (E.held err.new) (told_text result) }
+    ensures taken { IsReadWithin (MOST_INPUT + 1)
+        (reading (S.left input.old) (S.left input.new) (S.faults input.old) (S.faults input.new)) }
     // What is due for the input is answered, where nothing fails and there is memory.
     ensures complete { (command : Asked) (bytes : List ℕ) (due : ToolStatus) → IsDue command bytes due →
         IsWellGiven command (map string_bytes words.now) bytes due

@@ -1,5 +1,9 @@
 -- What each answer of the viewer says of the words, of what was read, and of what was written; and which is due.
-use Rattle.std.specs.Prelude.{◌≡◌, ℕ, ◌<◌, List, length, take, Option, Some, None}
+use Rattle.std.specs.Prelude.{◌≡◌, ◌≢◌, ℕ, ◌<◌, List, length, map, take, Option, Some, None, Result, Ok, Err, Vec, String, string_bytes}
+use Rattle.std.specs.Global.{Global}
+use Rattle.std.specs.IoError.{error_kind}
+use Rattle.std.specs.declared.io.Error.{Error}
+use Rattle.std.specs.declared.io.ErrorKind.TheVariants.{OutOfMemory}
 use Rattle.sig_base.specs.Flow.{Rose, Adds}
 use Rattle.sig_edge.specs.Streams.{IsUnread, IsUnwritten, Reading, Writing}
 use Rattle.sig_program.specs.Scripts.{Program}
@@ -11,7 +15,7 @@ use Rattle.sig_tool.specs.Inputs.{IsFault, IsPair}
 use Rattle.sig_view.specs.declared.command.Command.{Command}
 use Rattle.sig_view.specs.declared.command.Command.TheVariants.{Outcomes, OutcomeRecord}
 use Rattle.sig_view.specs.declared.status.ViewStatus.{ViewStatus}
-use Rattle.sig_view.specs.declared.status.ViewStatus.TheVariants.{Done, BadScript, Usage, WriteFault, No, BadRecord, TooLong, Unfinished}
+use Rattle.sig_view.specs.declared.status.ViewStatus.TheVariants.{Done, BadScript, Usage, WriteFault, Memory, No, BadRecord, TooLong, Unfinished}
 use Rattle.sig_view.specs.Commands.{command_of, IsFit, IsRefusal}
 use Rattle.sig_view.specs.Outcomes.{IsNoScript, IsSpelled}
 use Rattle.sig_view.specs.Texts.{IsTextFor, IsUnfitFor}
@@ -41,6 +45,12 @@ IsAnswerTo (Some command) r w status = IsRanSo command r w status
 -- what each status says of the words, of what was read, and of what was written
 abbrev pub IsAnswer : List (List ℕ) → Reading → Writing → ViewStatus → Type 0
 IsAnswer words r w status = IsAnswerTo (command_of words) r w status
+
+-- what the status says of the program's arguments; or that they can't be had, for want of memory or since one is no text
+abbrev pub IsEnd : Result (Vec (String Global) Global) Error → Reading → Writing → ViewStatus → Type 0
+IsEnd (Ok words) r w status = IsAnswer (map string_bytes words.items) r w status
+IsEnd (Err fault) r w status =
+    IsUnread r × IsUnwritten w × (error_kind fault ≡ OutOfMemory → status ≡ Memory) × (error_kind fault ≢ OutOfMemory → status ≡ Usage)
 
 -- what the command has to answer of the record of a settled run
 abbrev pub IsDecided : Command → List Report → ViewStatus → Type 0

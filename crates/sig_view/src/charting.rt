@@ -1,7 +1,8 @@
 //! The command `chart`.
 
-ghost use Rattle.std.specs.Prelude.{IfOk};
-ghost use Rattle.sig_edge.specs.Streams.{reading};
+ghost use Rattle.std.specs.Prelude.{◌+◌};
+ghost use Rattle.sig_edge.specs.Streams.{IsReadWithin, reading};
+ghost use Rattle.sig_tool.specs.declared.given.TheConstants.{MOST_INPUT};
 ghost use Rattle.sig_view.specs.declared.command.Command.TheVariants.{Chart};
 ghost use Rattle.sig_view.specs.Charts.{IsDrawn};
 ghost use Rattle.sig_view.specs.Inputs.{IsRecordRead};
@@ -37,7 +38,9 @@ pub(crate) fn chart_text<S: Source>(
     window: Window,
     input: &mut S,
 ) -> Result<Vec<u8>, ViewStatus>
-    ensures { IsRecordRead (Chart window) (reading (S.left input.old) (S.left input.new) (S.faults input.old) (S.faults input.new)) result }
+    ensures text { IsRecordRead (Chart window) (reading (S.left input.old) (S.left input.new) (S.faults input.old) (S.faults input.new)) result }
+    ensures taken { IsReadWithin (MOST_INPUT + 1)
+        (reading (S.left input.old) (S.left input.new) (S.faults input.old) (S.faults input.new)) }
 {
     let given = read_settled(alloc, input)?;
     let origins = origins_of(alloc, &given)?;

@@ -1,7 +1,8 @@
 //! The command `concurrent`.
 
-ghost use Rattle.std.specs.Prelude.{◌≡◌, ◌++◌, true, IfOk, OnOk, decimal};
-ghost use Rattle.sig_edge.specs.Streams.{reading};
+ghost use Rattle.std.specs.Prelude.{◌≡◌, ◌+◌, ◌++◌, true, IfOk, OnOk, decimal};
+ghost use Rattle.sig_edge.specs.Streams.{IsReadWithin, reading};
+ghost use Rattle.sig_tool.specs.declared.given.TheConstants.{MOST_INPUT};
 ghost use Rattle.sig_order.specs.Happening.{is_there};
 ghost use Rattle.sig_view.specs.declared.command.Command.TheVariants.{Concurrent};
 ghost use Rattle.sig_view.specs.Inputs.{IsRecordRead};
@@ -103,8 +104,10 @@ pub(crate) fn concurrent_text<S: Source>(
     event: At,
     input: &mut S,
 ) -> Result<Vec<u8>, ViewStatus>
-    ensures { IsRecordRead (Concurrent event)
+    ensures text { IsRecordRead (Concurrent event)
         (reading (S.left input.old) (S.left input.new) (S.faults input.old) (S.faults input.new)) result }
+    ensures taken { IsReadWithin (MOST_INPUT + 1)
+        (reading (S.left input.old) (S.left input.new) (S.faults input.old) (S.faults input.new)) }
 {
     let given = read_settled(alloc, input)?;
     let origins = origins_of(alloc, &given)?;

@@ -3,7 +3,7 @@
 ghost use Rattle.std.specs.Prelude.{◌≡◌, ◌++◌, false, codes, decimal};
 ghost use Rattle.sig_base.specs.Flow.{Rose};
 ghost use Rattle.sig_edge.specs.Streams.{writing};
-ghost use Rattle.sig_edge.specs.Told.{IsTold};
+ghost use Rattle.sig_edge.specs.Told.{AddsBeginning, IsTold};
 ghost use Rattle.sig_view.specs.Told.{IsProgressTold, progress_text};
 
 use crate::telling::PROGRAM;
@@ -89,8 +89,10 @@ impl<C: Clock, E: Sink> Progress<C, E> {
 impl<C: Clock, E: Sink> Teller for Progress<C, E> {
     fn tell(&mut self, visited: usize, met: usize)
         ensures hidden { self.old.shown ≡ false → E.held self.new.err ≡ E.held self.old.err }
+        ensures shown { self.new.shown ≡ self.old.shown }
         ensures line { (Rose (E.faults self.old.err) (E.faults self.new.err) → ⊥)
             → IsProgressTold (E.held self.old.err) (E.held self.new.err) visited met }
+        ensures beginning { AddsBeginning (E.held self.old.err) (E.held self.new.err) (progress_text visited met) }
     {
         if self.shown && visited % VISITS == 0 && is_due(&self.clock, &mut self.last) {
             let _ = tell_progress(&mut self.err, visited as u64, met as u64);

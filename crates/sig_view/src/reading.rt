@@ -1,6 +1,8 @@
 //! The input: a script; or one with a record behind it, which is that of a settled run of the script.
 
-ghost use Rattle.sig_edge.specs.Streams.{reading};
+ghost use Rattle.std.specs.Prelude.{◌+◌};
+ghost use Rattle.sig_edge.specs.Streams.{IsReadWithin, reading};
+ghost use Rattle.sig_tool.specs.declared.given.TheConstants.{MOST_INPUT};
 ghost use Rattle.sig_view.specs.Inputs.{IsSettledRead};
 ghost use Rattle.sig_view.specs.Outcomes.{AreBytes, IsScriptOf, IsScriptRead};
 
@@ -13,7 +15,9 @@ use std::alloc::Global;
 /// Reads the input to its end, and the script and the record that it spells, where the record is that
 /// of a settled run of the script.
 pub(crate) fn read_settled<S: Source>(alloc: Global, input: &mut S) -> Result<Given, ViewStatus>
-    ensures { IsSettledRead (reading (S.left input.old) (S.left input.new) (S.faults input.old) (S.faults input.new)) result }
+    ensures settled { IsSettledRead (reading (S.left input.old) (S.left input.new) (S.faults input.old) (S.faults input.new)) result }
+    ensures taken { IsReadWithin (MOST_INPUT + 1)
+        (reading (S.left input.old) (S.left input.new) (S.faults input.old) (S.faults input.new)) }
 {
     match read_checked(alloc, input) {
         Ok(given) => Ok(given),
@@ -23,7 +27,9 @@ pub(crate) fn read_settled<S: Source>(alloc: Global, input: &mut S) -> Result<Gi
 
 /// Reads the input to its end.
 fn read_bytes<S: Source>(alloc: Global, input: &mut S) -> Result<Vec<u8>, ViewStatus>
-    ensures { AreBytes (reading (S.left input.old) (S.left input.new) (S.faults input.old) (S.faults input.new)) result }
+    ensures bytes { AreBytes (reading (S.left input.old) (S.left input.new) (S.faults input.old) (S.faults input.new)) result }
+    ensures taken { IsReadWithin (MOST_INPUT + 1)
+        (reading (S.left input.old) (S.left input.new) (S.faults input.old) (S.faults input.new)) }
 {
     let mut bytes = Vec::new(alloc);
     match read_all(input, MOST_INPUT, &mut bytes) {
@@ -44,7 +50,9 @@ fn script_of(alloc: Global, bytes: &[u8]) -> Result<Script, ViewStatus>
 
 /// Reads the input to its end, and the script that it spells.
 pub(crate) fn read_alone<S: Source>(alloc: Global, input: &mut S) -> Result<Script, ViewStatus>
-    ensures { IsScriptRead (reading (S.left input.old) (S.left input.new) (S.faults input.old) (S.faults input.new)) result }
+    ensures script { IsScriptRead (reading (S.left input.old) (S.left input.new) (S.faults input.old) (S.faults input.new)) result }
+    ensures taken { IsReadWithin (MOST_INPUT + 1)
+        (reading (S.left input.old) (S.left input.new) (S.faults input.old) (S.faults input.new)) }
 {
     let bytes = read_bytes(alloc, input)?;
     script_of(alloc, bytes.as_slice())

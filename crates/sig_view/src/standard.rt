@@ -1,14 +1,20 @@
-ghost use Rattle.std.specs.Prelude.{◌≡◌, ◌≢◌, ◌≤◌};
+ghost use Rattle.std.specs.Prelude.{◌≡◌, ◌≢◌};
 ghost use Rattle.std.specs.IoError.{error_kind};
 ghost use Rattle.sig_base.specs.Flow.{Rose, Adds};
+ghost use Rattle.sig_edge.specs.Streams.{reading, writing};
+ghost use Rattle.sig_edge.specs.Told.{AddsBeginning, IsSaid};
+ghost use Rattle.sig_view.specs.declared.status.ViewStatus.{ViewStatus};
+ghost use Rattle.sig_view.specs.Answers.{IsEnd};
+ghost use Rattle.sig_view.specs.Statuses.{number_of};
 ghost use Rattle.sig_view.specs.Told.{told_text};
 
 use crate::progress::Progress;
 use crate::status::ViewStatus;
 use crate::telling::tell;
 use crate::top::view;
-use sig_base::{Sink, StdSink, StdSource};
+use sig_base::{Sink, Source, StdSink, StdSource};
 use sig_edge::arguments;
+use sig_search::Teller;
 use std::alloc::Global;
 use std::io;
 use std::io::{ErrorKind, IsTerminal, Read, Write};
@@ -21,6 +27,7 @@ fn refuse<E: Sink>(err: &mut E, fault: io::Error) -> ViewStatus
     ensures memory { error_kind fault ≡ ErrorKind.OutOfMemory → result ≡ ViewStatus.Memory }
     ensures usage { error_kind fault ≢ ErrorKind.OutOfMemory → result ≡ ViewStatus.Usage }
     ensures told { (Rose (E.faults err.old) (E.faults err.new) → ⊥) → Adds (E.held err.old) (E.held err.new) (told_text result) }
+    ensures beginning { AddsBeginning (E.held err.old) (E.held err.new) (told_text result) }
 {
     let status = match fault.kind() {
         ErrorKind::OutOfMemory => ViewStatus::Memory,
@@ -30,30 +37,63 @@ fn refuse<E: Sink>(err: &mut E, fault: io::Error) -> ViewStatus
     status
 }
 
+/// How the program ends on these arguments, or where they can't be had: the status of `view`, or of a refusal.
+fn status_on<S: Source, O: Sink, E: Sink, T: Teller>(
+    alloc: Global,
+    arguments: io::Result<Vec<String>>,
+    input: &mut S,
+    out: &mut O,
+    err: &mut E,
+    teller: &mut T,
+) -> ViewStatus
+    ensures { IsEnd arguments
+        (reading (S.left input.old) (S.left input.new) (S.faults input.old) (S.faults input.new))
+        (writing (O.held out.old) (O.held out.new) (O.faults out.old) (O.faults out.new)) result
+        × IsSaid (writing (E.held err.old) (E.held err.new) (E.faults err.old) (E.faults err.new)) (told_text result) }
+{
+    match arguments {
+        Ok(words) => view(alloc, words.as_slice(), input, out, err, teller),
+        Err(fault) => refuse(err, fault),
+    }
+}
+
+/// The same, with the exit code that is the number of that status.
+fn ended<S: Source, O: Sink, E: Sink, T: Teller>(
+    alloc: Global,
+    arguments: io::Result<Vec<String>>,
+    input: &mut S,
+    out: &mut O,
+    err: &mut E,
+    teller: &mut T,
+) -> ExitCode
+    ensures { (status : ViewStatus) × (result.status ≡ number_of status) × IsEnd arguments
+        (reading (S.left input.old) (S.left input.new) (S.faults input.old) (S.faults input.new))
+        (writing (O.held out.old) (O.held out.new) (O.faults out.old) (O.faults out.new)) status
+        × IsSaid (writing (E.held err.old) (E.held err.new) (E.faults err.old) (E.faults err.new)) (told_text status) }
+{
+    let status = status_on(alloc, arguments, input, out, err, teller);
+    ExitCode::from(status.number())
+}
+
 /// The program `sigview`, on the arguments of its runtime and these streams: `view` of both. Where the
 /// arguments can't be had, for want of memory or since one is no text, it tells so as `view` does of a
-/// want of memory or of words that are no command. The exit code is at most 13; that it is the number of the
-/// status, its body says and no clause. A search that takes longer than a second tells how far it is, where
-/// standard error is a terminal.
+/// want of memory or of words that are no command. The exit code is the number of a status; that it is the
+/// number of the one that `view` gives, the body says, which calls `ended`, and no clause. A search that takes
+/// longer than a second tells how far it is, where standard error is a terminal.
 pub fn program<R, I, O, E>(rt: &R, stdin: I, stdout: O, stderr: E) -> ExitCode
 where
     R: Env + Clock + Alloc<A = Global>,
     I: Read + Drop,
     O: Write + Drop,
     E: Write + IsTerminal + Copy,
-    ensures { result.status ≤ 13 }
+    ensures { (status : ViewStatus) × (result.status ≡ number_of status) }
 {
-    let mut err = StdSink::new(stderr);
-    let status = match arguments(rt) {
-        Ok(arguments) => view(
-            rt.alloc(),
-            arguments.as_slice(),
-            &mut StdSource::new(stdin),
-            &mut StdSink::new(stdout),
-            &mut err,
-            &mut Progress::new(rt, StdSink::new(stderr), stderr.is_terminal()),
-        ),
-        Err(fault) => refuse(&mut err, fault),
-    };
-    ExitCode::from(status.number())
+    ended(
+        rt.alloc(),
+        arguments(rt),
+        &mut StdSource::new(stdin),
+        &mut StdSink::new(stdout),
+        &mut StdSink::new(stderr),
+        &mut Progress::new(rt, StdSink::new(stderr), stderr.is_terminal()),
+    )
 }

@@ -2,7 +2,7 @@
 
 ghost use Rattle.sig_base.specs.Flow.{Rose, Adds};
 ghost use Rattle.sig_edge.specs.Streams.{writing};
-ghost use Rattle.sig_edge.specs.Told.{IsTold};
+ghost use Rattle.sig_edge.specs.Told.{AddsBeginning, IsTold};
 ghost use Rattle.sig_view.specs.Told.{told_text};
 
 use crate::status::ViewStatus;
@@ -64,7 +64,8 @@ fn tell_status<E: Sink>(err: &mut E, status: ViewStatus) -> Result<(), Untold>
 
 /// Writes what there is to tell of an end. A fault there changes no status.
 pub(crate) fn tell<E: Sink>(err: &mut E, status: ViewStatus)
-    ensures { (Rose (E.faults err.old) (E.faults err.new) → ⊥) → Adds (E.held err.old) (E.held err.new) (told_text status) }
+    ensures told { (Rose (E.faults err.old) (E.faults err.new) → ⊥) → Adds (E.held err.old) (E.held err.new) (told_text status) }
+    ensures beginning { AddsBeginning (E.held err.old) (E.held err.new) (told_text status) }
 {
     let _ = tell_status(err, status);
 }

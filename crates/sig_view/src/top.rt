@@ -1,6 +1,7 @@
 ghost use Rattle.std.specs.Prelude.{◌≡◌, ◌⊎◌, ℕ, List, map, string_bytes};
 ghost use Rattle.sig_base.specs.Flow.{Rose, Adds};
 ghost use Rattle.sig_edge.specs.Streams.{reading, writing};
+ghost use Rattle.sig_edge.specs.Told.{AddsBeginning};
 ghost use Rattle.sig_view.specs.declared.command.Command.{Command as Asked};
 ghost use Rattle.sig_view.specs.declared.status.ViewStatus.{ViewStatus};
 ghost use Rattle.sig_view.specs.Answers.{as_done, IsAnswer, IsDue, IsRanSo, IsWellGiven};
@@ -122,7 +123,8 @@ fn run_words<S: Source, O: Sink, T: Teller>(
 ///
 /// `Memory` may come in place of each but `Usage`, where memory was wanting. No read failed, but with
 /// `ReadFault`. Only `Done`, `Unfinished` and `WriteFault` have written to `out`. What a
-/// status tells is written to `err` where no write to it fails, and a fault of `err` changes no status.
+/// status tells is written to `err` where no write to it fails, and else its beginning; a fault of `err` changes
+/// no status.
 /// While a search goes on the teller is told before each visit how many states were visited and how many
 /// were met.
 pub fn view<S: Source, O: Sink, E: Sink, T: Teller>(
@@ -137,6 +139,7 @@ pub fn view<S: Source, O: Sink, E: Sink, T: Teller>(
         (reading (S.left input.old) (S.left input.new) (S.faults input.old) (S.faults input.new))
         (writing (O.held out.old) (O.held out.new) (O.faults out.old) (O.faults out.new)) result }
     ensures told { (Rose (E.faults err.old) (E.faults err.new) → ⊥) → Adds (E.held err.old) (E.held err.new) (told_text result) }
+    ensures beginning { AddsBeginning (E.held err.old) (E.held err.new) (told_text result) }
     // What is due for the input is answered, where nothing fails and there is memory.
     ensures complete { (command : Asked) (bytes : List ℕ) (due : ViewStatus) → IsDue command bytes due →
         IsWellGiven command (map string_bytes words.now) bytes due

@@ -2,10 +2,10 @@ use Rattle.std.proofs.Common.{List, ℕ, [], Some, refl, subst, arith}
 use Rattle.sig_base.specs.declared.reading.ReadAll.TheVariants.{Whole, TooLong, ReadFault, Memory}
 use Rattle.sig_reader.specs.declared.reader.TheConstants.{MOST_BYTES}
 use Rattle.sig_edge.specs.Streams.{reading}
+use Rattle.sig_edge.proofs.TakenLemmas.{taken}
 use Rattle.sig_host.specs.Answers.{IsSourceRead}
 use Rattle.sig_host.proofs.ReadLemmas.{read_whole}
 use Rattle.sig_host.proofs.TooLong.{too_long}
-use Rattle.sig_host.proofs.TakenLemmas.{taken}
 use Rattle.sig_host.proofs.host.read_source.Goals as goal
 
 pub returns-in-Whole-clause-read : goal.returns-in-Whole-clause-read

@@ -3,8 +3,7 @@ use Rattle.std.proofs.Common.{ℕ, ◌+◌, List, [], ◌++◌, Option, Some, No
 use Rattle.sig_base.specs.Reading.{IsRead}
 use Rattle.sig_base.specs.declared.reading.ReadAll.{ReadAll}
 use Rattle.sig_base.specs.declared.reading.ReadAll.TheVariants.{Whole, TooLong, ReadFault, Memory}
-use Rattle.sig_edge.specs.Streams.{reading}
-use Rattle.sig_host.specs.Answers.{IsReadWithin}
+use Rattle.sig_edge.specs.Streams.{IsReadWithin, reading}
 
 -- reading all of it takes at most one byte more than the limit
 pub taken : (left rest : Option (List ℕ)) (before after limit : ℕ) (into : List ℕ) (result : ReadAll) → IsRead left rest before after limit into result
