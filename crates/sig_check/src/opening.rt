@@ -14,6 +14,7 @@ use sig_players::{Player, arrive, none_of};
 use sig_process::{Crew, Process};
 use sig_program::Script;
 use std::alloc::{AllocError, Global};
+use std::mem::drop;
 
 /// These processes, for which nothing waits. The error is want of memory.
 fn seat_all(alloc: Global, count: u32, procs: Vec<Process>) -> Result<Vec<Player>, AllocError>
@@ -23,7 +24,13 @@ fn seat_all(alloc: Global, count: u32, procs: Vec<Process>) -> Result<Vec<Player
 {
     let mut players = Vec::new(alloc);
     for process in procs {
-        let waiting = none_of(alloc, count)?;
+        let waiting = match none_of(alloc, count) {
+            Ok(waiting) => waiting,
+            Err(error) => {
+                drop(process);
+                return Err(error);
+            }
+        };
         players.push(Player { process, waiting })?;
     }
     Ok(players)
@@ -70,8 +77,13 @@ fn close_one(player: Player) -> Result<Process, AllocError>
     ensures { IfOk result (λ process. process.running ≡ seen player) }
 {
     let mut process = player.process;
-    take_all(&mut process, player.waiting)?;
-    Ok(process)
+    match take_all(&mut process, player.waiting) {
+        Ok(()) => Ok(process),
+        Err(error) => {
+            drop(process);
+            Err(error)
+        }
+    }
 }
 
 /// These processes, each of which takes in all that waits for it, by ascending sender. Where their
