@@ -72,7 +72,7 @@ IsListDue bytes Done = (script : Program) × IsSpelled bytes script
 IsListDue bytes status = IsNoScript bytes status
 
 -- What the command has to answer for these bytes, where nothing fails and there is memory: at most one status. Where `--record` stands and
--- they spell a script none is due, since how many states a search meets and which numbers the outcomes have is the search's own matter.
+-- they spell a script none is due, since whether a search comes to the outcome hangs on how far it comes; of the number 0 `IsAnswer` says it.
 abbrev pub IsDue : Command → List ℕ → ViewStatus → Type 0
 IsDue (Outcomes states) bytes status = IsListDue bytes status
 IsDue (OutcomeRecord states number) bytes status = IsNoScript bytes status

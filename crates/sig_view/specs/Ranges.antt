@@ -13,12 +13,12 @@ use Rattle.sig_view.specs.declared.status.ViewStatus.TheVariants.{Memory, NoEven
 use Rattle.sig_tool.specs.Origins.{AreOrigins}
 
 -- the numbers of the first and the last of these events, and the end of a line
-abbrev pub ends_text : Span → List ℕ
-ends_text span = codes " " ++ decimal span.first ++ codes " " ++ decimal span.last ++ codes "\n"
+abbrev pub span_text : Span → List ℕ
+span_text span = codes " " ++ decimal span.first ++ codes " " ++ decimal span.last ++ codes "\n"
 
 -- the line of a process that has such events
 abbrev pub span_line : ℕ → Span → List ℕ
-span_line pid span = codes "concurrent " ++ decimal pid ++ ends_text span
+span_line pid span = codes "concurrent " ++ decimal pid ++ span_text span
 
 -- none, where it has no such event
 abbrev pub range_line : ℕ → Option Span → List ℕ

@@ -6,7 +6,7 @@ ghost use Rattle.sig_tool.specs.declared.given.TheConstants.{MOST_INPUT};
 ghost use Rattle.sig_order.specs.Happening.{is_there};
 ghost use Rattle.sig_view.specs.declared.command.Command.TheVariants.{Concurrent};
 ghost use Rattle.sig_view.specs.Inputs.{IsRecordRead};
-ghost use Rattle.sig_view.specs.Ranges.{ends_text, span_line, range_line, range_lines, AreRanges, IsAnswered};
+ghost use Rattle.sig_view.specs.Ranges.{span_line, span_text, range_line, range_lines, AreRanges, IsAnswered};
 
 use crate::reading::read_settled;
 use crate::status::ViewStatus;
@@ -28,7 +28,7 @@ fn put_number(text: &mut Vec<u8>, word: &[u8], number: u64) -> Result<(), AllocE
 
 /// Puts the numbers of the first and the last of these events behind the text, and ends the line.
 fn put_ends(text: &mut Vec<u8>, span: Span) -> Result<(), AllocError>
-    ensures { OnOk result (text.new.items ≡ text.old.items ++ ends_text span) }
+    ensures { OnOk result (text.new.items ≡ text.old.items ++ span_text span) }
 {
     put_number(text, b" ", span.first)?;
     put_number(text, b" ", span.last)?;

@@ -126,7 +126,7 @@ fn run_words<S: Source, O: Sink, T: Teller>(
 /// status tells is written to `err` where no write to it fails, and else its beginning; a fault of `err` changes
 /// no status.
 /// While a search goes on the teller is told before each visit how many states were visited and how many
-/// were met.
+/// were met; no clause says so.
 pub fn view<S: Source, O: Sink, E: Sink, T: Teller>(
     alloc: Global,
     words: &[String],
