@@ -1,14 +1,15 @@
 //! The command `outcomes`.
 
-ghost use Rattle.std.specs.Prelude.{◌≡◌, All, IfOk, OnOk, map};
+ghost use Rattle.std.specs.Prelude.{◌≡◌, ◌+◌, All, IfOk, OnOk, map};
 ghost use Rattle.std.specs.Option.{option_copied};
-ghost use Rattle.sig_edge.specs.Streams.{reading};
+ghost use Rattle.sig_edge.specs.Streams.{IsReadWithin, reading};
 ghost use Rattle.sig_program.specs.ScriptNames.{AreNames};
 ghost use Rattle.sig_record.specs.ReadableRecord.{CanBeReread};
 ghost use Rattle.sig_record.specs.RecordText.{record_text};
 ghost use Rattle.sig_record.specs.StoredEnds.{AreStoredEnds};
 ghost use Rattle.sig_outcomelaw.specs.Told.{outcome_told};
 ghost use Rattle.sig_explore.specs.Seen.{HaveSeen};
+ghost use Rattle.sig_tool.specs.declared.given.TheConstants.{MOST_INPUT};
 ghost use Rattle.sig_view.specs.declared.command.Command.TheVariants.{Outcomes as Listing};
 ghost use Rattle.sig_view.specs.Outcomes.{AreFound, end_with, IsFoundText, IsListText, IsNumberedText, IsRecordFound, numbered};
 ghost use Rattle.sig_view.specs.OutcomeText.{AreEndingsInTextOrder};
@@ -96,7 +97,9 @@ pub(crate) fn outcomes_text<S: Source, T: Teller>(
     input: &mut S,
     teller: &mut T,
 ) -> Result<Text, ViewStatus>
-    ensures { IsTextRead (Listing states) (reading (S.left input.old) (S.left input.new) (S.faults input.old) (S.faults input.new)) result }
+    ensures text { IsTextRead (Listing states) (reading (S.left input.old) (S.left input.new) (S.faults input.old) (S.faults input.new)) result }
+    ensures taken { IsReadWithin (MOST_INPUT + 1)
+        (reading (S.left input.old) (S.left input.new) (S.faults input.old) (S.faults input.new)) }
 {
     let script = read_alone(alloc, input)?;
     names_of_scripts_are_name_tokens();
@@ -167,7 +170,9 @@ pub(crate) fn outcome_record_text<S: Source, T: Teller>(
     input: &mut S,
     teller: &mut T,
 ) -> Result<Vec<u8>, ViewStatus>
-    ensures { IsRecordFound states number (reading (S.left input.old) (S.left input.new) (S.faults input.old) (S.faults input.new)) result }
+    ensures text { IsRecordFound states number (reading (S.left input.old) (S.left input.new) (S.faults input.old) (S.faults input.new)) result }
+    ensures taken { IsReadWithin (MOST_INPUT + 1)
+        (reading (S.left input.old) (S.left input.new) (S.faults input.old) (S.faults input.new)) }
 {
     let script = read_alone(alloc, input)?;
     names_of_scripts_are_name_tokens();

@@ -1,8 +1,9 @@
-ghost use Rattle.std.specs.Prelude.{◌≡◌, ◌≢◌};
+ghost use Rattle.std.specs.Prelude.{◌≡◌, ◌≢◌, ◌+◌};
 ghost use Rattle.std.specs.IoError.{error_kind};
 ghost use Rattle.sig_base.specs.Flow.{Rose, Adds};
-ghost use Rattle.sig_edge.specs.Streams.{reading, writing};
+ghost use Rattle.sig_edge.specs.Streams.{IsReadWithin, reading, writing};
 ghost use Rattle.sig_edge.specs.Told.{AddsBeginning, IsSaid};
+ghost use Rattle.sig_tool.specs.declared.given.TheConstants.{MOST_INPUT};
 ghost use Rattle.sig_view.specs.declared.status.ViewStatus.{ViewStatus};
 ghost use Rattle.sig_view.specs.Answers.{IsEnd};
 ghost use Rattle.sig_view.specs.Statuses.{number_of};
@@ -38,6 +39,7 @@ fn refuse<E: Sink>(err: &mut E, fault: io::Error) -> ViewStatus
 }
 
 /// How the program ends on these arguments, or where they can't be had: the status of `view`, or of a refusal.
+#[tactic(auto, using(sig_edge::proofs::TakenLemmas::none_taken))]
 fn status_on<S: Source, O: Sink, E: Sink, T: Teller>(
     alloc: Global,
     arguments: io::Result<Vec<String>>,
@@ -46,10 +48,12 @@ fn status_on<S: Source, O: Sink, E: Sink, T: Teller>(
     err: &mut E,
     teller: &mut T,
 ) -> ViewStatus
-    ensures { IsEnd arguments
+    ensures answer { IsEnd arguments
         (reading (S.left input.old) (S.left input.new) (S.faults input.old) (S.faults input.new))
         (writing (O.held out.old) (O.held out.new) (O.faults out.old) (O.faults out.new)) result
         × IsSaid (writing (E.held err.old) (E.held err.new) (E.faults err.old) (E.faults err.new)) (told_text result) }
+    ensures taken { IsReadWithin (MOST_INPUT + 1)
+        (reading (S.left input.old) (S.left input.new) (S.faults input.old) (S.faults input.new)) }
 {
     match arguments {
         Ok(words) => view(alloc, words.as_slice(), input, out, err, teller),
@@ -66,10 +70,12 @@ fn ended<S: Source, O: Sink, E: Sink, T: Teller>(
     err: &mut E,
     teller: &mut T,
 ) -> ExitCode
-    ensures { (status : ViewStatus) × (result.status ≡ number_of status) × IsEnd arguments
+    ensures end { (status : ViewStatus) × (result.status ≡ number_of status) × IsEnd arguments
         (reading (S.left input.old) (S.left input.new) (S.faults input.old) (S.faults input.new))
         (writing (O.held out.old) (O.held out.new) (O.faults out.old) (O.faults out.new)) status
         × IsSaid (writing (E.held err.old) (E.held err.new) (E.faults err.old) (E.faults err.new)) (told_text status) }
+    ensures taken { IsReadWithin (MOST_INPUT + 1)
+        (reading (S.left input.old) (S.left input.new) (S.faults input.old) (S.faults input.new)) }
 {
     let status = status_on(alloc, arguments, input, out, err, teller);
     ExitCode::from(status.number())

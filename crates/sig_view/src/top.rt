@@ -1,7 +1,8 @@
-ghost use Rattle.std.specs.Prelude.{◌≡◌, ◌⊎◌, ℕ, List, map, string_bytes};
+ghost use Rattle.std.specs.Prelude.{◌≡◌, ◌+◌, ◌⊎◌, ℕ, List, map, string_bytes};
 ghost use Rattle.sig_base.specs.Flow.{Rose, Adds};
-ghost use Rattle.sig_edge.specs.Streams.{reading, writing};
+ghost use Rattle.sig_edge.specs.Streams.{IsReadWithin, reading, writing};
 ghost use Rattle.sig_edge.specs.Told.{AddsBeginning};
+ghost use Rattle.sig_tool.specs.declared.given.TheConstants.{MOST_INPUT};
 ghost use Rattle.sig_view.specs.declared.command.Command.{Command as Asked};
 ghost use Rattle.sig_view.specs.declared.status.ViewStatus.{ViewStatus};
 ghost use Rattle.sig_view.specs.Answers.{as_done, IsAnswer, IsDue, IsRanSo, IsWellGiven};
@@ -26,7 +27,9 @@ fn text_of<S: Source, T: Teller>(
     input: &mut S,
     teller: &mut T,
 ) -> Result<Text, ViewStatus>
-    ensures { IsTextRead command (reading (S.left input.old) (S.left input.new) (S.faults input.old) (S.faults input.new)) result }
+    ensures text { IsTextRead command (reading (S.left input.old) (S.left input.new) (S.faults input.old) (S.faults input.new)) result }
+    ensures taken { IsReadWithin (MOST_INPUT + 1)
+        (reading (S.left input.old) (S.left input.new) (S.faults input.old) (S.faults input.new)) }
 {
     match command {
         Command::Chart { window } => Ok(Text::whole(chart_text(alloc, window, input)?)),
@@ -48,8 +51,10 @@ fn run_command<S: Source, O: Sink, T: Teller>(
     out: &mut O,
     teller: &mut T,
 ) -> ViewStatus
-    ensures { IsRanSo command (reading (S.left input.old) (S.left input.new) (S.faults input.old) (S.faults input.new))
+    ensures run { IsRanSo command (reading (S.left input.old) (S.left input.new) (S.faults input.old) (S.faults input.new))
         (writing (O.held out.old) (O.held out.new) (O.faults out.old) (O.faults out.new)) result }
+    ensures taken { IsReadWithin (MOST_INPUT + 1)
+        (reading (S.left input.old) (S.left input.new) (S.faults input.old) (S.faults input.new)) }
 {
     match text_of(alloc, command, input, teller) {
         Ok(text) => match write_whole(out, text.bytes.as_slice()) {
@@ -61,6 +66,7 @@ fn run_command<S: Source, O: Sink, T: Teller>(
 }
 
 /// Reads the arguments, and writes what their command says of the input.
+#[tactic(auto, using(sig_edge::proofs::TakenLemmas::none_taken))]
 fn run_words<S: Source, O: Sink, T: Teller>(
     alloc: Global,
     words: &[String],
@@ -68,9 +74,11 @@ fn run_words<S: Source, O: Sink, T: Teller>(
     out: &mut O,
     teller: &mut T,
 ) -> ViewStatus
-    ensures { IsAnswer (map string_bytes words.now)
+    ensures answer { IsAnswer (map string_bytes words.now)
         (reading (S.left input.old) (S.left input.new) (S.faults input.old) (S.faults input.new))
         (writing (O.held out.old) (O.held out.new) (O.faults out.old) (O.faults out.new)) result }
+    ensures taken { IsReadWithin (MOST_INPUT + 1)
+        (reading (S.left input.old) (S.left input.new) (S.faults input.old) (S.faults input.new)) }
 {
     match Command::of(words) {
         Some(command) => run_command(alloc, command, input, out, teller),
@@ -122,9 +130,9 @@ fn run_words<S: Source, O: Sink, T: Teller>(
 ///   outcomes with the word `more`: so many states were met, more than N.
 ///
 /// `Memory` may come in place of each but `Usage`, where memory was wanting. No read failed, but with
-/// `ReadFault`. Only `Done`, `Unfinished` and `WriteFault` have written to `out`. What a
-/// status tells is written to `err` where no write to it fails, and else its beginning; a fault of `err` changes
-/// no status.
+/// `ReadFault`. Whatever the status, of the input at most [`MOST_INPUT`](sig_tool::MOST_INPUT) bytes and one
+/// more are taken. Only `Done`, `Unfinished` and `WriteFault` have written to `out`. What a status tells is
+/// written to `err` where no write to it fails, and else its beginning; a fault of `err` changes no status.
 /// While a search goes on the teller is told before each visit how many states were visited and how many
 /// were met; no clause says so.
 pub fn view<S: Source, O: Sink, E: Sink, T: Teller>(
@@ -140,6 +148,8 @@ pub fn view<S: Source, O: Sink, E: Sink, T: Teller>(
         (writing (O.held out.old) (O.held out.new) (O.faults out.old) (O.faults out.new)) result }
     ensures told { (Rose (E.faults err.old) (E.faults err.new) → ⊥) → Adds (E.held err.old) (E.held err.new) (told_text result) }
     ensures beginning { AddsBeginning (E.held err.old) (E.held err.new) (told_text result) }
+    ensures taken { IsReadWithin (MOST_INPUT + 1)
+        (reading (S.left input.old) (S.left input.new) (S.faults input.old) (S.faults input.new)) }
     // What is due for the input is answered, where nothing fails and there is memory.
     ensures complete { (command : Asked) (bytes : List ℕ) (due : ViewStatus) → IsDue command bytes due →
         IsWellGiven command (map string_bytes words.now) bytes due
