@@ -1,13 +1,14 @@
 //! Records whose text several threads make, through the top call.
 
 use crate::processes::push_processes;
-use crate::whole::{PLAIN, Ran, Setting};
+use crate::whole::Ran;
 use crate::workers::count;
 use sig_base::OpenGate;
 use sig_host::Status;
 use std::alloc::{AllocError, Global};
 use std::sync::Wait;
 use std::thread::Threads;
+use test_shared::{PLAIN, Setting};
 
 /// What a process does that sends nothing, until it is cut: the same with any number of workers.
 const ALONE: &[u8] = b"label l\nset X {x,[1,2]}\ngoto l\n";

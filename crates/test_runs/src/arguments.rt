@@ -1,6 +1,6 @@
 //! The arguments: their settings, and what is told of them.
 
-use crate::whole::{PLAIN, Ran, Setting, push_words};
+use crate::whole::Ran;
 use crate::workers::{count, is_settled};
 use sig_base::{OpenGate, read_all};
 use sig_host::{Settings, WordsError, words};
@@ -8,7 +8,7 @@ use sig_layout::Policy;
 use std::alloc::{AllocError, Global};
 use std::sync::Wait;
 use std::thread::Threads;
-use test_shared::ONE_MESSAGE;
+use test_shared::{ONE_MESSAGE, PLAIN, Setting, texts_of};
 
 const SUMMARY_OF_100: &[u8] = b"processes 9\nevents 9608\nkept 1600\nended 8\nwaiting 1\ncut 0\n";
 
@@ -108,8 +108,7 @@ fn answers(
     list: &[&str],
     expected: Result<Settings, WordsError>,
 ) -> Result<bool, AllocError> {
-    let mut given = Vec::new(alloc);
-    push_words(alloc, list, &mut given)?;
+    let given = texts_of(alloc, list)?;
     Ok(words(alloc, given.as_slice()) == expected)
 }
 

@@ -7,6 +7,10 @@ use sig_record::{Record, print_record};
 use sig_script::{FaultKind, Script, print_script};
 use sig_workers::run_one;
 use std::alloc::{AllocError, Global};
+use test_shared::{
+    LATE_REPLY, LATE_REPLY_SCRIPT, NO_SERVER, NO_SERVER_RECORD, NO_SERVER_SCRIPT, ONE_CALL,
+    ONE_CALL_RECORD, ONE_CALL_SCRIPT,
+};
 
 /// What a text of calls gives.
 enum Given {
@@ -20,61 +24,11 @@ enum Given {
 
 /// Texts of calls, and what they give.
 static TEXTS: [(&[u8], Given); 22] = [
-    // A reply.
+    (ONE_CALL, Given::Record(ONE_CALL_SCRIPT, ONE_CALL_RECORD)),
     (
-        b"sigscript 1\nprocess srv\nreceive\non {call,R,V}\nend\nsend R {R,V}\nprocess c\ncall A @srv 7\n",
+        LATE_REPLY,
         Given::Record(
-            br"sigscript 1
-turns 1000
-process srv
-receive
-on {call,R,V}
-end
-send R {R,V}
-process c
-reserve
-monitor Call_1 @srv reply_demonitor
-bind Call_1
-send @srv {call,Call_1,7}
-receive using Call_1
-on {^Call_1,A}
-on {'DOWN',^Call_1,process,_,A}
-end
-",
-            br"process 1 c
-1 exec 1 done
-2 exec 2 set #Ref<1.1>
-3 exec 3 answered true
-4 exec 4 sent <0> {call,#Ref<1.1>,7}
-8 from 0 1 kept {#Ref<1.1>,7}
-9 exec 5 took 1 1 {#Ref<1.1>,7}
-10 exec 6 ended normal
-state ended normal
-",
-        ),
-    ),
-    // A second reply comes too late.
-    (
-        b"sigscript 1\nprocess srv\nreceive\non {call,R,V}\nend\nsend R {R,V}\nsend R {R,late}\nprocess c\ncall A @srv 7",
-        Given::Record(
-            br"sigscript 1
-turns 1000
-process srv
-receive
-on {call,R,V}
-end
-send R {R,V}
-send R {R,late}
-process c
-reserve
-monitor Call_1 @srv reply_demonitor
-bind Call_1
-send @srv {call,Call_1,7}
-receive using Call_1
-on {^Call_1,A}
-on {'DOWN',^Call_1,process,_,A}
-end
-",
+            LATE_REPLY_SCRIPT,
             br"process 1 c
 1 exec 1 done
 2 exec 2 set #Ref<1.1>
@@ -88,37 +42,7 @@ state ended normal
 ",
         ),
     ),
-    // The process that is called has ended; where to go on then.
-    (
-        b"sigscript 1\nprocess srv\nstop\nprocess c\ncall A @srv 7 -> gone\nlabel gone\n",
-        Given::Record(
-            br"sigscript 1
-turns 1000
-process srv
-stop
-process c
-reserve
-monitor Call_1 @srv reply_demonitor
-bind Call_1
-send @srv {call,Call_1,7}
-receive using Call_1
-on {^Call_1,A}
-on {'DOWN',^Call_1,process,_,A} -> gone
-end
-label gone
-",
-            br"process 1 c
-1 exec 1 done
-2 exec 2 set #Ref<1.1>
-4 from 0 1 kept {'DOWN',#Ref<1.1>,process,<0>,noproc}
-5 exec 3 answered true
-6 exec 4 sent <0> {call,#Ref<1.1>,7}
-7 exec 5 took 2 1 {'DOWN',#Ref<1.1>,process,<0>,noproc}
-8 exec 6 ended normal
-state ended normal
-",
-        ),
-    ),
+    (NO_SERVER, Given::Record(NO_SERVER_SCRIPT, NO_SERVER_RECORD)),
     // Two calls of one process, the second of what the first gave; a quoted `call` begins no call.
     (
         b"sigscript 1\nprocess call\ncall A @call {call, 'call'} % self\n\ncall\tB {A,[A , 1]} -2 -> call\r\nlabel call\n",

@@ -15,11 +15,11 @@ mod documents;
 #[cfg(test)]
 mod exits;
 #[cfg(test)]
+mod failing;
+#[cfg(test)]
 mod gates;
 #[cfg(test)]
 mod guards;
-#[cfg(test)]
-mod hostile;
 #[cfg(test)]
 mod large;
 #[cfg(test)]

@@ -1,7 +1,7 @@
 //! Scripts of many processes, and where processes keep their messages, through the top call.
 
-use crate::runs::REFUSED_TEXTS;
-use crate::whole::{PLAIN, Ran, Setting};
+use crate::runs::{REFUSED_TEXTS, WHOLE};
+use crate::whole::Ran;
 use crate::workers::{count, is_settled};
 use itoa::Buffer;
 use sig_base::OpenGate;
@@ -9,6 +9,7 @@ use sig_host::Status;
 use std::alloc::{AllocError, Global};
 use std::sync::Wait;
 use std::thread::Threads;
+use test_shared::{PLAIN, Setting};
 
 /// Lines of a script of version 2 on where processes keep their messages, and where they are refused
 /// and why.
@@ -43,12 +44,13 @@ pub(crate) static DATA_FAULTS: [(&[u8], &[u8]); 10] = [
     ),
 ];
 
-/// The first line of a script, how many processes it has, and where it is refused and why.
-const COUNTS: [(&[u8], u32, &[u8]); 4] = [
-    (b"sigscript 1\n", 64, b""),
-    (b"sigscript 1\n", 65, b"66: too_many_processes"),
-    (b"sigscript 2\n", 256, b""),
-    (b"sigscript 2\n", 257, b"258: too_many_processes"),
+/// The first line of a script, how many processes it has, the lines behind these, and where it is refused and why.
+const COUNTS: [(&[u8], u32, &[u8], &[u8]); 5] = [
+    (b"sigscript 1\n", 64, b"", b""),
+    (b"sigscript 1\n", 65, b"", b"66: too_many_processes"),
+    (b"sigscript 1\n", 64, b"process p1\n", b"66: duplicate_name"),
+    (b"sigscript 2\n", 256, b"", b""),
+    (b"sigscript 2\n", 257, b"", b"258: too_many_processes"),
 ];
 
 /// A process that takes each `x` that comes.
@@ -85,16 +87,33 @@ pub(crate) fn push_processes(
     Ok(())
 }
 
-/// Whether a script of so many processes is refused there.
+/// The record of so many processes that do nothing.
+fn record_of(alloc: Global, processes: u32) -> Result<Vec<u8>, AllocError> {
+    let mut text = Vec::from_slice(alloc, b"sigrecord 1\n")?;
+    for number in 0..processes {
+        let first = format!(in alloc; "process {number} p{number}\n")?;
+        text.extend_from_slice(first.as_bytes())?;
+        text.extend_from_slice(b"1 exec 1 ended normal\nstate ended normal\n")?;
+    }
+    Ok(text)
+}
+
+/// Whether a script of so many processes is refused there, or has their record where it isn't.
 fn is_counted<R: Threads + Wait + Sync>(
     rt: &R,
     alloc: Global,
-    row: (&[u8], u32, &[u8]),
+    row: (&[u8], u32, &[u8], &[u8]),
 ) -> Result<bool, AllocError> {
-    let (head, processes, place) = row;
+    let (head, processes, last, place) = row;
     let mut text = Vec::from_slice(alloc, head)?;
     push_processes(&mut text, 0, processes, b"")?;
-    REFUSED_TEXTS.holds(rt, alloc, &[(text.as_slice(), 1)], place)
+    let pieces: &[(&[u8], usize)] = &[(text.as_slice(), 1), (last, 1)];
+    if place.is_empty() {
+        let record = record_of(alloc, processes)?;
+        WHOLE.holds(rt, alloc, pieces, record.as_slice())
+    } else {
+        REFUSED_TEXTS.holds(rt, alloc, pieces, place)
+    }
 }
 
 /// Whether the taker takes all that 255 processes send, with four workers and buffers from the first

@@ -3,6 +3,7 @@
 use crate::markers::MARKERS;
 use crate::runs::LINES;
 use crate::whole::text_of;
+use crate::workers::count;
 use sig_process::Crew;
 use sig_record::{MergedAt, Record, RecordError, print_record, read_record, reread};
 use sig_script::{ScriptError, read_script};
@@ -155,35 +156,35 @@ fn is_printed_again(alloc: Global, bytes: &[u8]) -> Result<bool, RecordError> {
     Ok(text.as_slice() == bytes && again.as_slice() == bytes)
 }
 
-/// The first length from this one on of which the front of the bytes is a record's text.
-fn next_length(alloc: Global, bytes: &[u8], from: usize) -> Option<usize> {
-    for length in from..=bytes.len() {
-        let front = bytes.get(..length)?;
-        if refused_line(alloc, front).is_none() {
-            return Some(length);
-        }
-    }
-    None
-}
-
 #[test]
 fn records_and_no_other_texts_are_read(rt: HostRuntime) {
     let alloc = rt.alloc();
     let printed = is_printed_again(alloc, ONE_MESSAGE_RECORD);
     assert!(rt; matches!(printed, Ok(true)), "{printed:?}");
-    // the record of no process, that of the first one, and the whole one
-    let whole = ONE_MESSAGE_RECORD.len();
-    for (from, length) in [(0, 12), (13, 86), (87, whole)] {
-        let next = next_length(alloc, ONE_MESSAGE_RECORD, from);
-        assert!(rt; next == Some(length), "{from}: {next:?}");
-    }
-    let unended = &ONE_MESSAGE_RECORD[..whole - 1];
-    for (text, line) in [
-        (unended, 10),
-        (PADDED_PID, 3),
-        (LARGE_NAME, 2),
-        (OUT_OF_ORDER, 4),
-    ] {
+    for (text, line) in [(PADDED_PID, 3), (LARGE_NAME, 2), (OUT_OF_ORDER, 4)] {
         assert!(rt; refused_line(alloc, text) == Some(line), "{text:?}");
+    }
+}
+
+/// Whether the front of the record of one message that has this length is told as it is: as the text of a
+/// record, where that is of no process or of the first one, or as none at the line behind those that are whole.
+fn front_is_told(alloc: Global, length: usize) -> bool {
+    let Some(front) = ONE_MESSAGE_RECORD.get(..length) else {
+        return false;
+    };
+    match read_record(alloc, front) {
+        Ok(_) => length == 12 || length == 86,
+        Err(RecordError::BadRecord { line }) => {
+            length != 12 && length != 86 && line == (count(front, b"\n") as u64).saturating_add(1)
+        }
+        Err(RecordError::Memory) => false,
+    }
+}
+
+#[test]
+fn fronts_of_a_record_are_told(rt: HostRuntime) {
+    for length in 0..ONE_MESSAGE_RECORD.len() {
+        let told = front_is_told(rt.alloc(), length);
+        assert!(rt; told, "{length}");
     }
 }

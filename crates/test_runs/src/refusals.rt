@@ -13,7 +13,7 @@ pub(crate) static LONGEST: [(&[(&[u8], usize)], &[u8]); 2] = [
 ];
 
 /// Texts in pieces, each so many times, and the line and the kind where they are refused.
-pub(crate) static LONG: [(&[(&[u8], usize)], &[u8]); 27] = [
+pub(crate) static LONG: [(&[(&[u8], usize)], &[u8]); 32] = [
     (&[(b"sigscript 1\n%", 1), (b"x", 1048564)], b"0: too_long"),
     (&[(b" ", 1048576)], b"1: header"),
     (&[(b" ", 1048577)], b"0: too_long"),
@@ -39,6 +39,17 @@ pub(crate) static LONG: [(&[(&[u8], usize)], &[u8]); 27] = [
     (
         &[(VALUE, 1), (b"{", 64), (b"a", 1), (b"}", 64)],
         b"3: term_too_large",
+    ),
+    (&[(VALUE, 1), (b"{", 65), (b"\n", 1)], b"3: term_too_large"),
+    (&[(VALUE, 1), (b"{", 64), (b"\n", 1)], b"3: syntax"),
+    (
+        &[(VALUE, 1), (b"{0", 1), (b",0", 1023), (b"}\n", 1)],
+        b"3: term_too_large",
+    ),
+    (&[(VALUE, 1), (b"{0", 1), (b",0", 1022), (b"}\n", 1)], b""),
+    (
+        &[(VALUE, 1), (b"'", 1), (b"a", 256), (b"'\n", 1)],
+        b"3: syntax",
     ),
     (&[(VALUE, 1), (b"[", 64), (b"]", 64)], b""),
     (&[(VALUE, 1), (b"[", 65), (b"]", 65)], b"3: term_too_large"),
@@ -102,7 +113,7 @@ pub(crate) static LONG: [(&[(&[u8], usize)], &[u8]); 27] = [
 ];
 
 /// Refusals of turns, processes, labels and where they stand: the lines behind the header, and where they are refused and why.
-pub(crate) static HEADS: [(&[u8], &[u8]); 31] = [
+pub(crate) static HEADS: [(&[u8], &[u8]); 32] = [
     (b"foo", b"2: syntax"),
     (b"foo 99999999999999999999", b"2: int_range"),
     (b"turns -1", b"2: syntax"),
@@ -137,10 +148,11 @@ pub(crate) static HEADS: [(&[u8], &[u8]); 31] = [
     (b"process a\nclear", b"3: syntax"),
     (b"process a\nclear @a", b"3: syntax"),
     (b"process a\nmessage_queue_data off_heap", b"3: syntax"),
+    (b"process a\n\xFF\n", b"3: syntax"),
 ];
 
 /// Refusals of expressions: the lines behind the header, and where they are refused and why.
-pub(crate) static TERMS: [(&[u8], &[u8]); 20] = [
+pub(crate) static TERMS: [(&[u8], &[u8]); 23] = [
     (b"send @a hi", b"2: syntax"),
     (b"process a\nset x 1", b"3: syntax"),
     (b"process a\nset X", b"3: syntax"),
@@ -154,17 +166,23 @@ pub(crate) static TERMS: [(&[u8], &[u8]); 20] = [
     (b"process a\nset X [a", b"3: syntax"),
     (b"process a\nset X 9223372036854775808", b"3: int_range"),
     (b"process a\nset X {9223372036854775808,'", b"3: int_range"),
+    (
+        b"process a\nset X 9223372036854775808 'a\n",
+        b"3: int_range",
+    ),
+    (b"process a\nset X 'a\n", b"3: syntax"),
     (b"process a\nset X {',9223372036854775808", b"3: syntax"),
     (b"process a\nset X -9223372036854775809", b"3: int_range"),
     (b"process a\nsend @a", b"3: syntax"),
     (b"process a\nsend @b hi", b"3: unknown_process"),
     (b"process a\nsend @b @c\nfoo", b"4: syntax"),
+    (b"process a\nsend @z x\nend\n", b"4: syntax"),
     (b"process a\nsend a @b\ngoto l", b"3: unknown_process"),
     (b"process a\ngoto l\nsend a @b", b"3: unknown_label"),
 ];
 
 /// Refusals in receives: the lines behind the header, and where they are refused and why.
-pub(crate) static RECEIVES: [(&[u8], &[u8]); 24] = [
+pub(crate) static RECEIVES: [(&[u8], &[u8]); 25] = [
     (
         b"process a\nreceive\non {@b,X} -> l\nend",
         b"4: unknown_process",
@@ -190,6 +208,7 @@ pub(crate) static RECEIVES: [(&[u8], &[u8]); 24] = [
     (b"process a\nreceive\nclear X\nend", b"4: syntax"),
     (b"process a\nreceive X\nend", b"3: syntax"),
     (b"process a\nreceive with X\nend", b"3: syntax"),
+    (b"process a\nreceive", b"4: syntax"),
     (b"process a\nreceive\non x", b"5: syntax"),
     (b"process a\nreceive\n%\n\n", b"6: syntax"),
 ];
@@ -291,20 +310,7 @@ pub(crate) static MARKER_CLAUSES: [(&[u8], &[u8]); 18] = [
 ];
 
 /// More refusals: the lines behind the header, and where they are refused and why.
-pub(crate) static OTHERS: [(&[u8], &[u8]); 9] = [
-    (
-        b"process p1\nprocess p2\nprocess p3\nprocess p4\nprocess p5\nprocess p6\nprocess p7\n\
-          process p8\nprocess p9\nprocess p10\nprocess p11\nprocess p12\nprocess p13\nprocess p14\n\
-          process p15\nprocess p16\nprocess p17\nprocess p18\nprocess p19\nprocess p20\nprocess p21\n\
-          process p22\nprocess p23\nprocess p24\nprocess p25\nprocess p26\nprocess p27\nprocess p28\n\
-          process p29\nprocess p30\nprocess p31\nprocess p32\nprocess p33\nprocess p34\nprocess p35\n\
-          process p36\nprocess p37\nprocess p38\nprocess p39\nprocess p40\nprocess p41\nprocess p42\n\
-          process p43\nprocess p44\nprocess p45\nprocess p46\nprocess p47\nprocess p48\nprocess p49\n\
-          process p50\nprocess p51\nprocess p52\nprocess p53\nprocess p54\nprocess p55\nprocess p56\n\
-          process p57\nprocess p58\nprocess p59\nprocess p60\nprocess p61\nprocess p62\nprocess p63\n\
-          process p64\nprocess p65\n",
-        b"66: too_many_processes",
-    ),
+pub(crate) static OTHERS: [(&[u8], &[u8]); 8] = [
     (b"process a\ngoto z\n", b"3: unknown_label"),
     (b"\n% more\nstart a\n", b"4: syntax"),
     (b"process a\nset X -9223372036854775809\n", b"3: int_range"),

@@ -13,14 +13,14 @@ use crate::refusals::{
 };
 use crate::texts::TEXTS;
 use crate::watches::WATCHES;
-use crate::whole::{PLAIN, Ran, Setting};
+use crate::whole::Ran;
 use sig_base::OpenGate;
 use sig_host::Status;
 use sig_script::FaultKind;
 use std::alloc::{AllocError, Global};
 use std::sync::Wait;
 use std::thread::Threads;
-use test_shared::{Example, ONE_MESSAGE, ONE_MESSAGE_RECORD, example_tables};
+use test_shared::{Example, ONE_MESSAGE, ONE_MESSAGE_RECORD, PLAIN, Setting, example_tables};
 
 const NO_HEADER: Status = Status::BadScript {
     line: 1,
@@ -92,10 +92,11 @@ fn texts_are_read_in_pieces(rt: HostRuntime) {
 
 /// The numbers of the reads and of the writes that fail in a run of one message, and what it answers,
 /// writes and tells.
-const FAULTS: [([&'static [u64]; 2], Status, &[u8], &[u8]); 2] = [
-    ([&[2], &[]], Status::ReadFault, b"", b"sigrun: read fault\n"),
+const FAULTS: [(&[u64], &[u64], Status, &[u8], &[u8]); 2] = [
+    (&[2], &[], Status::ReadFault, b"", b"sigrun: read fault\n"),
     (
-        [&[], &[2]],
+        &[],
+        &[2],
         Status::WriteFault,
         b"sigrecord ",
         b"sigrun: write fault\n",
@@ -104,10 +105,11 @@ const FAULTS: [([&'static [u64]; 2], Status, &[u8], &[u8]); 2] = [
 
 #[test]
 fn faults_end_a_run(rt: HostRuntime) {
-    for (fails, status, record, told) in FAULTS {
+    for (failing_reads, failing_writes, status, record, told) in FAULTS {
         let setting = Setting {
             piece: 10,
-            fails,
+            failing_reads,
+            failing_writes,
             ..PLAIN
         };
         let ends = ends_so(
@@ -329,7 +331,7 @@ static LINES_TWO: Around = Around {
 };
 
 /// Whole scripts and records.
-static WHOLE: Around = Around {
+pub(crate) static WHOLE: Around = Around {
     head: b"",
     sides: [b"", b""],
     refused: false,
@@ -365,11 +367,12 @@ static TOLD_TEXTS: Around = Around {
 
 impl Around {
     /// Whether the run wrote this record, or told this refusal, and nothing else. A text that isn't
-    /// refused anywhere has some record.
+    /// refused anywhere has a record of some processes.
     fn agrees(&self, ran: &Ran, text: &[u8]) -> bool {
         let [out, err] = [ran.out.held(), ran.err.held()];
         if self.refused && text.is_empty() {
-            return ran.status == Status::Done && !out.is_empty() && err.is_empty();
+            let begins = out.starts_with(b"sigrecord 1\nprocess 0 ");
+            return ran.status == Status::Done && begins && err.is_empty();
         }
         let (said, other) = if self.refused { (err, out) } else { (out, err) };
         let [before, behind] = self.sides;
@@ -434,18 +437,12 @@ fn first_other_of<R: Threads + Wait + Sync>(
     Ok(None)
 }
 
-/// The first example of all.
-fn first_other_example<R: Threads + Wait + Sync>(
-    rt: &R,
-    alloc: Global,
-) -> Result<Option<&'static str>, AllocError> {
+#[test]
+fn examples_give_their_records(rt: HostRuntime) {
     for table in example_tables() {
-        let other = first_other_of(rt, alloc, table)?;
-        if other.is_some() {
-            return Ok(other);
-        }
+        let other = first_other_of(&rt, rt.alloc(), table);
+        assert!(rt; other == Ok(None), "{other:?}");
     }
-    Ok(None)
 }
 
 #[test]
@@ -471,8 +468,6 @@ fn scripts_give_their_records(rt: HostRuntime) {
         let other = around.first_other(&rt, rt.alloc(), rows);
         assert!(rt; matches!(other, Ok(None)), "{other:?}");
     }
-    let example = first_other_example(&rt, rt.alloc());
-    assert!(rt; matches!(example, Ok(None)), "{example:?}");
     for (pieces, record) in &LONGEST {
         let limited = WHOLE.holds(&rt, rt.alloc(), pieces, record);
         assert!(rt; limited == Ok(true), "{pieces:?}");

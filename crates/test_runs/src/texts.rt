@@ -105,59 +105,8 @@ pub(crate) static TEXTS: [(&[u8], &[u8]); 24] = [
         b"sigrecord 1\nprocess 0 a\nstate waiting\n",
     ),
     (
-        b"sigscript 1\nprocess p1\nprocess p2\nprocess p3\nprocess p4\nprocess p5\nprocess p6\nprocess p7\n\
-          process p8\nprocess p9\nprocess p10\nprocess p11\nprocess p12\nprocess p13\nprocess p14\n\
-          process p15\nprocess p16\nprocess p17\nprocess p18\nprocess p19\nprocess p20\nprocess p21\n\
-          process p22\nprocess p23\nprocess p24\nprocess p25\nprocess p26\nprocess p27\nprocess p28\n\
-          process p29\nprocess p30\nprocess p31\nprocess p32\nprocess p33\nprocess p34\nprocess p35\n\
-          process p36\nprocess p37\nprocess p38\nprocess p39\nprocess p40\nprocess p41\nprocess p42\n\
-          process p43\nprocess p44\nprocess p45\nprocess p46\nprocess p47\nprocess p48\nprocess p49\n\
-          process p50\nprocess p51\nprocess p52\nprocess p53\nprocess p54\nprocess p55\nprocess p56\n\
-          process p57\nprocess p58\nprocess p59\nprocess p60\nprocess p61\nprocess p62\nprocess p63\n\
-          process p64\n",
-        b"sigrecord 1\nprocess 0 p1\n1 exec 1 ended normal\nstate ended normal\nprocess 1 p2\n\
-          1 exec 1 ended normal\nstate ended normal\nprocess 2 p3\n1 exec 1 ended normal\nstate ended normal\n\
-          process 3 p4\n1 exec 1 ended normal\nstate ended normal\nprocess 4 p5\n1 exec 1 ended normal\n\
-          state ended normal\nprocess 5 p6\n1 exec 1 ended normal\nstate ended normal\nprocess 6 p7\n\
-          1 exec 1 ended normal\nstate ended normal\nprocess 7 p8\n1 exec 1 ended normal\nstate ended normal\n\
-          process 8 p9\n1 exec 1 ended normal\nstate ended normal\nprocess 9 p10\n1 exec 1 ended normal\n\
-          state ended normal\nprocess 10 p11\n1 exec 1 ended normal\nstate ended normal\nprocess 11 p12\n\
-          1 exec 1 ended normal\nstate ended normal\nprocess 12 p13\n1 exec 1 ended normal\n\
-          state ended normal\nprocess 13 p14\n1 exec 1 ended normal\nstate ended normal\nprocess 14 p15\n\
-          1 exec 1 ended normal\nstate ended normal\nprocess 15 p16\n1 exec 1 ended normal\n\
-          state ended normal\nprocess 16 p17\n1 exec 1 ended normal\nstate ended normal\nprocess 17 p18\n\
-          1 exec 1 ended normal\nstate ended normal\nprocess 18 p19\n1 exec 1 ended normal\n\
-          state ended normal\nprocess 19 p20\n1 exec 1 ended normal\nstate ended normal\nprocess 20 p21\n\
-          1 exec 1 ended normal\nstate ended normal\nprocess 21 p22\n1 exec 1 ended normal\n\
-          state ended normal\nprocess 22 p23\n1 exec 1 ended normal\nstate ended normal\nprocess 23 p24\n\
-          1 exec 1 ended normal\nstate ended normal\nprocess 24 p25\n1 exec 1 ended normal\n\
-          state ended normal\nprocess 25 p26\n1 exec 1 ended normal\nstate ended normal\nprocess 26 p27\n\
-          1 exec 1 ended normal\nstate ended normal\nprocess 27 p28\n1 exec 1 ended normal\n\
-          state ended normal\nprocess 28 p29\n1 exec 1 ended normal\nstate ended normal\nprocess 29 p30\n\
-          1 exec 1 ended normal\nstate ended normal\nprocess 30 p31\n1 exec 1 ended normal\n\
-          state ended normal\nprocess 31 p32\n1 exec 1 ended normal\nstate ended normal\nprocess 32 p33\n\
-          1 exec 1 ended normal\nstate ended normal\nprocess 33 p34\n1 exec 1 ended normal\n\
-          state ended normal\nprocess 34 p35\n1 exec 1 ended normal\nstate ended normal\nprocess 35 p36\n\
-          1 exec 1 ended normal\nstate ended normal\nprocess 36 p37\n1 exec 1 ended normal\n\
-          state ended normal\nprocess 37 p38\n1 exec 1 ended normal\nstate ended normal\nprocess 38 p39\n\
-          1 exec 1 ended normal\nstate ended normal\nprocess 39 p40\n1 exec 1 ended normal\n\
-          state ended normal\nprocess 40 p41\n1 exec 1 ended normal\nstate ended normal\nprocess 41 p42\n\
-          1 exec 1 ended normal\nstate ended normal\nprocess 42 p43\n1 exec 1 ended normal\n\
-          state ended normal\nprocess 43 p44\n1 exec 1 ended normal\nstate ended normal\nprocess 44 p45\n\
-          1 exec 1 ended normal\nstate ended normal\nprocess 45 p46\n1 exec 1 ended normal\n\
-          state ended normal\nprocess 46 p47\n1 exec 1 ended normal\nstate ended normal\nprocess 47 p48\n\
-          1 exec 1 ended normal\nstate ended normal\nprocess 48 p49\n1 exec 1 ended normal\n\
-          state ended normal\nprocess 49 p50\n1 exec 1 ended normal\nstate ended normal\nprocess 50 p51\n\
-          1 exec 1 ended normal\nstate ended normal\nprocess 51 p52\n1 exec 1 ended normal\n\
-          state ended normal\nprocess 52 p53\n1 exec 1 ended normal\nstate ended normal\nprocess 53 p54\n\
-          1 exec 1 ended normal\nstate ended normal\nprocess 54 p55\n1 exec 1 ended normal\n\
-          state ended normal\nprocess 55 p56\n1 exec 1 ended normal\nstate ended normal\nprocess 56 p57\n\
-          1 exec 1 ended normal\nstate ended normal\nprocess 57 p58\n1 exec 1 ended normal\n\
-          state ended normal\nprocess 58 p59\n1 exec 1 ended normal\nstate ended normal\nprocess 59 p60\n\
-          1 exec 1 ended normal\nstate ended normal\nprocess 60 p61\n1 exec 1 ended normal\n\
-          state ended normal\nprocess 61 p62\n1 exec 1 ended normal\nstate ended normal\nprocess 62 p63\n\
-          1 exec 1 ended normal\nstate ended normal\nprocess 63 p64\n1 exec 1 ended normal\n\
-          state ended normal\n",
+        b"sigscript 1\nprocess a\n% \xFF\n",
+        b"sigrecord 1\nprocess 0 a\n1 exec 1 ended normal\nstate ended normal\n",
     ),
     (
         b"sigscript 1\nprocess reserve\nlabel bind\nreserve\nmake_ref Clear\nbind Clear\nclear Clear\n\

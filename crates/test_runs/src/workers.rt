@@ -3,7 +3,7 @@
 use crate::large::PING_PONG;
 use crate::markers::SERVER_AND_CLIENTS;
 use crate::runs::LINES;
-use crate::whole::{PLAIN, Ran, Setting, text_of};
+use crate::whole::{Ran, text_of};
 use itoa::Buffer;
 use sig_base::{Gate, OpenGate, Point};
 use sig_host::Status;
@@ -13,6 +13,7 @@ use std::sync::Wait;
 use std::sync::atomic::{AtomicBool, Ordering};
 use std::thread;
 use std::thread::Threads;
+use test_shared::{PLAIN, Setting};
 
 /// How often a gate looks before it gives up. It lets other threads run behind each look.
 pub(crate) const LOOKS: u64 = 10_000_000;

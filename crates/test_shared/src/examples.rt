@@ -19,3 +19,8 @@ pub struct Example {
 pub fn example_tables() -> [&'static [Example]; 2] {
     [&MESSAGES, &SIGNALS]
 }
+
+/// That of a worker that ends with the reason `kill`, a friend, and a watcher that traps exits.
+pub fn kill_by_a_link() -> &'static Example {
+    &SIGNALS[0]
+}

@@ -20,7 +20,8 @@ fn fails_at_read<P: Program>(alloc: Global, work: &Work, read: u64) -> Result<bo
     let setting = Setting {
         words: work.words,
         piece: 1,
-        failing_read: read,
+        failing_reads: &[read],
+        failing_writes: &[],
         ..PLAIN
     };
     let called = Called::<P>::of(alloc, &setting, work.script, work.told)?;
@@ -38,7 +39,8 @@ fn fails_at_write<P: Program>(alloc: Global, work: &Work, write: u64) -> Result<
     let setting = Setting {
         words: work.words,
         taken: 1,
-        failing_write: write,
+        failing_reads: &[],
+        failing_writes: &[write],
         ..PLAIN
     };
     let called = Called::<P>::of(alloc, &setting, work.script, work.told)?;
@@ -50,17 +52,16 @@ fn fails_at_write<P: Program>(alloc: Global, work: &Work, write: u64) -> Result<
     }
 }
 
-/// The first call of a stream, from 1 up to this number, whose fault is answered otherwise.
+/// The first call of a stream, up to one behind the last read and the last write, whose fault is answered
+/// otherwise.
 ///
 /// # Errors
 ///
 /// [`AllocError`] where memory is wanting for a call's streams.
-pub fn first_other<P: Program>(
-    alloc: Global,
-    work: &Work,
-    last: u64,
-) -> Result<Option<u64>, AllocError> {
-    for call in 1..=last {
+pub fn first_other<P: Program>(alloc: Global, work: &Work) -> Result<Option<u64>, AllocError> {
+    let reads = work.script.len().saturating_add(work.told.len());
+    let end = reads.max(work.text.len()).saturating_add(3) as u64;
+    for call in 1..end {
         if !fails_at_read::<P>(alloc, work, call)? || !fails_at_write::<P>(alloc, work, call)? {
             return Ok(Some(call));
         }

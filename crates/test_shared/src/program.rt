@@ -6,9 +6,6 @@ pub trait Program {
     /// How a call of it ends.
     type Status: Copy + PartialEq;
 
-    /// The status before the call.
-    const BEFORE: Self::Status;
-
     /// The status where all is written.
     const DONE: Self::Status;
 
@@ -18,11 +15,17 @@ pub trait Program {
     /// The status after a write that failed.
     const WRITE_FAULT: Self::Status;
 
+    /// The status where the words are no command.
+    const USAGE: Self::Status;
+
     /// What is told of a read that failed.
     const READ_TOLD: &'static [u8];
 
     /// What is told of a write that failed.
     const WRITE_TOLD: &'static [u8];
+
+    /// What is told where the words are no command.
+    const USAGE_TOLD: &'static [u8];
 
     /// The top call.
     fn call(

@@ -2,28 +2,28 @@ use std::alloc::{AllocError, Global};
 
 /// What a call is given beside its input.
 #[derive(Clone, Copy)]
-pub struct Setting<'a> {
+pub struct Setting<'w, 'f> {
     /// The arguments.
-    pub words: &'a [&'a str],
+    pub words: &'w [&'w str],
     /// How many bytes of the input come at a read.
     pub piece: usize,
     /// The most bytes that a write takes.
     pub taken: usize,
-    /// The number of the read that fails, from 1; 0 where none does.
-    pub failing_read: u64,
-    /// The number of the write that fails, from 1; 0 where none does.
-    pub failing_write: u64,
+    /// The numbers of the reads that fail, from 1.
+    pub failing_reads: &'f [u64],
+    /// The numbers of the writes that fail, from 1.
+    pub failing_writes: &'f [u64],
     /// How many bytes may be told.
     pub room: usize,
 }
 
 /// No arguments, and streams that don't fail.
-pub const PLAIN: Setting<'static> = Setting {
+pub const PLAIN: Setting<'static, 'static> = Setting {
     words: &[],
     piece: 100,
     taken: 10,
-    failing_read: 0,
-    failing_write: 0,
+    failing_reads: &[],
+    failing_writes: &[],
     room: 100,
 };
 

@@ -1,41 +1,23 @@
 //! Texts of calls: the scripts that `expand` writes of them, each with a record of it, and what is refused.
 
-use crate::called::{Called, PLAIN};
-use crate::rows::YES;
+use crate::called::Called;
 use sig_call::CallFault;
 use sig_script::FaultKind;
 use sig_tool::ToolStatus;
 use std::alloc::{AllocError, Global};
-use test_shared::Setting;
-
-/// A text with one call.
-pub(crate) const ONE_CALL: &[u8] =
-    b"sigscript 1\nprocess srv\nreceive\non {call,R,V}\nend\nsend R {R,V}\nprocess c\ncall A @srv 7\n";
-
-/// The script that it spells.
-pub(crate) const ITS_SCRIPT: &[u8] =
-    b"sigscript 1\nturns 1000\nprocess srv\nreceive\non {call,R,V}\nend\nsend R {R,V}\nprocess c\nreserve\n\
-      monitor Call_1 @srv reply_demonitor\nbind Call_1\nsend @srv {call,Call_1,7}\nreceive using Call_1\n\
-      on {^Call_1,A}\non {'DOWN',^Call_1,process,_,A}\nend\n";
-
-/// A record of that script, and of each other in which the caller does the same.
-const ITS_RECORD: &[u8] =
-    b"sigrecord 1\nprocess 0 srv\n3 from 1 1 watched\n5 from 1 2 kept {call,#Ref<1.1>,7}\n\
-      6 exec 1 took 1 1 {call,#Ref<1.1>,7}\n7 exec 2 sent #Ref<1.1> {#Ref<1.1>,7}\n9 from 1 3 unwatched\n\
-      10 exec 3 ended normal\nstate ended normal\nprocess 1 c\n1 exec 1 done\n2 exec 2 set #Ref<1.1>\n\
-      3 exec 3 answered true\n4 exec 4 sent <0> {call,#Ref<1.1>,7}\n8 from 0 1 kept {#Ref<1.1>,7}\n\
-      9 exec 5 took 1 1 {#Ref<1.1>,7}\n10 exec 6 ended normal\nstate ended normal\n";
+use test_shared::{
+    CHECK, LATE_REPLY, LATE_REPLY_SCRIPT, NO_SERVER, NO_SERVER_RECORD, NO_SERVER_SCRIPT, ONE_CALL,
+    ONE_CALL_RECORD, ONE_CALL_SCRIPT, Setting, is_checked,
+};
 
 /// Texts of calls, the script that is written of each, and a record of it. The records were worked out by
 /// hand from the tables of the machine.
 static EXPANDED: [(&[u8], &[u8], &[u8]); 5] = [
-    (ONE_CALL, ITS_SCRIPT, ITS_RECORD),
+    (ONE_CALL, ONE_CALL_SCRIPT, ONE_CALL_RECORD),
     // the server replies twice: the second reply comes too late
     (
-        b"sigscript 1\nprocess srv\nreceive\non {call,R,V}\nend\nsend R {R,V}\nsend R {R,late}\nprocess c\ncall A @srv 7",
-        b"sigscript 1\nturns 1000\nprocess srv\nreceive\non {call,R,V}\nend\nsend R {R,V}\nsend R {R,late}\nprocess c\n\
-          reserve\nmonitor Call_1 @srv reply_demonitor\nbind Call_1\nsend @srv {call,Call_1,7}\nreceive using Call_1\n\
-          on {^Call_1,A}\non {'DOWN',^Call_1,process,_,A}\nend\n",
+        LATE_REPLY,
+        LATE_REPLY_SCRIPT,
         b"sigrecord 1\nprocess 0 srv\n3 from 1 1 watched\n5 from 1 2 kept {call,#Ref<1.1>,7}\n\
           6 exec 1 took 1 1 {call,#Ref<1.1>,7}\n7 exec 2 sent #Ref<1.1> {#Ref<1.1>,7}\n\
           8 exec 3 sent #Ref<1.1> {#Ref<1.1>,late}\n9 exec 4 ended normal\n10 from 1 3 dropped\nstate ended normal\n\
@@ -44,16 +26,7 @@ static EXPANDED: [(&[u8], &[u8], &[u8]); 5] = [
           10 from 0 3 dropped\n11 exec 5 took 1 1 {#Ref<1.1>,7}\n12 exec 6 ended normal\nstate ended normal\n",
     ),
     // the process that is called has ended
-    (
-        b"sigscript 1\nprocess srv\nstop\nprocess c\ncall A @srv 7 -> gone\nlabel gone\n",
-        b"sigscript 1\nturns 1000\nprocess srv\nstop\nprocess c\nreserve\nmonitor Call_1 @srv reply_demonitor\nbind Call_1\n\
-          send @srv {call,Call_1,7}\nreceive using Call_1\non {^Call_1,A}\non {'DOWN',^Call_1,process,_,A} -> gone\nend\n\
-          label gone\n",
-        b"sigrecord 1\nprocess 0 srv\n1 exec 1 ended normal\n3 from 1 1 noproc\n7 from 1 2 dropped\nstate ended normal\n\
-          process 1 c\n1 exec 1 done\n2 exec 2 set #Ref<1.1>\n4 from 0 1 kept {'DOWN',#Ref<1.1>,process,<0>,noproc}\n\
-          5 exec 3 answered true\n6 exec 4 sent <0> {call,#Ref<1.1>,7}\n\
-          7 exec 5 took 2 1 {'DOWN',#Ref<1.1>,process,<0>,noproc}\n8 exec 6 ended normal\nstate ended normal\n",
-    ),
+    (NO_SERVER, NO_SERVER_SCRIPT, NO_SERVER_RECORD),
     // two calls of one process, the second with the reply to the first
     (
         b"sigscript 1\nprocess srv\nlabel again\nreceive\non {call,R,V}\nend\nsend R {R,V}\ngoto again\nprocess c\n\
@@ -79,7 +52,7 @@ static EXPANDED: [(&[u8], &[u8], &[u8]); 5] = [
         b"sigscript 2\nturns 1000\nprocess srv\nmessage_queue_data off_heap\nreceive\non {call,R,V} when V >= 7\nend\n\
           send R {R,V}\nprocess c\nreserve\nmonitor Call_1 @srv reply_demonitor\nbind Call_1\nsend @srv {call,Call_1,7}\n\
           receive using Call_1\non {^Call_1,A}\non {'DOWN',^Call_1,process,_,A}\nend\n",
-        ITS_RECORD,
+        ONE_CALL_RECORD,
     ),
 ];
 
@@ -175,9 +148,9 @@ static REFUSED: [(&[u8], ToolStatus, &[u8]); 10] = [
 ];
 
 /// The command `expand`.
-const EXPAND: Setting<'static> = Setting {
+const EXPAND: Setting<'static, 'static> = Setting {
     words: &["expand"],
-    ..PLAIN
+    ..CHECK
 };
 
 /// Whether this is written of the text of calls; and `check` says yes to it with the record behind it.
@@ -188,8 +161,8 @@ fn is_expanded(
     record: &[u8],
 ) -> Result<bool, AllocError> {
     let expanded = Called::of(alloc, &EXPAND, text, b"")?;
-    let checked = Called::of(alloc, &PLAIN, expanded.out.held(), record)?;
-    Ok(expanded.is(ToolStatus::Done, script, b"") && checked.is(ToolStatus::Done, YES, b""))
+    let checked = is_checked(alloc, expanded.out.held(), record)?;
+    Ok(expanded.is(ToolStatus::Done, script, b"") && checked)
 }
 
 #[test]

@@ -1,9 +1,9 @@
 //! The examples of the documents. tools/examples compares them with the documents.
 
-use crate::called::{Called, PLAIN};
+use crate::called::Called;
 use sig_tool::ToolStatus;
 use std::alloc::{AllocError, Global};
-use test_shared::Setting;
+use test_shared::{CHECK, Setting};
 
 /// Each script with a record behind it that a document shows, what `check` writes or tells of them, and
 /// its answer.
@@ -75,7 +75,7 @@ fn is_so(
     said: &[u8],
     status: ToolStatus,
 ) -> Result<bool, AllocError> {
-    let setting = Setting { words, ..PLAIN };
+    let setting = Setting { words, ..CHECK };
     let called = Called::of(alloc, &setting, input, b"")?;
     let so = match status {
         ToolStatus::Done => called.is(status, said, b""),

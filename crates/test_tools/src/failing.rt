@@ -1,12 +1,13 @@
 //! Reads and writes that fail, each in turn.
 
-use crate::called::{Called, PLAIN, Tool};
-use crate::calls::{ITS_SCRIPT, ONE_CALL};
-use crate::rows::YES;
+use crate::called::Called;
 use sig_call::CallFault;
 use sig_tool::ToolStatus;
 use std::alloc::{AllocError, Global};
-use test_shared::{ONE_MESSAGE, ONE_MESSAGE_RECORD, Program, Setting, Work, first_other};
+use test_shared::{
+    CHECK, ONE_CALL, ONE_CALL_SCRIPT, ONE_MESSAGE, ONE_MESSAGE_RECORD, Program, Setting, Tool,
+    Work, YES, first_other,
+};
 
 /// Commands, with what they write.
 static WORKS: [Work; 3] = [
@@ -26,14 +27,14 @@ static WORKS: [Work; 3] = [
         words: &["expand"],
         script: ONE_CALL,
         told: b"",
-        text: ITS_SCRIPT,
+        text: ONE_CALL_SCRIPT,
     },
 ];
 
 #[test]
 fn each_failing_call_is_told(rt: HostRuntime) {
     for work in &WORKS {
-        let other = first_other::<Tool>(rt.alloc(), work, 270);
+        let other = first_other::<Tool>(rt.alloc(), work);
         assert!(rt; other == Ok(None), "{other:?}");
     }
 }
@@ -42,20 +43,20 @@ fn each_failing_call_is_told(rt: HostRuntime) {
 /// a call, or a failing read.
 fn are_in_order(alloc: Global) -> Result<bool, AllocError> {
     let setting = Setting {
-        failing_write: 1,
-        ..PLAIN
+        failing_writes: &[1],
+        ..CHECK
     };
     let refused = Called::of(alloc, &setting, ONE_MESSAGE, b"sigrecord 1\n")?;
     let expanding = Setting {
         words: &["expand"],
-        failing_write: 1,
-        ..PLAIN
+        failing_writes: &[1],
+        ..CHECK
     };
     let no_call = Called::of(alloc, &expanding, b"call", b"")?;
     let unread = Setting {
-        failing_read: 1,
-        failing_write: 1,
-        ..PLAIN
+        failing_reads: &[1],
+        failing_writes: &[1],
+        ..CHECK
     };
     let failed = Called::of(alloc, &unread, b"no script", b"")?;
     let no = ToolStatus::No { event: 1 };

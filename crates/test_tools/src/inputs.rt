@@ -1,12 +1,12 @@
 //! Inputs whose parts are refused, and arguments.
 
-use crate::called::{Called, PLAIN};
-use crate::rows::{YES, both_answer};
+use crate::called::Called;
+use crate::rows::both_answer;
 use sig_call::CallFault;
 use sig_script::FaultKind;
 use sig_tool::ToolStatus;
 use std::alloc::{AllocError, Global};
-use test_shared::{ONE_MESSAGE, ONE_MESSAGE_RECORD, Setting};
+use test_shared::{CHECK, ONE_MESSAGE, ONE_MESSAGE_RECORD, Setting, Tool, Words, YES, first_taken};
 
 const NO_HEADER: ToolStatus = ToolStatus::BadScript {
     line: 1,
@@ -92,7 +92,7 @@ fn parts_are_refused(rt: HostRuntime) {
 }
 
 /// Arguments that are no command.
-static WORDS: [&[&str]; 11] = [
+static WORDS: [Words; 11] = [
     &[],
     &[""],
     &["chec"],
@@ -106,32 +106,15 @@ static WORDS: [&[&str]; 11] = [
     &["help"],
 ];
 
-/// Whether these arguments are refused, and nothing of the input is read: a read would fail.
-fn are_refused(alloc: Global, words: &[&str]) -> Result<bool, AllocError> {
-    let setting = Setting {
-        words,
-        failing_read: 1,
-        ..PLAIN
-    };
-    let called = Called::of(alloc, &setting, ONE_MESSAGE, ONE_MESSAGE_RECORD)?;
-    Ok(called.is(
-        ToolStatus::Usage,
-        b"",
-        b"usage: sigtool check|replay|links|before P I Q J|expand\n",
-    ))
-}
-
 #[test]
 fn other_arguments_are_refused(rt: HostRuntime) {
-    for words in &WORDS {
-        let refused = are_refused(rt.alloc(), words);
-        assert!(rt; refused == Ok(true));
-    }
+    let taken = first_taken::<Tool>(rt.alloc(), &WORDS);
+    assert!(rt; matches!(taken, Ok(None)), "{taken:?}");
 }
 
 /// Whether all is as ever where nothing can be told.
 fn is_untold(alloc: Global) -> Result<bool, AllocError> {
-    let setting = Setting { room: 0, ..PLAIN };
+    let setting = Setting { room: 0, ..CHECK };
     let checked = Called::of(alloc, &setting, ONE_MESSAGE, ONE_MESSAGE_RECORD)?;
     let refused = Called::of(alloc, &setting, ONE_MESSAGE, b"")?;
     Ok(checked.is(ToolStatus::Done, YES, b"") && refused.is(NO_RECORD, b"", b""))

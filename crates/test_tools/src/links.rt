@@ -1,9 +1,9 @@
 //! The links between the processes of a run that has come to rest.
 
-use crate::called::{Called, PLAIN};
+use crate::called::Called;
 use sig_tool::ToolStatus;
 use std::alloc::{AllocError, Global};
-use test_shared::Setting;
+use test_shared::{CHECK, Setting};
 
 /// Each script, a record of it, and the lines of the links at its end. The records were worked out by
 /// hand from the tables of the machine.
@@ -63,9 +63,9 @@ static ROWS: [(&[u8], &[u8], &[u8]); 7] = [
     ),
 ];
 
-const LINKS: Setting<'static> = Setting {
+const LINKS: Setting<'static, 'static> = Setting {
     words: &["links"],
-    ..PLAIN
+    ..CHECK
 };
 
 /// Whether these are written of the script with this record.

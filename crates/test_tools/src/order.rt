@@ -1,10 +1,10 @@
 //! Which event of a record happened before which.
 
-use crate::called::{Called, PLAIN};
+use crate::called::Called;
 use sig_tool::ToolStatus;
 use std::alloc::{AllocError, Global};
 use test_shared::{
-    CLIENTS, CLIENTS_RECORD, ONE_MESSAGE, ONE_MESSAGE_RECORD, RING, RING_RECORD, Setting,
+    CHECK, CLIENTS, CLIENTS_RECORD, ONE_MESSAGE, ONE_MESSAGE_RECORD, RING, RING_RECORD, Setting,
     WRONG_RECORD,
 };
 
@@ -82,7 +82,7 @@ fn are_answered(
     questions: &[Question],
 ) -> Result<bool, AllocError> {
     for (words, (status, written, line)) in questions {
-        let setting = Setting { words, ..PLAIN };
+        let setting = Setting { words, ..CHECK };
         let called = Called::of(alloc, &setting, script, told)?;
         if !called.is(*status, written, line) {
             return Ok(false);
@@ -106,7 +106,7 @@ fn events_are_ordered(rt: HostRuntime) {
 fn the_verdict_comes_first(rt: HostRuntime) {
     let setting = Setting {
         words: &["before", "0", "3", "1", "1"],
-        ..PLAIN
+        ..CHECK
     };
     let called = Called::of(rt.alloc(), &setting, ONE_MESSAGE, WRONG_RECORD);
     assert!(rt;

@@ -1,12 +1,9 @@
 //! Records of a script, and what the tool says of them.
 
-use crate::called::{Called, PLAIN};
+use crate::called::Called;
 use sig_tool::ToolStatus;
 use std::alloc::{AllocError, Global};
-use test_shared::{ONE_MESSAGE, ONE_MESSAGE_RECORD, Setting};
-
-/// What is written where the verdict is yes.
-pub(crate) const YES: &[u8] = b"yes\n";
+use test_shared::{CHECK, ONE_MESSAGE, ONE_MESSAGE_RECORD, Setting, YES};
 
 const NO_2: ToolStatus = ToolStatus::No { event: 2 };
 
@@ -174,9 +171,9 @@ pub(crate) fn both_answer(
     let is_yes = status == ToolStatus::Done;
     let replaying = Setting {
         words: &["replay"],
-        ..PLAIN
+        ..CHECK
     };
-    let checked = Called::of(alloc, &PLAIN, script, told)?;
+    let checked = Called::of(alloc, &CHECK, script, told)?;
     let replayed = Called::of(alloc, &replaying, script, told)?;
     let yes: &[u8] = if is_yes { YES } else { b"" };
     let again: &[u8] = if is_yes { told } else { b"" };

@@ -12,17 +12,20 @@ pub(crate) struct Viewer;
 impl Program for Viewer {
     type Status = ViewStatus;
 
-    const BEFORE: ViewStatus = ViewStatus::Memory;
-
     const DONE: ViewStatus = ViewStatus::Done;
 
     const READ_FAULT: ViewStatus = ViewStatus::ReadFault;
 
     const WRITE_FAULT: ViewStatus = ViewStatus::WriteFault;
 
+    const USAGE: ViewStatus = ViewStatus::Usage;
+
     const READ_TOLD: &'static [u8] = b"sigview: read fault\n";
 
     const WRITE_TOLD: &'static [u8] = b"sigview: write fault\n";
+
+    const USAGE_TOLD: &'static [u8] =
+        b"usage: sigview chart [--from S] [--to T]|concurrent P I|outcomes [--states N] [--record K]\n";
 
     fn call(
         alloc: Global,
@@ -39,7 +42,7 @@ impl Program for Viewer {
 pub(crate) type Called = test_shared::Called<Viewer>;
 
 /// The command `concurrent 0 2`, and streams that don't fail.
-pub(crate) const PLAIN: Setting<'static> = Setting {
+pub(crate) const PLAIN: Setting<'static, 'static> = Setting {
     words: &["concurrent", "0", "2"],
     ..test_shared::PLAIN
 };

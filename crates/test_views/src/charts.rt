@@ -37,14 +37,18 @@ fn events_in(told: &[u8]) -> usize {
     count
 }
 
-/// Whether the chart of the record has a row for each of its events, and shows each signal that is queued.
-fn is_whole(alloc: Global, script: &[u8], told: &[u8]) -> Result<bool, AllocError> {
+/// Whether the chart of the example's record, where it has one, has a row for each of its events, and shows
+/// each signal that is queued.
+fn is_whole(alloc: Global, example: &Example) -> Result<bool, AllocError> {
+    let Some(told) = example.record else {
+        return Ok(true);
+    };
     let setting = Setting {
         words: &["chart"],
         taken: 1000,
         ..PLAIN
     };
-    let called = Called::of(alloc, &setting, script, told)?;
+    let called = Called::of(alloc, &setting, example.script, told)?;
     let chart = called.out.held();
     let queued = lines_with(chart, QUEUED) == lines_with(told, b"queued ");
     Ok(called.status == ViewStatus::Done && lines_with(chart, STAMP) == events_in(told) && queued)
@@ -56,21 +60,8 @@ fn first_other_of(
     examples: &'static [Example],
 ) -> Result<Option<&'static str>, AllocError> {
     for example in examples {
-        if let Some(told) = example.record {
-            if !is_whole(alloc, example.script, told)? {
-                return Ok(Some(example.file));
-            }
-        }
-    }
-    Ok(None)
-}
-
-/// The first example of all.
-fn first_other(alloc: Global) -> Result<Option<&'static str>, AllocError> {
-    for table in example_tables() {
-        let other = first_other_of(alloc, table)?;
-        if other.is_some() {
-            return Ok(other);
+        if !is_whole(alloc, example)? {
+            return Ok(Some(example.file));
         }
     }
     Ok(None)
@@ -78,8 +69,10 @@ fn first_other(alloc: Global) -> Result<Option<&'static str>, AllocError> {
 
 #[test]
 fn charts_of_examples_are_whole(rt: HostRuntime) {
-    let other = first_other(rt.alloc());
-    assert!(rt; other == Ok(None), "{other:?}");
+    for table in example_tables() {
+        let other = first_other_of(rt.alloc(), table);
+        assert!(rt; other == Ok(None), "{other:?}");
+    }
 }
 
 /// A process that turns in a loop until it has made 2,001 events, one more than a chart may have.

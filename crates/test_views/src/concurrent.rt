@@ -2,11 +2,12 @@
 //! which event sent which signal, and were worked out by hand.
 
 use crate::called::{Called, PLAIN};
-use crate::rows::{WATCHED, WATCHED_RECORD, WITH_ITS_END};
+use crate::rows::WITH_ITS_END;
 use sig_view::ViewStatus;
 use std::alloc::{AllocError, Global};
 use test_shared::{
     CLIENTS, CLIENTS_RECORD, ONE_MESSAGE, ONE_MESSAGE_RECORD, RING, RING_RECORD, Setting,
+    kill_by_a_link,
 };
 
 /// The pid and the event of which is asked, and what is written.
@@ -81,7 +82,9 @@ fn concurrent_events_are_told(rt: HostRuntime) {
     let one = are_answered(rt.alloc(), ONE_MESSAGE, ONE_MESSAGE_RECORD, &OF_ONE);
     let ring = are_answered(rt.alloc(), RING, RING_RECORD, &OF_RING);
     let clients = are_answered(rt.alloc(), CLIENTS, CLIENTS_RECORD, &OF_CLIENTS);
-    let watched = are_answered(rt.alloc(), WATCHED, WATCHED_RECORD, &OF_WATCHED);
+    let example = kill_by_a_link();
+    let record = example.record.unwrap_or(b"");
+    let watched = are_answered(rt.alloc(), example.script, record, &OF_WATCHED);
     assert!(rt; one == Ok(true));
     assert!(rt; ring == Ok(true));
     assert!(rt; clients == Ok(true));

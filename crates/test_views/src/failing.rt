@@ -27,7 +27,7 @@ static WORKS: [Work; 2] = [
 #[test]
 fn each_failing_call_is_told(rt: HostRuntime) {
     for work in &WORKS {
-        let other = first_other::<Viewer>(rt.alloc(), work, 242);
+        let other = first_other::<Viewer>(rt.alloc(), work);
         assert!(rt; other == Ok(None), "{other:?}");
     }
 }
@@ -37,14 +37,14 @@ fn each_failing_call_is_told(rt: HostRuntime) {
 fn are_in_order(alloc: Global) -> Result<bool, AllocError> {
     let setting = Setting {
         words: &["concurrent", "0", "3"],
-        failing_write: 1,
+        failing_writes: &[1],
         ..PLAIN
     };
     let refused = Called::of(alloc, &setting, ONE_MESSAGE, WRONG_RECORD)?;
     let unread = Setting {
         words: &["chart"],
-        failing_read: 1,
-        failing_write: 1,
+        failing_reads: &[1],
+        failing_writes: &[1],
         ..PLAIN
     };
     let failed = Called::of(alloc, &unread, b"no script", b"")?;

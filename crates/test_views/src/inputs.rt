@@ -1,11 +1,11 @@
 //! Inputs whose parts are refused, and arguments.
 
-use crate::called::{Called, PLAIN};
+use crate::called::{Called, PLAIN, Viewer};
 use crate::rows::WITH_ITS_END;
 use sig_script::FaultKind;
 use sig_view::ViewStatus;
 use std::alloc::{AllocError, Global};
-use test_shared::{ONE_MESSAGE, ONE_MESSAGE_RECORD, Setting, WRONG_RECORD};
+use test_shared::{ONE_MESSAGE, ONE_MESSAGE_RECORD, Setting, WRONG_RECORD, Words, first_taken};
 
 const NO_HEADER: ViewStatus = ViewStatus::BadScript {
     line: 1,
@@ -67,7 +67,7 @@ fn parts_are_refused(rt: HostRuntime) {
 }
 
 /// Arguments that are no command.
-static WORDS: [&[&str]; 17] = [
+static WORDS: [Words; 29] = [
     &[],
     &[""],
     &["check"],
@@ -85,29 +85,24 @@ static WORDS: [&[&str]; 17] = [
     &["concurrent", "4294967296", "1"],
     &["concurrent", "--from", "1"],
     &["concurrent", "0", "1", "1", "1"],
+    &["Outcomes"],
+    &["outcomes", "1"],
+    &["outcomes", "--states"],
+    &["outcomes", "--states", "0"],
+    &["outcomes", "--states", "10000001"],
+    &["outcomes", "--states", "-1"],
+    &["outcomes", "--record", "x"],
+    &["outcomes", "--record", "18446744073709551616"],
+    &["outcomes", "--states", "1", "--states", "2"],
+    &["outcomes", "--record", "1", "--record", "2"],
+    &["outcomes", "--states", "0", "--record", "1"],
+    &["chart", "--states", "1"],
 ];
-
-/// Whether these arguments are refused, and nothing of the input is read: a read would fail.
-fn are_refused(alloc: Global, words: &[&str]) -> Result<bool, AllocError> {
-    let setting = Setting {
-        words,
-        failing_read: 1,
-        ..PLAIN
-    };
-    let called = Called::of(alloc, &setting, ONE_MESSAGE, ONE_MESSAGE_RECORD)?;
-    Ok(called.is(
-        ViewStatus::Usage,
-        b"",
-        b"usage: sigview chart [--from S] [--to T]|concurrent P I|outcomes [--states N] [--record K]\n",
-    ))
-}
 
 #[test]
 fn other_arguments_are_refused(rt: HostRuntime) {
-    for words in &WORDS {
-        let refused = are_refused(rt.alloc(), words);
-        assert!(rt; refused == Ok(true));
-    }
+    let taken = first_taken::<Viewer>(rt.alloc(), &WORDS);
+    assert!(rt; matches!(taken, Ok(None)), "{taken:?}");
 }
 
 /// Whether all is as ever where nothing can be told.

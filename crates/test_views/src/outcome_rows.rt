@@ -4,6 +4,11 @@
 /// A script, and what is told of each of its outcomes below the line with its number.
 pub(crate) type Row = (&'static [u8], &'static [&'static [u8]]);
 
+/// Three processes in a ring of links, of which one ends.
+pub(crate) const RING_OF_LINKS: &[u8] =
+    b"sigscript 1\nprocess p0\nlink @p1\nexit boom\nprocess p1\nlink @p2\nreceive\non x\nend\n\
+      process p2\nlink @p0\nreceive\non x\nend\n";
+
 pub(crate) static ROWS: [Row; 12] = [
     // A worker ends with `kill`, linked to a friend and to a guard, which may handle that before it traps exits.
     (
@@ -17,10 +22,8 @@ pub(crate) static ROWS: [Row; 12] = [
               process 2 guard\nstate ended normal\n",
         ],
     ),
-    // Three processes in a ring of links, of which one ends.
     (
-        b"sigscript 1\nprocess p0\nlink @p1\nexit boom\nprocess p1\nlink @p2\nreceive\non x\nend\n\
-          process p2\nlink @p0\nreceive\non x\nend\n",
+        RING_OF_LINKS,
         &[
             b"process 0 p0\nstate ended boom\nprocess 1 p1\nstate ended boom\nprocess 2 p2\n\
               state ended boom\n",

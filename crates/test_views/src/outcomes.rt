@@ -1,8 +1,8 @@
 //! The outcomes of scripts, and the records of runs that end in them.
 
 use crate::called::{Called, PLAIN};
-use crate::outcome_rows::{ROWS, Row};
-use crate::recorded::recorded;
+use crate::outcome_rows::{RING_OF_LINKS, ROWS, Row};
+use crate::recorded::{asked_for, called_with, count_of, is_listed, listed_by_records};
 use crate::rows::ITS_OUTCOME;
 use sig_script::FaultKind;
 use sig_view::ViewStatus;
@@ -23,56 +23,19 @@ fn listed(alloc: Global, outcomes: &[&[u8]]) -> Result<Vec<u8>, AllocError> {
     Ok(text)
 }
 
-/// Whether the record that is written for this number tells of this outcome.
-fn is_recorded(
-    alloc: Global,
-    script: &[u8],
-    number: usize,
-    outcome: &[u8],
-) -> Result<bool, AllocError> {
-    match recorded(alloc, script, number)? {
-        Some(ends) => Ok(ends.as_slice() == outcome),
-        None => Ok(false),
-    }
-}
-
-/// Whether the record that is written for each number tells of the outcome of that number.
-fn are_recorded(alloc: Global, script: &[u8], outcomes: &[&[u8]]) -> Result<bool, AllocError> {
-    for at in 0..outcomes.len() {
-        if !is_recorded(alloc, script, at.saturating_add(1), outcomes[at])? {
-            return Ok(false);
-        }
-    }
-    Ok(true)
-}
-
 /// Whether the outcomes of the row's script are listed in its order, and each has its record.
-fn is_listed(alloc: Global, row: &Row) -> Result<bool, AllocError> {
+fn holds(alloc: Global, row: &Row) -> Result<bool, AllocError> {
     let (script, outcomes) = row;
-    let setting = Setting {
-        words: &["outcomes"],
-        ..PLAIN
-    };
-    let called = Called::of(alloc, &setting, script, b"")?;
     let text = listed(alloc, outcomes)?;
-    let is_so = called.is(ViewStatus::Done, text.as_slice(), b"");
-    Ok(is_so && are_recorded(alloc, script, outcomes)?)
-}
-
-/// The first row of which that isn't so.
-fn first_other(alloc: Global) -> Result<Option<usize>, AllocError> {
-    for at in 0..ROWS.len() {
-        if !is_listed(alloc, &ROWS[at])? {
-            return Ok(Some(at));
-        }
-    }
-    Ok(None)
+    is_listed(alloc, script, text.as_slice())
 }
 
 #[test]
 fn outcomes_are_listed(rt: HostRuntime) {
-    let other = first_other(rt.alloc());
-    assert!(rt; other == Ok(None), "{other:?}");
+    for (place, row) in ROWS.iter().enumerate() {
+        let holds = holds(rt.alloc(), row);
+        assert!(rt; holds == Ok(true), "{place}");
+    }
 }
 
 /// Whether these words on this script alone are answered so.
@@ -130,50 +93,19 @@ static CUT_OFF: [&[&str]; 2] = [
     ],
 ];
 
-/// Words that are no command.
-static WORDS: [&[&str]; 12] = [
-    &["Outcomes"],
-    &["outcomes", "1"],
-    &["outcomes", "--states"],
-    &["outcomes", "--states", "0"],
-    &["outcomes", "--states", "10000001"],
-    &["outcomes", "--states", "-1"],
-    &["outcomes", "--record", "x"],
-    &["outcomes", "--record", "18446744073709551616"],
-    &["outcomes", "--states", "1", "--states", "2"],
-    &["outcomes", "--record", "1", "--record", "2"],
-    &["outcomes", "--states", "0", "--record", "1"],
-    &["chart", "--states", "1"],
-];
-
-/// Whether the words are those of commands, or of none.
-fn are_words(alloc: Global) -> Result<bool, AllocError> {
-    for words in &LISTING {
-        if !is_so(
-            alloc,
+#[test]
+fn outcomes_have_their_words(rt: HostRuntime) {
+    for words in LISTING {
+        let listed = is_so(
+            rt.alloc(),
             words,
             ONE_MESSAGE,
             ViewStatus::Done,
             ITS_OUTCOME,
             b"",
-        )? {
-            return Ok(false);
-        }
+        );
+        assert!(rt; listed == Ok(true), "{words:?}");
     }
-    for words in &WORDS {
-        let setting = Setting { words, ..PLAIN };
-        let called = Called::of(alloc, &setting, ONE_MESSAGE, b"")?;
-        if called.status != ViewStatus::Usage || !called.out.held().is_empty() {
-            return Ok(false);
-        }
-    }
-    Ok(true)
-}
-
-#[test]
-fn outcomes_have_their_words(rt: HostRuntime) {
-    let are = are_words(rt.alloc());
-    assert!(rt; are == Ok(true));
 }
 
 /// Whether the record is written where there is one, and else a refusal is told.
@@ -266,6 +198,30 @@ fn is_unfinished(alloc: Global) -> Result<bool, AllocError> {
 fn a_search_that_has_not_ended_says_so(rt: HostRuntime) {
     let unfinished = is_unfinished(rt.alloc());
     assert!(rt; unfinished == Ok(true));
+}
+
+/// So many states are too few to find each outcome of the ring of links.
+const FEW: &str = "80";
+
+/// How many outcomes it lists then, where each of their numbers has a record that tells the outcome of that
+/// number, and the next one isn't found.
+fn count_with_records(alloc: Global) -> Result<Option<usize>, AllocError> {
+    let called = called_with(alloc, &["outcomes", "--states", FEW], RING_OF_LINKS)?;
+    let ViewStatus::Unfinished { states } = called.status else {
+        return Ok(None);
+    };
+    let listed = called.out.held();
+    let count = count_of(listed);
+    let again = listed_by_records(alloc, RING_OF_LINKS, Some(FEW), (count, "more"))?;
+    let next = asked_for(alloc, RING_OF_LINKS, Some(FEW), count.saturating_add(1))?;
+    let missing = next.status == ViewStatus::NotFound { states } && next.out.held().is_empty();
+    Ok((again.as_slice() == listed && missing).then_some(count))
+}
+
+#[test]
+fn records_tell_what_a_search_lists_that_is_cut_off(rt: HostRuntime) {
+    let count = count_with_records(rt.alloc());
+    assert!(rt; count == Ok(Some(2)), "{count:?}");
 }
 
 /// Whether inputs that are no script are refused as ever; one with a record behind it is none.
