@@ -1,10 +1,12 @@
 //! The arguments: their settings, and what is told of them.
 
+use crate::verdicts::is_checked;
 use crate::whole::Ran;
-use crate::workers::{count, is_settled};
+use crate::workers::count;
 use sig_base::{OpenGate, read_all};
 use sig_host::{Settings, WordsError, words};
 use sig_layout::Policy;
+use sig_script::generate;
 use std::alloc::{AllocError, Global};
 use std::sync::Wait;
 use std::thread::Threads;
@@ -137,13 +139,23 @@ fn is_unread(alloc: Global, ran: &mut Ran) -> bool {
     left.as_slice() == ONE_MESSAGE
 }
 
-/// Whether the bytes are a settled record that keeps so many messages. Where that is none, whether
-/// there are no bytes.
+/// How many messages each call of the generated work keeps.
+const KEPT_BY_CALL: usize = 16;
+
+/// Whether the bytes are a record of the generated work that keeps so many messages, to which `check` says
+/// yes. Where that is none, whether there are no bytes.
 fn keeps(alloc: Global, bytes: &[u8], kept: usize) -> bool {
     if kept == 0 {
         return bytes.is_empty();
     }
-    count(bytes, b" kept ") == kept && is_settled(alloc, bytes)
+    let calls = kept / KEPT_BY_CALL;
+    if calls == 0 || calls > 800 {
+        return false;
+    }
+    match generate(alloc, calls as u32) {
+        Ok(script) => count(bytes, b" kept ") == kept && is_checked(alloc, &script, bytes),
+        Err(AllocError) => false,
+    }
 }
 
 /// Whether a run with these arguments, and a script that is there to be read, ends with this status

@@ -4,7 +4,7 @@ use crate::watches::WATCHES;
 use sig_check::{Replaying, Verdict, check, replay};
 use sig_model::{Origin, Origins};
 use sig_record::{Record, print_record, read_record};
-use sig_script::read_script;
+use sig_script::{Script, read_script};
 use std::alloc::{AllocError, Global};
 use test_shared::{ONE_MESSAGE, ONE_MESSAGE_RECORD};
 
@@ -30,6 +30,14 @@ fn verdict_of(alloc: Global, text: &[u8]) -> Option<Verdict> {
     let script = read_script(alloc, ONE_MESSAGE).ok()?;
     let record = read_record(alloc, text).ok()?;
     check(alloc, &script, &record).ok()
+}
+
+/// Whether `check` says yes to the record of this text, as one of the script.
+pub(crate) fn is_checked(alloc: Global, script: &Script, text: &[u8]) -> bool {
+    match read_record(alloc, text) {
+        Ok(record) => check(alloc, script, &record) == Ok(Verdict::Yes),
+        Err(_) => false,
+    }
 }
 
 /// Two senders to one process, and the record of a run in which the second one's signal is handled first. With

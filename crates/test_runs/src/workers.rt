@@ -3,11 +3,13 @@
 use crate::large::PING_PONG;
 use crate::markers::SERVER_AND_CLIENTS;
 use crate::runs::LINES;
+use crate::verdicts::is_checked;
 use crate::whole::{Ran, text_of};
 use itoa::Buffer;
 use sig_base::{Gate, OpenGate, Point};
 use sig_host::Status;
 use sig_record::read_record;
+use sig_script::read_script;
 use std::alloc::{AllocError, Global};
 use std::sync::Wait;
 use std::sync::atomic::{AtomicBool, Ordering};
@@ -124,7 +126,17 @@ pub(crate) fn is_settled(alloc: Global, bytes: &[u8]) -> bool {
     }
 }
 
-/// Whether the two play until both are cut, and the record is settled.
+/// Whether `check` says yes to the record, as one of the script of these lines.
+fn is_checked_of(alloc: Global, lines: &[u8], record: &[u8]) -> Result<bool, AllocError> {
+    let mut text = Vec::from_slice(alloc, LINES.head)?;
+    text.extend_from_slice(lines)?;
+    match read_script(alloc, text.as_slice()) {
+        Ok(script) => Ok(is_checked(alloc, &script, record)),
+        Err(_) => Ok(false),
+    }
+}
+
+/// Whether the two play until both are cut, and `check` says yes to the record.
 fn play_settles<R: Threads + Wait + Sync>(
     rt: &R,
     alloc: Global,
@@ -132,7 +144,8 @@ fn play_settles<R: Threads + Wait + Sync>(
 ) -> Result<bool, AllocError> {
     let ran = run_of(rt, alloc, PING_PONG, words)?;
     let record = ran.out.held();
-    Ok(ran.status == Status::Done && has_all(record, &PLAYED) && is_settled(alloc, record))
+    let plays = ran.status == Status::Done && has_all(record, &PLAYED);
+    Ok(plays && is_checked_of(alloc, PING_PONG, record)?)
 }
 
 /// The first client that isn't served, or 0, which is the server, where the record is another
@@ -145,6 +158,9 @@ fn first_unserved_with<R: Threads + Wait + Sync>(
     let ran = run_of(rt, alloc, SERVER_AND_CLIENTS, words)?;
     let record = ran.out.held();
     if ran.status != Status::Done || !has_all(record, &SERVED) || count_ended(record) != 12 {
+        return Ok(Some(0));
+    }
+    if !is_checked_of(alloc, SERVER_AND_CLIENTS, record)? {
         return Ok(Some(0));
     }
     first_unserved(alloc, record)
