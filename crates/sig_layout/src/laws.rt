@@ -1,6 +1,7 @@
 ghost use Rattle.std.specs.Prelude.{◌≡◌, ◌↔◌, List};
 ghost use Rattle.sig_layout.specs.declared.layout.TheConstants.{BUFFERS};
 ghost use Rattle.sig_layout.specs.declared.policy.TheConstants.{AUTO_FEW, AUTO_RUN, AUTO_SCORE};
+ghost use Rattle.sig_layout.specs.declared.senders.TheConstants.{PIDS};
 ghost use Rattle.sig_layout.specs.declared.setup.Setup.{Setup};
 ghost use Rattle.sig_layout.specs.declared.policy.Policy.{Policy};
 ghost use Rattle.sig_layout.specs.declared.entry.Entry.{Entry};
@@ -26,9 +27,11 @@ pub fn lawful_is_allowed()
     ensures { (p : Policy) (j : List Entry) → IsLawfulJournal p j ↔ IsAllowed p j }
 {}
 
-/// The limits in numbers: [`BUFFERS`](crate::BUFFERS) is 64, [`AUTO_SCORE`](crate::AUTO_SCORE) is 64,
-/// [`AUTO_RUN`](crate::AUTO_RUN) is 16, and [`AUTO_FEW`](crate::AUTO_FEW) is 4.
+/// The limits in numbers: [`PIDS`](crate::PIDS) is 256, [`BUFFERS`](crate::BUFFERS) is 64,
+/// [`AUTO_SCORE`](crate::AUTO_SCORE) is 64, [`AUTO_RUN`](crate::AUTO_RUN) is 16, and
+/// [`AUTO_FEW`](crate::AUTO_FEW) is 4.
 pub fn the_limits_of_queues()
+    ensures pids { PIDS ≡ 256 }
     ensures buffers { BUFFERS ≡ 64 }
     ensures score { AUTO_SCORE ≡ 64 }
     ensures run { AUTO_RUN ≡ 16 }
