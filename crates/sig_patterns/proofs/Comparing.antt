@@ -46,9 +46,12 @@ compares_others op t u h =
 pub kind_is : (k : TermKind) (z : Term-F Term) (t : Term) → roll-Term z ≡ t → is_kind k t ≡ is_kind_layer k z
 kind_is k z t is = ap (is_kind k) (sym is) ∙ ap (is_kind_layer k) (out-roll-Term z)
 
+pub undefined_value : (env : Environment) (x : List ℕ) → get env x ≡ None → value_of_var env x ≡ term.Atom (codes "undefined")
+undefined_value env x none = ap (λ (o : Option Term). unwrap_or o undefined) none
+
 pub undefined_is_atom : (env : Environment) (x : List ℕ) → get env x ≡ None → is_kind kind.Atom (value_of_var env x) ≡ true
 undefined_is_atom env x none =
-    ap (λ (o : Option Term). is_kind kind.Atom (unwrap_or o undefined)) none ∙ kind_is kind.Atom (layer.Atom (codes "undefined")) undefined (term.rolls-Atom (codes "undefined"))
+    ap (is_kind kind.Atom) (undefined_value env x none) ∙ kind_is kind.Atom (layer.Atom (codes "undefined")) undefined (term.rolls-Atom (codes "undefined"))
 
 pub undefined_kind : (k : TermKind) → is_kind_layer k (layer.Atom (codes "undefined")) ≡ is_kind k undefined
 undefined_kind k = sym (kind_is k (layer.Atom (codes "undefined")) undefined (term.rolls-Atom (codes "undefined")))

@@ -71,6 +71,10 @@ scan clauses env messages = option_map places_of (hit clauses env messages)
 abbrev pub first_clause : List Clause → Environment → Term → Option ℕ
 first_clause clauses env message = position (λ c. is_some (takes c env message)) clauses
 
+-- how many clauses are tested on a message: up to the first that takes it, or all
+abbrev pub tested : List Clause → Option ℕ → ℕ
+tested clauses first = option_map_or (λ at. at + 1) first (length clauses)
+
 -- how many messages a scan of the whole list looks at: up to the one that it finds, or all
 abbrev pub looked : List Term → Option Found → ℕ
 looked messages found = option_map_or (λ f. f.at + 1) found (length messages)

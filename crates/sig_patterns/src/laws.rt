@@ -18,6 +18,7 @@ ghost use Rattle.std.specs.Prelude.{
   Some,
   None,
   slice_get,
+  codes,
 };
 ghost use Rattle.std.specs.Option.{option_map};
 ghost use Rattle.std.specs.FinMap as map;
@@ -30,13 +31,12 @@ ghost use Rattle.sig_patterns.specs.declared.building.TheConstants.{MOST_DEPTH, 
 ghost use Rattle.sig_patterns.specs.declared.mark.TheConstants.{MOST_MARKS};
 ghost use Rattle.sig_patterns.specs.declared.clause.Clause.{Clause};
 ghost use Rattle.sig_patterns.specs.declared.guard.Op.{Op};
-ghost use Rattle.sig_patterns.specs.declared.guard.TermKind.TheVariants as kind;
 ghost use Rattle.sig_patterns.specs.declared.var.Var.{Var};
 ghost use Rattle.sig_patterns.specs.declared.pattern.Pattern.{Pattern};
 ghost use Rattle.sig_patterns.specs.declared.pattern.Pattern.TheVariants as pattern;
 ghost use Rattle.sig_patterns.specs.Environment.{Environment, value_of_var};
 ghost use Rattle.sig_patterns.specs.Matching.{match_of};
-ghost use Rattle.sig_patterns.specs.Guarding.{guard_holds, is_kind, compares_ints, compares};
+ghost use Rattle.sig_patterns.specs.Guarding.{guard_holds, compares_ints, compares};
 ghost use Rattle.sig_patterns.specs.Pinning.{pins, AskFor};
 ghost use Rattle.sig_patterns.specs.Scanning.{Hit, NoneMatches, behind_messages, found_behind, hit, scan, takes};
 
@@ -64,7 +64,7 @@ pub fn a_pin_compares_with_the_value_before()
 pub fn a_comparison_is_of_integers()
     ensures integers { (op : Op) (m n : ℤ) → compares op (term.Int m) (term.Int n) ≡ compares_ints op m n }
     ensures others { (op : Op) (t u : Term) → compares op t u ≡ true → (m : ℤ) × (n : ℤ) × ((t ≡ term.Int m) × (u ≡ term.Int n)) }
-    ensures undefined { (env : Environment) (x : Var) → map.get env x.0 ≡ None → is_kind kind.Atom (value_of_var env x.0) ≡ true }
+    ensures undefined { (env : Environment) (x : Var) → map.get env x.0 ≡ None → value_of_var env x.0 ≡ term.Atom (codes "undefined") }
 {}
 
 /// A clause takes a message exactly where its pattern matches it and its guard is true in the environment after the match, which

@@ -1,5 +1,5 @@
-ghost use Rattle.std.specs.Prelude.{◌≡◌, ◌+◌, ◌<◌, ◌≤◌, length, IfSome};
-ghost use Rattle.sig_patterns.specs.Scanning.{first_clause};
+ghost use Rattle.std.specs.Prelude.{◌≡◌, ◌+◌, ◌<◌, length, IfSome};
+ghost use Rattle.sig_patterns.specs.Scanning.{first_clause, tested};
 
 use crate::accepting::accepts;
 use crate::clause::Clause;
@@ -9,7 +9,8 @@ use sig_terms::Term;
 use std::sync::ledger::Ledger;
 
 /// The first of the clauses that takes the message, from 0. `None` exactly where none does. Counts
-/// at most one step for each clause. (Erlang Reference Manual, Expressions, Receive.)
+/// one step for each clause up to and with the one that it answers, or for each of them where it
+/// answers none. (Erlang Reference Manual, Expressions, Receive.)
 pub fn first_match<L: Ledger>(
     clauses: &[Clause],
     env: &Env,
@@ -18,7 +19,7 @@ pub fn first_match<L: Ledger>(
 ) -> Option<usize>
     ensures first { result ≡ first_clause clauses.now env.now message.now }
     ensures within { IfSome result (λ at. at < length clauses.now) }
-    ensures ticks { steps.new ≤ steps.old + length clauses.now }
+    ensures ticks { steps.new ≡ steps.old + tested clauses.now result }
 {
     let mut at = 0;
     while at < clauses.len() {
