@@ -13,7 +13,7 @@ use Rattle.sig_layout.specs.declared.outer.Outer.{Outer}
 use Rattle.sig_layout.specs.Sets.{least}
 use Rattle.sig_layout.specs.declared.held_buffer.HeldBuffer.{HeldBuffer}
 use Rattle.sig_layout.specs.declared.knows.Knows.{Knows}
-use Rattle.sig_layout.specs.Views.{number, filled_at, with_bit, flag, tail, holding, turned_away, after_put, after_same, with_bits, after_fetch, switched_on, switched_off, after_remove, saw, counted, gains, part, turned_away_at, saw_under, marked, given_back, loses, put_to_buffer, took_part, passed, left_of, right_of, note_of, joined, spent, first_seat}
+use Rattle.sig_layout.specs.Views.{number, filled_at, with_bit, flag, tail, holding, turned_away, after_put, after_same, with_bits, after_fetch, after_remove, saw, counted, gains, part, turned_away_at, saw_under, marked, given_back, loses, put_to_buffer, took_part, passed, left_of, right_of, note_of, joined, spent, first_seat}
 use Rattle.sig_layout.specs.Outers.{added, behind}
 use Rattle.sig_layout.specs.Core.{Cell, QState, put, opened_with, Idle, CanTakeOuter, take_outer, refuse_outer, refused, CanPut, leave_put, CanLeave, leave_same, CanTakeBits, take_bits, CanFetch, leave_fetch, makes_due, CanSwitchOn, mode_on, CanSwitchOff, mode_off, CanRemove, leave_remove, load_mode, load_filled, CanTakeBuffer, take_buffer, refuse_buffer, CanSetBack, set_back, load_under, set_bit, buffer_put, buffer_same, CanTakePart, buffer_fetched, CanPass, buffer_passed, CanSplit, split, note, CanJoin, join, Reached, opened, by_take_outer, by_refuse_outer, by_put, by_leave, by_take_bits, by_fetch, by_mode_on, by_mode_off, by_remove, by_load_mode, by_load_filled, by_take_buffer, by_refuse_buffer, by_set_back, by_load_under, by_set_bit, by_put_to_buffer, by_leave_buffer, by_take_part, by_pass, by_split, by_note, by_join}
 use Rattle.sig_layout.specs.Agree.{Apart, Among, HeldBy, HoldsAll, Doing, Nothing, SeatAgrees, Turn, HasOuter, HasBuffer, Agrees}
@@ -352,37 +352,35 @@ module _ (m : QState) (ok : Agrees m) (i : ℕ) (v : Knows) (at : get_elem? m.se
       })
       (λ e. busy o b.held e) (outer_kept w same refl) (λ e. not_idle o b.held e)
 
-  pub agrees_mode_on : (o : Outer) → CanSwitchOn m i v o → Agrees (mode_on m i v)
-  agrees_mode_on o can = let b = can.begins in let w : Knows = switched_on v in
+  -- the holder of the outer turn switches the mode: what an install or a removal has under way is then the machine's
+  switches : (mode removes switched removing installing : Bool) (at from : ℕ) (o : Outer) → v.held ≡ Some o
+      → ((o' : Outer) → v.held ≡ Some o' → (removes ≡ removing) × (removes ≡ true → at ≡ from) × (switched ≡ installing))
+      → Agrees (Set (record m { mode = mode; removing = removes; progress = at; switched = switched })
+      (record v { removing = removing; progress = from; switched = installing }))
+  switches mode removes switched removing installing at from o held work =
+      let w : Knows = record v { removing = removing; progress = from; switched = installing } in
       let same : SameSeat v w = record { senders = refl; role = refl } in
-      outer_changes (mode_on m i v) w o b.held untouched (λ j n. refl) own.saw same refl
-      (λ o' e. let out = own.outer o' e in record {
+      outer_changes (record m { mode = mode; removing = removes; progress = at; switched = switched }) w o held untouched
+      (λ j n. refl) own.saw same refl
+      (λ o' e. let out = own.outer o' e in let now = work o' e in record {
         mine = out.mine;
         value = out.value;
         fetch = out.fetch;
         masks = out.masks;
         given = out.given;
-        remove = out.remove;
-        passed = out.passed;
-        switch = refl;
+        remove = now.0;
+        passed = now.1;
+        switch = now.2;
       })
-      (λ e. busy o b.held e) (outer_kept w same refl) (λ e. not_idle o b.held e)
+      (λ e. busy o held e) (outer_kept w same refl) (λ e. not_idle o held e)
+
+  pub agrees_mode_on : (o : Outer) → CanSwitchOn m i v o → Agrees (mode_on m i v)
+  agrees_mode_on o can = switches true m.removing true v.removing true m.progress v.progress o can.begins.held
+      (λ o' e. let out = own.outer o' e in (out.remove, out.passed, refl))
 
   pub agrees_mode_off : (o : Outer) → CanSwitchOff m i v o → Agrees (mode_off m i v)
-  agrees_mode_off o can = let b = can.begins in let w : Knows = switched_off v in
-      let same : SameSeat v w = record { senders = refl; role = refl } in
-      outer_changes (mode_off m i v) w o b.held untouched (λ j n. refl) own.saw same refl
-      (λ o' e. let out = own.outer o' e in record {
-        mine = out.mine;
-        value = out.value;
-        fetch = out.fetch;
-        masks = out.masks;
-        given = out.given;
-        remove = refl;
-        passed = λ _. refl;
-        switch = out.switch;
-      })
-      (λ e. busy o b.held e) (outer_kept w same refl) (λ e. not_idle o b.held e)
+  agrees_mode_off o can = switches false true m.switched true v.switched 0 0 o can.begins.held
+      (λ o' e. (refl, λ _. refl, (own.outer o' e).switch))
 
   -- a mask drops one flag
   mask_dropped : (c : ℕ) (x : Cell) → x.mask ≡ false → ((d : ℕ) → d < 64 → (m.cells d).mask ≡ flag v.mask d) → (d : ℕ) → d < 64

@@ -1,11 +1,9 @@
 -- Each step keeps what the queue carries, how it is numbered, and the count of direct puts.
-use Rattle.std.proofs.Common.{◌≡◌, ℕ, suc, ◌+◌, subst, Bool, true, false, List, [], ◌∷◌, ◌++◌, length, sym, refl, ap, ◌∙◌, arith, append-nil, Some}
+use Rattle.std.proofs.Common.{◌≡◌, ℕ, suc, ◌+◌, subst, Bool, true, false, List, [], ◌∷◌, ◌++◌, length, sym, refl, ap, ◌∙◌, arith, append-nil}
 use Rattle.std.specs.List.{All}
 use Rattle.std.proofs.lemmas.List.Elements.{All-append, All-nil, All-cons, All-head, All-tail}
 use mathlib.Core.Logic.{dite}
 use native.Mathlib.Decide.{ℕ_discrete}
-use mathlib.Core.Option.{some}
-use lib.ListN.{get_elem?}
 use Rattle.sig_kinds.specs.declared.signal.Signal.{Signal}
 use Rattle.sig_kinds.specs.Counting.{IsCounting}
 use Rattle.sig_layout.specs.declared.entry.Entry.{Entry}
@@ -16,17 +14,15 @@ use Rattle.sig_layout.specs.declared.via.Via.{Via}
 use Rattle.sig_layout.specs.declared.via.Via.TheVariants as via
 use Rattle.sig_layout.specs.declared.item.Item.{Item}
 use Rattle.sig_layout.specs.declared.setup.Setup.{Setup}
-use Rattle.sig_layout.specs.declared.outer.Outer.{Outer}
-use Rattle.sig_layout.specs.declared.knows.Knows.{Knows}
 use Rattle.sig_layout.specs.Sent.{sender, putter, of, signals}
 use Rattle.sig_layout.specs.Policies.{first_journal, direct_count}
 use Rattle.sig_layout.specs.Outers.{put_entries}
 use Rattle.sig_layout.specs.Openings.{first_of, IsCarried, IsNext}
-use Rattle.sig_layout.specs.Core.{QState, Reached, opened, by_take_outer, by_refuse_outer, by_put, by_leave, by_take_bits, by_fetch, by_mode_on, by_mode_off, by_remove, by_load_mode, by_load_filled, by_take_buffer, by_refuse_buffer, by_set_back, by_load_under, by_set_bit, by_put_to_buffer, by_leave_buffer, by_take_part, by_pass, by_split, by_note, by_join, refused}
+use Rattle.sig_layout.specs.Core.{QState, Reached, refused}
 use Rattle.sig_layout.specs.Carried.{CarriedAs, Carried, one_outer, outer_count, Ways}
 use Rattle.sig_layout.proofs.Sending.{of-append, of_own, of_other, of_signals, signals-append}
-use Rattle.sig_layout.proofs.Agreeing.{agrees}
 use Rattle.sig_layout.proofs.Listing.{lists}
+use Rattle.sig_layout.proofs.Stepping.{by_steps}
 
 -- what holds of all
 module _ {X : Type 0} (P : X → Type 0) where
@@ -120,71 +116,17 @@ outer_same (i ∷ is) x c = ap (one_outer i.via) (outer_same is x c)
 
 module _ (z : Setup) where
   pub carried : (q : QState) → Reached z q → Carried q
-  carried _ opened = record { all = All-nil (IsCarried z); counted = λ s h. tt }
-  carried _ (by_take_outer q i v can r) = carried q r
-  carried _ (by_refuse_outer q i v can r) = carried q r
-  carried _ (by_put q i v o x can r) = carried_put q.setup q.log v.put record {
-    signal = x;
-    via = via.Outer;
-  } (carried q r) can.next (((lists z q r).each i v can.at).own x.from.0 can.from)
-  carried _ (by_leave q i v o can r) = carried q r
-  carried _ (by_take_bits q i v o can r) = carried q r
-  carried _ (by_fetch q i v o can r) = carried q r
-  carried _ (by_mode_on q i v o can r) = carried q r
-  carried _ (by_mode_off q i v o can r) = carried q r
-  carried _ (by_remove q i v o can r) = carried q r
-  carried _ (by_load_mode q i v can r) = carried q r
-  carried _ (by_load_filled q i v at r) = carried q r
-  carried _ (by_take_buffer q i v c can r) = carried q r
-  carried _ (by_refuse_buffer q i v c can r) = carried q r
-  carried _ (by_set_back q i v c o can r) = carried q r
-  carried _ (by_load_under q i v p can r) = carried q r
-  carried _ (by_set_bit q i v p can r) = carried q r
-  carried _ (by_put_to_buffer q i v p x can r) = carried_put q.setup q.log v.put record {
-    signal = x;
-    via = via.Buffer p.number;
-  } (carried q r) can.next (((lists z q r).each i v can.at).own x.from.0 can.from)
-  carried _ (by_leave_buffer q i v p ps can r) = carried q r
-  carried _ (by_take_part q i v p ps o can r) = carried q r
-  carried _ (by_pass q i v p ps o can r) = carried q r
-  carried _ (by_split q i v given role can r) = carried q r
-  carried _ (by_note q i v at r) = carried q r
-  carried _ (by_join q i v j w can r) = carried q r
-
-  held_is : (q : QState) (r : Reached z q) (i : ℕ) (v : Knows) (o : Outer) → get_elem? q.seats i ≡ some v → v.held ≡ Some o
-      → q.outer ≡ o
-  held_is q r i v o at held = (((agrees z q r).each i v at).outer o held).value
+  carried = by_steps z (λ s log _. CarriedAs s log) (record { all = All-nil (IsCarried z); counted = λ s h. tt })
+      (λ q i v o x can r c. carried_put q.setup q.log v.put record { signal = x; via = via.Outer } c can.next
+      (((lists z q r).each i v can.at).own x.from.0 can.from))
+      (λ q i v p x can r c. carried_put q.setup q.log v.put record { signal = x; via = via.Buffer p.number } c can.next
+      (((lists z q r).each i v can.at).own x.from.0 can.from))
+      (λ s log j moved c. c) (λ s log j c. c)
 
   pub ways : (q : QState) → Reached z q → Ways q
-  ways _ opened = no_direct z.policy
-  ways _ (by_take_outer q i v can r) = ways q r
-  ways _ (by_refuse_outer q i v can r) = ways q r
-  ways _ (by_put q i v o x can r) = let w = ways q r in
-      let h = ap (λ (y : Outer). direct_count y.journal) (held_is q r i v o can.at can.held) in
-      let a = directs-append o.journal (put_entries (refused q i v) v.switched) in let b = one_direct (refused q i v) v.switched in
-      let c = outer_more q.log x in omega arith
-  ways _ (by_leave q i v o can r) = ways q r
-  ways _ (by_take_bits q i v o can r) = ways q r
-  ways _ (by_fetch q i v o can r) = let w = ways q r in
-      let h = ap (λ (y : Outer). direct_count y.journal) (held_is q r i v o can.at can.held) in
-      let a = directs-append o.journal (Fetch v.moved ∷ []) in omega arith
-  ways _ (by_mode_on q i v o can r) = ways q r
-  ways _ (by_mode_off q i v o can r) = ways q r
-  ways _ (by_remove q i v o can r) = let w = ways q r in
-      let h = ap (λ (y : Outer). direct_count y.journal) (held_is q r i v o can.at can.held) in
-      let a = directs-append o.journal (Remove ∷ []) in omega arith
-  ways _ (by_load_mode q i v can r) = ways q r
-  ways _ (by_load_filled q i v at r) = ways q r
-  ways _ (by_take_buffer q i v c can r) = ways q r
-  ways _ (by_refuse_buffer q i v c can r) = ways q r
-  ways _ (by_set_back q i v c o can r) = ways q r
-  ways _ (by_load_under q i v p can r) = ways q r
-  ways _ (by_set_bit q i v p can r) = ways q r
-  ways _ (by_put_to_buffer q i v p x can r) = ways q r ∙ sym (outer_same q.log x p.number)
-  ways _ (by_leave_buffer q i v p ps can r) = ways q r
-  ways _ (by_take_part q i v p ps o can r) = sym (ap (λ (y : Outer). direct_count y.journal) (held_is q r i v o can.at can.held))
-      ∙ ways q r
-  ways _ (by_pass q i v p ps o can r) = sym (ap (λ (y : Outer). direct_count y.journal) (held_is q r i v o can.at can.held)) ∙ ways q r
-  ways _ (by_split q i v given role can r) = ways q r
-  ways _ (by_note q i v at r) = ways q r
-  ways _ (by_join q i v j w can r) = ways q r
+  ways = by_steps z (λ s log j. direct_count j ≡ outer_count log) (no_direct z.policy)
+      (λ q i v o x can r w. let a = directs-append o.journal (put_entries (refused q i v) v.switched) in
+      let b = one_direct (refused q i v) v.switched in let c = outer_more q.log x in omega arith)
+      (λ q i v p x can r w. w ∙ sym (outer_same q.log x p.number))
+      (λ s log j moved w. let a = directs-append j (Fetch moved ∷ []) in omega arith)
+      (λ s log j w. let a = directs-append j (Remove ∷ []) in omega arith)

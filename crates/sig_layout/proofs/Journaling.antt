@@ -20,6 +20,7 @@ use Rattle.sig_layout.specs.Journals.{Owes, JournalAs, Journals}
 use Rattle.sig_layout.proofs.Sending.{not_both}
 use Rattle.sig_layout.proofs.Agreeing.{seat_set, seat_more, one_seat, agrees}
 use Rattle.sig_layout.proofs.Listing.{lists}
+use Rattle.sig_layout.proofs.Stepping.{same_setup}
 use Rattle.sig_layout.proofs.Lawful.{lawful}
 
 abbrev SeatOwes : Policy → List Entry → ℕ → Knows → Type 0
@@ -108,34 +109,6 @@ join_owes p j false s d e m n one o k = let no : d ≡ false = o.others refl in 
   made = λ h. let made_n = k.made h in omega arith;
   unmade = λ h. let none = k.unmade h in omega arith;
 }
-
--- what a queue was opened with stays
-module _ (z : Setup) where
-  pub same_setup : (q : QState) → Reached z q → q.setup ≡ z
-  same_setup _ opened = refl
-  same_setup _ (by_take_outer q i v can r) = same_setup q r
-  same_setup _ (by_refuse_outer q i v can r) = same_setup q r
-  same_setup _ (by_put q i v o x can r) = same_setup q r
-  same_setup _ (by_leave q i v o can r) = same_setup q r
-  same_setup _ (by_take_bits q i v o can r) = same_setup q r
-  same_setup _ (by_fetch q i v o can r) = same_setup q r
-  same_setup _ (by_mode_on q i v o can r) = same_setup q r
-  same_setup _ (by_mode_off q i v o can r) = same_setup q r
-  same_setup _ (by_remove q i v o can r) = same_setup q r
-  same_setup _ (by_load_mode q i v can r) = same_setup q r
-  same_setup _ (by_load_filled q i v at r) = same_setup q r
-  same_setup _ (by_take_buffer q i v c can r) = same_setup q r
-  same_setup _ (by_refuse_buffer q i v c can r) = same_setup q r
-  same_setup _ (by_set_back q i v c o can r) = same_setup q r
-  same_setup _ (by_load_under q i v p can r) = same_setup q r
-  same_setup _ (by_set_bit q i v p can r) = same_setup q r
-  same_setup _ (by_put_to_buffer q i v p x can r) = same_setup q r
-  same_setup _ (by_leave_buffer q i v p ps can r) = same_setup q r
-  same_setup _ (by_take_part q i v p ps o can r) = same_setup q r
-  same_setup _ (by_pass q i v p ps o can r) = same_setup q r
-  same_setup _ (by_split q i v given role can r) = same_setup q r
-  same_setup _ (by_note q i v at r) = same_setup q r
-  same_setup _ (by_join q i v j w can r) = same_setup q r
 
 module _ (z : Setup) (proper : IsPolicy z.policy) where
   proper_of : (q : QState) → Reached z q → IsPolicy q.setup.policy

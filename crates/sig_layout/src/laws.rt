@@ -1,5 +1,5 @@
 ghost use Rattle.std.specs.Prelude.{◌≡◌, ◌↔◌, List};
-ghost use Rattle.sig_layout.specs.declared.layout.TheConstants.{BUFFERS};
+ghost use Rattle.sig_layout.specs.declared.layout.TheConstants.{BUFFERS, SLOTS, WORDS};
 ghost use Rattle.sig_layout.specs.declared.policy.TheConstants.{AUTO_FEW, AUTO_RUN, AUTO_SCORE};
 ghost use Rattle.sig_layout.specs.declared.senders.TheConstants.{PIDS};
 ghost use Rattle.sig_layout.specs.declared.setup.Setup.{Setup};
@@ -28,11 +28,13 @@ pub fn lawful_is_allowed()
 {}
 
 /// The limits in numbers: [`PIDS`](crate::PIDS) is 256, [`BUFFERS`](crate::BUFFERS) is 64,
-/// [`AUTO_SCORE`](crate::AUTO_SCORE) is 64, [`AUTO_RUN`](crate::AUTO_RUN) is 16, and
-/// [`AUTO_FEW`](crate::AUTO_FEW) is 4.
+/// [`WORDS`](crate::WORDS) is 536, [`SLOTS`](crate::SLOTS) is 65, [`AUTO_SCORE`](crate::AUTO_SCORE)
+/// is 64, [`AUTO_RUN`](crate::AUTO_RUN) is 16, and [`AUTO_FEW`](crate::AUTO_FEW) is 4.
 pub fn the_limits_of_queues()
     ensures pids { PIDS ≡ 256 }
     ensures buffers { BUFFERS ≡ 64 }
+    ensures words { WORDS ≡ 536 }
+    ensures slots { SLOTS ≡ 65 }
     ensures score { AUTO_SCORE ≡ 64 }
     ensures run { AUTO_RUN ≡ 16 }
     ensures few { AUTO_FEW ≡ 4 }

@@ -30,7 +30,8 @@ use Rattle.sig_layout.proofs.Putting.{at_table}
 use Rattle.sig_layout.proofs.Agreeing.{same_view, agrees}
 use Rattle.sig_layout.proofs.Listing.{lists}
 use Rattle.sig_layout.proofs.Lawful.{lawful, mod_small}
-use Rattle.sig_layout.proofs.Journaling.{same_setup, journals}
+use Rattle.sig_layout.proofs.Stepping.{same_setup}
+use Rattle.sig_layout.proofs.Journaling.{journals}
 use Rattle.sig_layout.proofs.Carrying.{all_of, all_each, all_rest, carried, ways}
 use Rattle.sig_layout.proofs.Steadying.{steady}
 use Rattle.sig_layout.proofs.Wording.{lawful_of}

@@ -42,7 +42,7 @@ use Rattle.sig_queue.specs.Parts.{OfBuffer}
 use Rattle.sig_queue.proofs.Owning.{own_alone}
 use Rattle.sig_queue.proofs.Taking.{took_carried}
 use Rattle.sig_layout.proofs.Carrying.{carried}
-use Rattle.sig_layout.proofs.Journaling.{same_setup}
+use Rattle.sig_layout.proofs.Stepping.{same_setup}
 use Rattle.sig_layout.proofs.Steadying.{steady}
 use Rattle.sig_queue.specs.Tied.{HasTaken, apart, home, cell_home, words_of, homes_of, shown, Tied, Held, Foreign, tried_outer, tried_buffer, loaded_mode, loaded_under, loaded_filled, bit_set, bits_taken, bit_back, stored_on, stored_off, left_put, left_same, left_fetch, left_remove, left_buffer_put, left_buffer, left_part, left_passed, looked_only}
 

@@ -184,20 +184,16 @@ abbrev pub Holds : Knows → TableId → Hold → Type 0
 Holds v z (hold.Held h) = (h.queue ≡ z) × ((o : Outer) × (h.knows ≡ holding v o))
 Holds v z (hold.Busy seat n) = (seat.queue ≡ z) × (seat.knows ≡ turned_away v n) × Foreign v n
 
--- the seat tried turns some times, and loaded the mode some times
-abbrev pub refused_as : Knows → List Bool → Knows → Knows
-refused_as v bs w = record (looked v bs) { refused = w.refused; tries = w.tries }
+-- Offers of the signal, one after another, lead from the view v to another one. Each was turned away by another seat, so it tried
+-- the turns and looked at the mode as an offer does. There may be none
+pub data TurnedAway (x : Signal) (v : Knows) : Knows → Type 0 where
+  none : TurnedAway x v v
+  more : (u w : Knows) (n : ℕ) → TurnedAway x v u → Offered x u (offer.Busy x n) w → TurnedAway x v w
 
-pub record Tried (v w : Knows) : Type 0 where
-  pub loads : List Bool
-  pub is : w ≡ refused_as v loads w
-
-abbrev pub SentBy : Signal → Knows → Via → Knows → Type 0
-SentBy x v via.Outer w = (bs : List Bool)
-    × (w ≡ record (looked v (bs ++ false ∷ [])) { put = v.put ++ item via.Outer x ∷ []; refused = 0; tries = w.tries })
-SentBy x v (via.Buffer b) w = (b ≡ buffer_of x.from.0) × ((bs : List Bool)
-    × (w ≡ record (looked v (bs ++ true ∷ [])) { put = v.put ++ item (via.Buffer b) x ∷ []; refused = w.refused; tries = w.tries }))
+-- offers of the signal, each of them turned away, and then one that has this answer
+abbrev pub AnsweredAtLast : Signal → Knows → Offer → Knows → Type 0
+AnsweredAtLast x v answer w = (u : Knows) × TurnedAway x v u × Offered x u answer w
 
 abbrev pub SentAs : Signal → Knows → Sent → Knows → Type 0
-SentAs x v (sent.Put way) w = SentBy x v way w
-SentAs x v (sent.Memory y) w = (y ≡ x) × Tried v w
+SentAs x v (sent.Put way) w = AnsweredAtLast x v (offer.Put way) w
+SentAs x v (sent.Memory y) w = AnsweredAtLast x v (offer.Memory y) w

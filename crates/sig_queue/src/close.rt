@@ -36,7 +36,7 @@ fn take_one(closed: &mut Table, slot: usize) -> Batch
     }
 }
 
-// The lists of all buffers. There is room for them.
+// The lists of all buffers, by ascending number: `the_rest_is_turned_round`. There is room for them.
 fn take_lists(closed: &mut Table, lists: &mut Vec<Batch>)
     requires size { closed.old.slots.len ≡ SLOTS }
     requires filled { (k : ℕ) → k < SLOTS → slice_index_or closed.old.slots.filled k false ≡ true }

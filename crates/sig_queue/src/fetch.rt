@@ -50,7 +50,7 @@ fn fetch_held(
 {
     let outer = take_value(words, place);
     // The bits are taken before the lists. Taken after them, the bit of a signal that came in between
-    // would be gone, and no later fetch would look for it.
+    // would be gone, and no later fetch would look for it: `the_bits_are_taken_after_the_lists`.
     let bits = take_bits(words, place);
     let found = find_all(words, place, bits, my_word);
     bring_front(place, found.count);

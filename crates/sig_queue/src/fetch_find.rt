@@ -86,7 +86,7 @@ fn find_one(words: &Words, place: &mut SeatAt, found: &mut Caught, buffer: usize
     found.total = plus(found.total, length);
 }
 
-// Tries each buffer of the mask once.
+// Tries each buffer of the mask once, by ascending number as their lists are taken: `buffers_by_descending_number`.
 pub(crate) fn find_all(words: &Words, place: &mut SeatAt, bits: u64, my_word: u64) -> Caught
     requires table { IsOf place.old words.now }
     requires begins { (v : Knows) × (place.old.me ≡ (with_bits v bits, outer_out ∷ [])) × (v.parts ≡ [])

@@ -4,11 +4,10 @@ ghost use Rattle.sig_layout.specs.Outers.{removed};
 ghost use Rattle.sig_kinds.specs.declared.signal.Signal.{Signal};
 ghost use Rattle.sig_layout.specs.declared.outer.Outer.{Outer};
 ghost use Rattle.sig_layout.specs.Core.{Begins, some_refused};
-ghost use Rattle.sig_layout.specs.Sent.{Prefix};
 ghost use Rattle.sig_layout.specs.declared.knows.Knows.{Knows};
 ghost use Rattle.sig_layout.specs.Views.{number, IsSomebody, part, after_same};
 ghost use Rattle.sig_queue.specs.Fetching.{outer_out};
-ghost use Rattle.sig_queue.specs.Removing.{waited, waits, Passing, WithRoom};
+ghost use Rattle.sig_queue.specs.Removing.{waited, waits, WaitedFor, WaitedForOuter, WaitedForAll, WaitedOneByOne, Passing, WithRoom};
 ghost use Rattle.sig_queue.specs.SeatWords.{IsOf, IsBufferOf, IsSameSeat};
 
 use crate::outer_box::OuterBox;
@@ -39,8 +38,8 @@ fn wait_outer<R: Wait>(
     ensures same { IsSameSeat place.new place.old }
     ensures took { (o : Outer)
         × (place.new.me ≡ (record (waited place.old.me.0 place.new.me.0) { held = Some o }, (0, Slot.Outer o) ∷ place.old.me.1)) }
-    ensures refused { (result ≡ some_refused place.new.me.0.refused) × (place.old.me.0.refused ≤ place.new.me.0.refused) }
-    ensures tries { Prefix place.old.me.0.tries place.new.me.0.tries }
+    ensures refused { result ≡ some_refused place.new.me.0.refused }
+    ensures tries { WaitedForOuter place.old.me.0 place.new.me.0 }
 {
     for _ in rt.forever() {
         if try_outer(words, place, my_word) == 0 {
@@ -65,7 +64,7 @@ fn wait_buffer<R: Wait>(rt: &R, words: &Words, place: &mut SeatAt, buffer: usize
       },
       (buffer + 1, Slot.List l) ∷ place.old.me.1,
     )) }
-    ensures tries { Prefix place.old.me.0.tries place.new.me.0.tries }
+    ensures tries { WaitedFor (buffer + 3) place.old.me.0 place.new.me.0 }
 {
     for _ in rt.forever() {
         if try_buffer(words, place, buffer, my_word) == 0 {
@@ -94,6 +93,7 @@ fn pass_one<R: Wait>(
     ensures same { IsSameSeat place.new place.old }
     ensures passing { (u : Knows) → Passing u buffer place.old.me growing.old.list → u.parts ≡ []
         → Passing u (buffer + 1) place.new.me growing.new.list }
+    ensures tries { WaitedFor (buffer + 3) place.old.me.0 place.new.me.0 }
     ensures room { WithRoom (buffer + 1) growing.new }
 {
     wait_buffer(rt, words, place, buffer, my_word);
@@ -120,6 +120,7 @@ fn pass_all<R: Wait>(
     requires room { WithRoom 0 growing.old }
     ensures same { IsSameSeat place.new place.old }
     ensures passing { Passing place.old.me.0 BUFFERS place.new.me growing.new.list }
+    ensures tries { WaitedOneByOne BUFFERS place.old.me.0 place.new.me.0 }
 {
     for buffer in 0..BUFFERS {
         pass_one(rt, alloc, words, place, buffer, my_word, growing);
@@ -151,7 +152,7 @@ fn remove_with_room<R: Wait>(
       progress = 0;
       due = false;
     } }
-    ensures tries { Prefix place.old.me.0.tries place.new.me.0.tries }
+    ensures tries { WaitedOneByOne BUFFERS place.old.me.0 place.new.me.0 }
 {
     // The mode goes off before the first buffer is passed. Were it on, a sender could append to a buffer
     // behind the removal, and its later puts into the outer list would come out first. And it stays off
@@ -185,7 +186,7 @@ fn remove_held<R: Wait>(
       due = false;
     }) }
     ensures err { OnErr result (place.new.me.0 ≡ after_same place.old.me.0) }
-    ensures tries { Prefix place.old.me.0.tries place.new.me.0.tries }
+    ensures tries { OnOk result (WaitedOneByOne BUFFERS place.old.me.0 place.new.me.0) }
 {
     let mut outer = take_value(words, place);
     match outer.grow(alloc, BUFFERS) {
@@ -221,8 +222,8 @@ impl SigQueue {
         ensures own { seat.new.queue ≡ seat.old.queue }
         ensures ok { OnOk result (seat.new.knows ≡ record (waited seat.old.knows seat.new.knows) { due = false }) }
         ensures err { OnErr result (seat.new.knows ≡ waited seat.old.knows seat.new.knows) }
-        ensures tries { Prefix seat.old.knows.tries seat.new.knows.tries }
-        ensures refused { seat.old.knows.refused ≤ seat.new.knows.refused }
+        ensures all { OnOk result (WaitedForAll seat.old.knows seat.new.knows) }
+        ensures outer { OnErr result (WaitedForOuter seat.old.knows seat.new.knows) }
     {
         let words = &self.words;
         let my_word = seat.kept.number + 1;

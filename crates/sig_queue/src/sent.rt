@@ -1,8 +1,7 @@
-ghost use Rattle.std.specs.Prelude.{◌≡◌, ◌≢◌, ◌≤◌, ℕ, true};
+ghost use Rattle.std.specs.Prelude.{◌≡◌, ◌≢◌, ℕ, true};
 ghost use Rattle.sig_layout.specs.declared.policy.Policy.TheVariants.{Never, Always};
 ghost use Rattle.sig_layout.specs.Sets.{has};
 ghost use Rattle.sig_layout.specs.Openings.{IsNext};
-ghost use Rattle.sig_layout.specs.Sent.{Prefix};
 ghost use Rattle.sig_queue.specs.Calls.{SentAs};
 
 use crate::offer::Offer;
@@ -48,8 +47,6 @@ impl SigQueue {
         requires next { IsNext self.now.setup seat.old.knows.put signal }
         ensures own { seat.new.queue ≡ seat.old.queue }
         ensures sent { SentAs signal seat.old.knows result seat.new.knows }
-        ensures tries { Prefix seat.old.knows.tries seat.new.knows.tries }
-        ensures refused { result ≢ Sent.Put Via.Outer → seat.old.knows.refused ≤ seat.new.knows.refused }
         ensures never { self.now.setup.policy ≡ Never → (b : ℕ) → result ≢ Sent.Put (Via.Buffer b) }
         ensures always { self.now.setup.policy ≡ Always → result ≢ Sent.Put Via.Outer }
     {

@@ -1,5 +1,5 @@
 use Rattle.std.proofs.Common.{◌≡◌}
-use Rattle.sig_queue.specs.Removing.{Passing, WithRoom}
+use Rattle.sig_queue.specs.Removing.{Passing, WithRoom, WaitedOneByOne}
 use Rattle.sig_queue.proofs.remove.pass_all.Given as goal
 
 abbrev pub invariant-loop-buffer : goal.invariant-loop-buffer
@@ -8,4 +8,5 @@ invariant-loop-buffer g l = record {
   id : l.place.id ≡ l.initial.place.id;
   passing : Passing l.initial.place.me.0 l.buffer l.place.me l.growing.list;
   room : WithRoom l.buffer l.growing;
+  tries : WaitedOneByOne l.buffer l.initial.place.me.0 l.place.me.0;
 }

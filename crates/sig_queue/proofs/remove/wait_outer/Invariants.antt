@@ -1,7 +1,7 @@
-use Rattle.std.proofs.Common.{◌≡◌, ◌≤◌}
+use Rattle.std.proofs.Common.{◌≡◌}
 use Rattle.sig_layout.specs.Core.{some_refused}
-use Rattle.sig_layout.specs.Sent.{Prefix}
 use Rattle.sig_queue.specs.Removing.{waited}
+use Rattle.sig_queue.proofs.Waiting.{RefusedOuter}
 use Rattle.sig_queue.proofs.remove.wait_outer.Given as goal
 
 abbrev pub invariant-loop : goal.invariant-loop
@@ -10,6 +10,5 @@ invariant-loop g l = record {
   id : l.place.id ≡ l.initial.place.id;
   me : l.place.me ≡ (waited l.initial.place.me.0 l.place.me.0, l.initial.place.me.1);
   refused : l.refused ≡ some_refused l.place.me.0.refused;
-  count : l.initial.place.me.0.refused ≤ l.place.me.0.refused;
-  tries : Prefix l.initial.place.me.0.tries l.place.me.0.tries;
+  so_far : RefusedOuter l.initial.place.me.0 l.place.me.0;
 }

@@ -1,4 +1,4 @@
-use Rattle.std.proofs.Common.{◌≡◌, ◌∙◌, ◌++◌, ◌∷◌, [], ℕ, List, length, sym, ap, arith}
+use Rattle.std.proofs.Common.{◌≡◌, ◌∙◌, ◌++◌, ◌∷◌, [], ℕ, List, length, ap, arith}
 use Rattle.sig_layout.specs.declared.run.Run.{Run}
 use Rattle.sig_layout.specs.Runs.{listed}
 use Rattle.sig_layout.proofs.Numbering.{listed_number, pushed_len}

@@ -1,4 +1,4 @@
-use Rattle.std.proofs.Common.{◌≡◌, ◌∙◌, ◌+◌, ◌-◌, ◌++◌, ℕ, List, length, replicate, sym, ap, arith}
+use Rattle.std.proofs.Common.{◌≡◌, ◌∙◌, ◌+◌, ◌-◌, ◌++◌, ℕ, List, length, replicate, ap, arith}
 use Rattle.sig_layout.specs.Runs.{listed}
 use Rattle.sig_layout.proofs.Numbering.{ones_within, listed_ones, padded_len}
 use Rattle.sig_layout.proofs.numbers.Numbers.pad.Goals as goal
