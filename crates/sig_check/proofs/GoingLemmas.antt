@@ -7,15 +7,11 @@ use Rattle.std.proofs.lemmas.Bool.{cases_order}
 use Rattle.std.proofs.lemmas.List.{map-set}
 use Rattle.std.proofs.lemmas.Option.{slice_get-get_or, slice_get-map, same_Some, none-some}
 use Rattle.sig_kinds.specs.declared.signal.Signal.{Signal}
-use Rattle.sig_model.specs.Running.{Running, can_exec, can_handle, handle_next, handled_first, handled_one, next_of}
+use Rattle.sig_model.specs.Running.{Running, can_handle, exec_next, handle_next, handled_first, handled_one, next_of}
 use Rattle.sig_model.specs.Still.{IsStill}
-use Rattle.sig_model.proofs.Guards.{CanHandle, can_handle_tells, handle_due, exec_refused}
+use Rattle.sig_model.proofs.Guards.{CanHandle, can_handle_tells, handle_due}
 use Rattle.sig_model.proofs.ReachLemmas.{set_here}
-use Rattle.sig_model.proofs.SkipLemmas.{waits_next}
 use Rattle.sig_process.specs.Standing.{Standing, runnings_of}
-use Rattle.sig_process.specs.Steps.{IsExec}
-use Rattle.sig_process.specs.declared.executing.Exec.{Exec}
-use Rattle.sig_process.specs.declared.executing.Exec.TheVariants.{Stepped, Waiting}
 use Rattle.sig_check.specs.Going.{CanGo, SomeCanGo, IsStillAt}
 
 -- it can handle its next signal
@@ -36,17 +32,11 @@ handle_goes r h = go r.own r.taken_in refl refl
     go [] (x ∷ taken) o i = (handled_one (record r { taken_in = taken }) x, inl (due [] (x ∷ taken) o i))
     go [] [] o i = absurd (none (ap (λ xs. next_of xs r.taken_in) o ∙ ap (λ xs. next_of [] xs) i))
 
--- by what the execution answers
-pub stepped_goes : (p t : Standing) (e : Exec) → IsExec p t e → e ≡ Stepped → CanGo p.running
-stepped_goes p t Stepped h s = (t.running, inr h.0)
-stepped_goes p t Waiting h s = cc
-
-pub waiting_still : (p t : Standing) (e : Exec) → can_handle p.running ≡ false → can_exec p.running ≡ true → IsExec p t e → e ≡ Waiting → (t.running ≡ p.running) × IsStill p.running
-waiting_still p t Stepped handle can h s = cc
-waiting_still p t Waiting handle can h s = (h.1, record { handle = handle; exec = waits_next p.running can h.0 })
-
-pub refused_still : (r : Running) → can_handle r ≡ false → can_exec r ≡ false → IsStill r
-refused_still r handle can = record { handle = handle; exec = exec_refused r can }
+-- by what the execution tells
+pub told_goes : (r t : Running) (goes : Bool) → can_handle r ≡ false → MatchBool goes (exec_next r ≡ Some t) (exec_next r ≡ None) → (goes ≡ false → t ≡ r) →
+    MatchBool goes (CanGo r) ((t ≡ r) × IsStill r)
+told_goes r t true handle h same = (t, inr h)
+told_goes r t false handle h same = (same refl, record { handle = handle; exec = h })
 
 -- the process at this place
 module _ (procs : List Standing) (at : ℕ) (p q : Standing) (lt : at < length procs) (is : p ≡ get_or procs at p) where

@@ -18,7 +18,8 @@ ghost use Rattle.sig_choices.specs.Following.{HasFollowed};
 ghost use Rattle.sig_check.specs.Going.{CanGo, SomeCanGo, IsStillAt};
 
 use sig_base::Steps;
-use sig_process::{Exec, Process};
+use sig_players::execute;
+use sig_process::Process;
 use std::alloc::AllocError;
 use std::sync::ledger::Ledger;
 
@@ -43,13 +44,8 @@ fn can_go<L: Ledger>(process: &mut Process, steps: &mut Steps<L>) -> Result<bool
     if process.can_handle() {
         return Ok(true);
     }
-    if !process.can_exec() {
-        return Ok(false);
-    }
-    match process.exec(steps)? {
-        Exec::Stepped => Ok(true),
-        Exec::Waiting => Ok(false),
-    }
+    let goes = execute(process, steps)?;
+    Ok(goes)
 }
 
 /// The same of the process at this place. The error is want of memory.

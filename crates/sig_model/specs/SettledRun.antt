@@ -45,8 +45,8 @@ IsRunningAtRest r = (is_cut r.turns r.state ≡ true) ⊎ ((IsSome r.state.table
 
 -- The crew is what a settled run of the script's machine leads to: its events are possible one after another from the
 -- opening, each an execution or the handling of the oldest signal of one sender; each process has had its own ones in that
--- order; and at the end each process is at rest. Only a late process can go on then, and only by handling a signal of another
--- sender. A process that waits at a receive waits until a message matches (Erlang Reference Manual, Expressions, Receive).
+-- order; and at the end each process is at rest. Only a late process may go on then, and only by handling a signal. A process
+-- that waits at a receive waits until a message matches (Erlang Reference Manual, Expressions, Receive).
 pub record IsSettledRun (script : Program) (crew : List Running) : Type 0 where
   pub events : List (At Event)
   -- the machine after them

@@ -8,8 +8,8 @@ ghost use Rattle.sig_model.specs.MadeEvents.{Makes};
 /// The run of one worker is a settled run of the script's machine: each of its events is an
 /// execution or the handling of the oldest signal of one sender, possible at that moment; the
 /// signals that wait at its end are those of the machine; and each process is at rest then. Only a
-/// late process can go on, and only by handling a signal of another sender. The events stand in the
-/// order in which the passes make them. A script has one such run: its end is determined.
+/// late process may go on, and only by handling a signal. The events stand in the order in which the
+/// passes make them. A script has one such run: its end is determined.
 pub fn one_worker_run_is_settled()
     ensures settled { (script : Program) (last : List Running) → RunsTo (opened_crew script) last → IsSettledRun script last }
     ensures in_order { (script : Program) (last : List Running) → RunsTo (opened_crew script) last →

@@ -2,12 +2,14 @@
 #![tactic(auto)]
 
 mod arriving;
+mod executing;
 mod player;
 mod playing;
 mod telling;
 mod waiting;
 
 pub use arriving::arrive;
+pub use executing::execute;
 pub use player::Player;
 pub use playing::choose;
 pub use telling::choose_telling;

@@ -7,12 +7,13 @@ ghost use Rattle.sig_players.specs.Players.{seen, IsReady, IsGiven};
 ghost use Rattle.sig_choices.specs.Choosing.{may_handle, HasHandledOf, Acts, Refuses};
 
 use crate::arriving::arrive;
+use crate::executing::execute;
 use crate::waiting::{put_behind, take_of};
 use sig_base::Steps;
 use sig_kinds::{Signal, Signals};
 use sig_lists::Same;
 use sig_model::{Did, Event};
-use sig_process::{Exec, Process};
+use sig_process::Process;
 use std::alloc::AllocError;
 use std::sync::ledger::Ledger;
 
@@ -37,13 +38,8 @@ impl Player {
             (exec_next (seen self.old) ≡ Some (seen self.new))
             (exec_next (seen self.old) ≡ None)) }
     {
-        if !self.process.can_exec() {
-            return Ok(false);
-        }
-        match self.process.exec(steps)? {
-            Exec::Stepped => Ok(true),
-            Exec::Waiting => Ok(false),
-        }
+        let made = execute(&mut self.process, steps)?;
+        Ok(made)
     }
 
     /// Handles the oldest signal to itself, where that may be, and tells whether it did. The error is

@@ -1,4 +1,4 @@
-ghost use Rattle.std.specs.Prelude.{ℕ, ◌≡◌, ◌+◌, ◌<◌, ◌≤◌, true, length, is_some, IfOk, IfSome, MatchResult, slice_get, replicate};
+ghost use Rattle.std.specs.Prelude.{ℕ, ◌≡◌, ◌+◌, ◌<◌, ◌≤◌, true, length, IfOk, IfSome, MatchResult, slice_get, replicate};
 ghost use Rattle.sig_inner.specs.InnerQueue.{opened as no_queue};
 ghost use Rattle.sig_program.specs.Scripts.{Declared, IsProcBelow};
 ghost use Rattle.sig_model.specs.ProcessState.{is_cut, opening_tables};
@@ -183,13 +183,6 @@ impl Process {
         ensures { result.now ≡ self.now.running.events }
     {
         &self.progress.events
-    }
-
-    /// Whether it has ended. (Erlang Reference Manual, Processes, Process Termination.)
-    pub fn is_ended(&self) -> bool
-        ensures { result ≡ is_some self.now.running.state.tables.end }
-    {
-        self.progress.tables.end.is_some()
     }
 
     /// Whether the process is cut: it isn't ended and has executed its turns, or its last stamp is

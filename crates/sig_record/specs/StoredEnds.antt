@@ -14,6 +14,7 @@ abbrev pub IsStoredWaiting : Signal → Type 0
 IsStoredWaiting x = IsNarrow x.from.0 × IsStoredKind x.kind
 
 pub record IsStoredEnd (r : Report) : Type 0 where
+  pub pid : IsNarrow r.pid.0
   pub left : All IsStoredMessage r.left
   pub queued : All IsStoredWaiting r.queued
   pub state : IsStoredState r.state

@@ -6,6 +6,7 @@ ghost use Rattle.std.specs.List.{flat_map};
 ghost use Rattle.sig_terms.specs.Putting.{IsPut};
 ghost use Rattle.sig_record.specs.RecordText.{head_text};
 ghost use Rattle.sig_record.specs.EndText.{left_end, queued_end, end_text, ends_text};
+ghost use Rattle.sig_record.specs.Phrases.{IsNarrow};
 ghost use Rattle.sig_record.specs.StoredEnds.{IsStoredMessage, IsStoredWaiting, IsStoredEnd, AreStoredEnds};
 
 use crate::kinds::put_spaced_kind;
@@ -65,6 +66,7 @@ impl Ending for Signal {
 fn put_left(into: &mut Vec<u8>, report: &Report) -> Result<(), AllocError>
     ensures text { IsPut into.old.items into.new.items
         (head_text report.now.pid.0 report.now.name ++ flat_map left_end report.now.left) result }
+    ensures pid { OnOk result (IsNarrow report.now.pid.0) }
     ensures stored { OnOk result (All IsStoredMessage report.now.left) }
 {
     put_head(into, report.pid, &report.name)?;
@@ -76,6 +78,7 @@ fn put_waiting(into: &mut Vec<u8>, report: &Report) -> Result<(), AllocError>
     ensures text { IsPut into.old.items into.new.items
         (head_text report.now.pid.0 report.now.name ++ flat_map left_end report.now.left ++
         flat_map queued_end report.now.queued) result }
+    ensures pid { OnOk result (IsNarrow report.now.pid.0) }
     ensures left { OnOk result (All IsStoredMessage report.now.left) }
     ensures queued { OnOk result (All IsStoredWaiting report.now.queued) }
 {

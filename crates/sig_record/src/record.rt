@@ -76,14 +76,16 @@ impl Record {
         Record::gathered(alloc, crew, false)
     }
 
-    /// The same for a program that is about to end, of a lawful crew: the processes' labels and instructions stay as
-    /// they lie in memory, and that memory isn't given back. To give back a long script line by line takes nearly as
-    /// long as to make it.
+    /// The same for a program that is about to end: the processes' labels and instructions stay as they lie in memory,
+    /// and that memory isn't given back. To give back a long script line by line takes nearly as long as to make it.
     ///
     /// Asks what [`Record::gather`] asks.
     pub fn gather_at_end(alloc: Global, crew: Crew) -> Result<Record, AllocError>
         requires clear { IsClear (runnings_of crew) }
         requires by_pid { IsByPid (runnings_of crew) }
+        ensures sorted { IfOk result (λ r. r ≡ sorted_record (runnings_of crew)) }
+        ensures in_order { IsPlaced (runnings_of crew) → AreInOrder (runnings_of crew) →
+            IfOk result (λ r. r ≡ record_of (runnings_of crew)) }
         ensures lawful { (script : Program) → IsLawfulCrew script (runnings_of crew) → IfOk result (λ r. r ≡ record_of (runnings_of crew)) }
         ensures run { (script : Program) → IsLawfulCrew script (runnings_of crew) →
             IfOk result (IsRecordOfRun script (crew_machine (rules_of script) (map whole_member (runnings_of crew)))) }

@@ -7,7 +7,6 @@ ghost use Rattle.sig_record.specs.Summarizing.{is_kept, is_ended, is_waiting, ke
 
 use crate::record::Record;
 use crate::report::Report;
-use crate::settling::is_cut;
 use sig_model::{Event, Outcome, State};
 
 /// How many there are in a record. A sum over the processes that 64 bits can't hold is told as the
@@ -32,18 +31,6 @@ fn is_kept(event: &Event) -> bool
     ensures { result ≡ is_kept event.now }
 {
     matches!(event.outcome, Outcome::Kept { .. })
-}
-
-fn is_ended(state: &State) -> bool
-    ensures { result ≡ is_ended state.now }
-{
-    matches!(state, State::Ended { .. })
-}
-
-fn is_waiting(state: &State) -> bool
-    ensures { result ≡ is_waiting state.now }
-{
-    matches!(state, State::Waiting)
 }
 
 fn kept_in(events: &[Event]) -> usize
@@ -78,40 +65,32 @@ fn kept_of(reports: &[Report]) -> u64
     kept
 }
 
-fn ended_of(reports: &[Report]) -> usize
-    ensures { result ≡ count_by (λ r. is_ended r.state) reports.now }
-{
-    let mut ended = 0;
-    for report in reports {
-        if is_ended(&report.state) {
-            ended += 1;
-        }
-    }
-    ended
+/// How many of the processes stand in each way.
+#[derive(Clone, Copy)]
+struct Standing {
+    ended: usize,
+    waiting: usize,
+    cut: usize,
 }
 
-fn waiting_of(reports: &[Report]) -> usize
-    ensures { result ≡ count_by (λ r. is_waiting r.state) reports.now }
+fn standing_of(reports: &[Report]) -> Standing
+    ensures ended { result.ended ≡ count_by (λ r. is_ended r.state) reports.now }
+    ensures waiting { result.waiting ≡ count_by (λ r. is_waiting r.state) reports.now }
+    ensures cut { result.cut ≡ count_by (λ r. is_cut r.state) reports.now }
 {
-    let mut waiting = 0;
+    let mut standing = Standing {
+        ended: 0,
+        waiting: 0,
+        cut: 0,
+    };
     for report in reports {
-        if is_waiting(&report.state) {
-            waiting += 1;
+        match report.state {
+            State::Ended { .. } => standing.ended += 1,
+            State::Waiting => standing.waiting += 1,
+            State::Cut => standing.cut += 1,
         }
     }
-    waiting
-}
-
-fn cut_of(reports: &[Report]) -> usize
-    ensures { result ≡ count_by (λ r. is_cut r.state) reports.now }
-{
-    let mut cut = 0;
-    for report in reports {
-        if is_cut(&report.state) {
-            cut += 1;
-        }
-    }
-    cut
+    standing
 }
 
 /// Counts the processes, how they stand, and their events. It takes no memory.
@@ -119,12 +98,13 @@ pub fn summarize(given: &Record) -> Summary
     ensures { result ≡ summary_of given.now }
 {
     let reports = given.reports();
+    let standing = standing_of(reports);
     Summary {
         processes: reports.len() as u64,
         events: events_of(reports),
         kept: kept_of(reports),
-        ended: ended_of(reports) as u64,
-        waiting: waiting_of(reports) as u64,
-        cut: cut_of(reports) as u64,
+        ended: standing.ended as u64,
+        waiting: standing.waiting as u64,
+        cut: standing.cut as u64,
     }
 }

@@ -4,6 +4,7 @@ ghost use Rattle.sig_workers.specs.Parts.{IsPart, HasWorked, HaveWorked};
 
 use crate::bells::Bells;
 use crate::part::{Part, Worked};
+use crate::shared::Shared;
 use crate::working::work;
 use sig_base::Gate;
 use sig_queue::SigQueue;
@@ -31,6 +32,14 @@ pub(crate) fn work_all<R: Threads + Wait + Sync, G: Gate>(
     let one = |part: Part| -> Result<Worked, AllocError>
         requires { (1 ≤ quota) × IsPart queues.now part }
         ensures { IfOk result (HasWorked queues.entry.now part) }
-    { work(rt, alloc, queues, bells, gate, quota, part) };
+    {
+        let shared = Shared {
+            rt,
+            queues,
+            bells,
+            gate,
+        };
+        work(&shared, alloc, quota, part)
+    };
     thread::map_vec(rt, parts, &one)
 }

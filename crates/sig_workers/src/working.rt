@@ -4,7 +4,6 @@ ghost use Rattle.sig_workers.specs.Acting.{HasActedAt, ActBelow};
 ghost use Rattle.sig_workers.specs.Parts.{procs_of, IsPart, IsSamePart, HasVisited, Grow, HavePassed, HasWorked};
 ghost use Rattle.sig_workers.specs.declared.working.TheConstants.{PATIENCE};
 
-use crate::bells::Bells;
 use crate::part::{Part, Worked};
 use crate::putting::Me;
 use crate::shared::Shared;
@@ -157,25 +156,16 @@ fn work_with<R: Wait, G: Gate, L: Ledger>(
 /// it looks again, or until it has made at least as many events as the quota says. The error is want of
 /// memory.
 pub(crate) fn work<R: Wait, G: Gate>(
-    rt: &R,
+    shared: &Shared<'_, R, G>,
     alloc: Global,
-    queues: &[SigQueue],
-    bells: &Bells,
-    gate: &G,
     quota: u32,
     mut part: Part,
 ) -> Result<Worked, AllocError>
     requires quota { 1 ≤ quota }
-    requires part { IsPart queues.now part }
-    ensures { IfOk result (HasWorked queues.now part) }
+    requires part { IsPart shared.now.queues.now part }
+    ensures { IfOk result (HasWorked shared.now.queues.now part) }
 {
-    let shared = Shared {
-        rt,
-        queues,
-        bells,
-        gate,
-    };
     let blank = Blank::new(1);
-    let moved = work_with::<R, G, Brand>(&shared, alloc, quota, &mut part, blank)?;
+    let moved = work_with::<R, G, Brand>(shared, alloc, quota, &mut part, blank)?;
     Ok(Worked { part, moved })
 }

@@ -17,15 +17,12 @@ map_vec-requires-sync-F g c κs within = record {
     (
       ((λ q. tt), c.type_bounds.sync-R.shared x.0.now x.0.ref_ptr.0 x.0.ref_ptr.1 κs.1.1.1.1.1.1.1.0),
       (
-        search rules,
+        ((λ q. (tt, (tt, tt))), (queues_shared (of_param 0) κs.1.1.1.1.1.1.1.1.0 x.1 b o κ).1),
         (
-          ((λ q. (tt, (tt, tt))), (queues_shared (of_param 0) κs.1.1.1.1.1.1.1.1.1.0 x.2 b o κ).1),
+          ((λ q. tt), bells_sync.shared x.2.now x.2.ref_ptr.0 x.2.ref_ptr.1 κs.1.1.1.1.1.1.1.1.1.0),
           (
-            ((λ q. tt), bells_sync.shared x.3.now x.3.ref_ptr.0 x.3.ref_ptr.1 κs.1.1.1.1.1.1.1.1.1.1.0),
-            (
-              ((λ q. tt), c.type_bounds.sync-G.shared x.4.now x.4.ref_ptr.0 x.4.ref_ptr.1 κs.1.1.1.1.1.1.1.1.1.1.1.0),
-              (search rules, tt),
-            ),
+            ((λ q. tt), c.type_bounds.sync-G.shared x.3.now x.3.ref_ptr.0 x.3.ref_ptr.1 κs.1.1.1.1.1.1.1.1.1.1.0),
+            (search rules, (search rules, tt)),
           ),
         ),
       ),
