@@ -6,7 +6,7 @@ mod called;
 mod digits;
 mod telling;
 
-pub use called::arguments;
+pub use called::{arguments, why_no_arguments};
 pub use digits::are_digits;
 pub use telling::{
     Untold, tell_line, tell_memory, tell_number, tell_piece, tell_pieces, tell_read_fault,

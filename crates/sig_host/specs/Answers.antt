@@ -1,9 +1,5 @@
 -- What each answer of a run says of the bytes that were read and written.
-use Rattle.std.specs.Prelude.{◌≡◌, ◌≢◌, ℕ, ◌<◌, Bool, List, length, map, take, true, false, Option, Some, None, IfSome, Result, Ok, Err, Vec, String, string_bytes, ⊤}
-use Rattle.std.specs.Global.{Global}
-use Rattle.std.specs.IoError.{error_kind}
-use Rattle.std.specs.declared.io.Error.{Error}
-use Rattle.std.specs.declared.io.ErrorKind.TheVariants.{OutOfMemory}
+use Rattle.std.specs.Prelude.{◌≡◌, ◌≢◌, ℕ, ◌<◌, Bool, List, length, take, true, false, Option, Some, None, IfSome, Result, Ok, Err, ⊤}
 use Rattle.sig_base.specs.Flow.{Rose, Adds}
 use Rattle.sig_tokens.specs.declared.fault.FaultKind.TheVariants.{TooLong}
 use Rattle.sig_edge.specs.Streams.{IsFine, IsReadToEnd, IsRefused, IsUnread, IsUnwritten, Reading, Spells, Writing}
@@ -106,12 +102,6 @@ abbrev pub IsAnswer : List (List ℕ) → Reading → Writing → Status → Opt
 IsAnswer words r w Usage summary = AreRefused words × IsUnread r × IsUnwritten w
 IsAnswer words r w Memory summary = IsFine r × IsUnwritten w × (AskForWork words → IsUnread r)
 IsAnswer words r w status summary = IsRunAsked words r w status summary
-
--- what the status says of the program's arguments; or that they can't be had, for want of memory or since one is no text
-abbrev pub IsEnd : Result (Vec (String Global) Global) Error → Reading → Writing → Status → Option (List ℕ) → Type 0
-IsEnd (Ok words) r w status summary = IsAnswer (map string_bytes words.items) r w status summary
-IsEnd (Err fault) r w status summary =
-    IsUnread r × IsUnwritten w × (error_kind fault ≡ OutOfMemory → status ≡ Memory) × (error_kind fault ≢ OutOfMemory → status ≡ Usage) × (summary ≡ None)
 
 -- there is a script to be run: it is generated, or the source spells it
 abbrev pub HasScript : Option ℕ → Reading → Type 0

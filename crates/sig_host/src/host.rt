@@ -323,10 +323,10 @@ fn run_words<R: Threads + Wait + Sync, S: Source, O: Sink, G: Gate>(
 /// - `Memory`: memory was wanting. No read failed, and nothing was written to `out`.
 ///
 /// What a status tells is written to `err` where no write to it fails, and else its beginning: with `Done`
-/// the summary of the record, if the script was made. A fault of `err` changes no status. Whatever the status, of the
-/// source at most [`MOST_BYTES`] bytes and one more are taken. Arguments in the plain form with a
-/// script, and no fault of the source and of `out`, give `Done` or `Memory`, if the call returns: with
-/// more than one worker it waits for threads.
+/// the summary of the record, if the script was made. A fault of `err` changes no status. Whatever the
+/// status, of the source at most [`MOST_BYTES`] bytes and one more are taken. Arguments in the plain form
+/// with a script, and no fault of the source and of `out`, give `Done` or `Memory`, if the call returns:
+/// with more than one worker it waits for threads.
 pub fn run<R: Threads + Wait + Sync, S: Source, O: Sink, E: Sink, G: Gate>(
     rt: &R,
     alloc: Global,

@@ -68,13 +68,8 @@ fn churn_of(text: &str) -> Option<Policy>
     ensures policy { result ≡ option_map Policy.Churn (option_and_then (number_within 1 MOST_CHURN) (after_churn text.now)) }
     ensures range { IfSome result IsPolicyInRange }
 {
-    match after_churn(text) {
-        None => None,
-        Some(rest) => match number_within(1, MOST_CHURN, rest) {
-            None => None,
-            Some(count) => Some(Policy::Churn(count)),
-        },
-    }
+    let count = number_within(1, MOST_CHURN, after_churn(text)?)?;
+    Some(Policy::Churn(count))
 }
 
 /// The policy that the text names.
@@ -111,9 +106,6 @@ pub(crate) fn calls_or_none(text: Option<&str>) -> Option<Option<u32>>
 {
     match text {
         None => Some(None),
-        Some(text) => match number_within(1, MOST_CALLS, text) {
-            None => None,
-            Some(calls) => Some(Some(calls)),
-        },
+        Some(text) => Some(Some(number_within(1, MOST_CALLS, text)?)),
     }
 }

@@ -1,9 +1,5 @@
 -- What each answer of the tool says of the words, of what was read, and of what was written; and which is due.
-use Rattle.std.specs.Prelude.{◌≡◌, ◌≢◌, ℕ, ◌<◌, List, length, map, take, Option, Some, None, Result, Ok, Err, Vec, String, string_bytes}
-use Rattle.std.specs.Global.{Global}
-use Rattle.std.specs.IoError.{error_kind}
-use Rattle.std.specs.declared.io.Error.{Error}
-use Rattle.std.specs.declared.io.ErrorKind.TheVariants.{OutOfMemory}
+use Rattle.std.specs.Prelude.{◌≡◌, ℕ, ◌<◌, List, length, take, Option, Some, None}
 use Rattle.sig_base.specs.Flow.{Rose, Adds}
 use Rattle.sig_edge.specs.Streams.{IsUnread, IsUnwritten, Reading, Writing}
 use Rattle.sig_program.specs.Scripts.{Program}
@@ -13,7 +9,7 @@ use Rattle.sig_tool.specs.declared.command.Command.{Command}
 use Rattle.sig_tool.specs.declared.command.Command.TheVariants.{Expand}
 use Rattle.sig_tool.specs.declared.given.TheConstants.{MOST_INPUT}
 use Rattle.sig_tool.specs.declared.status.ToolStatus.{ToolStatus}
-use Rattle.sig_tool.specs.declared.status.ToolStatus.TheVariants.{Done, Usage, WriteFault, Memory, TooLong, NoEvent}
+use Rattle.sig_tool.specs.declared.status.ToolStatus.TheVariants.{Done, Usage, WriteFault, TooLong, NoEvent}
 use Rattle.sig_tool.specs.Commands.{command_of, HasEvents, LacksEvent}
 use Rattle.sig_tool.specs.Expanding.{IsCallsDue}
 use Rattle.sig_tool.specs.Inputs.{IsFault, IsPair}
@@ -42,12 +38,6 @@ IsAnswerTo (Some command) r w status = IsRanSo command r w status
 -- what each status says of the words, of what was read, and of what was written
 abbrev pub IsAnswer : List (List ℕ) → Reading → Writing → ToolStatus → Type 0
 IsAnswer words r w status = IsAnswerTo (command_of words) r w status
-
--- what the status says of the program's arguments; or that they can't be had, for want of memory or since one is no text
-abbrev pub IsEnd : Result (Vec (String Global) Global) Error → Reading → Writing → ToolStatus → Type 0
-IsEnd (Ok words) r w status = IsAnswer (map string_bytes words.items) r w status
-IsEnd (Err fault) r w status =
-    IsUnread r × IsUnwritten w × (error_kind fault ≡ OutOfMemory → status ≡ Memory) × (error_kind fault ≢ OutOfMemory → status ≡ Usage)
 
 -- what a command of records has to answer for these bytes, where nothing fails and there is memory; there is one such answer
 abbrev pub IsRecordDue : Command → List ℕ → ToolStatus → Type 0

@@ -44,10 +44,9 @@ impl Command {
         if word != "before" {
             return None;
         }
-        match (first, second) {
-            (Some(first), Some(second)) => Some(Command::Before { first, second }),
-            _ => None,
-        }
+        let first = first?;
+        let second = second?;
+        Some(Command::Before { first, second })
     }
 
     /// The command that these arguments are. `None` exactly where they are none.

@@ -9,10 +9,10 @@ ghost use Rattle.sig_tool.specs.Texts.{IsTextRead};
 ghost use Rattle.sig_tool.specs.Linking.{link_line, link_lines, IsLinksText};
 
 use crate::given::{Given, read_checked};
+use crate::replaying::replayed;
 use crate::status::ToolStatus;
 use itoa::Buffer;
 use sig_base::Source;
-use sig_check::{Replaying, replay};
 use sig_linklaw::{Pair, report};
 use sig_terms::Pid;
 use std::alloc::{AllocError, Global};
@@ -51,13 +51,9 @@ fn text_of_links(alloc: Global, given: &Given) -> Result<Vec<u8>, AllocError>
     requires { IsOfSettledRun given.now.script given.now.told }
     ensures { IfOk result (λ text. IsLinksText given.now.script given.now.told text.items) }
 {
-    match replay(alloc, &given.script, &given.told)? {
-        Replaying::Replayed { crew, .. } => {
-            let pairs = report(alloc, &crew)?;
-            lines_of(alloc, pairs.as_slice())
-        }
-        Replaying::Stopped { event: _ } => unreachable!(),
-    }
+    let made = replayed(alloc, given)?;
+    let pairs = report(alloc, &made.0)?;
+    lines_of(alloc, pairs.as_slice())
 }
 
 /// The text of `links`: a line `link P Q` for each pair of waiting processes with a link between them.

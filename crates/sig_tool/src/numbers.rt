@@ -14,10 +14,7 @@ pub fn number_in(text: &str) -> Option<u64>
     if !are_digits(text) {
         return None;
     }
-    match text.parse::<u64>() {
-        Ok(number) => Some(number),
-        Err(_) => None,
-    }
+    text.parse::<u64>().ok()
 }
 
 /// The number, where 32 bits hold it.
@@ -35,10 +32,7 @@ fn narrow(number: u64) -> Option<u32>
 fn pid_in(text: &str) -> Option<u32>
     ensures { result ≡ pid_in text.now }
 {
-    match number_in(text) {
-        Some(number) => narrow(number),
-        None => None,
-    }
+    narrow(number_in(text)?)
 }
 
 /// The event that these texts name, its process and its number. `None` exactly where one of them spells
@@ -46,8 +40,7 @@ fn pid_in(text: &str) -> Option<u32>
 pub fn event_named(pid: &str, event: &str) -> Option<At>
     ensures { result ≡ event_named pid.now event.now }
 {
-    match (pid_in(pid), number_in(event)) {
-        (Some(pid), Some(event)) => Some(At { pid, event }),
-        _ => None,
-    }
+    let pid = pid_in(pid)?;
+    let event = number_in(event)?;
+    Some(At { pid, event })
 }

@@ -6,7 +6,7 @@ ghost use Rattle.sig_order.specs.Happening.{IsTraced};
 ghost use Rattle.sig_tool.specs.Origins.{AreOrigins};
 
 use crate::given::Given;
-use sig_check::{Replaying, replay};
+use crate::replaying::replayed;
 use sig_model::Origins;
 use std::alloc::{AllocError, Global};
 
@@ -22,8 +22,6 @@ pub fn origins_of(alloc: Global, given: &Given) -> Result<Origins, AllocError>
 {
     // For the proof alone, which takes from it that the script is within its limits.
     let _count = given.script.count();
-    match replay(alloc, &given.script, &given.told)? {
-        Replaying::Replayed { origins, .. } => Ok(origins),
-        Replaying::Stopped { event: _ } => unreachable!(),
-    }
+    let made = replayed(alloc, given)?;
+    Ok(made.1)
 }

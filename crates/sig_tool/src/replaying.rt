@@ -2,7 +2,10 @@
 
 ghost use Rattle.std.specs.Prelude.{◌≡◌, ◌+◌, IfOk};
 ghost use Rattle.sig_edge.specs.Streams.{IsReadWithin, reading};
+ghost use Rattle.sig_check.specs.Replays.{IsReplayed};
 ghost use Rattle.sig_check.specs.Verdicts.{IsOfSettledRun};
+ghost use Rattle.sig_process.specs.Standing.{runnings_of};
+ghost use Rattle.sig_record.specs.RecordOf.{record_of};
 ghost use Rattle.sig_record.specs.RecordText.{record_text};
 ghost use Rattle.sig_tool.specs.declared.command.Command.TheVariants.{Replay};
 ghost use Rattle.sig_tool.specs.declared.given.TheConstants.{MOST_INPUT};
@@ -12,19 +15,32 @@ use crate::given::{Given, read_checked};
 use crate::status::ToolStatus;
 use sig_base::Source;
 use sig_check::{Replaying, replay};
+use sig_model::Origins;
+use sig_process::Crew;
 use sig_record::{Record, print_record};
 use std::alloc::{AllocError, Global};
 
-/// The record of the processes that made the choices of the given one.
+/// The processes that made the choices of the given record, and the origins of the signals of their run.
+/// The error is want of memory.
+pub(crate) fn replayed(alloc: Global, given: &Given) -> Result<(Crew, Origins), AllocError>
+    requires { IsOfSettledRun given.now.script given.now.told }
+    ensures made { IfOk result (λ r. IsReplayed given.now.script given.now.told (runnings_of r.0) r.1) }
+    ensures again { IfOk result (λ r. record_of (runnings_of r.0) ≡ given.now.told) }
+{
+    let made = replay(alloc, &given.script, &given.told)?;
+    match made {
+        Replaying::Replayed { crew, origins } => Ok((crew, origins)),
+        Replaying::Stopped { event: _ } => unreachable!(),
+    }
+}
+
+/// The record of these processes.
 fn record_again(alloc: Global, given: &Given) -> Result<Record, AllocError>
     requires { IsOfSettledRun given.now.script given.now.told }
     ensures { IfOk result (λ r. r ≡ given.now.told) }
 {
-    let replayed = replay(alloc, &given.script, &given.told)?;
-    match replayed {
-        Replaying::Replayed { crew, .. } => Record::gather(alloc, crew),
-        Replaying::Stopped { event: _ } => unreachable!(),
-    }
+    let made = replayed(alloc, given)?;
+    Record::gather(alloc, made.0)
 }
 
 /// The text of that record.

@@ -14,11 +14,12 @@ use Rattle.sig_view.specs.declared.command.Command.TheVariants.{Chart, Concurren
 use Rattle.sig_view.specs.declared.status.ViewStatus.{ViewStatus}
 use Rattle.sig_view.specs.declared.status.ViewStatus.TheVariants.{Done, BadScript, Usage, ReadFault, WriteFault, Memory, No, BadRecord, TooLong, NoEvent, TooManyEvents, NoOutcome, NotFound, Unfinished}
 use Rattle.sig_view.specs.Commands.{IsFit, IsTextOf}
-use Rattle.sig_view.specs.Inputs.{IsRecordText, IsRefused, IsUnfitRecord}
+use Rattle.sig_view.specs.Inputs.{IsRecordRefused, IsRecordText, IsUnfitRecord}
 use Rattle.sig_view.specs.Outcomes.{end_with, IsNoOutcomeFor, IsNoScript, IsScript, IsSpelled, LacksScript}
 use Rattle.sig_view.specs.Texts.{IsTextFor, IsUnfitFor}
 use Rattle.sig_view.specs.Answers.{as_done, IsAnswer, IsAnswerTo, IsDue, IsRanSo, IsRecordDue, IsWellGiven}
 use Rattle.sig_view.proofs.DueLemmas.{one_due, spelled_once}
+use Rattle.sig_view.proofs.WordLemmas.{one_command}
 
 -- ---- nothing was written
 
@@ -109,10 +110,10 @@ module _ (r : Reading) (bytes : List ℕ) (left : r.left ≡ Some bytes) where
   record_text_due command text h =
       subst (λ (bs : List ℕ). IsRecordDue command bs Done) (read_all_of h.2.bytes h.2.whole) (h.0, h.1, h.2.pair, h.2.settled, fit command h.0 h.1 text h.3)
 
-  no_event_due : (command : Command) → IsRefused command r NoEvent → IsRecordDue command bytes NoEvent
+  no_event_due : (command : Command) → IsRecordRefused command r NoEvent → IsRecordDue command bytes NoEvent
   no_event_due command h = subst (λ (bs : List ℕ). IsRecordDue command bs NoEvent) (read_all_of h.2.bytes h.2.whole) (h.0, h.1, h.2.pair, h.2.settled, h.3)
 
-  many_due : (command : Command) → IsRefused command r TooManyEvents → IsRecordDue command bytes TooManyEvents
+  many_due : (command : Command) → IsRecordRefused command r TooManyEvents → IsRecordDue command bytes TooManyEvents
   many_due command h = subst (λ (bs : List ℕ). IsRecordDue command bs TooManyEvents) (read_all_of h.2.bytes h.2.whole) (h.0, h.1, h.2.pair, h.2.settled, h.3)
 
   fault_due : (status : ToolStatus) → (other : List ℕ) × IsWhole r other × IsFault other status → IsFault bytes status
@@ -239,4 +240,5 @@ module _ (r : Reading) (bytes : List ℕ) (left : r.left ≡ Some bytes) where
 pub complete : (command : Command) (words : List (List ℕ)) (bytes : List ℕ) (due status : ViewStatus) (r : Reading) (w : Writing) → IsDue command bytes due
     → IsWellGiven command words bytes due r w → IsAnswer words r w status → (as_done status ≡ due) ⊎ (status ≡ Memory)
 complete command words bytes due status r w is_due given h =
-    ran r bytes given.left w command due is_due given.source given.out status (subst (λ (c : Option Command). IsAnswerTo c r w status) given.named h)
+    ran r bytes given.left w command due is_due given.source given.out status
+    (subst (λ (c : Option Command). IsAnswerTo c r w status) (one_command words command h.0 given.named h.1) h.2)

@@ -108,7 +108,7 @@ module _ (script : Program) where
       omega (arith, told, named, same, few)
 
   module _ (most : ℕ) (endings : List (List Report)) (states : ℕ) (all : Bool) (found : AreFound script most endings states all)
-      (seen : HaveSeen script most states all (map outcome_told endings)) (ascending : AreEndingsInTextOrder endings) (stored : All AreStoredEnds endings)
+      (seen : HaveSeen script most states (map outcome_told endings)) (ascending : AreEndingsInTextOrder endings) (stored : All AreStoredEnds endings)
       (names : AreNames script) where
     readable : (k : ℕ) (d : List Report) → k < length endings → All IsReadableRest (outcome_told (get_or endings k d))
     readable k d lt = readable_told (get_or endings k d) (stored k d lt) (found.sized names k d lt)
@@ -245,7 +245,7 @@ module _ (script : Program) (most : ℕ) (old new : List (List Report)) (states 
     };
   }
 
-  pub seen_still : HaveSeen script most states all (map outcome_told old) → HaveSeen script most states all (map outcome_told new)
+  pub seen_still : HaveSeen script most states (map outcome_told old) → HaveSeen script most states (map outcome_told new)
   seen_still seen = record {
     crews = seen.crews;
     many = seen.many;
@@ -253,8 +253,8 @@ module _ (script : Program) (most : ℕ) (old new : List (List Report)) (states 
     taken = seen.taken;
     met = seen.met;
     once = seen.once;
-    told = λ n crew within there stuck. told_still (outcome_of script (machine_of_crew crew)) (seen.told n crew within there stuck);
-    closed = seen.closed;
+    visited = seen.visited;
+    told = λ crew there stuck. told_still (outcome_of script (machine_of_crew crew)) (seen.told crew there stuck);
   }
 
 -- ---- what a search says of what it has found

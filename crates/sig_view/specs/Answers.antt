@@ -1,9 +1,5 @@
 -- What each answer of the viewer says of the words, of what was read, and of what was written; and which is due.
-use Rattle.std.specs.Prelude.{◌≡◌, ◌≢◌, ℕ, ◌<◌, List, length, map, take, Option, Some, None, Result, Ok, Err, Vec, String, string_bytes}
-use Rattle.std.specs.Global.{Global}
-use Rattle.std.specs.IoError.{error_kind}
-use Rattle.std.specs.declared.io.Error.{Error}
-use Rattle.std.specs.declared.io.ErrorKind.TheVariants.{OutOfMemory}
+use Rattle.std.specs.Prelude.{◌≡◌, ℕ, ◌<◌, List, length, take, Option, Some, None}
 use Rattle.sig_base.specs.Flow.{Rose, Adds}
 use Rattle.sig_edge.specs.Streams.{IsUnread, IsUnwritten, Reading, Writing}
 use Rattle.sig_program.specs.Scripts.{Program}
@@ -15,8 +11,8 @@ use Rattle.sig_tool.specs.Inputs.{IsFault, IsPair}
 use Rattle.sig_view.specs.declared.command.Command.{Command}
 use Rattle.sig_view.specs.declared.command.Command.TheVariants.{Outcomes, OutcomeRecord}
 use Rattle.sig_view.specs.declared.status.ViewStatus.{ViewStatus}
-use Rattle.sig_view.specs.declared.status.ViewStatus.TheVariants.{Done, BadScript, Usage, WriteFault, Memory, No, BadRecord, TooLong, Unfinished}
-use Rattle.sig_view.specs.Commands.{command_of, IsFit, IsRefusal}
+use Rattle.sig_view.specs.declared.status.ViewStatus.TheVariants.{Done, BadScript, Usage, WriteFault, No, BadRecord, TooLong, Unfinished}
+use Rattle.sig_view.specs.Commands.{AskFor, IsAsked, IsFit, IsRefusal}
 use Rattle.sig_view.specs.Outcomes.{IsNoScript, IsSpelled}
 use Rattle.sig_view.specs.Texts.{IsTextFor, IsUnfitFor}
 
@@ -36,7 +32,7 @@ IsRanSo command r w (Unfinished states) = IsPrinted command r w (Unfinished stat
 IsRanSo command r w WriteFault = IsCutOff command r w
 IsRanSo command r w status = IsUnfitFor command r status × IsUnwritten w
 
--- what each status says where the words are this command, or none
+-- what each status says where the words ask for this command, or for none
 abbrev pub IsAnswerTo : Option Command → Reading → Writing → ViewStatus → Type 0
 IsAnswerTo None r w Usage = IsUnread r × IsUnwritten w
 IsAnswerTo None r w _ = ⊥
@@ -44,13 +40,7 @@ IsAnswerTo (Some command) r w status = IsRanSo command r w status
 
 -- what each status says of the words, of what was read, and of what was written
 abbrev pub IsAnswer : List (List ℕ) → Reading → Writing → ViewStatus → Type 0
-IsAnswer words r w status = IsAnswerTo (command_of words) r w status
-
--- what the status says of the program's arguments; or that they can't be had, for want of memory or since one is no text
-abbrev pub IsEnd : Result (Vec (String Global) Global) Error → Reading → Writing → ViewStatus → Type 0
-IsEnd (Ok words) r w status = IsAnswer (map string_bytes words.items) r w status
-IsEnd (Err fault) r w status =
-    IsUnread r × IsUnwritten w × (error_kind fault ≡ OutOfMemory → status ≡ Memory) × (error_kind fault ≢ OutOfMemory → status ≡ Usage)
+IsAnswer words r w status = (asked : Option Command) × IsAsked words asked × IsAnswerTo asked r w status
 
 -- what the command has to answer of the record of a settled run
 abbrev pub IsDecided : Command → List Report → ViewStatus → Type 0
@@ -83,9 +73,9 @@ abbrev pub as_done : ViewStatus → ViewStatus
 as_done (Unfinished states) = Done
 as_done status = status
 
--- the words are this command, the source has these bytes, no read failed, and no write to `out` where there is something to be written
+-- the words ask for this command, the source has these bytes, no read failed, and no write to `out` where there is something to be written
 pub record IsWellGiven (command : Command) (words : List (List ℕ)) (bytes : List ℕ) (due : ViewStatus) (r : Reading) (w : Writing) : Type 0 where
-  pub named : command_of words ≡ Some command
+  pub named : AskFor words command
   pub left : r.left ≡ Some bytes
   pub source : Rose r.before r.after → ⊥
   pub out : due ≡ Done → Rose w.before w.after → ⊥

@@ -1,5 +1,5 @@
 -- The commands, what each writes, and of what record it refuses to (this project's own).
-use Rattle.std.specs.Prelude.{◌≡◌, ◌&&◌, ◌-◌, ◌^◌, ℕ, true, false, List, [], ◌∷◌, codes, if◌then◌else◌, Option, Some, None, option_and_then, nat_le, nat_lt}
+use Rattle.std.specs.Prelude.{◌≡◌, ◌&&◌, ◌-◌, ◌^◌, ◌<◌, ◌≤◌, ◌⊎◌, ℕ, true, false, List, [], ◌∷◌, ◌++◌, codes, if◌then◌else◌, Option, Some, None, option_and_then, nat_le, nat_lt}
 use Rattle.std.specs.Str.{bytes_eq}
 use Rattle.sig_program.specs.Scripts.{Program}
 use Rattle.sig_record.specs.declared.report.Report.{Report}
@@ -14,7 +14,34 @@ use Rattle.sig_view.specs.declared.status.ViewStatus.TheVariants.{NoEvent, TooMa
 use Rattle.sig_view.specs.Charts.{HasFew, IsChartText}
 use Rattle.sig_view.specs.Ranges.{IsConcurrentText}
 
--- ---- the words
+-- ---- which words ask for which command
+
+-- the words are this option and a text of the number; or there are none, and the number is the default
+abbrev pub AreOption : List ℕ → ℕ → ℕ → List (List ℕ) → Type 0
+AreOption name default number words =
+    ((words ≡ []) × (number ≡ default)) ⊎ ((text : List ℕ) × (words ≡ name ∷ text ∷ []) × (number_in text ≡ Some number))
+
+-- the words are the option of how many states a search may visit, which are so many, or there are none
+abbrev pub AreStates : ℕ → List (List ℕ) → Type 0
+AreStates states words = AreOption (codes "--states") 200000 states words × (0 < states) × (states ≤ 10000000)
+
+-- `chart [--from S] [--to T]`, `concurrent P I`, `outcomes [--states N]`, and this with `--record K` behind the option or before it
+abbrev pub AskFor : List (List ℕ) → Command → Type 0
+AskFor words (Chart window) =
+    (from : List (List ℕ)) × (to : List (List ℕ)) × (words ≡ codes "chart" ∷ (from ++ to))
+    × AreOption (codes "--from") 0 window.from from × AreOption (codes "--to") (2 ^ 64 - 1) window.to to
+AskFor words (Concurrent event) = (p : List ℕ) × (i : List ℕ) × (words ≡ codes "concurrent" ∷ p ∷ i ∷ []) × (event_named p i ≡ Some event)
+AskFor words (Outcomes states) = (option : List (List ℕ)) × (words ≡ codes "outcomes" ∷ option) × AreStates states option
+AskFor words (OutcomeRecord states number) =
+    (option : List (List ℕ)) × (text : List ℕ) × AreStates states option × (number_in text ≡ Some number)
+    × ((words ≡ codes "outcomes" ∷ (option ++ codes "--record" ∷ text ∷ [])) ⊎ (words ≡ codes "outcomes" ∷ codes "--record" ∷ text ∷ option))
+
+-- the command for which the words ask; or none, where they ask for none
+abbrev pub IsAsked : List (List ℕ) → Option Command → Type 0
+IsAsked words (Some command) = AskFor words command
+IsAsked words None = (command : Command) → AskFor words command → ⊥
+
+-- ---- commands of what was read of the words
 
 -- the command `chart` of two stamps, where the word is its name
 abbrev pub chart_with : Option ℕ → Option ℕ → Option Command
@@ -62,32 +89,6 @@ option_of name word value = if bytes_eq word name then number_in value else None
 -- the number of states behind the option `--states`
 abbrev pub states_option : List ℕ → List ℕ → Option ℕ
 states_option word value = if bytes_eq word (codes "--states") then states_in value else None
-
--- of one word: `outcomes` or `chart`
-abbrev pub of_one : List ℕ → Option Command
-of_one word = if bytes_eq word (codes "outcomes") then Some (Outcomes 200000) else chart_of word (Some 0) (Some (2 ^ 64 - 1))
-
--- of three words: `chart` or `outcomes` with one option, or `concurrent` with a pid and an event
-abbrev pub of_three : List ℕ → List ℕ → List ℕ → Option Command
-of_three word second third =
-    if bytes_eq second (codes "--from") then chart_of word (number_in third) (Some (2 ^ 64 - 1))
-    else (if bytes_eq second (codes "--to") then chart_of word (Some 0) (number_in third)
-    else (if bytes_eq second (codes "--states") then outcomes_of word (states_in third)
-    else (if bytes_eq second (codes "--record") then record_of word (Some 200000) (number_in third) else concurrent_of word (event_named second third))))
-
--- of five words: `outcomes` with two options in either order, or `chart` with two in their order
-abbrev pub of_five : List ℕ → List ℕ → List ℕ → List ℕ → List ℕ → Option Command
-of_five word first one second other =
-    if bytes_eq first (codes "--states") then record_of word (states_in one) (option_of (codes "--record") second other)
-    else (if bytes_eq first (codes "--record") then record_of word (states_option second other) (number_in one)
-    else chart_of word (option_of (codes "--from") first one) (option_of (codes "--to") second other))
-
--- the command that these words are
-abbrev pub command_of : List (List ℕ) → Option Command
-command_of (word ∷ []) = of_one word
-command_of (word ∷ second ∷ third ∷ []) = of_three word second third
-command_of (word ∷ first ∷ one ∷ second ∷ other ∷ []) = of_five word first one second other
-command_of _ = None
 
 -- ---- what is written
 

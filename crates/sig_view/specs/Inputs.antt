@@ -31,13 +31,13 @@ abbrev pub IsRecordText : Command → Reading → List ℕ → Type 0
 IsRecordText command r text = (script : Program) × (reports : List Report) × IsSettledPair r script reports × IsTextOf command script reports text
 
 -- the source spells the record of a settled run, of which the command refuses to write
-abbrev pub IsRefused : Command → Reading → ViewStatus → Type 0
-IsRefused command r status = (script : Program) × (reports : List Report) × IsSettledPair r script reports × IsRefusal command reports status
+abbrev pub IsRecordRefused : Command → Reading → ViewStatus → Type 0
+IsRecordRefused command r status = (script : Program) × (reports : List Report) × IsSettledPair r script reports × IsRefusal command reports status
 
 -- why there is nothing that the command could write
 abbrev pub IsUnfitRecord : Command → Reading → ViewStatus → Type 0
-IsUnfitRecord command r NoEvent = IsRefused command r NoEvent
-IsUnfitRecord command r TooManyEvents = IsRefused command r TooManyEvents
+IsUnfitRecord command r NoEvent = IsRecordRefused command r NoEvent
+IsUnfitRecord command r TooManyEvents = IsRecordRefused command r TooManyEvents
 IsUnfitRecord command r status = IsNoInput r status
 
 abbrev pub IsRecordRead : Command → Reading → Result (Vec ℕ Global) ViewStatus → Type 0

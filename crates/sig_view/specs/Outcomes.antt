@@ -29,15 +29,15 @@ use Rattle.sig_view.specs.OutcomeText.{AreInTextOrder, names_of, outcomes_text}
 abbrev pub IsTold : Program → List Rest → Type 0
 IsTold script outcome = (reports : List Report) × IsOfSettledRun script reports × (outcome ≡ outcome_told reports)
 
--- What is listed where a search may visit so many states: outcomes of the script, by ascending text. So many states were met, and of those
--- that may be visited each without a choice has its outcome here. That these are all is said exactly where no more were met than may be
--- visited, and then they are.
+-- What is listed where a search may visit so many states: outcomes of the script, by ascending text. So many states were met, and each of
+-- them without a choice has its outcome here. As many of them as may be visited, or all, were: what enough choices at each lead to was met.
+-- That these are all is said exactly where no more were met than may be visited, and then they are.
 pub record AreListed (script : Program) (most : ℕ) (outcomes : List (List Rest)) (states : ℕ) (all : Bool) : Type 0 where
   pub each : All (IsOutcome script) outcomes
   pub told : All (IsTold script) outcomes
   pub ascending : AreInTextOrder (names_of script) outcomes
   pub met : IsTrue all ↔ (states ≤ most)
-  pub seen : HaveSeen script most states all outcomes
+  pub seen : HaveSeen script most states outcomes
   pub whole : all ≡ true → AreAllOutcomes script outcomes
 
 -- the one of this number, counted from 1

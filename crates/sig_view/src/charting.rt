@@ -38,7 +38,8 @@ pub(crate) fn chart_text<S: Source>(
     window: Window,
     input: &mut S,
 ) -> Result<Vec<u8>, ViewStatus>
-    ensures text { IsRecordRead (Chart window) (reading (S.left input.old) (S.left input.new) (S.faults input.old) (S.faults input.new)) result }
+    ensures text { IsRecordRead (Chart window)
+        (reading (S.left input.old) (S.left input.new) (S.faults input.old) (S.faults input.new)) result }
     ensures taken { IsReadWithin (MOST_INPUT + 1)
         (reading (S.left input.old) (S.left input.new) (S.faults input.old) (S.faults input.new)) }
 {

@@ -1,17 +1,14 @@
-ghost use Rattle.std.specs.Prelude.{◌≡◌, map, string_bytes};
+ghost use Rattle.std.specs.Prelude.{◌≡◌, [], ◌∷◌, map, string_bytes};
 ghost use Rattle.sig_view.specs.Commands.{
   allowed,
   chart_of,
-  command_of,
   concurrent_of,
-  of_five,
-  of_one,
-  of_three,
   option_of,
   outcomes_of,
   record_of,
   states_in,
   states_option,
+  IsAsked,
 };
 
 use sig_chart::Window;
@@ -59,10 +56,7 @@ fn allowed(states: u64) -> Option<u64>
 fn states_in(text: &str) -> Option<u64>
     ensures { result ≡ states_in text.now }
 {
-    match number_in(text) {
-        Some(states) => allowed(states),
-        None => None,
-    }
+    allowed(number_in(text)?)
 }
 
 impl Command {
@@ -73,12 +67,11 @@ impl Command {
         if word != "chart" {
             return None;
         }
-        match (from, to) {
-            (Some(from), Some(to)) => Some(Command::Chart {
-                window: Window { from, to },
-            }),
-            _ => None,
-        }
+        let window = Window {
+            from: from?,
+            to: to?,
+        };
+        Some(Command::Chart { window })
     }
 
     /// The command `concurrent`, of an event, where this word is its name.
@@ -88,10 +81,7 @@ impl Command {
         if word != "concurrent" {
             return None;
         }
-        match event {
-            Some(event) => Some(Command::Concurrent { event }),
-            None => None,
-        }
+        Some(Command::Concurrent { event: event? })
     }
 
     /// The command `outcomes`, of so many states, where this word is its name.
@@ -101,10 +91,7 @@ impl Command {
         if word != "outcomes" {
             return None;
         }
-        match states {
-            Some(states) => Some(Command::Outcomes { states }),
-            None => None,
-        }
+        Some(Command::Outcomes { states: states? })
     }
 
     /// The command `outcomes` with the number of one, where this word is its name.
@@ -114,10 +101,9 @@ impl Command {
         if word != "outcomes" {
             return None;
         }
-        match (states, number) {
-            (Some(states), Some(number)) => Some(Command::OutcomeRecord { states, number }),
-            _ => None,
-        }
+        let states = states?;
+        let number = number?;
+        Some(Command::OutcomeRecord { states, number })
     }
 
     /// The number behind an option, where this word is its name.
@@ -139,8 +125,9 @@ impl Command {
     }
 
     /// The command of one word: `outcomes` or `chart`.
+    #[tactic(auto, using(crate::proofs::WordLemmas::asked_by_one))]
     fn of_one(word: &str) -> Option<Command>
-        ensures { result ≡ of_one word.now }
+        ensures { IsAsked (word.now ∷ []) result }
     {
         if word == "outcomes" {
             Some(Command::Outcomes { states: STATES })
@@ -150,8 +137,9 @@ impl Command {
     }
 
     /// The command of three words: `chart` or `outcomes` with one option, or `concurrent`.
+    #[tactic(auto, using(crate::proofs::WordLemmas::asked_by_three))]
     fn of_three(word: &str, second: &str, third: &str) -> Option<Command>
-        ensures { result ≡ of_three word.now second.now third.now }
+        ensures { IsAsked (word.now ∷ second.now ∷ third.now ∷ []) result }
     {
         if second == "--from" {
             Command::chart(word, number_in(third), Some(HIGHEST))
@@ -167,8 +155,9 @@ impl Command {
     }
 
     /// The command of five words: `outcomes` with its two options, or `chart` with its two.
+    #[tactic(auto, using(crate::proofs::WordLemmas::asked_by_five))]
     fn of_five(word: &str, first: &str, one: &str, second: &str, other: &str) -> Option<Command>
-        ensures { result ≡ of_five word.now first.now one.now second.now other.now }
+        ensures { IsAsked (word.now ∷ first.now ∷ one.now ∷ second.now ∷ other.now ∷ []) result }
     {
         if first == "--states" {
             let number = Command::option("--record", second, other);
@@ -184,7 +173,7 @@ impl Command {
 
     /// The command that these arguments are. `None` exactly where they are none.
     pub(crate) fn of(words: &[String]) -> Option<Command>
-        ensures { result ≡ command_of (map string_bytes words.now) }
+        ensures { IsAsked (map string_bytes words.now) result }
     {
         match words {
             [word] => Command::of_one(word.as_str()),

@@ -35,7 +35,7 @@ fn search<T: Teller>(
     teller: &mut T,
 ) -> Result<Outcomes, AllocError>
     ensures found { IfOk result (λ found. AreFound script.now states found.endings.items found.states found.all) }
-    ensures seen { IfOk result (λ found. HaveSeen script.now states found.states found.all (map outcome_told found.endings.items)) }
+    ensures seen { IfOk result (λ found. HaveSeen script.now states found.states (map outcome_told found.endings.items)) }
 {
     list_outcomes(alloc, script, states as usize, teller)
 }
@@ -48,7 +48,7 @@ fn search_in_order<T: Teller>(
     teller: &mut T,
 ) -> Result<Outcomes, AllocError>
     ensures found { IfOk result (λ found. AreFound script.now states found.endings.items found.states found.all) }
-    ensures seen { IfOk result (λ found. HaveSeen script.now states found.states found.all (map outcome_told found.endings.items)) }
+    ensures seen { IfOk result (λ found. HaveSeen script.now states found.states (map outcome_told found.endings.items)) }
     ensures ascending { IfOk result (λ found. AreEndingsInTextOrder found.endings.items) }
     ensures stored { IfOk result (λ found. All AreStoredEnds found.endings.items) }
 {
@@ -97,7 +97,8 @@ pub(crate) fn outcomes_text<S: Source, T: Teller>(
     input: &mut S,
     teller: &mut T,
 ) -> Result<Text, ViewStatus>
-    ensures text { IsTextRead (Listing states) (reading (S.left input.old) (S.left input.new) (S.faults input.old) (S.faults input.new)) result }
+    ensures text { IsTextRead (Listing states)
+        (reading (S.left input.old) (S.left input.new) (S.faults input.old) (S.faults input.new)) result }
     ensures taken { IsReadWithin (MOST_INPUT + 1)
         (reading (S.left input.old) (S.left input.new) (S.faults input.old) (S.faults input.new)) }
 {
@@ -170,7 +171,8 @@ pub(crate) fn outcome_record_text<S: Source, T: Teller>(
     input: &mut S,
     teller: &mut T,
 ) -> Result<Vec<u8>, ViewStatus>
-    ensures text { IsRecordFound states number (reading (S.left input.old) (S.left input.new) (S.faults input.old) (S.faults input.new)) result }
+    ensures text { IsRecordFound states number
+        (reading (S.left input.old) (S.left input.new) (S.faults input.old) (S.faults input.new)) result }
     ensures taken { IsReadWithin (MOST_INPUT + 1)
         (reading (S.left input.old) (S.left input.new) (S.faults input.old) (S.faults input.new)) }
 {

@@ -1,11 +1,9 @@
-ghost use Rattle.std.specs.Prelude.{◌≡◌, ◌≢◌, ◌+◌};
-ghost use Rattle.std.specs.IoError.{error_kind};
-ghost use Rattle.sig_base.specs.Flow.{Rose, Adds};
+ghost use Rattle.std.specs.Prelude.{◌≡◌, ◌+◌};
+ghost use Rattle.sig_edge.specs.Ends.{EndsWith, IsEnd};
 ghost use Rattle.sig_edge.specs.Streams.{IsReadWithin, reading, writing};
-ghost use Rattle.sig_edge.specs.Told.{AddsBeginning, IsSaid};
 ghost use Rattle.sig_tool.specs.declared.given.TheConstants.{MOST_INPUT};
 ghost use Rattle.sig_view.specs.declared.status.ViewStatus.{ViewStatus};
-ghost use Rattle.sig_view.specs.Answers.{IsEnd};
+ghost use Rattle.sig_view.specs.Answers.{IsAnswer};
 ghost use Rattle.sig_view.specs.Statuses.{number_of};
 ghost use Rattle.sig_view.specs.Told.{told_text};
 
@@ -14,54 +12,19 @@ use crate::status::ViewStatus;
 use crate::telling::tell;
 use crate::top::view;
 use sig_base::{Sink, Source, StdSink, StdSource};
-use sig_edge::arguments;
+use sig_edge::{arguments, why_no_arguments};
 use sig_search::Teller;
 use std::alloc::Global;
 use std::io;
-use std::io::{ErrorKind, IsTerminal, Read, Write};
+use std::io::{IsTerminal, Read, Write};
 use std::process::ExitCode;
 use std::rt::Env;
 use std::time::Clock;
 
-/// The status where the arguments can't be had, told on standard error. Nothing was read.
-fn refuse<E: Sink>(err: &mut E, fault: io::Error) -> ViewStatus
-    ensures memory { error_kind fault ≡ ErrorKind.OutOfMemory → result ≡ ViewStatus.Memory }
-    ensures usage { error_kind fault ≢ ErrorKind.OutOfMemory → result ≡ ViewStatus.Usage }
-    ensures told { (Rose (E.faults err.old) (E.faults err.new) → ⊥) → Adds (E.held err.old) (E.held err.new) (told_text result) }
-    ensures beginning { AddsBeginning (E.held err.old) (E.held err.new) (told_text result) }
-{
-    let status = match fault.kind() {
-        ErrorKind::OutOfMemory => ViewStatus::Memory,
-        _ => ViewStatus::Usage,
-    };
-    tell(err, status);
-    status
-}
-
-/// How the program ends on these arguments, or where they can't be had: the status of `view`, or of a refusal.
+/// How the program ends on these arguments: with the exit code that is the number of the status of
+/// `view`; or, where they can't be had, of the status that says why, which is told on standard error, and
+/// nothing was read.
 #[tactic(auto, using(sig_edge::proofs::TakenLemmas::none_taken))]
-fn status_on<S: Source, O: Sink, E: Sink, T: Teller>(
-    alloc: Global,
-    arguments: io::Result<Vec<String>>,
-    input: &mut S,
-    out: &mut O,
-    err: &mut E,
-    teller: &mut T,
-) -> ViewStatus
-    ensures answer { IsEnd arguments
-        (reading (S.left input.old) (S.left input.new) (S.faults input.old) (S.faults input.new))
-        (writing (O.held out.old) (O.held out.new) (O.faults out.old) (O.faults out.new)) result
-        × IsSaid (writing (E.held err.old) (E.held err.new) (E.faults err.old) (E.faults err.new)) (told_text result) }
-    ensures taken { IsReadWithin (MOST_INPUT + 1)
-        (reading (S.left input.old) (S.left input.new) (S.faults input.old) (S.faults input.new)) }
-{
-    match arguments {
-        Ok(words) => view(alloc, words.as_slice(), input, out, err, teller),
-        Err(fault) => refuse(err, fault),
-    }
-}
-
-/// The same, with the exit code that is the number of that status.
 fn ended<S: Source, O: Sink, E: Sink, T: Teller>(
     alloc: Global,
     arguments: io::Result<Vec<String>>,
@@ -70,15 +33,24 @@ fn ended<S: Source, O: Sink, E: Sink, T: Teller>(
     err: &mut E,
     teller: &mut T,
 ) -> ExitCode
-    ensures end { (status : ViewStatus) × (result.status ≡ number_of status) × IsEnd arguments
+    ensures end { EndsWith number_of told_text (IsEnd IsAnswer ViewStatus.Memory ViewStatus.Usage arguments
         (reading (S.left input.old) (S.left input.new) (S.faults input.old) (S.faults input.new))
-        (writing (O.held out.old) (O.held out.new) (O.faults out.old) (O.faults out.new)) status
-        × IsSaid (writing (E.held err.old) (E.held err.new) (E.faults err.old) (E.faults err.new)) (told_text status) }
+        (writing (O.held out.old) (O.held out.new) (O.faults out.old) (O.faults out.new)))
+        (writing (E.held err.old) (E.held err.new) (E.faults err.old) (E.faults err.new)) result.status }
     ensures taken { IsReadWithin (MOST_INPUT + 1)
         (reading (S.left input.old) (S.left input.new) (S.faults input.old) (S.faults input.new)) }
 {
-    let status = status_on(alloc, arguments, input, out, err, teller);
-    ExitCode::from(status.number())
+    match arguments {
+        Ok(words) => {
+            let status = view(alloc, words.as_slice(), input, out, err, teller);
+            ExitCode::from(status.number())
+        }
+        Err(fault) => {
+            let status = why_no_arguments(fault, ViewStatus::Memory, ViewStatus::Usage);
+            tell(err, status);
+            ExitCode::from(status.number())
+        }
+    }
 }
 
 /// The program `sigview`, on the arguments of its runtime and these streams: `view` of both. Where the

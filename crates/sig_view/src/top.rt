@@ -108,15 +108,9 @@ fn run_words<S: Source, O: Sink, T: Teller>(
 /// Of causes that stand together the first in this order is told:
 ///
 /// - `Usage`: exactly where the words are no command. The input wasn't read.
-/// - `ReadFault`: only where a read failed.
-/// - `TooLong`: exactly where one byte more than [`MOST_INPUT`](sig_tool::MOST_INPUT) was taken.
-/// - `BadScript`: exactly where the script's part spells no script, or with `outcomes` the input; with the
-///   first line that is refused and why, or line 0 where it has more bytes than a script may have.
-/// - `BadRecord`: exactly where the record's part is no record's text; with the first line, counted from
-///   the first of that part, that isn't whole or can't stand there.
-/// - `No`: exactly where the record isn't that of a settled run of the script; with the first event, of
-///   all processes in the order of their stamps and counted from 1, with which the events are no run,
-///   or one more than there are where they are one.
+/// - `ReadFault`, `TooLong`, `BadScript`, `BadRecord`, `No`: as [`tool`](sig_tool::tool) tells them with
+///   `check`. With `outcomes` only the first three come, and what is said there of the script's part is
+///   said of the whole input.
 /// - `NoEvent`: exactly where the record is that of a settled run, and lacks the event of `concurrent`.
 /// - `TooManyEvents`: exactly where the record is that of a settled run, and more than
 ///   [`MOST_EVENTS`](sig_chart::MOST_EVENTS) of its events have the stamps of `chart`.
