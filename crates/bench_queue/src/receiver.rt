@@ -11,7 +11,7 @@ use std::thread;
 use std::time::Clock;
 
 /// What a fetch did.
-#[derive(Clone, Copy, PartialEq, Eq)]
+#[derive(Drop)]
 enum Came {
     /// Some signals came, or buffers went out of use.
     Something,

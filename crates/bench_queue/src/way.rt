@@ -5,7 +5,7 @@ ghost use Rattle.bench_queue.specs.Ways.{word};
 use sig_layout::Policy;
 
 /// What the signals go through.
-#[derive(Clone, Copy, Debug, PartialEq, Eq)]
+#[derive(Clone, Copy)]
 pub enum Way {
     /// The shared queue under `Policy::Never`.
     Never,

@@ -21,15 +21,28 @@ const MADE: Ref = Ref {
     serial: 1,
 };
 
-/// One clause of this pattern.
-fn one(alloc: Global, pattern: Pattern) -> Result<Clauses, AllocError> {
-    let mut clauses = Sequence::new(alloc);
+/// Adds a clause of this pattern.
+fn add_clause(clauses: &mut Clauses, pattern: Pattern) -> Result<(), AllocError> {
     clauses.add(Clause {
         pattern,
         guard: None,
         target: None,
-    })?;
-    Ok(clauses)
+    })
+}
+
+/// Adds the items of the pattern `{^R,V}`.
+fn add_items(alloc: Global, items: &mut Sequence<Pattern>) -> Result<(), ReadTerm> {
+    items.add(Pattern::Pin(var(alloc, b'R')?))?;
+    items.add(Pattern::Bind(var(alloc, b'V')?))?;
+    Ok(())
+}
+
+/// Adds the clause `{^R,V}`.
+fn add_answer(alloc: Global, clauses: &mut Clauses) -> Result<(), ReadTerm> {
+    let mut items = Sequence::new(alloc);
+    add_items(alloc, &mut items)?;
+    add_clause(clauses, Pattern::Tuple(items))?;
+    Ok(())
 }
 
 fn appends(alloc: Global, queue: &mut Inner, text: &[u8]) -> Result<bool, ReadTerm> {
@@ -104,46 +117,91 @@ fn is_first(answer: Option<Scan>) -> bool {
     answer == Some(first)
 }
 
-/// A queue with a flushed down at the place of a mark.
-fn queue_with_mark(alloc: Global) -> Result<(Inner, bool), ReadTerm> {
-    let mut queue = Inner::open(alloc, Pid(0))?;
-    let mut holds = appends(alloc, &mut queue, b"j")?;
+/// Fills the empty queue, with a flushed down at the place of a mark.
+fn fill(alloc: Global, queue: &mut Inner) -> Result<bool, ReadTerm> {
+    let mut holds = appends(alloc, queue, b"j")?;
     queue.reserve(1);
-    holds &= appends(alloc, &mut queue, b"{'DOWN',#Ref<0.1>,process,<1>,normal}")?;
+    holds &= appends(alloc, queue, b"{'DOWN',#Ref<0.1>,process,<1>,normal}")?;
     holds &= queue.bind(MADE);
-    holds &= appends(alloc, &mut queue, b"{#Ref<0.1>,x}")?;
+    holds &= appends(alloc, queue, b"{#Ref<0.1>,x}")?;
     holds &= queue.flush_down(MADE);
-    Ok((queue, holds))
+    Ok(holds)
 }
 
-fn row_holds<L: Ledger>(alloc: Global, blank: Blank) -> Result<bool, ReadTerm>
+/// Whether the clauses of the answer take it by the mark, and the others then the first message.
+fn are_taken<L: Ledger>(
+    alloc: Global,
+    queue: &mut Inner,
+    answers: &Clauses,
+    others: &Clauses,
+    env: &Env,
+    asked: &Var,
+    steps: &mut Steps<L>,
+) -> Result<bool, ReadTerm> {
+    let marked = receive_marked(queue, answers, env, asked, steps);
+    let mut holds = is_first(marked);
+    holds &= takes(alloc, queue, b"{#Ref<0.1>,x}")?;
+    if others.as_slice().len() < 1000 {
+        let plain = queue.receive(others, env, None, steps);
+        holds &= is_first(Some(plain));
+    }
+    holds &= takes(alloc, queue, b"j")?;
+    Ok(holds && queue.is_empty())
+}
+
+/// The same of an empty queue, no clauses and an environment without a value, which are filled.
+fn fill_and_take<L: Ledger>(
+    alloc: Global,
+    queue: &mut Inner,
+    answers: &mut Clauses,
+    others: &mut Clauses,
+    env: &mut Env,
+    asked: &Var,
+    steps: &mut Steps<L>,
+) -> Result<bool, ReadTerm> {
+    env.set(asked, Term::Ref(MADE))?;
+    add_answer(alloc, answers)?;
+    add_clause(others, Pattern::Bind(var(alloc, b'J')?))?;
+    let is_filled = fill(alloc, queue)?;
+    Ok(is_filled & are_taken(alloc, queue, answers, others, env, asked, steps)?)
+}
+
+/// The same of new ones, where this variable has the reference.
+fn row_holds_with<L: Ledger>(alloc: Global, blank: Blank, asked: &Var) -> Result<bool, ReadTerm>
     requires name { blank.name ≡ L.name }
     requires parts { blank.parts ≡ L.parts }
     requires some { 0 < blank.parts }
 {
+    let mut queue = Inner::open(alloc, Pid(0))?;
     let mut steps: Steps<L> = Steps::open(blank);
     let mut env = Env::new(alloc);
+    let mut answers = Sequence::new(alloc);
+    let mut others = Sequence::new(alloc);
+    let holds = fill_and_take(
+        alloc,
+        &mut queue,
+        &mut answers,
+        &mut others,
+        &mut env,
+        asked,
+        &mut steps,
+    );
+    drop(others);
+    drop(answers);
+    drop(env);
+    drop(queue);
+    holds
+}
+
+fn row_holds(alloc: Global) -> Result<bool, ReadTerm> {
     let asked = var(alloc, b'R')?;
-    env.set(&asked, Term::Ref(MADE))?;
-    let mut items = Sequence::new(alloc);
-    items.add(Pattern::Pin(var(alloc, b'R')?))?;
-    items.add(Pattern::Bind(var(alloc, b'V')?))?;
-    let answers = one(alloc, Pattern::Tuple(items))?;
-    let others = one(alloc, Pattern::Bind(var(alloc, b'J')?))?;
-    let (mut queue, mut holds) = queue_with_mark(alloc)?;
-    let marked = receive_marked(&mut queue, &answers, &env, &asked, &mut steps);
-    holds &= is_first(marked);
-    holds &= takes(alloc, &mut queue, b"{#Ref<0.1>,x}")?;
-    if others.as_slice().len() < 1000 {
-        let plain = queue.receive(&others, &env, None, &mut steps);
-        holds &= is_first(Some(plain));
-    }
-    holds &= takes(alloc, &mut queue, b"j")?;
-    Ok(holds && queue.is_empty())
+    let holds = row_holds_with::<Brand>(alloc, Blank::new(1), &asked);
+    drop(asked);
+    holds
 }
 
 #[test]
 fn the_row_holds(rt: HostRuntime) {
-    let answer = row_holds::<Brand>(rt.alloc(), Blank::new(1));
+    let answer = row_holds(rt.alloc());
     assert!(rt; matches!(answer, Ok(true)));
 }

@@ -7,7 +7,7 @@
 //! the owner's reference with the serial 5, `B5` and `C5` that of another process. An answer is `y`, `n`,
 //! the digit of a count or of the number by which the message came, or `.` where there is none.
 
-use crate::shared::{Row, digit, each_row_holds, int, passes};
+use crate::shared::{Row, digit, each_row_holds, int, next_call, passes};
 use sig_inner::{Append, Inner};
 use sig_terms::{Pid, Ref, Term};
 use std::alloc::{AllocError, Global};
@@ -81,17 +81,21 @@ fn called(queue: &mut Inner, sign: u8, number: u8) -> u8 {
 }
 
 /// Whether these calls are answered so.
-fn are_answered(queue: &mut Inner, calls: &[&[u8; 2]], answers: &[u8]) -> bool {
-    for (call, answer) in calls.iter().zip(answers.iter()) {
-        if called(queue, call[0], call[1].wrapping_sub(b'0')) != *answer {
+fn are_answered(queue: &mut Inner, calls: &[u8], answers: &[u8]) -> bool {
+    let mut calls = calls.iter();
+    for answer in answers {
+        let Some((sign, number)) = next_call(&mut calls) else {
+            return false;
+        };
+        if called(queue, sign, number) != *answer {
             return false;
         }
     }
-    calls.len() == answers.len()
+    next_call(&mut calls).is_none()
 }
 
 /// Calls, and what they answer.
-struct Rule(&'static [&'static [u8; 2]], &'static [u8]);
+struct Rule(&'static [u8], &'static [u8]);
 
 impl Row for Rule {
     /// Whether the rule holds of a new queue, which tells its owner too.
@@ -103,25 +107,16 @@ impl Row for Rule {
 
 const RULES: [Rule; 7] = [
     // numbers go on after the queue was emptied
-    Rule(
-        &[
-            b"+5", b"+6", b"#0", b"-5", b"*0", b"-0", b"?0", b"+7", b"-7",
-        ],
-        b"yy21.nyy3",
-    ),
+    Rule(b"+5 +6 #0 -5 *0 -0 ?0 +7 -7", b"yy21.nyy3"),
     // a bind needs a reserve, and a reference that the process made since then
-    Rule(&[b"b5", b"b5", b"c5", b"c5"], b"nnnn"),
-    Rule(&[b"r5", b"B5", b"B5", b"C5", b"C5"], b".nnnn"),
-    Rule(&[b"r5", b"b4", b"b4", b"c4", b"c4"], b".nnnn"),
-    Rule(&[b"r5", b"b5", b"b5", b"c5", b"c5"], b".ynyn"),
-    Rule(&[b"r5", b"b6", b"b6", b"c6", b"c6"], b".ynyn"),
+    Rule(b"b5 b5 c5 c5", b"nnnn"),
+    Rule(b"r5 B5 B5 C5 C5", b".nnnn"),
+    Rule(b"r5 b4 b4 c4 c4", b".nnnn"),
+    Rule(b"r5 b5 b5 c5 c5", b".ynyn"),
+    Rule(b"r5 b6 b6 c6 c6", b".ynyn"),
     // of nine marks the oldest is gone
     Rule(
-        &[
-            b"r1", b"b1", b"r2", b"b2", b"r3", b"b3", b"r4", b"b4", b"r5", b"b5", b"r6", b"b6",
-            b"r7", b"b7", b"r8", b"b8", b"r9", b"b9", b"c1", b"c2", b"c3", b"c4", b"c5", b"c6",
-            b"c7", b"c8", b"c9",
-        ],
+        b"r1 b1 r2 b2 r3 b3 r4 b4 r5 b5 r6 b6 r7 b7 r8 b8 r9 b9 c1 c2 c3 c4 c5 c6 c7 c8 c9",
         b".y.y.y.y.y.y.y.y.ynyyyyyyyy",
     ),
 ];
@@ -133,10 +128,7 @@ fn rules_hold_line_by_line(rt: HostRuntime) {
 
 /// Ten messages, for which the queue grows several times, and a mark in their midst.
 static GROWING: Rule = Rule(
-    &[
-        b"!1", b"!2", b"!3", b"r4", b"!4", b"!5", b"b4", b"!6", b"!7", b"!8", b"!9", b"!0", b"c4",
-        b"-1", b"-2", b"-3", b"-4", b"-5", b"-6", b"-7", b"-8", b"-9", b"-0", b"?0",
-    ],
+    b"!1 !2 !3 r4 !4 !5 b4 !6 !7 !8 !9 !0 c4 -1 -2 -3 -4 -5 -6 -7 -8 -9 -0 ?0",
     b"yyy.yyyyyyyyy1234567890y",
 );
 

@@ -9,7 +9,7 @@
 
 ghost use Rattle.std.specs.Prelude.{◌≡◌, ◌+◌, ◌<◌, ◌≤◌, ◌^◌};
 
-use crate::shared::{Row, digit, each_row_holds};
+use crate::shared::{Row, digit, each_row_holds, next_call};
 use sig_links::*;
 use sig_terms::Pid;
 use std::alloc::{AllocError, Global};
@@ -70,23 +70,23 @@ fn answered(links: &mut Links, sign: u8, peer: Pid) -> Result<u8, AllocError>
     }
 }
 
-fn pid(digit: u8) -> Pid {
-    Pid(digit.wrapping_sub(b'0') as u32)
-}
-
 /// Whether these calls are answered so.
-fn are_answered(links: &mut Links, calls: &[&[u8; 2]], answers: &[u8]) -> Result<bool, AllocError>
+fn are_answered(links: &mut Links, calls: &[u8], answers: &[u8]) -> Result<bool, AllocError>
     requires { links.old.links.next_id < 2 ^ 62 }
 {
+    let mut calls = calls.iter();
     for index in 0..1000 {
-        let (Some(call), Some(answer)) = (calls.get(index), answers.get(index)) else {
+        let Some(answer) = answers.get(index) else {
             break;
         };
-        if answered(links, call[0], pid(call[1]))? != *answer {
+        let Some((sign, peer)) = next_call(&mut calls) else {
+            return Ok(false);
+        };
+        if answered(links, sign, Pid(peer as u32))? != *answer {
             return Ok(false);
         }
     }
-    Ok(calls.len() == answers.len())
+    Ok(next_call(&mut calls).is_none())
 }
 
 /// Whether these are the active peers, one after another.
@@ -94,7 +94,7 @@ fn are_active(links: &Links, peers: &[u8]) -> bool {
     let mut last = None;
     for peer in peers {
         last = links.next_active(last);
-        if last != Some(pid(*peer)) {
+        if last != Some(Pid(peer.wrapping_sub(b'0') as u32)) {
             return false;
         }
     }
@@ -118,7 +118,7 @@ fn leave(links: &Links, active: &[u8], awaited: &[u8]) -> bool {
 /// The owner, calls, what they answer, the active peers after them, and the ids that are awaited.
 struct Rule(
     u32,
-    &'static [&'static [u8; 2]],
+    &'static [u8],
     &'static [u8],
     &'static [u8],
     &'static [u8],
@@ -135,58 +135,40 @@ impl Row for Rule {
 
 const RULES: [Rule; 25] = [
     // `link`: once, again, to the owner, and while an id is awaited
-    Rule(0, &[b"+1"], b"y", b"1", b""),
-    Rule(0, &[b"+1", b"+1"], b"yn", b"1", b""),
-    Rule(0, &[b"+0"], b"n", b"", b""),
-    Rule(0, &[b"+1", b"-1", b"+1"], b"y1y", b"1", b".1"),
+    Rule(0, b"+1", b"y", b"1", b""),
+    Rule(0, b"+1 +1", b"yn", b"1", b""),
+    Rule(0, b"+0", b"n", b"", b""),
+    Rule(0, b"+1 -1 +1", b"y1y", b"1", b".1"),
     // `unlink`: of an inactive link, of active ones, and with an older id awaited
-    Rule(0, &[b"-1", b"-0"], b"nn", b"", b""),
-    Rule(0, &[b"+1", b"+2", b"-2", b"-1"], b"yy12", b"", b".21"),
-    Rule(0, &[b"+1", b"-1", b"+1", b"-1"], b"y1y2", b"", b".2"),
+    Rule(0, b"-1 -0", b"nn", b"", b""),
+    Rule(0, b"+1 +2 -2 -1", b"yy12", b"", b".21"),
+    Rule(0, b"+1 -1 +1 -1", b"y1y2", b"", b".2"),
     // a link signal: once, again, while an id is awaited, and after the acknowledgement
-    Rule(0, &[b"l1", b"l1"], b"yn", b"1", b""),
-    Rule(0, &[b"+1", b"-1", b"l1"], b"y1n", b"", b".1"),
-    Rule(0, &[b"+1", b"-1", b"11", b"l1"], b"y1yy", b"1", b""),
+    Rule(0, b"l1 l1", b"yn", b"1", b""),
+    Rule(0, b"+1 -1 l1", b"y1n", b"", b".1"),
+    Rule(0, b"+1 -1 11 l1", b"y1yy", b"1", b""),
     // an unlink signal: of an active and of an inactive link
-    Rule(0, &[b"l1", b"u1", b"u1"], b"yyn", b"", b""),
-    Rule(0, &[b"+1", b"-1", b"u1"], b"y1n", b"", b".1"),
+    Rule(0, b"l1 u1 u1", b"yyn", b"", b""),
+    Rule(0, b"+1 -1 u1", b"y1n", b"", b".1"),
     // an acknowledgement: of another id, of another peer, of no unlink, and of the awaited one
-    Rule(
-        0,
-        &[b"+1", b"-1", b"+1", b"-1", b"11"],
-        b"y1y2n",
-        b"",
-        b".2",
-    ),
-    Rule(0, &[b"+1", b"-1", b"12"], b"y1n", b"", b".1"),
-    Rule(0, &[b"+1", b"11"], b"yn", b"1", b""),
-    Rule(0, &[b"+1", b"-1", b"+1", b"11"], b"y1yy", b"1", b""),
+    Rule(0, b"+1 -1 +1 -1 11", b"y1y2n", b"", b".2"),
+    Rule(0, b"+1 -1 12", b"y1n", b"", b".1"),
+    Rule(0, b"+1 11", b"yn", b"1", b""),
+    Rule(0, b"+1 -1 +1 11", b"y1yy", b"1", b""),
     // an exit signal: of an active and of an inactive link
-    Rule(0, &[b"+1", b"e1", b"e1"], b"yyn", b"", b""),
-    Rule(0, &[b"+1", b"-1", b"e1"], b"y1n", b"", b".1"),
+    Rule(0, b"+1 e1 e1", b"yyn", b"", b""),
+    Rule(0, b"+1 -1 e1", b"y1n", b"", b".1"),
     // both unlink at once and one links again: it sees the other's unlink as one of the older link
-    Rule(0, &[b"+1", b"-1", b"+1", b"u1", b"11"], b"y1yyy", b"", b""),
-    Rule(1, &[b"l0", b"-0", b"u0", b"l0", b"10"], b"y1nny", b"", b""),
+    Rule(0, b"+1 -1 +1 u1 11", b"y1yyy", b"", b""),
+    Rule(1, b"l0 -0 u0 l0 10", b"y1nny", b"", b""),
     // active peers ascend: there is none at first, and then each comes after those below it
-    Rule(0, &[b"n0", b"N0"], b"nn", b"", b""),
-    Rule(
-        0,
-        &[b"+9", b"+2", b"l5", b"+2", b"n3", b"n5", b"n9", b"N0"],
-        b"yyyn59nn",
-        b"259",
-        b"",
-    ),
+    Rule(0, b"n0 N0", b"nn", b"", b""),
+    Rule(0, b"+9 +2 l5 +2 n3 n5 n9 N0", b"yyyn59nn", b"259", b""),
     // room is made ahead, once for a link that is there
-    Rule(0, &[b"r2", b"r1", b"r2"], b"yyn", b"12", b""),
+    Rule(0, b"r2 r1 r2", b"yyn", b"12", b""),
     // the next id outlives the links
-    Rule(0, &[b"+1", b"-1", b"+2", b"*0"], b"y1y.", b"", b""),
-    Rule(
-        0,
-        &[b"+1", b"-1", b"+2", b"*0", b"l1", b"+2", b"-2"],
-        b"y1y.yy2",
-        b"1",
-        b"..2",
-    ),
+    Rule(0, b"+1 -1 +2 *0", b"y1y.", b"", b""),
+    Rule(0, b"+1 -1 +2 *0 l1 +2 -2", b"y1y.yy2", b"1", b"..2"),
 ];
 
 #[test]

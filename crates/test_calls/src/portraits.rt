@@ -111,7 +111,20 @@ fn agree(one: &Option<(Portrait, bool)>, other: &Option<(Portrait, bool)>, same:
 }
 
 impl Pair {
-    /// Whether the two are told apart where they should be, and are found by the same number where they aren't.
+    /// Whether the other is told apart from this one where it should be, and is found by the same number where it isn't.
+    fn agrees<L: Ledger>(
+        &self,
+        alloc: Global,
+        one: &Option<(Portrait, bool)>,
+        steps: &mut Steps<L>,
+    ) -> Result<bool, ScriptError> {
+        let other = portrait_of(alloc, self.other, steps)?;
+        let agreed = agree(one, &other, self.same);
+        drop(other);
+        Ok(agreed)
+    }
+
+    /// The same of both.
     fn compares<L: Ledger>(&self, alloc: Global, blank: Blank) -> Result<bool, ScriptError>
         requires name { blank.name ≡ L.name }
         requires parts { blank.parts ≡ L.parts }
@@ -119,8 +132,9 @@ impl Pair {
     {
         let mut steps: Steps<L> = Steps::open(blank);
         let one = portrait_of(alloc, self.one, &mut steps)?;
-        let other = portrait_of(alloc, self.other, &mut steps)?;
-        Ok(agree(&one, &other, self.same))
+        let agreed = self.agrees(alloc, &one, &mut steps);
+        drop(one);
+        agreed
     }
 }
 

@@ -3,6 +3,7 @@
 use sig_terms::Term;
 use std::alloc::{AllocError, Global};
 use std::process::Abort;
+use std::slice;
 
 /// The last digit of the number.
 pub(crate) fn digit(number: u64) -> u8 {
@@ -15,6 +16,15 @@ pub(crate) fn int(term: &Term) -> Option<i64> {
         Term::Int(number) => Some(*number),
         _ => None,
     }
+}
+
+/// The next call of a text in which a call is written as a sign and a digit, with a blank between two calls:
+/// its sign, and the number that is its digit.
+pub(crate) fn next_call(calls: &mut slice::Iter<'_, u8>) -> Option<(u8, u8)> {
+    let sign = *calls.next()?;
+    let digit = *calls.next()?;
+    let _blank = calls.next();
+    Some((sign, digit.wrapping_sub(b'0')))
 }
 
 /// Ends the test unless the answer is yes.

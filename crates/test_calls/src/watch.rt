@@ -8,7 +8,7 @@
 //! `room`, and `0` takes all out. An answer is `y`, `n`, the pid of the process that is told, `k` for
 //! a message that is kept while none is told, or `.` where there is none.
 
-use crate::shared::{Row, digit, each_row_holds};
+use crate::shared::{Row, digit, each_row_holds, next_call};
 use sig_kinds::AliasMode;
 use sig_terms::{Pid, Ref};
 use sig_watch::*;
@@ -80,14 +80,17 @@ fn answered(watch: &mut Watch, sign: u8, reference: Ref) -> Result<u8, AllocErro
 }
 
 /// Whether these calls and signals are answered so.
-fn are_answered(watch: &mut Watch, calls: &[&[u8; 2]], answers: &[u8]) -> Result<bool, AllocError> {
-    for (call, answer) in calls.iter().zip(answers.iter()) {
-        let reference = reference(call[1].wrapping_sub(b'0') as u64);
-        if answered(watch, call[0], reference)? != *answer {
+fn are_answered(watch: &mut Watch, calls: &[u8], answers: &[u8]) -> Result<bool, AllocError> {
+    let mut calls = calls.iter();
+    for answer in answers {
+        let Some((sign, serial)) = next_call(&mut calls) else {
+            return Ok(false);
+        };
+        if answered(watch, sign, reference(serial as u64))? != *answer {
             return Ok(false);
         }
     }
-    Ok(calls.len() == answers.len())
+    Ok(next_call(&mut calls).is_none())
 }
 
 /// Whether the monitors that are held, and the active aliases, are those of these serials.
@@ -127,7 +130,7 @@ fn bears(alloc: Global, watch: &Watch, serials: &[u8]) -> Result<bool, AllocErro
 /// Calls and signals, their answers, and the serials of the monitors held, of those borne, and of
 /// the active aliases after them.
 struct Rule(
-    &'static [&'static [u8; 2]],
+    &'static [u8],
     &'static [u8],
     &'static [u8],
     &'static [u8],
@@ -156,99 +159,39 @@ impl Row for Rule {
 
 const RULES: [Rule; 27] = [
     // `monitor` of another process, of oneself, and with the modes
-    Rule(&[b"m1", b"m2"], b"yy", b"12", b"", b""),
-    Rule(&[b"o1", b"-1"], b"nn", b"", b"", b""),
-    Rule(&[b"e1", b"d2", b"r3"], b"yyy", b"123", b"", b"123"),
+    Rule(b"m1 m2", b"yy", b"12", b"", b""),
+    Rule(b"o1 -1", b"nn", b"", b"", b""),
+    Rule(b"e1 d2 r3", b"yyy", b"123", b"", b"123"),
     // `demonitor`: of a monitor that is held, of the same again, of none, and by the modes
-    Rule(&[b"m1", b"-1", b"-1", b"-2"], b"y1nn", b"", b"", b""),
-    Rule(
-        &[b"e1", b"d2", b"r3", b"-1", b"-2", b"-3"],
-        b"yyy111",
-        b"",
-        b"",
-        b"1",
-    ),
-    Rule(&[b"a1", b"A2", b"-1", b"-2"], b"..nn", b"", b"", b"12"),
+    Rule(b"m1 -1 -1 -2", b"y1nn", b"", b"", b""),
+    Rule(b"e1 d2 r3 -1 -2 -3", b"yyy111", b"", b"", b"1"),
+    Rule(b"a1 A2 -1 -2", b"..nn", b"", b"", b"12"),
     // `unalias`: of each mode, and again; monitors stay
-    Rule(
-        &[b"e1", b"d2", b"r3", b"u1", b"u2", b"u3"],
-        b"yyyyyy",
-        b"123",
-        b"",
-        b"",
-    ),
-    Rule(
-        &[b"a1", b"A2", b"u1", b"u2", b"u1", b"u3"],
-        b"..yynn",
-        b"",
-        b"",
-        b"",
-    ),
+    Rule(b"e1 d2 r3 u1 u2 u3", b"yyyyyy", b"123", b"", b""),
+    Rule(b"a1 A2 u1 u2 u1 u3", b"..yynn", b"", b"", b""),
     // a message through an alias: twice for each mode, and after `unalias`
-    Rule(&[b"a1", b">1", b">1"], b".kk", b"", b"", b"1"),
-    Rule(&[b"A1", b">1", b">1"], b".kn", b"", b"", b""),
-    Rule(&[b"e1", b">1", b">1"], b"ykk", b"1", b"", b"1"),
-    Rule(&[b"d1", b">1", b">1"], b"ykk", b"1", b"", b"1"),
-    Rule(&[b"r1", b">1", b">1"], b"y1n", b"", b"", b""),
-    Rule(&[b"a1", b"u1", b">1"], b".yn", b"", b"", b""),
+    Rule(b"a1 >1 >1", b".kk", b"", b"", b"1"),
+    Rule(b"A1 >1 >1", b".kn", b"", b"", b""),
+    Rule(b"e1 >1 >1", b"ykk", b"1", b"", b"1"),
+    Rule(b"d1 >1 >1", b"ykk", b"1", b"", b"1"),
+    Rule(b"r1 >1 >1", b"y1n", b"", b"", b""),
+    Rule(b"a1 u1 >1", b".yn", b"", b"", b""),
     // a down: of a monitor that is held, again, after `demonitor`, after the reply, by the modes
-    Rule(&[b"m1", b"!1", b"!1"], b"yyn", b"", b"", b""),
-    Rule(&[b"m1", b"-1", b"!1"], b"y1n", b"", b"", b""),
-    Rule(&[b"r1", b">1", b"!1"], b"y1n", b"", b"", b""),
-    Rule(
-        &[b"e1", b"d2", b"r3", b"!1", b"!2", b"!3"],
-        b"yyyyyy",
-        b"",
-        b"",
-        b"1",
-    ),
-    Rule(&[b"r1", b"!1", b">1", b"-1"], b"yynn", b"", b"", b""),
+    Rule(b"m1 !1 !1", b"yyn", b"", b"", b""),
+    Rule(b"m1 -1 !1", b"y1n", b"", b"", b""),
+    Rule(b"r1 >1 !1", b"y1n", b"", b"", b""),
+    Rule(b"e1 d2 r3 !1 !2 !3", b"yyyyyy", b"", b"", b"1"),
+    Rule(b"r1 !1 >1 -1", b"yynn", b"", b"", b""),
     // monitors that are borne: in their order, one that came twice, and after removals
-    Rule(&[b"+3", b"+1", b"+2"], b"...", b"", b"312", b""),
-    Rule(
-        &[b"+1", b"+2", b"+1", b"x1", b"x1"],
-        b"...yn",
-        b"",
-        b"2",
-        b"",
-    ),
-    Rule(
-        &[b"+4", b"+3", b"+2", b"+1", b"x3", b"+5"],
-        b"....y.",
-        b"",
-        b"4215",
-        b"",
-    ),
-    Rule(
-        &[b"+1", b"+2", b"+3", b"x1", b"+1", b"x2", b"x3"],
-        b"...y.yy",
-        b"",
-        b"1",
-        b"",
-    ),
-    Rule(&[b"m1", b"+1", b"x1", b"-1"], b"y.y1", b"", b"", b""),
+    Rule(b"+3 +1 +2", b"...", b"", b"312", b""),
+    Rule(b"+1 +2 +1 x1 x1", b"...yn", b"", b"2", b""),
+    Rule(b"+4 +3 +2 +1 x3 +5", b"....y.", b"", b"4215", b""),
+    Rule(b"+1 +2 +3 x1 +1 x2 x3", b"...y.yy", b"", b"1", b""),
+    Rule(b"m1 +1 x1 -1", b"y.y1", b"", b"", b""),
     // monitors that are borne are told by their places, after a demonitor too, and are taken out
-    Rule(
-        &[b"*1", b"*2", b"*3", b"*4", b"*5"],
-        b".....",
-        b"",
-        b"12345",
-        b"",
-    ),
-    Rule(
-        &[b"*1", b"*2", b"*3", b"*4", b"*5", b"x2"],
-        b".....y",
-        b"",
-        b"1345",
-        b"",
-    ),
-    Rule(
-        &[b"*1", b"*2", b"*3", b"*4", b"*5", b"x2", b"00"],
-        b".....y.",
-        b"",
-        b"",
-        b"",
-    ),
+    Rule(b"*1 *2 *3 *4 *5", b".....", b"", b"12345", b""),
+    Rule(b"*1 *2 *3 *4 *5 x2", b".....y", b"", b"1345", b""),
+    Rule(b"*1 *2 *3 *4 *5 x2 00", b".....y.", b"", b"", b""),
 ];
 
 #[test]

@@ -1,6 +1,6 @@
 //! Records whose text several threads make, through the top call.
 
-use crate::processes::push_processes;
+use crate::processes::text_of_processes;
 use crate::whole::Ran;
 use crate::workers::count;
 use sig_base::OpenGate;
@@ -43,7 +43,43 @@ fn run_with<R: Threads + Wait + Sync>(
     Ran::of(rt, alloc, &setting, &[(text, 1)], &OpenGate)
 }
 
-/// Whether a run of so many processes is told with these workers as with one.
+/// Whether the two runs told the same of so many processes, all of which are cut.
+fn are_alike(one: &Ran, several: &Ran, processes: u32) -> bool {
+    let record = several.out.held();
+    let all_cut = count(record, b"\nstate cut\n") == processes as usize;
+    several.status == Status::Done && all_cut && record == one.out.held()
+}
+
+/// Whether a run with these workers tells of so many processes what this one told.
+fn is_told_as<R: Threads + Wait + Sync>(
+    rt: &R,
+    alloc: Global,
+    text: &[u8],
+    words: &[&str],
+    one: &Ran,
+    processes: u32,
+) -> Result<bool, AllocError> {
+    let several = run_with(rt, alloc, text, words)?;
+    let alike = are_alike(one, &several, processes);
+    drop(several);
+    Ok(alike)
+}
+
+/// Whether a run of this text is told with these workers as with one.
+fn is_text_told_alike<R: Threads + Wait + Sync>(
+    rt: &R,
+    alloc: Global,
+    text: &[u8],
+    words: &[&str],
+    processes: u32,
+) -> Result<bool, AllocError> {
+    let one = run_with(rt, alloc, text, PLAIN.words)?;
+    let alike = is_told_as(rt, alloc, text, words, &one, processes);
+    drop(one);
+    alike
+}
+
+/// The same of a script of so many processes.
 fn is_told_alike<R: Threads + Wait + Sync>(
     rt: &R,
     alloc: Global,
@@ -51,13 +87,10 @@ fn is_told_alike<R: Threads + Wait + Sync>(
     words: &[&str],
 ) -> Result<bool, AllocError> {
     let (head, processes) = crew;
-    let mut text = Vec::from_slice(alloc, head)?;
-    push_processes(&mut text, 0, processes, ALONE)?;
-    let one = run_with(rt, alloc, text.as_slice(), PLAIN.words)?;
-    let several = run_with(rt, alloc, text.as_slice(), words)?;
-    let record = several.out.held();
-    let all_cut = count(record, b"\nstate cut\n") == processes as usize;
-    Ok(several.status == Status::Done && all_cut && record == one.out.held())
+    let text = text_of_processes(alloc, head, 0, processes, ALONE)?;
+    let alike = is_text_told_alike(rt, alloc, text.as_slice(), words, processes);
+    drop(text);
+    alike
 }
 
 #[test]

@@ -111,7 +111,9 @@ fn answers(
     expected: Result<Settings, WordsError>,
 ) -> Result<bool, AllocError> {
     let given = texts_of(alloc, list)?;
-    Ok(words(alloc, given.as_slice()) == expected)
+    let answer = words(alloc, given.as_slice());
+    drop(given);
+    Ok(answer == expected)
 }
 
 #[test]
@@ -144,18 +146,18 @@ const KEPT_BY_CALL: usize = 16;
 
 /// Whether the bytes are a record of the generated work that keeps so many messages, to which `check` says
 /// yes. Where that is none, whether there are no bytes.
-fn keeps(alloc: Global, bytes: &[u8], kept: usize) -> bool {
+fn keeps(alloc: Global, bytes: &[u8], kept: usize) -> Result<bool, AllocError> {
     if kept == 0 {
-        return bytes.is_empty();
+        return Ok(bytes.is_empty());
     }
     let calls = kept / KEPT_BY_CALL;
     if calls == 0 || calls > 800 {
-        return false;
+        return Ok(false);
     }
-    match generate(alloc, calls as u32) {
-        Ok(script) => count(bytes, b" kept ") == kept && is_checked(alloc, &script, bytes),
-        Err(AllocError) => false,
-    }
+    let script = generate(alloc, calls as u32)?;
+    let checked = is_checked(alloc, &script, bytes);
+    drop(script);
+    Ok(checked && count(bytes, b" kept ") == kept)
 }
 
 /// Whether a run with these arguments, and a script that is there to be read, ends with this status
@@ -170,7 +172,10 @@ fn ends_so<R: Threads + Wait + Sync>(
     let (number, told, kept) = ending;
     let mut ran = Ran::of(rt, alloc, setting, &[(ONE_MESSAGE, 1)], &OpenGate)?;
     let tells = ran.status.number() == number && ran.err.held() == told;
-    Ok(is_unread(alloc, &mut ran) && tells && keeps(alloc, ran.out.held(), kept))
+    let is_unread = is_unread(alloc, &mut ran);
+    let keeps = keeps(alloc, ran.out.held(), kept);
+    drop(ran);
+    Ok(keeps? && is_unread && tells)
 }
 
 const TOLD_USAGE: &[u8] =

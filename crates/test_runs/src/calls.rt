@@ -219,34 +219,49 @@ end
     ),
 ];
 
-/// The text of a script.
-fn text_of(alloc: Global, script: &Script) -> Result<Vec<u8>, AllocError> {
+/// Whether this is the text of the script.
+fn is_text_of(alloc: Global, script: &Script, printed: &[u8]) -> Result<bool, AllocError> {
     let mut text = Vec::new(alloc);
     print_script(script, &mut text)?;
-    Ok(text)
+    Ok(text.as_slice() == printed)
 }
 
-/// The text of the record of the script's run with one worker.
-fn record_of(alloc: Global, script: &Script) -> Result<Vec<u8>, AllocError> {
+/// Whether the record's text ends so.
+fn is_end_of(alloc: Global, record: &Record, end: &[u8]) -> Result<bool, AllocError> {
+    let mut text = Vec::new(alloc);
+    print_record(record, &mut text)?;
+    Ok(text.as_slice().ends_with(end))
+}
+
+/// Whether the record of the script's run with one worker ends so.
+fn ends_so(alloc: Global, script: &Script, end: &[u8]) -> Result<bool, AllocError> {
     let crew = run_one(Crew::open(alloc, script)?)?;
     let record = Record::gather(alloc, crew)?;
-    let mut text = Vec::new(alloc);
-    print_record(&record, &mut text)?;
-    Ok(text)
+    let ends = is_end_of(alloc, &record, end);
+    drop(record);
+    ends
 }
 
-/// Whether the text of calls gives this. `Memory` where memory is wanting.
+/// Whether this is given by a text of calls that is expanded to this script.
+fn is_script(alloc: Global, script: &Script, given: &Given) -> Result<bool, AllocError> {
+    match given {
+        Given::Script(printed) => is_text_of(alloc, script, printed),
+        Given::Record(printed, end) => {
+            Ok(is_text_of(alloc, script, printed)? && ends_so(alloc, script, end)?)
+        }
+        Given::Error(_) => Ok(false),
+    }
+}
+
+/// Whether the text of calls gives this.
 fn gives(alloc: Global, text: &[u8], given: &Given) -> Result<bool, AllocError> {
-    match (expand(alloc, text), given) {
-        (Ok(script), Given::Script(printed)) => {
-            Ok(text_of(alloc, &script)?.as_slice() == *printed)
+    match expand(alloc, text) {
+        Ok(script) => {
+            let is_so = is_script(alloc, &script, given);
+            drop(script);
+            is_so
         }
-        (Ok(script), Given::Record(printed, end)) => {
-            let record = record_of(alloc, &script)?;
-            Ok(text_of(alloc, &script)?.as_slice() == *printed && record.as_slice().ends_with(end))
-        }
-        (Err(e), Given::Error(error)) => Ok(e == *error),
-        _ => Ok(false),
+        Err(e) => Ok(matches!(given, Given::Error(error) if e == *error)),
     }
 }
 

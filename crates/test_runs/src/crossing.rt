@@ -25,12 +25,24 @@ const LINKS: Setting<'static, 'static> = Setting {
     ..CHECK
 };
 
+/// Whether these are the links of a record of the script.
+fn has_links(alloc: Global, record: &[u8], links: &[u8]) -> Result<bool, AllocError> {
+    Called::<Tool>::ends_so(alloc, &LINKS, CROSSING, record, (Tool::DONE, links, b""))
+}
+
 /// Whether the run comes to rest with the link or without it.
+fn is_alike(alloc: Global, ran: &Ran) -> Result<bool, AllocError> {
+    let record = ran.out.held();
+    let alike = has_links(alloc, record, b"")? || has_links(alloc, record, b"link 0 1\n")?;
+    Ok(ran.status == Status::Done && alike)
+}
+
+/// The same of a run with four workers.
 fn ends_alike<R: Threads + Wait + Sync>(rt: &R, alloc: Global) -> Result<bool, AllocError> {
     let ran = Ran::of(rt, alloc, &FOUR_WORKERS, &[(CROSSING, 1)], &OpenGate)?;
-    let links = Called::<Tool>::of(alloc, &LINKS, CROSSING, ran.out.held())?;
-    let alike = links.is(Tool::DONE, b"", b"") || links.is(Tool::DONE, b"link 0 1\n", b"");
-    Ok(ran.status == Status::Done && alike)
+    let alike = is_alike(alloc, &ran);
+    drop(ran);
+    alike
 }
 
 #[test]

@@ -17,7 +17,9 @@ fn ends_so<R: Threads + Wait + Sync>(
     written: &[u8],
 ) -> Result<bool, AllocError> {
     let ran = Ran::of(rt, alloc, setting, &[(ONE_MESSAGE, 1)], &OpenGate)?;
-    Ok(ran.status == status && ran.out.held() == written)
+    let is_so = ran.status == status && ran.out.held() == written;
+    drop(ran);
+    Ok(is_so)
 }
 
 /// Whether the run whose read of this number fails says so. Each read but the last gives a byte; behind the
@@ -68,8 +70,7 @@ fn is_usage_untold<R: Threads + Wait + Sync>(rt: &R, alloc: Global) -> Result<bo
         room: 0,
         ..PLAIN
     };
-    let ran = Ran::of(rt, alloc, &setting, &[(ONE_MESSAGE, 1)], &OpenGate)?;
-    Ok(ran.status == Status::Usage && ran.out.held().is_empty())
+    ends_so(rt, alloc, &setting, Status::Usage, b"")
 }
 
 #[test]

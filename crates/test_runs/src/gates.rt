@@ -8,6 +8,7 @@ use std::sync::atomic::{AtomicBool, AtomicU64, Ordering};
 use std::sync::{OnceLock, Wait};
 use std::thread;
 use std::thread::Threads;
+use test_shared::ONE_MESSAGE;
 
 /// A gate that keeps which workers executed an instruction: bit w is worker w's.
 #[derive(Drop)]
@@ -182,34 +183,36 @@ fn rounds_give_quotas_that_double(rt: HostRuntime) {
     }
 }
 
-/// A gate that keeps the first three puts, and holds process 1 at its first instruction until they
+/// A gate that keeps the first three puts, and holds process 1 at its first instruction until so many
 /// have been made.
 #[derive(Drop)]
 struct Puts {
     /// The sender of each, and the buffer that its signal went to.
     made: [OnceLock<(u32, Option<u8>)>; 3],
+    wanted: u64,
     count: AtomicU64,
-    /// All three have been made.
+    /// As many have been made.
     all: AtomicBool,
     /// The hold was given up.
     gave_up: AtomicBool,
 }
 
 impl Puts {
-    fn new() -> Puts {
+    fn new(wanted: u64) -> Puts {
         Puts {
             made: [OnceLock::new(), OnceLock::new(), OnceLock::new()],
+            wanted,
             count: AtomicU64::new(0),
             all: AtomicBool::new(false),
             gave_up: AtomicBool::new(false),
         }
     }
 
-    /// Whether process 0 made three puts, into these buffers.
-    fn are(&self, buffers: [Option<u8>; 3]) -> bool {
-        let mut right = self.count.load(Ordering::SeqCst) == 3;
+    /// Whether process 0 made these puts and no others, into these buffers.
+    fn are(&self, buffers: &[Option<u8>]) -> bool {
+        let mut right = self.count.load(Ordering::SeqCst) == buffers.len() as u64;
         for (put, buffer) in self.made.iter().zip(buffers) {
-            right &= put.get().copied() == Some((0, buffer));
+            right &= put.get().copied() == Some((0, *buffer));
         }
         right && !self.gave_up.load(Ordering::SeqCst)
     }
@@ -223,7 +226,8 @@ impl Gate for Puts {
                 if let Some(put) = self.made.get(at as usize) {
                     let _ = put.try_set((pid, buffer));
                 }
-                self.all.store(at >= 2, Ordering::SeqCst);
+                self.all
+                    .store(at.saturating_add(1) >= self.wanted, Ordering::SeqCst);
             }
             Point::Executed if pid == 1 && !look(&self.all) => {
                 self.gave_up.store(true, Ordering::SeqCst);
@@ -237,32 +241,38 @@ impl Gate for Puts {
 const THREE_MESSAGES: &[u8] =
     b"sigscript 1\nprocess a\nsend @b x\nsend @b y\nsend @b z\nprocess b\nset X 1\nstop\n";
 
-/// The policy, and where the three puts of process 0 go: into its buffer, or into the outer queue.
-const POLICIES: [(&str, [Option<u8>; 3]); 5] = [
-    ("never", [None, None, None]),
-    ("auto", [None, None, None]),
-    ("always", [Some(0), Some(0), Some(0)]),
-    ("churn:1", [None, Some(0), Some(0)]),
-    ("churn:2", [None, None, Some(0)]),
+/// The script, the policy, and where the puts of process 0 go: into its buffer, or into the outer queue.
+const POLICIES: [(&[u8], &str, &[Option<u8>]); 7] = [
+    (ONE_MESSAGE, "never", &[None]),
+    (ONE_MESSAGE, "always", &[Some(0)]),
+    (THREE_MESSAGES, "never", &[None, None, None]),
+    (THREE_MESSAGES, "auto", &[None, None, None]),
+    (THREE_MESSAGES, "always", &[Some(0), Some(0), Some(0)]),
+    (THREE_MESSAGES, "churn:1", &[None, Some(0), Some(0)]),
+    (THREE_MESSAGES, "churn:2", &[None, None, Some(0)]),
 ];
 
-/// Whether with this policy the three puts go so.
+/// Whether with this policy the puts of the script go so.
 fn put_into<R: Threads + Wait + Sync>(
     rt: &R,
     alloc: Global,
+    script: &[u8],
     policy: &str,
-    buffers: [Option<u8>; 3],
+    buffers: &[Option<u8>],
 ) -> bool {
-    let gate = Puts::new();
+    let gate = Puts::new(buffers.len() as u64);
     let words = ["--workers", "2", "--buffers", policy];
-    let ended = ends_well(rt, alloc, words.as_slice(), THREE_MESSAGES, &gate) == Ok(true);
+    let ended = ends_well(rt, alloc, words.as_slice(), script, &gate) == Ok(true);
     ended && gate.are(buffers)
 }
 
 #[test]
 fn workers_put_as_the_policy_says(rt: HostRuntime) {
-    for (policy, buffers) in POLICIES {
-        assert!(rt; put_into(&rt, rt.alloc(), policy, buffers), "{policy}");
+    for (script, policy, buffers) in POLICIES {
+        assert!(rt;
+            put_into(&rt, rt.alloc(), script, policy, buffers),
+            "{policy}"
+        );
     }
 }
 

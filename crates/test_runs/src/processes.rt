@@ -2,7 +2,7 @@
 
 use crate::runs::{REFUSED_TEXTS, WHOLE};
 use crate::whole::Ran;
-use crate::workers::{count, is_settled};
+use crate::workers::{has_all, is_settled};
 use itoa::Buffer;
 use sig_base::OpenGate;
 use sig_host::Status;
@@ -71,7 +71,7 @@ const TAKEN: [(&[u8], usize); 8] = [
 ];
 
 /// Appends the lines of the processes of these numbers, each with these lines.
-pub(crate) fn push_processes(
+fn push_processes(
     text: &mut Vec<u8>,
     first: u32,
     end: u32,
@@ -87,15 +87,44 @@ pub(crate) fn push_processes(
     Ok(())
 }
 
-/// The record of so many processes that do nothing.
-fn record_of(alloc: Global, processes: u32) -> Result<Vec<u8>, AllocError> {
-    let mut text = Vec::from_slice(alloc, b"sigrecord 1\n")?;
-    for number in 0..processes {
-        let first = format!(in alloc; "process {number} p{number}\n")?;
-        text.extend_from_slice(first.as_bytes())?;
-        text.extend_from_slice(b"1 exec 1 ended normal\nstate ended normal\n")?;
-    }
+/// The text of this head, and of the processes of these numbers, each with these lines.
+pub(crate) fn text_of_processes(
+    alloc: Global,
+    head: &[u8],
+    first: u32,
+    end: u32,
+    lines: &[u8],
+) -> Result<Vec<u8>, AllocError> {
+    let mut text = Vec::from_slice(alloc, head)?;
+    push_processes(&mut text, first, end, lines)?;
     Ok(text)
+}
+
+/// Appends the record of each of so many processes that do nothing.
+fn push_records(text: &mut Vec<u8>, processes: u32) -> Result<(), AllocError> {
+    let mut digits = Buffer::new();
+    for number in 0..processes {
+        text.extend_from_slice(b"process ")?;
+        text.extend_from_slice(digits.format(number).as_bytes())?;
+        text.extend_from_slice(b" p")?;
+        text.extend_from_slice(digits.format(number).as_bytes())?;
+        text.extend_from_slice(b"\n1 exec 1 ended normal\nstate ended normal\n")?;
+    }
+    Ok(())
+}
+
+/// Whether a run of these pieces gives the record of so many processes that do nothing.
+fn gives_record<R: Threads + Wait + Sync>(
+    rt: &R,
+    alloc: Global,
+    pieces: &[(&[u8], usize)],
+    processes: u32,
+) -> Result<bool, AllocError> {
+    let mut record = Vec::from_slice(alloc, b"sigrecord 1\n")?;
+    push_records(&mut record, processes)?;
+    let gives = WHOLE.holds(rt, alloc, pieces, record.as_slice());
+    drop(record);
+    gives
 }
 
 /// Whether a script of so many processes is refused there, or has their record where it isn't.
@@ -105,28 +134,39 @@ fn is_counted<R: Threads + Wait + Sync>(
     row: (&[u8], u32, &[u8], &[u8]),
 ) -> Result<bool, AllocError> {
     let (head, processes, last, place) = row;
-    let mut text = Vec::from_slice(alloc, head)?;
-    push_processes(&mut text, 0, processes, b"")?;
+    let text = text_of_processes(alloc, head, 0, processes, b"")?;
     let pieces: &[(&[u8], usize)] = &[(text.as_slice(), 1), (last, 1)];
-    if place.is_empty() {
-        let record = record_of(alloc, processes)?;
-        WHOLE.holds(rt, alloc, pieces, record.as_slice())
+    let counted = if place.is_empty() {
+        gives_record(rt, alloc, pieces, processes)
     } else {
         REFUSED_TEXTS.holds(rt, alloc, pieces, place)
-    }
+    };
+    drop(text);
+    counted
 }
 
-/// Whether the taker takes all that 255 processes send, with four workers and buffers from the first
-/// signal on.
-fn takes_all<R: Threads + Wait + Sync>(rt: &R, alloc: Global) -> Result<bool, AllocError> {
-    let mut text = Vec::from_slice(alloc, TAKER)?;
-    push_processes(&mut text, 1, 256, b"send @p0 x\n")?;
+/// Whether the taker of this text takes all that 255 processes send, with four workers and buffers from the
+/// first signal on.
+fn takes_all_of<R: Threads + Wait + Sync>(
+    rt: &R,
+    alloc: Global,
+    text: &[u8],
+) -> Result<bool, AllocError> {
     let words: &[&str] = &["--workers", "4", "--buffers", "always"];
     let setting = Setting { words, ..PLAIN };
-    let ran = Ran::of(rt, alloc, &setting, &[(text.as_slice(), 1)], &OpenGate)?;
+    let ran = Ran::of(rt, alloc, &setting, &[(text, 1)], &OpenGate)?;
     let record = ran.out.held();
-    let has_all = TAKEN.iter().all(|row| count(record, row.0) == row.1);
-    Ok(ran.status == Status::Done && has_all && is_settled(alloc, record))
+    let takes = has_all(record, &TAKEN) && ran.status == Status::Done && is_settled(alloc, record);
+    drop(ran);
+    Ok(takes)
+}
+
+/// The same of the taker and 255 senders.
+fn takes_all<R: Threads + Wait + Sync>(rt: &R, alloc: Global) -> Result<bool, AllocError> {
+    let text = text_of_processes(alloc, TAKER, 1, 256, b"send @p0 x\n")?;
+    let takes = takes_all_of(rt, alloc, text.as_slice());
+    drop(text);
+    takes
 }
 
 #[test]

@@ -84,25 +84,65 @@ fn printed(alloc: Global, record: &Record) -> Result<Vec<u8>, AllocError> {
     Ok(text)
 }
 
-/// Whether the events of one message are merged so, and its record is settled and printed so.
+/// Whether the record's text is this one behind its front.
+pub(crate) fn prints(
+    alloc: Global,
+    record: &Record,
+    front: &[u8],
+    rest: &[u8],
+) -> Result<bool, AllocError> {
+    let text = printed(alloc, record)?;
+    let is_so = text.as_slice().strip_prefix(front) == Some(rest);
+    drop(text);
+    Ok(is_so)
+}
+
+/// Whether the order is that of the events of one message.
+fn is_of_one_message(record: &Record, order: &[MergedAt]) -> bool {
+    for (at, event) in order.iter().zip(ONE_MESSAGE_EVENTS) {
+        if (at.pid.0, at.place, stamp_of(record, at)) != event {
+            return false;
+        }
+    }
+    order.len() == ONE_MESSAGE_EVENTS.len()
+}
+
+/// Whether the events of one message are merged so.
+fn is_merged(alloc: Global, record: &Record) -> Result<bool, AllocError> {
+    let order = record.merge(alloc)?;
+    let merged = is_of_one_message(record, order.as_slice());
+    drop(order);
+    Ok(merged)
+}
+
+/// Whether they are, and their record is settled and printed so.
+fn is_one_message(alloc: Global, record: &Record) -> Result<bool, AllocError> {
+    let merged = is_merged(alloc, record)?;
+    Ok(merged && record.settled() && prints(alloc, record, b"", ONE_MESSAGE_RECORD)?)
+}
+
+/// The same of a run of it.
 fn one_message_is_merged(alloc: Global) -> Result<bool, ScriptError> {
     let record = record_of(alloc, ONE_MESSAGE)?;
-    let order = record.merge(alloc)?;
-    let events = order
-        .as_slice()
-        .iter()
-        .map(|at| (at.pid.0, at.place, stamp_of(&record, at)));
-    let merged = events.eq(ONE_MESSAGE_EVENTS);
-    let text = printed(alloc, &record)?;
-    Ok(merged && record.settled() && text.as_slice() == ONE_MESSAGE_RECORD)
+    let merged = is_one_message(alloc, &record);
+    drop(record);
+    Ok(merged?)
+}
+
+/// The record of the script of these lines, without its first line.
+fn record_of_lines(alloc: Global, lines: &[u8]) -> Result<Record, ScriptError> {
+    let script = text_of(alloc, &[(LINES.head, 1), (lines, 1)])?;
+    let record = record_of(alloc, script.as_slice());
+    drop(script);
+    record
 }
 
 /// Whether the script of these lines has this record, each without its first line.
 fn has_record(alloc: Global, lines: &[u8], expected: &[u8]) -> Result<bool, ScriptError> {
-    let script = text_of(alloc, &[(LINES.head, 1), (lines, 1)])?;
-    let record = record_of(alloc, script.as_slice())?;
-    let text = printed(alloc, &record)?;
-    Ok(text.as_slice().strip_prefix(b"sigrecord 1\n") == Some(expected))
+    let record = record_of_lines(alloc, lines)?;
+    let prints = prints(alloc, &record, b"sigrecord 1\n", expected);
+    drop(record);
+    Ok(prints?)
 }
 
 /// The place of the first signal in the queue of process 1 that isn't the only one of the sender of
@@ -125,7 +165,9 @@ fn first_other_queued(record: &Record) -> Option<usize> {
 /// The same of the script of these senders.
 fn first_other_of_many(alloc: Global) -> Result<Option<usize>, ScriptError> {
     let record = record_of(alloc, SENDERS)?;
-    Ok(first_other_queued(&record))
+    let place = first_other_queued(&record);
+    drop(record);
+    Ok(place)
 }
 
 #[test]
@@ -148,12 +190,20 @@ fn refused_line(alloc: Global, bytes: &[u8]) -> Option<u64> {
     }
 }
 
-/// Whether the record is printed as it was read, and so is the one that is read of its text.
+/// Whether the record is printed so, and so is the one that is read of its text.
+fn both_print(alloc: Global, record: &Record, bytes: &[u8]) -> Result<bool, RecordError> {
+    let again = reread(alloc, record)?;
+    let printed = prints(alloc, &again, b"", bytes);
+    drop(again);
+    Ok(printed? && prints(alloc, record, b"", bytes)?)
+}
+
+/// The same of a record and its text.
 fn is_printed_again(alloc: Global, bytes: &[u8]) -> Result<bool, RecordError> {
     let record = read_record(alloc, bytes)?;
-    let text = printed(alloc, &record)?;
-    let again = printed(alloc, &reread(alloc, &record)?)?;
-    Ok(text.as_slice() == bytes && again.as_slice() == bytes)
+    let print = both_print(alloc, &record, bytes);
+    drop(record);
+    print
 }
 
 #[test]

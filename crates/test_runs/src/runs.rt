@@ -78,7 +78,9 @@ fn ends_so<R: Threads + Wait + Sync>(
 ) -> Result<bool, AllocError> {
     let (status, record, told) = ending;
     let ran = Ran::of(rt, alloc, setting, &[(text, 1)], &OpenGate)?;
-    Ok(ran.status == status && ran.out.held() == record && ran.err.held() == told)
+    let is_so = ran.status == status && ran.out.held() == record && ran.err.held() == told;
+    drop(ran);
+    Ok(is_so)
 }
 
 #[test]
@@ -392,7 +394,9 @@ impl Around {
         text: &[u8],
     ) -> Result<bool, AllocError> {
         let ran = Ran::of(rt, alloc, &PLAIN, pieces, &OpenGate)?;
-        Ok(self.agrees(&ran, text))
+        let agrees = self.agrees(&ran, text);
+        drop(ran);
+        Ok(agrees)
     }
 
     /// The first of these scripts whose run doesn't.

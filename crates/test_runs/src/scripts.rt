@@ -4,7 +4,7 @@ ghost use Rattle.std.specs.Prelude.{◌≤◌};
 
 use crate::whole::text_of;
 use crate::workers::count;
-use sig_script::{ScriptError, generate, print_script, read_script};
+use sig_script::{Script, ScriptError, generate, print_script, read_script};
 use std::alloc::{AllocError, Global};
 
 /// A piece of a script's text, and how it is printed.
@@ -189,10 +189,8 @@ process b
     ],
 ];
 
-/// The text of these pieces as it is written, and as it is printed.
-fn spell(alloc: Global, pieces: &[Piece]) -> Result<(Vec<u8>, Vec<u8>), AllocError> {
-    let mut written = Vec::new(alloc);
-    let mut printed = Vec::new(alloc);
+/// Appends the text of these pieces as it is written, and as it is printed.
+fn spell(written: &mut Vec<u8>, printed: &mut Vec<u8>, pieces: &[Piece]) -> Result<(), AllocError> {
     for piece in pieces {
         let (one, other) = match piece {
             Piece::Same(text) => (*text, *text),
@@ -201,24 +199,46 @@ fn spell(alloc: Global, pieces: &[Piece]) -> Result<(Vec<u8>, Vec<u8>), AllocErr
         written.extend_from_slice(one)?;
         printed.extend_from_slice(other)?;
     }
-    Ok((written, printed))
+    Ok(())
 }
 
-/// Whether the script of this text is printed so, behind what was there.
-fn is_printed(alloc: Global, text: &[u8], canonical: &[u8]) -> Result<bool, ScriptError> {
-    let script = read_script(alloc, text)?;
+/// Whether the script is printed so, behind what was there.
+fn prints(alloc: Global, script: &Script, canonical: &[u8]) -> Result<bool, AllocError> {
     let mut printed = Vec::from_slice(alloc, b"before\n")?;
-    print_script(&script, &mut printed)?;
+    print_script(script, &mut printed)?;
     Ok(printed.as_slice().starts_with(b"before\n") && &printed[7..] == canonical)
 }
 
+/// The same of the script of this text.
+fn is_printed(alloc: Global, text: &[u8], canonical: &[u8]) -> Result<bool, ScriptError> {
+    let script = read_script(alloc, text)?;
+    let prints = prints(alloc, &script, canonical);
+    drop(script);
+    Ok(prints?)
+}
+
 /// Whether the script of these pieces is printed as they say, and what is printed again as it is.
-fn are_printed(alloc: Global, pieces: &[Piece]) -> Result<bool, ScriptError> {
-    let (written, printed) = spell(alloc, pieces)?;
+fn are_printed_with(
+    alloc: Global,
+    pieces: &[Piece],
+    written: &mut Vec<u8>,
+    printed: &mut Vec<u8>,
+) -> Result<bool, ScriptError> {
+    spell(written, printed, pieces)?;
     Ok(
         is_printed(alloc, written.as_slice(), printed.as_slice())?
             && is_printed(alloc, printed.as_slice(), printed.as_slice())?,
     )
+}
+
+/// The same, with room for the texts.
+fn are_printed(alloc: Global, pieces: &[Piece]) -> Result<bool, ScriptError> {
+    let mut written = Vec::new(alloc);
+    let mut printed = Vec::new(alloc);
+    let are_so = are_printed_with(alloc, pieces, &mut written, &mut printed);
+    drop(printed);
+    drop(written);
+    are_so
 }
 
 #[test]
@@ -276,26 +296,39 @@ const ONE_CALL_EACH: [(&[u8], usize); 17] = [
     (CALL, 1),
 ];
 
+/// The text of the script.
+fn text_of_script(alloc: Global, script: &Script) -> Result<Vec<u8>, AllocError> {
+    let mut printed = Vec::new(alloc);
+    print_script(script, &mut printed)?;
+    Ok(printed)
+}
+
 /// The text of the generated script whose clients make so many calls each.
 fn generated_text(alloc: Global, calls: u32) -> Result<Vec<u8>, AllocError>
     requires some { 1 ≤ calls }
     requires few { calls ≤ 800 }
 {
     let script = generate(alloc, calls)?;
-    let mut printed = Vec::new(alloc);
-    print_script(&script, &mut printed)?;
-    Ok(printed)
+    let printed = text_of_script(alloc, &script);
+    drop(script);
+    printed
+}
+
+/// Whether it is the one above, where each makes one.
+fn is_expected(alloc: Global, printed: &[u8]) -> Result<bool, AllocError> {
+    let expected = text_of(alloc, &ONE_CALL_EACH)?;
+    let is_so = printed == expected.as_slice();
+    drop(expected);
+    Ok(is_so)
 }
 
 /// How many lines the generated script has, where its text is the one above.
 fn count_generated_lines(alloc: Global) -> Result<Option<usize>, AllocError> {
-    let expected = text_of(alloc, &ONE_CALL_EACH)?;
     let printed = generated_text(alloc, 1)?;
-    Ok(if printed.as_slice() == expected.as_slice() {
-        Some(count(printed.as_slice(), b"\n"))
-    } else {
-        None
-    })
+    let lines = count(printed.as_slice(), b"\n");
+    let is_so = is_expected(alloc, printed.as_slice());
+    drop(printed);
+    Ok(is_so?.then_some(lines))
 }
 
 #[test]

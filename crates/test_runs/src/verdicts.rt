@@ -1,11 +1,13 @@
 //! The verdict on records, and their choices made once more.
 
+use crate::records::prints;
 use crate::watches::WATCHES;
+use crate::whole::text_of;
 use sig_check::{Replaying, Verdict, check, replay};
 use sig_model::{Origin, Origins};
-use sig_record::{Record, print_record, read_record};
+use sig_record::{Record, read_record};
 use sig_script::{Script, read_script};
-use std::alloc::{AllocError, Global};
+use std::alloc::Global;
 use test_shared::{ONE_MESSAGE, ONE_MESSAGE_RECORD};
 
 /// Records of the script of one message, and the verdict on each.
@@ -25,17 +27,35 @@ static VERDICTS: [(&[u8], Verdict); 3] = [
     ),
 ];
 
-/// The verdict on the record of this text. `None` where there is none.
+/// The script and the record of these texts, where both are some.
+fn read_both(alloc: Global, script: &[u8], record: &[u8]) -> Option<(Script, Record)> {
+    let script = read_script(alloc, script).ok()?;
+    match read_record(alloc, record) {
+        Ok(record) => Some((script, record)),
+        Err(_) => {
+            drop(script);
+            None
+        }
+    }
+}
+
+/// The verdict on the record of this text, as one of the script of one message. `None` where there is none.
 fn verdict_of(alloc: Global, text: &[u8]) -> Option<Verdict> {
-    let script = read_script(alloc, ONE_MESSAGE).ok()?;
-    let record = read_record(alloc, text).ok()?;
-    check(alloc, &script, &record).ok()
+    let (script, record) = read_both(alloc, ONE_MESSAGE, text)?;
+    let verdict = check(alloc, &script, &record).ok();
+    drop(record);
+    drop(script);
+    verdict
 }
 
 /// Whether `check` says yes to the record of this text, as one of the script.
 pub(crate) fn is_checked(alloc: Global, script: &Script, text: &[u8]) -> bool {
     match read_record(alloc, text) {
-        Ok(record) => check(alloc, script, &record) == Ok(Verdict::Yes),
+        Ok(record) => {
+            let verdict = check(alloc, script, &record);
+            drop(record);
+            verdict == Ok(Verdict::Yes)
+        }
         Err(_) => false,
     }
 }
@@ -51,25 +71,31 @@ const TWO_SENDERS: (&[u8], &[u8]) = (
       6 exec 3 ended normal\nstate ended normal\n",
 );
 
-/// The text of the record of the crew that makes the choices of a record.
-fn text_again(alloc: Global, script: &[u8], record: &[u8]) -> Option<Vec<u8>> {
-    let script = read_script(alloc, script).ok()?;
-    let record = read_record(alloc, record).ok()?;
-    match replay(alloc, &script, &record).ok()? {
-        Replaying::Replayed { crew, .. } => {
-            let again = Record::gather(alloc, crew).ok()?;
-            let mut text = Vec::new(alloc);
-            print_record(&again, &mut text).ok()?;
-            Some(text)
-        }
+/// The record of the crew that makes the choices of this one.
+fn replayed(alloc: Global, script: &Script, record: &Record) -> Option<Record> {
+    match replay(alloc, script, record).ok()? {
+        Replaying::Replayed { crew, .. } => Record::gather(alloc, crew).ok(),
         Replaying::Stopped { .. } => None,
     }
 }
 
-/// Whether it is the text of that record.
+/// The same of the texts of a script and a record.
+fn record_again(alloc: Global, script: &[u8], record: &[u8]) -> Option<Record> {
+    let (script, record) = read_both(alloc, script, record)?;
+    let again = replayed(alloc, &script, &record);
+    drop(record);
+    drop(script);
+    again
+}
+
+/// Whether it has the text of that record.
 fn is_replayed(alloc: Global, script: &[u8], record: &[u8]) -> bool {
-    match text_again(alloc, script, record) {
-        Some(text) => text.as_slice() == record,
+    match record_again(alloc, script, record) {
+        Some(again) => {
+            let prints = prints(alloc, &again, b"", record);
+            drop(again);
+            prints == Ok(true)
+        }
         None => false,
     }
 }
@@ -130,27 +156,39 @@ fn are_these(origins: &Origins, sent: &[[u64; 4]]) -> bool {
 }
 
 /// Whether a replay of this record of this script tells these origins.
-fn are_told(alloc: Global, script: &[u8], record: &[u8], sent: &[[u64; 4]]) -> Option<bool> {
-    let script = read_script(alloc, script).ok()?;
-    let record = read_record(alloc, record).ok()?;
-    match replay(alloc, &script, &record).ok()? {
-        Replaying::Replayed { origins, .. } => Some(are_these(&origins, sent)),
+fn tells(alloc: Global, script: &Script, record: &Record, sent: &[[u64; 4]]) -> Option<bool> {
+    let replaying = replay(alloc, script, record).ok()?;
+    let told = match &replaying {
+        Replaying::Replayed { origins, .. } => Some(are_these(origins, sent)),
         Replaying::Stopped { .. } => None,
-    }
+    };
+    drop(replaying);
+    told
 }
 
-/// A text with this first line.
-fn under(alloc: Global, first: &[u8], rest: &[u8]) -> Result<Vec<u8>, AllocError> {
-    let mut text = Vec::from_slice(alloc, first)?;
-    text.extend_from_slice(rest)?;
-    Ok(text)
+/// The same of the texts of a script and a record.
+fn are_told(alloc: Global, script: &[u8], record: &[u8], sent: &[[u64; 4]]) -> Option<bool> {
+    let (script, record) = read_both(alloc, script, record)?;
+    let told = tells(alloc, &script, &record, sent);
+    drop(record);
+    drop(script);
+    told
 }
 
 /// The same of a script and a record without their first lines.
 fn are_told_of(alloc: Global, script: &[u8], record: &[u8], sent: &[[u64; 4]]) -> Option<bool> {
-    let script = under(alloc, b"sigscript 1\n", script).ok()?;
-    let record = under(alloc, b"sigrecord 1\n", record).ok()?;
-    are_told(alloc, script.as_slice(), record.as_slice(), sent)
+    let script = text_of(alloc, &[(b"sigscript 1\n", 1), (script, 1)]).ok()?;
+    let told = are_told_under(alloc, script.as_slice(), record, sent);
+    drop(script);
+    told
+}
+
+/// The same of a record without its first line.
+fn are_told_under(alloc: Global, script: &[u8], record: &[u8], sent: &[[u64; 4]]) -> Option<bool> {
+    let record = text_of(alloc, &[(b"sigrecord 1\n", 1), (record, 1)]).ok()?;
+    let told = are_told(alloc, script, record.as_slice(), sent);
+    drop(record);
+    told
 }
 
 /// The same of the example of monitors and aliases at this place.

@@ -54,6 +54,7 @@ impl Ran {
             &mut err,
             gate,
         );
+        drop(words);
         Ok(Ran {
             status,
             script,

@@ -63,8 +63,13 @@ const SERVED: [(&[u8], usize); 3] = [
 ];
 
 /// Whether each piece stands in the text as often as the table says.
-fn has_all(text: &[u8], table: &[(&[u8], usize)]) -> bool {
-    table.iter().all(|row| count(text, row.0) == row.1)
+pub(crate) fn has_all(text: &[u8], table: &[(&[u8], usize)]) -> bool {
+    for (piece, times) in table {
+        if count(text, piece) != *times {
+            return false;
+        }
+    }
+    true
 }
 
 /// The client's taking of its answer, with the first clause and at once.
@@ -87,7 +92,9 @@ fn answer_taken(alloc: Global, client: u32) -> Result<Vec<u8>, AllocError> {
 fn first_unserved(alloc: Global, text: &[u8]) -> Result<Option<u32>, AllocError> {
     for client in 1..13 {
         let taken = answer_taken(alloc, client)?;
-        if client != 5 && count(text, taken.as_slice()) != 1 {
+        let times = count(text, taken.as_slice());
+        drop(taken);
+        if client != 5 && times != 1 {
             return Ok(Some(client));
         }
     }
@@ -128,15 +135,20 @@ pub(crate) fn is_settled(alloc: Global, bytes: &[u8]) -> bool {
 
 /// Whether `check` says yes to the record, as one of the script of these lines.
 fn is_checked_of(alloc: Global, lines: &[u8], record: &[u8]) -> Result<bool, AllocError> {
-    let mut text = Vec::from_slice(alloc, LINES.head)?;
-    text.extend_from_slice(lines)?;
-    match read_script(alloc, text.as_slice()) {
-        Ok(script) => Ok(is_checked(alloc, &script, record)),
+    let text = text_of(alloc, &[(LINES.head, 1), (lines, 1)])?;
+    let script = read_script(alloc, text.as_slice());
+    drop(text);
+    match script {
+        Ok(script) => {
+            let checked = is_checked(alloc, &script, record);
+            drop(script);
+            Ok(checked)
+        }
         Err(_) => Ok(false),
     }
 }
 
-/// Whether the two play until both are cut, and `check` says yes to the record.
+/// Whether the two play until both are cut, and the record is a settled one to which `check` says yes.
 fn play_settles<R: Threads + Wait + Sync>(
     rt: &R,
     alloc: Global,
@@ -144,18 +156,15 @@ fn play_settles<R: Threads + Wait + Sync>(
 ) -> Result<bool, AllocError> {
     let ran = run_of(rt, alloc, PING_PONG, words)?;
     let record = ran.out.held();
-    let plays = ran.status == Status::Done && has_all(record, &PLAYED);
-    Ok(plays && is_checked_of(alloc, PING_PONG, record)?)
+    let plays = ran.status == Status::Done && has_all(record, &PLAYED) && is_settled(alloc, record);
+    let checked = is_checked_of(alloc, PING_PONG, record);
+    drop(ran);
+    Ok(checked? && plays)
 }
 
-/// The first client that isn't served, or 0, which is the server, where the record is another
+/// The first client that the run doesn't serve, or 0, which is the server, where the record is another
 /// otherwise.
-fn first_unserved_with<R: Threads + Wait + Sync>(
-    rt: &R,
-    alloc: Global,
-    words: &[&str],
-) -> Result<Option<u32>, AllocError> {
-    let ran = run_of(rt, alloc, SERVER_AND_CLIENTS, words)?;
+fn first_unserved_by(alloc: Global, ran: &Ran) -> Result<Option<u32>, AllocError> {
     let record = ran.out.held();
     if ran.status != Status::Done || !has_all(record, &SERVED) || count_ended(record) != 12 {
         return Ok(Some(0));
@@ -164,6 +173,18 @@ fn first_unserved_with<R: Threads + Wait + Sync>(
         return Ok(Some(0));
     }
     first_unserved(alloc, record)
+}
+
+/// The same of a run with these arguments.
+fn first_unserved_with<R: Threads + Wait + Sync>(
+    rt: &R,
+    alloc: Global,
+    words: &[&str],
+) -> Result<Option<u32>, AllocError> {
+    let ran = run_of(rt, alloc, SERVER_AND_CLIENTS, words)?;
+    let unserved = first_unserved_by(alloc, &ran);
+    drop(ran);
+    unserved
 }
 
 #[test]
@@ -199,7 +220,9 @@ pub(crate) fn ends_well<R: Threads + Wait + Sync, G: Gate>(
 ) -> Result<bool, AllocError> {
     let setting = Setting { words, ..PLAIN };
     let ran = Ran::of(rt, alloc, &setting, &[(text, 1)], gate)?;
-    Ok(ran.status == Status::Done)
+    let ended = ran.status == Status::Done;
+    drop(ran);
+    Ok(ended)
 }
 
 /// A gate that holds process 1 at its first instruction until process 0 has executed one, and

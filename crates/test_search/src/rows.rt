@@ -119,8 +119,7 @@ fn number_of(row: &Row, at: u32) -> u32 {
 fn things(alloc: Global, row: &Row, number: u32) -> Result<Vec<u32>, AllocError>
     ensures { IfOk result (λ v. length v.items ≡ row.now.width) }
 {
-    let mut things = Vec::new(alloc);
-    things.resize(row.width, ELSEWHERE)?;
+    let mut things = vec![in alloc; ELSEWHERE; row.width]?;
     if row.place < things.len() {
         things[row.place] = number.wrapping_mul(row.step);
     }
@@ -134,7 +133,9 @@ fn is_numbered(alloc: Global, rows: &mut Rows<u32>, row: &Row, at: u32) -> Resul
 {
     let number = number_of(row, at);
     let things = things(alloc, row, number)?;
-    Ok(rows.number(&things)? == number as usize)
+    let numbered = rows.number(&things);
+    drop(things);
+    Ok(numbered? == number as usize)
 }
 
 // Whether each row stands at its number, and none behind them.
@@ -148,18 +149,27 @@ fn has_all(alloc: Global, rows: &Rows<u32>, row: &Row) -> Result<bool, AllocErro
     Ok(rows.len() == row.different as usize && rows.get(rows.len()).is_none())
 }
 
-// Whether the rows get the numbers that the table says, and stand there then.
-fn numbers_right(alloc: Global, row: &Row) -> Result<bool, AllocError> {
-    let mut rows = Rows::new(alloc);
+// Whether the rows, of which there is none yet, get the numbers that the table says, and stand there then.
+fn are_numbered(alloc: Global, rows: &mut Rows<u32>, row: &Row) -> Result<bool, AllocError>
+    requires { All (λ (r : List ℕ). length r ≡ row.now.width) rows.old }
+{
     if rows.len() != 0 || rows.get(0).is_some() {
         return Ok(false);
     }
     for at in 0..row.given {
-        if !is_numbered(alloc, &mut rows, row, at)? {
+        if !is_numbered(alloc, rows, row, at)? {
             return Ok(false);
         }
     }
-    has_all(alloc, &rows, row)
+    has_all(alloc, rows, row)
+}
+
+// The same of new rows.
+fn numbers_right(alloc: Global, row: &Row) -> Result<bool, AllocError> {
+    let mut rows = Rows::new(alloc);
+    let right = are_numbered(alloc, &mut rows, row);
+    drop(rows);
+    right
 }
 
 #[test]

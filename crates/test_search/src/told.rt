@@ -79,8 +79,12 @@ fn tells(alloc: Global, row: &Row) -> Result<bool, AllocError> {
         lines: Vec::new(alloc),
         whole: true,
     };
-    search(&mut graph, row.most, &mut told)?;
-    Ok(told.whole && told.lines.as_slice() == row.lines)
+    let searched = search(&mut graph, row.most, &mut told);
+    drop(graph);
+    let tells = told.whole && told.lines.as_slice() == row.lines;
+    drop(told);
+    searched?;
+    Ok(tells)
 }
 
 #[test]

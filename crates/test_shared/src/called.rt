@@ -6,6 +6,9 @@ use std::alloc::{AllocError, Global};
 /// More bytes than a program writes of any input of a test.
 const ROOM: usize = 1_000_000;
 
+/// What a call of the program answers, writes and tells.
+pub type Ending<'a, P> = (<P as Program>::Status, &'a [u8], &'a [u8]);
+
 /// A call of the program: its answer, what is left of its input, and what it has written and told.
 #[derive(Drop)]
 pub struct Called<P: Program> {
@@ -66,6 +69,24 @@ impl<P: Program> Called<P> {
             out,
             err,
         })
+    }
+
+    /// Whether the call on this script with this record behind it answers, writes and tells so.
+    ///
+    /// # Errors
+    ///
+    /// [`AllocError`] where memory is wanting for its streams.
+    pub fn ends_so(
+        alloc: Global,
+        setting: &Setting,
+        script: &[u8],
+        told: &[u8],
+        ending: Ending<P>,
+    ) -> Result<bool, AllocError> {
+        let called = Called::<P>::of(alloc, setting, script, told)?;
+        let is_so = called.is(ending.0, ending.1, ending.2);
+        drop(called);
+        Ok(is_so)
     }
 
     /// Whether it has answered, written and told so.

@@ -1,4 +1,4 @@
-use crate::called::Called;
+use crate::called::{Called, Ending};
 use crate::program::Program;
 use crate::setting::{PLAIN, Setting};
 use std::alloc::{AllocError, Global};
@@ -24,13 +24,13 @@ fn fails_at_read<P: Program>(alloc: Global, work: &Work, read: u64) -> Result<bo
         failing_writes: &[],
         ..PLAIN
     };
-    let called = Called::<P>::of(alloc, &setting, work.script, work.told)?;
     let reads = work.script.len().saturating_add(work.told.len()) as u64;
-    if read <= reads.saturating_add(1) {
-        Ok(called.is(P::READ_FAULT, b"", P::READ_TOLD))
+    let ending: Ending<P> = if read <= reads.saturating_add(1) {
+        (P::READ_FAULT, b"", P::READ_TOLD)
     } else {
-        Ok(called.is(P::DONE, work.text, b""))
-    }
+        (P::DONE, work.text, b"")
+    };
+    Called::<P>::ends_so(alloc, &setting, work.script, work.told, ending)
 }
 
 /// Whether the call whose write of this number fails says so and has written the bytes before; behind
@@ -43,13 +43,11 @@ fn fails_at_write<P: Program>(alloc: Global, work: &Work, write: u64) -> Result<
         failing_writes: &[write],
         ..PLAIN
     };
-    let called = Called::<P>::of(alloc, &setting, work.script, work.told)?;
-    match work.text.get(..(write as usize).saturating_sub(1)) {
-        Some(front) if front.len() < work.text.len() => {
-            Ok(called.is(P::WRITE_FAULT, front, P::WRITE_TOLD))
-        }
-        _ => Ok(called.is(P::DONE, work.text, b"")),
-    }
+    let ending: Ending<P> = match work.text.get(..(write as usize).saturating_sub(1)) {
+        Some(front) if front.len() < work.text.len() => (P::WRITE_FAULT, front, P::WRITE_TOLD),
+        _ => (P::DONE, work.text, b""),
+    };
+    Called::<P>::ends_so(alloc, &setting, work.script, work.told, ending)
 }
 
 /// The first call of a stream, up to one behind the last read and the last write, whose fault is answered

@@ -14,7 +14,7 @@ mod signal_examples;
 mod tool;
 mod words;
 
-pub use called::{Called, streams_of};
+pub use called::{Called, Ending, streams_of};
 pub use calls::{
     LATE_REPLY, LATE_REPLY_SCRIPT, NO_SERVER, NO_SERVER_RECORD, NO_SERVER_SCRIPT, ONE_CALL,
     ONE_CALL_RECORD, ONE_CALL_SCRIPT,

@@ -51,6 +51,5 @@ pub const YES: &[u8] = b"yes\n";
 ///
 /// [`AllocError`] where memory is wanting for its streams.
 pub fn is_checked(alloc: Global, script: &[u8], told: &[u8]) -> Result<bool, AllocError> {
-    let called = Called::<Tool>::of(alloc, &CHECK, script, told)?;
-    Ok(called.is(ToolStatus::Done, YES, b""))
+    Called::<Tool>::ends_so(alloc, &CHECK, script, told, (Tool::DONE, YES, b""))
 }

@@ -14,8 +14,13 @@ fn are_refused<P: Program>(alloc: Global, words: Words) -> Result<bool, AllocErr
         failing_reads: &[1],
         ..PLAIN
     };
-    let called = Called::<P>::of(alloc, &setting, ONE_MESSAGE, ONE_MESSAGE_RECORD)?;
-    Ok(called.is(P::USAGE, b"", P::USAGE_TOLD))
+    Called::<P>::ends_so(
+        alloc,
+        &setting,
+        ONE_MESSAGE,
+        ONE_MESSAGE_RECORD,
+        (P::USAGE, b"", P::USAGE_TOLD),
+    )
 }
 
 /// The first of these lists of words that isn't refused before the input is read.

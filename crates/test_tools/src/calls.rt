@@ -6,8 +6,8 @@ use sig_script::FaultKind;
 use sig_tool::ToolStatus;
 use std::alloc::{AllocError, Global};
 use test_shared::{
-    CHECK, LATE_REPLY, LATE_REPLY_SCRIPT, NO_SERVER, NO_SERVER_RECORD, NO_SERVER_SCRIPT, ONE_CALL,
-    ONE_CALL_RECORD, ONE_CALL_SCRIPT, Setting, is_checked,
+    CHECK, Ending, LATE_REPLY, LATE_REPLY_SCRIPT, NO_SERVER, NO_SERVER_RECORD, NO_SERVER_SCRIPT,
+    ONE_CALL, ONE_CALL_RECORD, ONE_CALL_SCRIPT, Setting, Tool, is_checked,
 };
 
 /// Texts of calls, the script that is written of each, and a record of it. The records were worked out by
@@ -160,9 +160,8 @@ fn is_expanded(
     script: &[u8],
     record: &[u8],
 ) -> Result<bool, AllocError> {
-    let expanded = Called::of(alloc, &EXPAND, text, b"")?;
-    let checked = is_checked(alloc, expanded.out.held(), record)?;
-    Ok(expanded.is(ToolStatus::Done, script, b"") && checked)
+    let is_written = Called::ends_so(alloc, &EXPAND, text, b"", (ToolStatus::Done, script, b""))?;
+    Ok(is_written && is_checked(alloc, script, record)?)
 }
 
 #[test]
@@ -180,8 +179,7 @@ fn is_refused(
     status: ToolStatus,
     told: &[u8],
 ) -> Result<bool, AllocError> {
-    let called = Called::of(alloc, &EXPAND, text, b"")?;
-    Ok(called.is(status, b"", told))
+    Called::ends_so(alloc, &EXPAND, text, b"", (status, b"", told))
 }
 
 #[test]
@@ -202,20 +200,23 @@ fn text_with(alloc: Global, count: usize) -> Result<Vec<u8>, AllocError> {
     Ok(text)
 }
 
-/// Whether a text of as many bytes as there may be is expanded, and one of a byte more is refused.
-fn is_bounded(alloc: Global) -> Result<bool, AllocError> {
+/// Whether a text of so many bytes is answered so.
+fn ends_so(alloc: Global, count: usize, ending: Ending<Tool>) -> Result<bool, AllocError> {
     let setting = Setting {
         piece: 4096,
         ..EXPAND
     };
-    let most = text_with(alloc, MOST)?;
-    let more = text_with(alloc, MOST.saturating_add(1))?;
-    let expanded = Called::of(alloc, &setting, most.as_slice(), b"")?;
-    let refused = Called::of(alloc, &setting, more.as_slice(), b"")?;
-    Ok(
-        expanded.is(ToolStatus::Done, b"sigscript 1\nturns 1000\n", b"")
-            && refused.is(ToolStatus::TooLong, b"", b"sigtool: too long\n"),
-    )
+    let text = text_with(alloc, count)?;
+    let ends = Called::ends_so(alloc, &setting, text.as_slice(), b"", ending);
+    drop(text);
+    ends
+}
+
+/// Whether a text of as many bytes as there may be is expanded, and one of a byte more is refused.
+fn is_bounded(alloc: Global) -> Result<bool, AllocError> {
+    let expanded: Ending<Tool> = (ToolStatus::Done, b"sigscript 1\nturns 1000\n", b"");
+    let refused: Ending<Tool> = (ToolStatus::TooLong, b"", b"sigtool: too long\n");
+    Ok(ends_so(alloc, MOST, expanded)? && ends_so(alloc, MOST.saturating_add(1), refused)?)
 }
 
 #[test]

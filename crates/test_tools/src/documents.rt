@@ -3,7 +3,7 @@
 use crate::called::Called;
 use sig_tool::ToolStatus;
 use std::alloc::{AllocError, Global};
-use test_shared::{CHECK, Setting};
+use test_shared::{CHECK, Ending, Setting, Tool};
 
 /// Each script with a record behind it that a document shows, what `check` writes or tells of them, and
 /// its answer.
@@ -76,12 +76,11 @@ fn is_so(
     status: ToolStatus,
 ) -> Result<bool, AllocError> {
     let setting = Setting { words, ..CHECK };
-    let called = Called::of(alloc, &setting, input, b"")?;
-    let so = match status {
-        ToolStatus::Done => called.is(status, said, b""),
-        _ => called.is(status, b"", said),
+    let ending: Ending<Tool> = match status {
+        ToolStatus::Done => (status, said, b""),
+        _ => (status, b"", said),
     };
-    Ok(so)
+    Called::ends_so(alloc, &setting, input, b"", ending)
 }
 
 #[test]

@@ -5,8 +5,8 @@ use sig_call::CallFault;
 use sig_tool::ToolStatus;
 use std::alloc::{AllocError, Global};
 use test_shared::{
-    CHECK, ONE_CALL, ONE_CALL_SCRIPT, ONE_MESSAGE, ONE_MESSAGE_RECORD, Program, Setting, Tool,
-    Work, YES, first_other,
+    CHECK, Ending, ONE_CALL, ONE_CALL_SCRIPT, ONE_MESSAGE, ONE_MESSAGE_RECORD, Program, Setting,
+    Tool, Work, YES, first_other,
 };
 
 /// Commands, with what they write.
@@ -46,28 +46,26 @@ fn are_in_order(alloc: Global) -> Result<bool, AllocError> {
         failing_writes: &[1],
         ..CHECK
     };
-    let refused = Called::of(alloc, &setting, ONE_MESSAGE, b"sigrecord 1\n")?;
     let expanding = Setting {
         words: &["expand"],
-        failing_writes: &[1],
-        ..CHECK
+        ..setting
     };
-    let no_call = Called::of(alloc, &expanding, b"call", b"")?;
     let unread = Setting {
         failing_reads: &[1],
-        failing_writes: &[1],
-        ..CHECK
+        ..setting
     };
-    let failed = Called::of(alloc, &unread, b"no script", b"")?;
     let no = ToolStatus::No { event: 1 };
     let form = ToolStatus::BadCall {
         line: 1,
         kind: CallFault::Form,
     };
+    let refused: Ending<Tool> = (no, b"", b"sigtool: no at event 1\n");
+    let no_call: Ending<Tool> = (form, b"", b"sigtool: line 1: call_form\n");
+    let failed: Ending<Tool> = (ToolStatus::ReadFault, b"", Tool::READ_TOLD);
     Ok(
-        refused.is(no, b"", b"sigtool: no at event 1\n")
-            && no_call.is(form, b"", b"sigtool: line 1: call_form\n")
-            && failed.is(ToolStatus::ReadFault, b"", Tool::READ_TOLD),
+        Called::ends_so(alloc, &setting, ONE_MESSAGE, b"sigrecord 1\n", refused)?
+            && Called::ends_so(alloc, &expanding, b"call", b"", no_call)?
+            && Called::ends_so(alloc, &unread, b"no script", b"", failed)?,
     )
 }
 

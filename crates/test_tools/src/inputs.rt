@@ -6,7 +6,9 @@ use sig_call::CallFault;
 use sig_script::FaultKind;
 use sig_tool::ToolStatus;
 use std::alloc::{AllocError, Global};
-use test_shared::{CHECK, ONE_MESSAGE, ONE_MESSAGE_RECORD, Setting, Tool, Words, YES, first_taken};
+use test_shared::{
+    CHECK, Ending, ONE_MESSAGE, ONE_MESSAGE_RECORD, Setting, Tool, Words, YES, first_taken,
+};
 
 const NO_HEADER: ToolStatus = ToolStatus::BadScript {
     line: 1,
@@ -115,9 +117,12 @@ fn other_arguments_are_refused(rt: HostRuntime) {
 /// Whether all is as ever where nothing can be told.
 fn is_untold(alloc: Global) -> Result<bool, AllocError> {
     let setting = Setting { room: 0, ..CHECK };
-    let checked = Called::of(alloc, &setting, ONE_MESSAGE, ONE_MESSAGE_RECORD)?;
-    let refused = Called::of(alloc, &setting, ONE_MESSAGE, b"")?;
-    Ok(checked.is(ToolStatus::Done, YES, b"") && refused.is(NO_RECORD, b"", b""))
+    let checked: Ending<Tool> = (ToolStatus::Done, YES, b"");
+    let refused: Ending<Tool> = (NO_RECORD, b"", b"");
+    Ok(
+        Called::ends_so(alloc, &setting, ONE_MESSAGE, ONE_MESSAGE_RECORD, checked)?
+            && Called::ends_so(alloc, &setting, ONE_MESSAGE, b"", refused)?,
+    )
 }
 
 #[test]

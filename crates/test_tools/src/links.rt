@@ -70,8 +70,7 @@ const LINKS: Setting<'static, 'static> = Setting {
 
 /// Whether these are written of the script with this record.
 fn are_links(alloc: Global, script: &[u8], told: &[u8], lines: &[u8]) -> Result<bool, AllocError> {
-    let called = Called::of(alloc, &LINKS, script, told)?;
-    Ok(called.is(ToolStatus::Done, lines, b""))
+    Called::ends_so(alloc, &LINKS, script, told, (ToolStatus::Done, lines, b""))
 }
 
 #[test]

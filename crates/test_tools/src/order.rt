@@ -4,15 +4,15 @@ use crate::called::Called;
 use sig_tool::ToolStatus;
 use std::alloc::{AllocError, Global};
 use test_shared::{
-    CHECK, CLIENTS, CLIENTS_RECORD, ONE_MESSAGE, ONE_MESSAGE_RECORD, RING, RING_RECORD, Setting,
-    WRONG_RECORD,
+    CHECK, CLIENTS, CLIENTS_RECORD, Ending, ONE_MESSAGE, ONE_MESSAGE_RECORD, RING, RING_RECORD,
+    Setting, Tool, WRONG_RECORD,
 };
 
-const YES: (ToolStatus, &[u8], &[u8]) = (ToolStatus::Done, b"yes\n", b"");
+const YES: Ending<'static, Tool> = (ToolStatus::Done, b"yes\n", b"");
 
-const NO: (ToolStatus, &[u8], &[u8]) = (ToolStatus::Done, b"no\n", b"");
+const NO: Ending<'static, Tool> = (ToolStatus::Done, b"no\n", b"");
 
-const NONE: (ToolStatus, &[u8], &[u8]) = (ToolStatus::NoEvent, b"", b"sigtool: no such event\n");
+const NONE: Ending<'static, Tool> = (ToolStatus::NoEvent, b"", b"sigtool: no such event\n");
 
 const USAGE: (ToolStatus, &[u8], &[u8]) = (
     ToolStatus::Usage,
@@ -21,10 +21,7 @@ const USAGE: (ToolStatus, &[u8], &[u8]) = (
 );
 
 /// What is asked of a script and its record, and what is answered, written and told.
-type Question = (
-    &'static [&'static str],
-    (ToolStatus, &'static [u8], &'static [u8]),
-);
+type Question = (&'static [&'static str], Ending<'static, Tool>);
 
 /// Of one message: its sending, its receiving, and numbers that name no event or aren't numbers.
 static OF_ONE: [Question; 17] = [
@@ -81,10 +78,9 @@ fn are_answered(
     told: &[u8],
     questions: &[Question],
 ) -> Result<bool, AllocError> {
-    for (words, (status, written, line)) in questions {
+    for (words, ending) in questions {
         let setting = Setting { words, ..CHECK };
-        let called = Called::of(alloc, &setting, script, told)?;
-        if !called.is(*status, written, line) {
+        if !Called::ends_so(alloc, &setting, script, told, *ending)? {
             return Ok(false);
         }
     }
@@ -108,9 +104,8 @@ fn the_verdict_comes_first(rt: HostRuntime) {
         words: &["before", "0", "3", "1", "1"],
         ..CHECK
     };
-    let called = Called::of(rt.alloc(), &setting, ONE_MESSAGE, WRONG_RECORD);
-    assert!(rt;
-        matches!(&called, Ok(called)
-        if called.is(ToolStatus::No { event: 1 }, b"", b"sigtool: no at event 1\n"))
-    );
+    let no = ToolStatus::No { event: 1 };
+    let ending: Ending<Tool> = (no, b"", b"sigtool: no at event 1\n");
+    let ends = Called::ends_so(rt.alloc(), &setting, ONE_MESSAGE, WRONG_RECORD, ending);
+    assert!(rt; ends == Ok(true));
 }

@@ -173,11 +173,12 @@ pub(crate) fn both_answer(
         words: &["replay"],
         ..CHECK
     };
-    let checked = Called::of(alloc, &CHECK, script, told)?;
-    let replayed = Called::of(alloc, &replaying, script, told)?;
     let yes: &[u8] = if is_yes { YES } else { b"" };
     let again: &[u8] = if is_yes { told } else { b"" };
-    Ok(checked.is(status, yes, said) && replayed.is(status, again, said))
+    Ok(
+        Called::ends_so(alloc, &CHECK, script, told, (status, yes, said))?
+            && Called::ends_so(alloc, &replaying, script, told, (status, again, said))?,
+    )
 }
 
 #[test]

@@ -51,7 +51,10 @@ fn is_whole(alloc: Global, example: &Example) -> Result<bool, AllocError> {
     let called = Called::of(alloc, &setting, example.script, told)?;
     let chart = called.out.held();
     let queued = lines_with(chart, QUEUED) == lines_with(told, b"queued ");
-    Ok(called.status == ViewStatus::Done && lines_with(chart, STAMP) == events_in(told) && queued)
+    let rows = lines_with(chart, STAMP) == events_in(told);
+    let is_done = called.status == ViewStatus::Done;
+    drop(called);
+    Ok(is_done && rows && queued)
 }
 
 /// The first of these examples, by its file, whose record has another chart.
@@ -78,15 +81,21 @@ fn charts_of_examples_are_whole(rt: HostRuntime) {
 /// A process that turns in a loop until it has made 2,001 events, one more than a chart may have.
 const TURNING: &[u8] = b"sigscript 1\nturns 2001\nprocess a\nlabel again\ngoto again\n";
 
-/// Its record: each event of the loop is done, and the process is cut.
-fn its_record(alloc: Global) -> Result<Vec<u8>, AllocError> {
-    let mut told = Vec::from_slice(alloc, b"sigrecord 1\nprocess 0 a\n")?;
+/// Appends the event of the loop with this stamp.
+fn push_event(alloc: Global, told: &mut Vec<u8>, stamp: u64) -> Result<(), AllocError> {
+    let line = format!(in alloc; "{stamp} exec 1 done\n")?;
+    let pushed = told.extend_from_slice(line.as_bytes());
+    drop(line);
+    pushed
+}
+
+/// Appends its record: each event of the loop is done, and the process is cut.
+fn push_record(alloc: Global, told: &mut Vec<u8>) -> Result<(), AllocError> {
+    told.extend_from_slice(b"sigrecord 1\nprocess 0 a\n")?;
     for stamp in 1..2002u64 {
-        let line = format!(in alloc; "{stamp} exec 1 done\n")?;
-        told.extend_from_slice(line.as_bytes())?;
+        push_event(alloc, told, stamp)?;
     }
-    told.extend_from_slice(b"state cut\n")?;
-    Ok(told)
+    told.extend_from_slice(b"state cut\n")
 }
 
 /// The call with these words, of that record.
@@ -96,8 +105,11 @@ fn called_with(alloc: Global, words: &[&str]) -> Result<Called, AllocError> {
         taken: 1000,
         ..PLAIN
     };
-    let told = its_record(alloc)?;
-    Called::of(alloc, &setting, TURNING, told.as_slice())
+    let mut told = Vec::new(alloc);
+    push_record(alloc, &mut told)?;
+    let called = Called::of(alloc, &setting, TURNING, told.as_slice());
+    drop(told);
+    called
 }
 
 /// Whether the chart with these options is refused for too many events.
@@ -131,7 +143,10 @@ static WINDOWS: [(&[&str], usize); 5] = [
 fn has_rows(alloc: Global, words: &[&str], count: usize) -> Result<bool, AllocError> {
     let called = called_with(alloc, words)?;
     let told = called.err.held().is_empty();
-    Ok(called.status == ViewStatus::Done && told && lines_with(called.out.held(), STAMP) == count)
+    let rows = lines_with(called.out.held(), STAMP) == count;
+    let is_done = called.status == ViewStatus::Done;
+    drop(called);
+    Ok(is_done && told && rows)
 }
 
 #[test]

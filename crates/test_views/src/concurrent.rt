@@ -1,12 +1,12 @@
 //! Which events of other processes neither happened before an event nor after it. The rows follow from
 //! which event sent which signal, and were worked out by hand.
 
-use crate::called::{Called, PLAIN};
+use crate::called::{Called, PLAIN, Viewer};
 use crate::rows::WITH_ITS_END;
 use sig_view::ViewStatus;
 use std::alloc::{AllocError, Global};
 use test_shared::{
-    CLIENTS, CLIENTS_RECORD, ONE_MESSAGE, ONE_MESSAGE_RECORD, RING, RING_RECORD, Setting,
+    CLIENTS, CLIENTS_RECORD, Ending, ONE_MESSAGE, ONE_MESSAGE_RECORD, RING, RING_RECORD, Setting,
     kill_by_a_link,
 };
 
@@ -69,8 +69,8 @@ fn are_answered(
             words: &["concurrent", pid, event],
             ..PLAIN
         };
-        let called = Called::of(alloc, &setting, script, told)?;
-        if !called.is(ViewStatus::Done, written, b"") {
+        let ending: Ending<Viewer> = (ViewStatus::Done, written, b"");
+        if !Called::ends_so(alloc, &setting, script, told, ending)? {
             return Ok(false);
         }
     }
@@ -98,8 +98,8 @@ fn are_missing(alloc: Global) -> Result<bool, AllocError> {
             words: &["concurrent", pid, event],
             ..PLAIN
         };
-        let called = Called::of(alloc, &setting, ONE_MESSAGE, ONE_MESSAGE_RECORD)?;
-        if !called.is(ViewStatus::NoEvent, b"", b"sigview: no such event\n") {
+        let ending: Ending<Viewer> = (ViewStatus::NoEvent, b"", b"sigview: no such event\n");
+        if !Called::ends_so(alloc, &setting, ONE_MESSAGE, ONE_MESSAGE_RECORD, ending)? {
             return Ok(false);
         }
     }

@@ -5,7 +5,7 @@ use crate::rows::{ITS_OUTCOME, WITH_ITS_END};
 use sig_view::ViewStatus;
 use std::alloc::{AllocError, Global};
 use test_shared::{
-    ONE_MESSAGE, ONE_MESSAGE_RECORD, Program, Setting, WRONG_RECORD, Work, first_other,
+    Ending, ONE_MESSAGE, ONE_MESSAGE_RECORD, Program, Setting, WRONG_RECORD, Work, first_other,
 };
 
 /// Commands, with what they write.
@@ -40,18 +40,17 @@ fn are_in_order(alloc: Global) -> Result<bool, AllocError> {
         failing_writes: &[1],
         ..PLAIN
     };
-    let refused = Called::of(alloc, &setting, ONE_MESSAGE, WRONG_RECORD)?;
     let unread = Setting {
         words: &["chart"],
         failing_reads: &[1],
-        failing_writes: &[1],
-        ..PLAIN
+        ..setting
     };
-    let failed = Called::of(alloc, &unread, b"no script", b"")?;
     let no = ViewStatus::No { event: 1 };
+    let refused: Ending<Viewer> = (no, b"", b"sigview: no at event 1\n");
+    let failed: Ending<Viewer> = (ViewStatus::ReadFault, b"", Viewer::READ_TOLD);
     Ok(
-        refused.is(no, b"", b"sigview: no at event 1\n")
-            && failed.is(ViewStatus::ReadFault, b"", Viewer::READ_TOLD),
+        Called::ends_so(alloc, &setting, ONE_MESSAGE, WRONG_RECORD, refused)?
+            && Called::ends_so(alloc, &unread, b"no script", b"", failed)?,
     )
 }
 

@@ -5,7 +5,9 @@ use crate::rows::WITH_ITS_END;
 use sig_script::FaultKind;
 use sig_view::ViewStatus;
 use std::alloc::{AllocError, Global};
-use test_shared::{ONE_MESSAGE, ONE_MESSAGE_RECORD, Setting, WRONG_RECORD, Words, first_taken};
+use test_shared::{
+    Ending, ONE_MESSAGE, ONE_MESSAGE_RECORD, Setting, WRONG_RECORD, Words, first_taken,
+};
 
 const NO_HEADER: ViewStatus = ViewStatus::BadScript {
     line: 1,
@@ -53,9 +55,11 @@ fn both_refuse(
         words: &["chart"],
         ..PLAIN
     };
-    let asked = Called::of(alloc, &PLAIN, script, told)?;
-    let charted = Called::of(alloc, &charting, script, told)?;
-    Ok(asked.is(status, b"", said) && charted.is(status, b"", said))
+    let ending: Ending<Viewer> = (status, b"", said);
+    Ok(
+        Called::ends_so(alloc, &PLAIN, script, told, ending)?
+            && Called::ends_so(alloc, &charting, script, told, ending)?,
+    )
 }
 
 #[test]
@@ -108,9 +112,12 @@ fn other_arguments_are_refused(rt: HostRuntime) {
 /// Whether all is as ever where nothing can be told.
 fn is_untold(alloc: Global) -> Result<bool, AllocError> {
     let setting = Setting { room: 0, ..PLAIN };
-    let answered = Called::of(alloc, &setting, ONE_MESSAGE, ONE_MESSAGE_RECORD)?;
-    let refused = Called::of(alloc, &setting, ONE_MESSAGE, b"")?;
-    Ok(answered.is(ViewStatus::Done, WITH_ITS_END, b"") && refused.is(NO_RECORD, b"", b""))
+    let answered: Ending<Viewer> = (ViewStatus::Done, WITH_ITS_END, b"");
+    let refused: Ending<Viewer> = (NO_RECORD, b"", b"");
+    Ok(
+        Called::ends_so(alloc, &setting, ONE_MESSAGE, ONE_MESSAGE_RECORD, answered)?
+            && Called::ends_so(alloc, &setting, ONE_MESSAGE, b"", refused)?,
+    )
 }
 
 #[test]

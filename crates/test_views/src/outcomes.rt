@@ -1,32 +1,30 @@
 //! The outcomes of scripts, and the records of runs that end in them.
 
-use crate::called::{Called, PLAIN};
+use crate::called::{Called, PLAIN, Viewer};
 use crate::outcome_rows::{RING_OF_LINKS, ROWS, Row};
-use crate::recorded::{asked_for, called_with, count_of, is_listed, listed_by_records};
+use crate::recorded::{
+    asked_for, called_with, count_of, is_listed, is_told_by_records, push_first, push_outcome,
+};
 use crate::rows::ITS_OUTCOME;
 use sig_script::FaultKind;
 use sig_view::ViewStatus;
 use std::alloc::{AllocError, Global};
-use test_shared::{CLIENTS, ONE_MESSAGE, ONE_MESSAGE_RECORD, Setting};
+use test_shared::{CLIENTS, Ending, ONE_MESSAGE, ONE_MESSAGE_RECORD, Setting};
 
-/// The list of these outcomes, which are all.
-fn listed(alloc: Global, outcomes: &[&[u8]]) -> Result<Vec<u8>, AllocError> {
-    let count = outcomes.len();
-    let first = format!(in alloc; "outcomes {count} all\n")?;
-    let mut text = Vec::from_slice(alloc, first.as_bytes())?;
-    for at in 0..count {
-        let number = at.saturating_add(1);
-        let line = format!(in alloc; "outcome {number}\n")?;
-        text.extend_from_slice(line.as_bytes())?;
-        text.extend_from_slice(outcomes[at])?;
+/// Appends the list of these outcomes, which are all.
+fn push_list(alloc: Global, text: &mut Vec<u8>, outcomes: &[&[u8]]) -> Result<(), AllocError> {
+    push_first(alloc, text, outcomes.len(), "all")?;
+    for (at, outcome) in outcomes.iter().enumerate() {
+        push_outcome(alloc, text, at.saturating_add(1), outcome)?;
     }
-    Ok(text)
+    Ok(())
 }
 
 /// Whether the outcomes of the row's script are listed in its order, and each has its record.
 fn holds(alloc: Global, row: &Row) -> Result<bool, AllocError> {
     let (script, outcomes) = row;
-    let text = listed(alloc, outcomes)?;
+    let mut text = Vec::new(alloc);
+    push_list(alloc, &mut text, outcomes)?;
     is_listed(alloc, script, text.as_slice())
 }
 
@@ -48,8 +46,7 @@ fn is_so(
     told: &[u8],
 ) -> Result<bool, AllocError> {
     let setting = Setting { words, ..PLAIN };
-    let called = Called::of(alloc, &setting, script, b"")?;
-    Ok(called.is(status, written, told))
+    Called::ends_so(alloc, &setting, script, b"", (status, written, told))
 }
 
 /// Words with which it is listed.
@@ -111,9 +108,8 @@ fn outcomes_have_their_words(rt: HostRuntime) {
 /// Whether the record is written where there is one, and else a refusal is told.
 fn are_numbered(alloc: Global) -> Result<bool, AllocError> {
     for words in &RECORDING {
-        let setting = Setting { words, ..PLAIN };
-        let called = Called::of(alloc, &setting, ONE_MESSAGE, b"")?;
-        if !called.is(ViewStatus::Done, ONE_MESSAGE_RECORD, b"") {
+        let record = ONE_MESSAGE_RECORD;
+        if !is_so(alloc, words, ONE_MESSAGE, ViewStatus::Done, record, b"")? {
             return Ok(false);
         }
     }
@@ -162,14 +158,16 @@ fn an_outcome_may_be_there_that_was_not_found(rt: HostRuntime) {
 /// A process that ends at once. It has two states: the opening, and the end.
 const ENDING: &[u8] = b"sigscript 1\nprocess a\nexit x\n";
 
-/// Whether its outcome is listed where the search may visit two states, and not where it may visit one.
+/// Whether its outcome is listed, with `all` where the search may visit two states, and with `more` where it may visit one:
+/// the end is met then, and not visited.
 fn is_bounded(alloc: Global) -> Result<bool, AllocError> {
-    let listed = b"outcomes 1 all\noutcome 1\nprocess 0 a\nstate ended x\n";
+    let whole = b"outcomes 1 all\noutcome 1\nprocess 0 a\nstate ended x\n";
+    let cut_off = b"outcomes 1 more\noutcome 1\nprocess 0 a\nstate ended x\n";
     let two = &["outcomes", "--states", "2"];
     let one = &["outcomes", "--states", "1"];
     Ok(
-        is_so(alloc, two, ENDING, ViewStatus::Done, listed, b"")?
-            && is_so(alloc, one, ENDING, TWO_MET, b"outcomes 0 more\n", TWO_TOLD)?,
+        is_so(alloc, two, ENDING, ViewStatus::Done, whole, b"")?
+            && is_so(alloc, one, ENDING, TWO_MET, cut_off, TWO_TOLD)?,
     )
 }
 
@@ -179,19 +177,23 @@ fn a_search_visits_as_many_states_as_it_may(rt: HostRuntime) {
     assert!(rt; bounded == Ok(true));
 }
 
-/// Whether a search that visits one state says that there may be more, and how many states it has met.
-fn is_unfinished(alloc: Global) -> Result<bool, AllocError> {
-    let setting = Setting {
-        words: &["outcomes", "--states", "1"],
-        ..PLAIN
-    };
-    let called = Called::of(alloc, &setting, CLIENTS, b"")?;
+/// Whether the call says that there may be more outcomes, and how many states were met.
+fn tells_states(alloc: Global, called: &Called) -> Result<bool, AllocError> {
     let ViewStatus::Unfinished { states } = called.status else {
         return Ok(false);
     };
     let told = format!(in alloc; "sigview: states met: {states}; there may be more outcomes\n")?;
     let is_told = called.is(called.status, b"outcomes 0 more\n", told.as_bytes());
+    drop(told);
     Ok(is_told && called.status.number() == 0)
+}
+
+/// The same of a search that visits one state.
+fn is_unfinished(alloc: Global) -> Result<bool, AllocError> {
+    let called = called_with(alloc, &["outcomes", "--states", "1"], CLIENTS)?;
+    let unfinished = tells_states(alloc, &called);
+    drop(called);
+    unfinished
 }
 
 #[test]
@@ -203,19 +205,33 @@ fn a_search_that_has_not_ended_says_so(rt: HostRuntime) {
 /// So many states are too few to find each outcome of the ring of links.
 const FEW: &str = "80";
 
-/// How many outcomes it lists then, where each of their numbers has a record that tells the outcome of that
+/// Whether the outcome of this number isn't found, once so many states were met.
+fn is_not_found(alloc: Global, number: usize, states: u64) -> Result<bool, AllocError> {
+    let called = asked_for(alloc, RING_OF_LINKS, Some(FEW), number)?;
+    let missing = called.status == ViewStatus::NotFound { states } && called.out.held().is_empty();
+    drop(called);
+    Ok(missing)
+}
+
+/// How many outcomes the call lists, where each of their numbers has a record that tells the outcome of that
 /// number, and the next one isn't found.
-fn count_with_records(alloc: Global) -> Result<Option<usize>, AllocError> {
-    let called = called_with(alloc, &["outcomes", "--states", FEW], RING_OF_LINKS)?;
+fn count_in(alloc: Global, called: &Called) -> Result<Option<usize>, AllocError> {
     let ViewStatus::Unfinished { states } = called.status else {
         return Ok(None);
     };
     let listed = called.out.held();
     let count = count_of(listed);
-    let again = listed_by_records(alloc, RING_OF_LINKS, Some(FEW), (count, "more"))?;
-    let next = asked_for(alloc, RING_OF_LINKS, Some(FEW), count.saturating_add(1))?;
-    let missing = next.status == ViewStatus::NotFound { states } && next.out.held().is_empty();
-    Ok((again.as_slice() == listed && missing).then_some(count))
+    let are_told = is_told_by_records(alloc, RING_OF_LINKS, Some(FEW), listed, "more")?;
+    let missing = is_not_found(alloc, count.saturating_add(1), states)?;
+    Ok((are_told && missing).then_some(count))
+}
+
+/// The same of the ring of links with so few states.
+fn count_with_records(alloc: Global) -> Result<Option<usize>, AllocError> {
+    let called = called_with(alloc, &["outcomes", "--states", FEW], RING_OF_LINKS)?;
+    let count = count_in(alloc, &called);
+    drop(called);
+    count
 }
 
 #[test]
@@ -238,11 +254,11 @@ fn are_refused(alloc: Global) -> Result<bool, AllocError> {
         line: 8,
         kind: FaultKind::Syntax,
     };
-    let empty = Called::of(alloc, &setting, b"", b"")?;
-    let behind = Called::of(alloc, &setting, ONE_MESSAGE, ONE_MESSAGE_RECORD)?;
+    let empty: Ending<Viewer> = (header, b"", b"sigview: line 1: header\n");
+    let behind: Ending<Viewer> = (syntax, b"", b"sigview: line 8: syntax\n");
     Ok(
-        empty.is(header, b"", b"sigview: line 1: header\n")
-            && behind.is(syntax, b"", b"sigview: line 8: syntax\n"),
+        Called::ends_so(alloc, &setting, b"", b"", empty)?
+            && Called::ends_so(alloc, &setting, ONE_MESSAGE, ONE_MESSAGE_RECORD, behind)?,
     )
 }
 

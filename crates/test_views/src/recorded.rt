@@ -1,19 +1,28 @@
 //! The records of runs that end in the outcomes of a list. `sigtool check` has to say yes to each.
 
-use crate::called::{Called, PLAIN};
-use sig_record::{print_ends, read_record};
+use crate::called::{Called, PLAIN, Viewer};
+use sig_record::{Record, print_ends, read_record};
 use sig_view::ViewStatus;
 use std::alloc::{AllocError, Global};
-use test_shared::{Setting, is_checked};
+use test_shared::{Ending, Setting, is_checked};
 
-/// What the record tells of how the processes ended. `None` where it can't be read.
-fn ends_of(alloc: Global, told: &[u8]) -> Result<Option<Vec<u8>>, AllocError> {
-    let Ok(told) = read_record(alloc, told) else {
-        return Ok(None);
-    };
+/// What the record tells of how the processes ended.
+fn text_of_ends(alloc: Global, told: &Record) -> Result<Vec<u8>, AllocError> {
     let mut ends = Vec::new(alloc);
     print_ends(told.reports(), &mut ends)?;
-    Ok(Some(ends))
+    Ok(ends)
+}
+
+/// The same of the record of this text. `None` where it can't be read.
+fn ends_of(alloc: Global, told: &[u8]) -> Result<Option<Vec<u8>>, AllocError> {
+    match read_record(alloc, told) {
+        Ok(told) => {
+            let ends = text_of_ends(alloc, &told);
+            drop(told);
+            Ok(Some(ends?))
+        }
+        Err(_) => Ok(None),
+    }
 }
 
 /// The call with these words on the script alone.
@@ -46,8 +55,22 @@ pub(crate) fn asked_for(
     }
 }
 
-/// What that record tells of how the processes ended. `None` where none is written, or `sigtool check` says
-/// no to it.
+/// What the record that is written tells of how the processes ended. `None` where none is written, or
+/// `sigtool check` says no to it.
+fn ends_written(
+    alloc: Global,
+    script: &[u8],
+    called: &Called,
+) -> Result<Option<Vec<u8>>, AllocError> {
+    let told = called.out.held();
+    if called.status == ViewStatus::Done && is_checked(alloc, script, told)? {
+        ends_of(alloc, told)
+    } else {
+        Ok(None)
+    }
+}
+
+/// The same of the call that asks for the record.
 fn recorded(
     alloc: Global,
     script: &[u8],
@@ -55,12 +78,9 @@ fn recorded(
     number: usize,
 ) -> Result<Option<Vec<u8>>, AllocError> {
     let called = asked_for(alloc, script, states, number)?;
-    let told = called.out.held();
-    if called.status == ViewStatus::Done && is_checked(alloc, script, told)? {
-        ends_of(alloc, told)
-    } else {
-        Ok(None)
-    }
+    let ends = ends_written(alloc, script, &called);
+    drop(called);
+    ends
 }
 
 /// How many outcomes the list says that it has, where these are fewer than ten.
@@ -71,29 +91,89 @@ pub(crate) fn count_of(listed: &[u8]) -> usize {
     }
 }
 
-/// The list of so many outcomes of the script, of which it says this, as the records tell them that are asked for
-/// by their numbers.
-pub(crate) fn listed_by_records(
+/// Appends the first line of a list of so many outcomes, of which it says this.
+pub(crate) fn push_first(
     alloc: Global,
+    text: &mut Vec<u8>,
+    count: usize,
+    says: &str,
+) -> Result<(), AllocError> {
+    let line = format!(in alloc; "outcomes {count} {says}\n")?;
+    let pushed = text.extend_from_slice(line.as_bytes());
+    drop(line);
+    pushed
+}
+
+/// Appends the outcome with this number.
+pub(crate) fn push_outcome(
+    alloc: Global,
+    text: &mut Vec<u8>,
+    number: usize,
+    outcome: &[u8],
+) -> Result<(), AllocError> {
+    let line = format!(in alloc; "outcome {number}\n")?;
+    let pushed = text.extend_from_slice(line.as_bytes());
+    drop(line);
+    pushed?;
+    text.extend_from_slice(outcome)
+}
+
+/// Appends the outcome of this number, as the record that is asked for by it tells it.
+fn push_recorded(
+    alloc: Global,
+    text: &mut Vec<u8>,
+    script: &[u8],
+    states: Option<&'static str>,
+    number: usize,
+) -> Result<(), AllocError> {
+    match recorded(alloc, script, states, number)? {
+        Some(outcome) => {
+            let pushed = push_outcome(alloc, text, number, outcome.as_slice());
+            drop(outcome);
+            pushed
+        }
+        None => push_outcome(alloc, text, number, b""),
+    }
+}
+
+/// Appends the list of so many outcomes of the script, of which it says this, as the records tell them that are asked
+/// for by their numbers.
+fn push_list(
+    alloc: Global,
+    text: &mut Vec<u8>,
     script: &[u8],
     states: Option<&'static str>,
     (count, says): (usize, &str),
-) -> Result<Vec<u8>, AllocError> {
-    let first = format!(in alloc; "outcomes {count} {says}\n")?;
-    let mut text = Vec::from_slice(alloc, first.as_bytes())?;
+) -> Result<(), AllocError> {
+    push_first(alloc, text, count, says)?;
     for number in 1..=count {
-        let line = format!(in alloc; "outcome {number}\n")?;
-        text.extend_from_slice(line.as_bytes())?;
-        if let Some(outcome) = recorded(alloc, script, states, number)? {
-            text.extend_from_slice(outcome.as_slice())?;
-        }
+        push_recorded(alloc, text, script, states, number)?;
     }
-    Ok(text)
+    Ok(())
+}
+
+/// Whether the list, of which it says this, is told by the records of runs that end in its outcomes.
+pub(crate) fn is_told_by_records(
+    alloc: Global,
+    script: &[u8],
+    states: Option<&'static str>,
+    listed: &[u8],
+    says: &str,
+) -> Result<bool, AllocError> {
+    let mut text = Vec::new(alloc);
+    push_list(alloc, &mut text, script, states, (count_of(listed), says))?;
+    Ok(text.as_slice() == listed)
 }
 
 /// Whether the script's outcomes are listed so, and the records of runs that end in them tell the same.
 pub(crate) fn is_listed(alloc: Global, script: &[u8], listed: &[u8]) -> Result<bool, AllocError> {
-    let called = called_with(alloc, &["outcomes"], script)?;
-    let again = listed_by_records(alloc, script, None, (count_of(listed), "all"))?;
-    Ok(called.is(ViewStatus::Done, listed, b"") && again.as_slice() == listed)
+    let setting = Setting {
+        words: &["outcomes"],
+        ..PLAIN
+    };
+    let ending: Ending<Viewer> = (ViewStatus::Done, listed, b"");
+    Ok(
+        Called::ends_so(alloc, &setting, script, b"", ending)?
+            && is_told_by_records(alloc, script, None, listed, "all")?,
+    )
 }
