@@ -4,7 +4,7 @@ ghost use Rattle.sig_base.specs.Reading.{IsRead};
 use crate::source::{Failed, Source};
 
 /// How reading all of a source ended.
-#[derive(Clone, Copy, Debug, PartialEq, Eq)]
+#[derive(Clone, Copy, PartialEq, Eq)]
 pub enum ReadAll {
     /// The source came to its end, and all that it had was read.
     Whole,

@@ -5,7 +5,7 @@ use crate::sink::Sink;
 use crate::source::Failed;
 
 /// How writing all of some bytes ended.
-#[derive(Clone, Copy, Debug, PartialEq, Eq)]
+#[derive(Clone, Copy, PartialEq, Eq)]
 pub enum Written {
     /// The sink took all the bytes.
     Whole,

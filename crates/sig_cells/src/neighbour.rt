@@ -7,7 +7,7 @@ use std::marker::Model;
 pub const MOST_CELLS: usize = 4_294_967_295;
 
 /// The key of a neighbouring cell, or none, in 32 bits: 0 for none, and else the key and one.
-#[derive(Clone, Copy, Debug)]
+#[derive(Clone, Copy)]
 pub struct Neighbour(u32);
 
 impl Model for Neighbour {

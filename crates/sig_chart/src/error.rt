@@ -4,7 +4,7 @@ ghost use Rattle.std.specs.Prelude.{◌≡◌};
 use std::alloc::AllocError;
 
 /// Why there is no chart.
-#[derive(Clone, Copy, Debug, PartialEq, Eq)]
+#[derive(Clone, Copy, PartialEq, Eq)]
 pub enum ChartError {
     /// The window has more than [`MOST_EVENTS`](crate::MOST_EVENTS) events.
     TooManyEvents,

@@ -11,7 +11,7 @@ use std::alloc::{AllocError, Global};
 pub const MOST_EVENTS: usize = 2000;
 
 /// The stamps whose events are drawn, both ends included.
-#[derive(Clone, Copy, Debug, PartialEq, Eq)]
+#[derive(Clone, Copy, PartialEq, Eq)]
 pub struct Window {
     /// The first.
     pub from: u64,

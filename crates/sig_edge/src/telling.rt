@@ -8,7 +8,7 @@ use sig_base::{Sink, Written, write_whole};
 use sig_script::FaultKind;
 
 /// A write failed. What was to follow isn't written.
-#[derive(Clone, Copy, Debug, PartialEq, Eq)]
+#[derive(Clone, Copy, PartialEq, Eq)]
 pub struct Untold;
 
 /// Writes a piece of what there is to tell. `Untold` only where a write failed, and then the

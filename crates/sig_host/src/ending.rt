@@ -3,7 +3,7 @@ ghost use Rattle.std.specs.Prelude.{◌≡◌, None};
 use crate::status::Status;
 
 /// How a run ended, and what there is to tell beside that.
-#[derive(Debug, Drop)]
+#[derive(Drop)]
 pub struct Ending {
     /// How it ended.
     pub status: Status,

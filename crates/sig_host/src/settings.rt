@@ -4,7 +4,7 @@ ghost use Rattle.sig_host.specs.declared.settings.TheConstants.{MOST_CHURN, MOST
 use sig_layout::Policy;
 
 /// What the arguments ask for.
-#[derive(Clone, Copy, Debug, PartialEq, Eq)]
+#[derive(Clone, Copy, PartialEq, Eq)]
 pub struct Settings {
     /// How many workers run the processes, from 1 to [`MOST_WORKERS`]. That so many run them, no
     /// clause says.

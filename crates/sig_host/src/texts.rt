@@ -1,5 +1,5 @@
 /// What is written of a run that is done.
-#[derive(Debug, Drop)]
+#[derive(Drop)]
 pub struct Texts {
     /// The text of the record.
     pub record: Vec<u8>,

@@ -2,7 +2,7 @@ use sig_terms::Pid;
 
 /// What becomes of a message through an alias. (Erlang Reference Manual, Processes, Process
 /// Aliases; module `erlang`, `monitor/3` and `alias/1`.)
-#[derive(Clone, Copy, Debug, PartialEq, Eq)]
+#[derive(Clone, Copy, PartialEq, Eq)]
 pub enum AliasAnswer {
     /// The alias isn't active: the message is dropped.
     Dropped,

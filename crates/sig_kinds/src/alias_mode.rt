@@ -1,6 +1,6 @@
 /// When an alias ends. (Erlang Reference Manual, Processes, Process Aliases; module `erlang`,
 /// `monitor/3` and `alias/1`.)
-#[derive(Clone, Copy, Debug, PartialEq, Eq)]
+#[derive(Clone, Copy, PartialEq, Eq)]
 pub enum AliasMode {
     /// When it is deactivated by `unalias`.
     Explicit,

@@ -1,6 +1,6 @@
 /// Where a process keeps its message queue. (Module `erlang`, `process_flag/2`,
 /// `message_queue_data`.)
-#[derive(Clone, Copy, Debug, PartialEq, Eq)]
+#[derive(Clone, Copy, PartialEq, Eq)]
 pub enum QueueData {
     /// On its heap. The queue has no buffers.
     OnHeap,

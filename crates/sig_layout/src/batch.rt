@@ -6,7 +6,7 @@ use std::marker::Model;
 use std::mem;
 
 /// Signals that wait in one list, the oldest first. Contracts see the signals alone.
-#[derive(Debug, Drop)]
+#[derive(Drop)]
 pub struct Batch {
     pub(crate) signals: Signals,
 }

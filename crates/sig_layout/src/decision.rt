@@ -1,5 +1,5 @@
 /// What is to be done with a queue's buffers.
-#[derive(Clone, Copy, Debug, PartialEq, Eq)]
+#[derive(Clone, Copy, PartialEq, Eq)]
 pub enum Due {
     /// They stay as they are.
     Nothing,

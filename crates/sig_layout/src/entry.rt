@@ -1,5 +1,5 @@
 /// One entry of a queue's journal.
-#[derive(Clone, Copy, Debug, PartialEq, Eq)]
+#[derive(Clone, Copy, PartialEq, Eq)]
 pub enum Entry {
     /// A signal was put into the outer list.
     Direct {

@@ -7,7 +7,7 @@ use std::mem;
 
 /// Signals in pieces with room for more pieces. Contracts see one list, and how many batches it
 /// takes without memory.
-#[derive(Debug, Drop)]
+#[derive(Drop)]
 pub struct Growing {
     /// The older pieces, with room for more.
     pub(crate) first: Vec<Batch>,

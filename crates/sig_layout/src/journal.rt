@@ -18,7 +18,7 @@ pub const MOST_ENTRIES: usize = 1 << 62;
 
 /// What happened to a queue under its outer turn, the oldest entry first, with a running summary of
 /// what the policies read of it. Contracts see the entries.
-#[derive(Debug, Drop)]
+#[derive(Drop)]
 pub struct Journal {
     entries: Vec<Entry>,
     summary: Summary,

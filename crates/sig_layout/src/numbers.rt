@@ -8,7 +8,7 @@ use std::alloc::{AllocError, Global};
 use std::marker::Model;
 
 /// A list of numbers, of which only those other than 1 take memory. Contracts see the list.
-#[derive(Debug, Drop)]
+#[derive(Drop)]
 pub struct Numbers {
     /// The numbers other than 1, each with the ones before it.
     runs: Vec<Run>,

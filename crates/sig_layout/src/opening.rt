@@ -5,7 +5,7 @@ use sig_terms::Pid;
 use std::alloc::{AllocError, Global};
 
 /// What the signals of a queue have in common.
-#[derive(Debug, Drop)]
+#[derive(Drop)]
 pub struct Opening {
     /// The process to which they go.
     pub receiver: Pid,

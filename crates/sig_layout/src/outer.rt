@@ -12,7 +12,7 @@ use sig_lists::Pushed;
 use std::alloc::AllocError;
 
 /// The outer value of a queue: what its holder of the outer turn has.
-#[derive(Debug, Drop)]
+#[derive(Drop)]
 pub struct Outer {
     /// The outer list.
     pub signals: Pieces,

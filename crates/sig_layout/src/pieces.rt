@@ -14,7 +14,7 @@ use std::marker::Model;
 
 /// Signals that are kept in pieces, so that a whole batch comes behind them without memory.
 /// Contracts see one list.
-#[derive(Debug, Drop)]
+#[derive(Drop)]
 pub struct Pieces {
     /// The older pieces, the oldest first.
     pub(crate) first: Vec<Batch>,

@@ -18,7 +18,7 @@ pub const AUTO_FEW: u64 = 4;
 /// When buffers are installed and when they are removed. (The policies are this project's own.
 /// Erlang's runtime too installs buffers where senders contend, and removes them where they have
 /// little use: its notes on parallel signal sending.)
-#[derive(Clone, Copy, Debug, PartialEq, Eq)]
+#[derive(Clone, Copy, PartialEq, Eq)]
 pub enum Policy {
     /// There are no buffers.
     Never,

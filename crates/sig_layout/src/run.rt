@@ -1,5 +1,5 @@
 /// So many ones, and then this number.
-#[derive(Clone, Copy, Debug)]
+#[derive(Clone, Copy)]
 pub(crate) struct Run {
     /// How many numbers are 1.
     pub(crate) ones: usize,

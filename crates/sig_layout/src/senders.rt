@@ -10,7 +10,7 @@ pub const PIDS: u32 = 256;
 
 /// A set of pids below [`PIDS`]. Contracts see its four words of bits: those of pids 0 to 63, of 64 to
 /// 127, and so on.
-#[derive(Clone, Copy, Debug, PartialEq, Eq)]
+#[derive(Clone, Copy, PartialEq, Eq)]
 pub struct Senders([u64; 4]);
 
 impl Model for Senders {

@@ -4,7 +4,7 @@ use crate::senders::Senders;
 use sig_kinds::QueueData;
 
 /// All that a queue is opened with. It stays the same for as long as the queue is there.
-#[derive(Debug, Drop)]
+#[derive(Drop)]
 pub struct Setup {
     /// When buffers are installed and removed: by the policy that was given, or never, where the
     /// messages are kept on the heap ([`Policy::ruled`]).

@@ -8,7 +8,7 @@ use crate::entry::Entry;
 use crate::policy::{AUTO_FEW, AUTO_RUN, AUTO_SCORE, Policy};
 
 /// What the policies read of the part of a journal behind the last switch.
-#[derive(Clone, Copy, Debug)]
+#[derive(Clone, Copy)]
 pub(crate) struct Summary {
     /// Whether buffers are in use.
     pub(crate) installed: bool,

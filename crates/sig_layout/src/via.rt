@@ -1,6 +1,6 @@
 /// The way of a put. (The runtime's notes on parallel signal sending: the outer queue, or one of 64
 /// buffers.)
-#[derive(Clone, Copy, Debug, PartialEq, Eq)]
+#[derive(Clone, Copy, PartialEq, Eq)]
 pub enum Via {
     /// Into the outer list.
     Outer,

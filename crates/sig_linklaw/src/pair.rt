@@ -2,7 +2,7 @@ use sig_lists::Sequence;
 use sig_terms::Pid;
 
 /// Two processes with a link between them.
-#[derive(Clone, Copy, Debug, PartialEq, Eq)]
+#[derive(Clone, Copy, PartialEq, Eq)]
 pub struct Pair {
     /// The one with the lower pid.
     pub low: Pid,

@@ -1,5 +1,5 @@
 /// How an item was added to a list.
-#[derive(Debug, Drop)]
+#[derive(Drop)]
 pub enum Pushed<T> {
     /// It is the last item now.
     Added,

@@ -9,7 +9,7 @@ use std::marker::Model;
 
 /// A list of items, added to and taken from at its end. Contracts see the items alone, so a copy equals what it
 /// copies, and a type that holds a sequence of itself is plain data.
-#[derive(Debug, Drop)]
+#[derive(Drop)]
 pub struct Sequence<T> {
     items: Vec<T>,
 }

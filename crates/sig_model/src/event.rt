@@ -4,7 +4,7 @@ use sig_lists::{Same, Sequence};
 use sig_terms::{Pid, Term};
 
 /// What a process did at an event.
-#[derive(Debug, Drop)]
+#[derive(Drop)]
 pub enum Did {
     /// It executed the instruction at this place. Places count from 1; the one after the last
     /// instruction is the implicit stop.
@@ -14,7 +14,7 @@ pub enum Did {
 }
 
 /// How an event went.
-#[derive(Debug, Drop)]
+#[derive(Drop)]
 pub enum Outcome {
     /// The message was sent to this target.
     Sent {
@@ -70,7 +70,7 @@ pub enum Outcome {
 }
 
 /// An event of a process.
-#[derive(Debug, Drop)]
+#[derive(Drop)]
 pub struct Event {
     /// The stamp, which orders the events of all processes.
     pub stamp: u64,

@@ -2,7 +2,7 @@ use sig_lists::Sequence;
 use sig_terms::Pid;
 
 /// Which event sent a signal.
-#[derive(Clone, Copy, Debug, PartialEq, Eq)]
+#[derive(Clone, Copy, PartialEq, Eq)]
 pub struct Origin {
     /// The process that sent the signal.
     pub from: Pid,

@@ -7,7 +7,7 @@ use sig_terms::Term;
 pub const LAST_STAMP: u64 = 4611686018427387904;
 
 /// How a process stands at the end of a run.
-#[derive(Debug, Drop)]
+#[derive(Drop)]
 pub enum State {
     /// It has ended.
     Ended { reason: Term },

@@ -2,7 +2,7 @@ use sig_terms::{Pid, Ref};
 
 /// To what a message is sent. (Erlang Reference Manual, Expressions, Send; Processes, Process
 /// Aliases.)
-#[derive(Clone, Copy, Debug, PartialEq, Eq)]
+#[derive(Clone, Copy, PartialEq, Eq)]
 pub enum Target {
     /// A process.
     Process(Pid),

@@ -1,5 +1,5 @@
 /// A range of the events of a process.
-#[derive(Clone, Copy, Debug, PartialEq, Eq)]
+#[derive(Clone, Copy, PartialEq, Eq)]
 pub struct Span {
     /// The number of the first among that process's events, from 1.
     pub first: u64,

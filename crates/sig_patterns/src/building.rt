@@ -17,7 +17,7 @@ pub const MOST_NODES: u64 = 1024;
 pub const MOST_DEPTH: u64 = 64;
 
 /// Why a value was not built.
-#[derive(Clone, Copy, Debug, PartialEq, Eq)]
+#[derive(Clone, Copy, PartialEq, Eq)]
 pub enum BuildFault {
     /// The value has more than [`MOST_NODES`] nodes, or its depth is past [`MOST_DEPTH`]. It
     /// comes before any memory is taken. A number past the greatest `u64` is given as the greatest.

@@ -7,7 +7,7 @@ use std::alloc::{AllocError, Global};
 
 /// A clause of a receive: a message that the pattern matches, and on which the guard is true, is
 /// taken, and the process goes on at the target. (Erlang Reference Manual, Expressions, Receive.)
-#[derive(Debug, Drop)]
+#[derive(Drop)]
 pub struct Clause {
     /// What the message must match.
     pub pattern: Pattern,

@@ -9,7 +9,7 @@ use std::alloc::{AllocError, Global};
 pub type Exprs = Sequence<Expr>;
 
 /// What builds a term. (Erlang Reference Manual, Expressions, Terms and Variables.)
-#[derive(Debug, Drop)]
+#[derive(Drop)]
 pub enum Expr {
     /// The integer.
     Int(i64),

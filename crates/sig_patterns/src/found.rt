@@ -1,5 +1,5 @@
 /// What the scan of a receive found.
-#[derive(Clone, Copy, Debug, PartialEq, Eq)]
+#[derive(Clone, Copy, PartialEq, Eq)]
 pub struct Found {
     /// The place of the message in the list, from 0.
     pub at: usize,

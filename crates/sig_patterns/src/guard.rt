@@ -7,7 +7,7 @@ use std::alloc::{AllocError, Global};
 
 /// A kind of terms that a guard can ask for. (Erlang Reference Manual, Expressions, Guard Sequences,
 /// where the test of each kind is the guard BIF `is_` with its name.)
-#[derive(Clone, Copy, Debug, PartialEq, Eq)]
+#[derive(Clone, Copy, PartialEq, Eq)]
 pub enum TermKind {
     /// An integer.
     Integer,
@@ -24,7 +24,7 @@ pub enum TermKind {
 }
 
 /// How two integers compare. (Erlang Reference Manual, Expressions, Term Comparisons.)
-#[derive(Clone, Copy, Debug, PartialEq, Eq)]
+#[derive(Clone, Copy, PartialEq, Eq)]
 pub enum Op {
     /// `<`
     Less,
@@ -41,7 +41,7 @@ pub enum Op {
 }
 
 /// What a test compares.
-#[derive(Debug, Drop)]
+#[derive(Drop)]
 pub enum Operand {
     /// The integer.
     Int(i64),
@@ -50,7 +50,7 @@ pub enum Operand {
 }
 
 /// A test of a guard. (Erlang Reference Manual, Expressions, Guard Sequences, Guard Expressions.)
-#[derive(Debug, Drop)]
+#[derive(Drop)]
 pub enum Test {
     /// Whether the values of both are integers that compare so.
     Compare {
@@ -78,7 +78,7 @@ pub type Alternatives = Sequence<Tests>;
 
 /// What a clause asks of the values after its match. (Erlang Reference Manual, Expressions, Guard
 /// Sequences.)
-#[derive(Debug, Drop)]
+#[derive(Drop)]
 pub struct Guard {
     /// The alternatives, one of which must hold.
     pub alternatives: Alternatives,

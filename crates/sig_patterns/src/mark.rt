@@ -4,7 +4,7 @@ use sig_terms::Ref;
 pub const MOST_MARKS: usize = 8;
 
 /// A place in the message list that a mark may be bound to.
-#[derive(Clone, Copy, Debug, PartialEq, Eq)]
+#[derive(Clone, Copy, PartialEq, Eq)]
 pub struct Reserve {
     /// The arrival number of the first message behind the place.
     pub arrival: u64,
@@ -13,7 +13,7 @@ pub struct Reserve {
 }
 
 /// A reserve that is bound to a reference: a receive that asks for the reference may start there.
-#[derive(Clone, Copy, Debug, PartialEq, Eq)]
+#[derive(Clone, Copy, PartialEq, Eq)]
 pub struct Mark {
     /// The reference.
     pub reference: Ref,

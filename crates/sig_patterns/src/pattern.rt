@@ -10,7 +10,7 @@ use std::alloc::{AllocError, Global};
 pub type Patterns = Sequence<Pattern>;
 
 /// What a clause of a receive asks of a message. (Erlang Reference Manual, Pattern Matching.)
-#[derive(Debug, Drop)]
+#[derive(Drop)]
 pub enum Pattern {
     /// `_`, which every term matches.
     Any,

@@ -4,7 +4,7 @@ use sig_terms::Name;
 use std::alloc::{AllocError, Global};
 
 /// A variable. (Erlang Reference Manual, Expressions, Variables.)
-#[derive(Debug, Drop)]
+#[derive(Drop)]
 pub struct Var(pub Name);
 
 impl Var {

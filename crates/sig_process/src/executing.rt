@@ -14,7 +14,7 @@ use std::alloc::AllocError;
 use std::sync::ledger::Ledger;
 
 /// How the execution of an instruction went.
-#[derive(Clone, Copy, Debug, PartialEq, Eq)]
+#[derive(Clone, Copy, PartialEq, Eq)]
 pub enum Exec {
     /// It was executed.
     Stepped,

@@ -12,7 +12,7 @@ use sig_program::{Instrs, Labels};
 use sig_terms::{Name, Pid, Term};
 
 /// What a record tells of a process.
-#[derive(Debug, Drop)]
+#[derive(Drop)]
 pub struct Parts {
     /// The process.
     pub pid: Pid,

@@ -10,14 +10,14 @@ use std::alloc::{AllocError, Global};
 use std::mem::drop;
 
 /// Where a receive goes on that finds no message.
-#[derive(Debug, Drop)]
+#[derive(Drop)]
 pub struct After {
     /// The place of a label among those of the process, from 0. `None` is the next instruction.
     pub target: Option<u32>,
 }
 
 /// What a receive does.
-#[derive(Debug, Drop)]
+#[derive(Drop)]
 pub struct Receiving {
     /// The variable of its marker. Each clause's pattern pins it, and the scan begins at the marker
     /// of its value.
@@ -29,7 +29,7 @@ pub struct Receiving {
 }
 
 /// An instruction of a process.
-#[derive(Debug, Drop)]
+#[derive(Drop)]
 pub enum Instr {
     /// Sends a message. (Erlang Reference Manual, Expressions, Send.)
     Send {

@@ -5,7 +5,7 @@ use sig_terms::Name;
 use std::alloc::{AllocError, Global};
 
 /// A place of a process that has a name.
-#[derive(Debug, Drop)]
+#[derive(Drop)]
 pub struct Label {
     /// The label's name.
     pub name: Name,

@@ -28,7 +28,7 @@ use std::marker::Model;
 /// A process of a script. It has fewer than 2^32 - 1 instructions and fewer than 2^32 labels, each
 /// label's place is one of its instructions or one past the last, each target is one of its labels,
 /// and each clause of a receive with a marker pins the marker's variable.
-#[derive(Debug, Drop)]
+#[derive(Drop)]
 pub struct Proc {
     /// The process's name.
     pub name: Name,

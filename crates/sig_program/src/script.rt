@@ -29,7 +29,7 @@ pub fn most_processes(version: Version) -> usize
 /// A script: at most as many processes as its version allows, by [`most_processes`], each of which
 /// executes at most `turns` instructions, and these are at most [`MOST_TURNS`]. Each pid in it is below the count of
 /// processes.
-#[derive(Debug, Drop)]
+#[derive(Drop)]
 pub struct Script {
     /// The version of the language in which it was written.
     pub version: Version,

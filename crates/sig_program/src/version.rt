@@ -1,5 +1,5 @@
 /// A version of the language of scripts, which is this project's own.
-#[derive(Clone, Copy, Debug, PartialEq, Eq)]
+#[derive(Clone, Copy, PartialEq, Eq)]
 pub enum Version {
     /// The first line is `sigscript 1`.
     One,

@@ -23,7 +23,7 @@ use std::marker::Model;
 
 /// The record of a run: a report for each process, by pid. The signals that a process has not
 /// handled go to it, and stand by ascending sender and then number.
-#[derive(Debug, Drop)]
+#[derive(Drop)]
 pub struct Record {
     pub(crate) reports: Vec<Report>,
 }

@@ -11,7 +11,7 @@ use sig_model::{Event, Outcome, State};
 
 /// How many there are in a record. A sum over the processes that 64 bits can't hold is told as the
 /// greatest number of 64 bits; each event takes more than a byte of memory, so no record comes to that.
-#[derive(Clone, Copy, Debug, PartialEq, Eq)]
+#[derive(Clone, Copy, PartialEq, Eq)]
 pub struct Summary {
     /// The processes.
     pub processes: u64,

@@ -107,7 +107,7 @@ const SENDER: &[u8] = b" from ";
 const RECEIVER: &[u8] = b" to ";
 
 /// A text of an SVG that doesn't depend on what is drawn.
-#[derive(Clone, Copy, Debug, PartialEq, Eq)]
+#[derive(Clone, Copy, PartialEq, Eq)]
 pub enum Markup {
     /// The beginning, up to the width.
     SvgWidth,

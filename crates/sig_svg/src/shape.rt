@@ -7,7 +7,7 @@ use sig_lists::Sequence;
 pub type Bytes = Sequence<u8>;
 
 /// A process.
-#[derive(Debug, Drop)]
+#[derive(Drop)]
 pub struct Lane {
     /// Its pid, which is the lane's place from the left, from 0.
     pub pid: u32,
@@ -18,7 +18,7 @@ pub struct Lane {
 }
 
 /// An event.
-#[derive(Debug, Drop)]
+#[derive(Drop)]
 pub struct Mark {
     /// Its process: the lane.
     pub pid: u32,
@@ -33,7 +33,7 @@ pub struct Mark {
 }
 
 /// A signal that was handled.
-#[derive(Clone, Copy, Debug, PartialEq, Eq)]
+#[derive(Clone, Copy, PartialEq, Eq)]
 pub struct Arrow {
     /// What it is.
     pub sort: Sort,
@@ -50,7 +50,7 @@ pub struct Arrow {
 }
 
 /// A signal that is still queued.
-#[derive(Debug, Drop)]
+#[derive(Drop)]
 pub struct Stub {
     /// What it is.
     pub sort: Sort,
@@ -65,7 +65,7 @@ pub struct Stub {
 }
 
 /// A chart.
-#[derive(Debug, Drop)]
+#[derive(Drop)]
 pub struct Chart {
     /// How many processes the script has.
     pub count: u32,

@@ -1,5 +1,5 @@
 /// A kind of signal, as a chart tells it. (Erlang Reference Manual, Processes, Signals.)
-#[derive(Clone, Copy, Debug, PartialEq, Eq)]
+#[derive(Clone, Copy, PartialEq, Eq)]
 pub enum Sort {
     /// A message.
     Message,

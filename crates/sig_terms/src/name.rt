@@ -7,7 +7,7 @@ use std::marker::Model;
 
 /// A name token or a variable token of a script: a letter and what may follow it, at most
 /// `MOST_WORD_BYTES` bytes.
-#[derive(Debug, Drop)]
+#[derive(Drop)]
 pub struct Name {
     bytes: Vec<u8>,
 }

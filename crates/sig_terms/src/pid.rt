@@ -6,7 +6,7 @@ use std::alloc::AllocError;
 
 /// A process identifier: the place of the process in its script, from 0.
 /// (Erlang Reference Manual, Data Types, Pid.)
-#[derive(Clone, Copy, Debug, PartialEq, Eq, Hash)]
+#[derive(Clone, Copy, PartialEq, Eq, Hash)]
 pub struct Pid(pub u32);
 
 impl Pid {

@@ -20,7 +20,7 @@ pub const READ_DEPTH: u64 = 65;
 pub const READ_NODES: u64 = 1029;
 
 /// A term at the front of bytes.
-#[derive(Debug, Drop)]
+#[derive(Drop)]
 pub struct Front {
     /// The term.
     pub term: Term,

@@ -6,7 +6,7 @@ use itoa::Buffer;
 use std::alloc::AllocError;
 
 /// A reference, unique in a run. (Erlang Reference Manual, Data Types, Reference.)
-#[derive(Clone, Copy, Debug, PartialEq, Eq, Hash)]
+#[derive(Clone, Copy, PartialEq, Eq, Hash)]
 pub struct Ref {
     /// The process that made it.
     pub owner: Pid,

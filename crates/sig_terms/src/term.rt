@@ -18,7 +18,7 @@ pub type Terms = Sequence<Term>;
 
 /// A value of Erlang: what is sent, stored and compared.
 /// (Erlang Reference Manual, Data Types.)
-#[derive(Debug, Drop)]
+#[derive(Drop)]
 pub enum Term {
     /// An integer of 64 bits.
     Int(i64),

@@ -5,7 +5,7 @@ use crate::numbers::event_named;
 use sig_order::At;
 
 /// What the arguments ask for.
-#[derive(Clone, Copy, Debug, PartialEq, Eq)]
+#[derive(Clone, Copy, PartialEq, Eq)]
 pub enum Command {
     /// Whether the record is that of a settled run of the script.
     Check,

@@ -28,7 +28,7 @@ const STATES: u64 = 200000;
 const MOST_STATES: u64 = 10000000;
 
 /// What the arguments ask for.
-#[derive(Clone, Copy, Debug, PartialEq, Eq)]
+#[derive(Clone, Copy, PartialEq, Eq)]
 pub enum Command {
     /// The chart of the events whose stamps lie in the window.
     Chart { window: Window },
