@@ -1,5 +1,5 @@
 -- In each process one span of events is concurrent with a given one, or none.
-use Rattle.std.proofs.Common.{◌≡◌, ℕ, ◌≤◌, List, Option, Some, None, refl, arith}
+use Rattle.std.proofs.Common.{◌≡◌, ℕ, List, Option, Some, None, refl, arith}
 use Rattle.sig_model.specs.declared.origin.Origin.{Origin}
 use Rattle.sig_record.specs.declared.report.Report.{Report}
 use Rattle.sig_order.specs.declared.at.At.{At}
