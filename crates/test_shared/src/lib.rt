@@ -1,5 +1,6 @@
 //! What the tests of several crates share: calls of a program in memory, streams that fail at chosen calls,
-//! what a program is started with, the tool, scripts with their records, and those of examples/ with the lists of their outcomes.
+//! what a program is started with, the tool, scripts with their records, and those of examples/ with the lists
+//! of their outcomes.
 #![tactic(auto)]
 
 mod called;
