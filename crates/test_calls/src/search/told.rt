@@ -1,6 +1,6 @@
 //! What a search tells before each visit, from a table.
 
-use crate::graph::Graph;
+use crate::search::graph::Graph;
 use sig_search::{Teller, search};
 use std::alloc::{AllocError, Global};
 

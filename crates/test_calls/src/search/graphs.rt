@@ -1,6 +1,6 @@
 //! Graphs, from a table: how many nodes are searched at most, what is met in which order, and whether that is all.
 
-use crate::graph::Graph;
+use crate::search::graph::Graph;
 use sig_search::{Silent, search};
 use std::alloc::{AllocError, Global};
 

@@ -76,7 +76,7 @@ fn meet_all(nodes: &mut Pool<Node>, edges: &[(u32, u32)], from: u32) -> Result<(
 
 // Contracts aren't told what a node leads to, to them it is enough that nothing is met: the tests look at what is met.
 impl<'e> Space for Graph<'e> {
-    ghost use Rattle.test_search.specs.declared.graph.Node.{Node};
+    ghost use Rattle.test_calls.specs.declared.search.graph.Node.{Node};
 
     ghost Ground = { Unit {0} };
 
