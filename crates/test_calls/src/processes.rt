@@ -198,10 +198,10 @@ fn arrives(process: &mut Process, count: u32, signal: Signal) -> Result<bool, Al
         drop(signal);
         return Ok(false);
     }
-    let pushed = process.arrive(signal);
-    let is_added = matches!(pushed, Push::Added);
-    drop(pushed);
-    if is_added { Ok(true) } else { Err(AllocError) }
+    match process.arrive(signal) {
+        Push::Added => Ok(true),
+        Push::Memory { signal: _ } => Err(AllocError),
+    }
 }
 
 /// Delivers what one has sent to the other. False where a signal is for a third, or a hundred are sent.
