@@ -13,6 +13,8 @@ mod crossing;
 #[cfg(test)]
 mod documents;
 #[cfg(test)]
+mod exit_codes;
+#[cfg(test)]
 mod exits;
 #[cfg(test)]
 mod failing;

@@ -9,6 +9,8 @@ mod calls;
 #[cfg(test)]
 mod documents;
 #[cfg(test)]
+mod exit_codes;
+#[cfg(test)]
 mod failing;
 #[cfg(test)]
 mod inputs;

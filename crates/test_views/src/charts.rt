@@ -79,7 +79,7 @@ fn charts_of_examples_are_whole(rt: HostRuntime) {
 }
 
 /// A process that turns in a loop until it has made 2,001 events, one more than a chart may have.
-const TURNING: &[u8] = b"sigscript 1\nturns 2001\nprocess a\nlabel again\ngoto again\n";
+pub(crate) const TURNING: &[u8] = b"sigscript 1\nturns 2001\nprocess a\nlabel again\ngoto again\n";
 
 /// Appends the event of the loop with this stamp.
 fn push_event(alloc: Global, told: &mut Vec<u8>, stamp: u64) -> Result<(), AllocError> {
@@ -90,7 +90,7 @@ fn push_event(alloc: Global, told: &mut Vec<u8>, stamp: u64) -> Result<(), Alloc
 }
 
 /// Appends its record: each event of the loop is done, and the process is cut.
-fn push_record(alloc: Global, told: &mut Vec<u8>) -> Result<(), AllocError> {
+pub(crate) fn push_record(alloc: Global, told: &mut Vec<u8>) -> Result<(), AllocError> {
     told.extend_from_slice(b"sigrecord 1\nprocess 0 a\n")?;
     for stamp in 1..2002u64 {
         push_event(alloc, told, stamp)?;

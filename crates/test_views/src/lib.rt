@@ -11,6 +11,8 @@ mod concurrent;
 #[cfg(test)]
 mod documents;
 #[cfg(test)]
+mod exit_codes;
+#[cfg(test)]
 mod failing;
 #[cfg(test)]
 mod inputs;
