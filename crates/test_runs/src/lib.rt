@@ -16,13 +16,13 @@ mod failing;
 #[cfg(test)]
 mod gates;
 #[cfg(test)]
+mod origins;
+#[cfg(test)]
 mod records;
 #[cfg(test)]
 mod runs;
 #[cfg(test)]
 mod scripts;
-#[cfg(test)]
-mod origins;
 #[cfg(test)]
 mod whole;
 #[cfg(test)]

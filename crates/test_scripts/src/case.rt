@@ -132,40 +132,44 @@ impl Case {
     /// Whether the record tells these ends.
     fn tells_ends(&self, alloc: Global) -> Result<bool, Fault> {
         let mut ends = Vec::new(alloc);
-        let record = str::from_utf8(self.out.as_slice()).map_err(|_| Fault::Ended)?;
+        let record = str::from_utf8(self.out.as_slice()).map_err(|_| Fault::Output)?;
         push_ends(&mut ends, record)?;
         Ok(ends.as_slice() == self.text.as_slice())
     }
 
-    /// What has been printed is asked for here, if this is so.
-    fn see(&mut self, is_so: bool) -> Result<(), Fault> {
-        self.is_seen = true;
-        ensure(is_so, Fault::Output)
+    /// Whether what was printed is as the part says. `None` where it says nothing of that.
+    fn is_printed(&self, alloc: Global, word: &str, rest: &str) -> Result<Option<bool>, Fault> {
+        let out = self.out.as_slice();
+        let text = self.text.as_slice();
+        let is_so = match word {
+            "output" => out == text,
+            "begins" => out.starts_with(text),
+            "ends" => out.ends_with(text),
+            "count" => count(out, text) == number(rest)?,
+            "checked" => is_checked(alloc, self.input.as_slice(), out)?,
+            "ended" => self.tells_ends(alloc)?,
+            _ => return Ok(None),
+        };
+        Ok(Some(is_so))
     }
 
     /// Compares what the last call did with a part. Answers whether it is one that says so.
     fn compare(&mut self, alloc: Global, word: &str, rest: &str) -> Result<bool, Fault> {
-        let [text, out] = [self.text.as_slice(), self.out.as_slice()];
+        if let Some(is_so) = self.is_printed(alloc, word, rest)? {
+            self.is_seen = true;
+            ensure(is_so, Fault::Output)?;
+            return Ok(true);
+        }
         match word {
             "status" => {
                 ensure(self.status as u64 == number(rest)?, Fault::Status)?;
                 self.status = 0;
             }
-            "output" => self.see(out == text)?,
-            "begins" => self.see(out.starts_with(text))?,
-            "ends" => self.see(out.ends_with(text))?,
-            "count" => self.see(count(out, text) == number(rest)?)?,
             "errors" => {
-                ensure(self.err.as_slice() == text, Fault::Errors)?;
+                ensure(self.err.as_slice() == self.text.as_slice(), Fault::Errors)?;
                 self.err.clear();
             }
             "unread" => ensure(self.is_unread, Fault::Read)?,
-            "checked" => {
-                let checked = is_checked(alloc, self.input.as_slice(), out)?;
-                self.is_seen = true;
-                ensure(checked, Fault::Unchecked)?;
-            }
-            "ended" => ensure(self.tells_ends(alloc)?, Fault::Ended)?,
             _ => return Ok(false),
         }
         Ok(true)
@@ -187,7 +191,7 @@ impl Case {
         Ok(true)
     }
 
-    /// Reads the part with this title and these lines.
+    /// Reads the part with this title.
     fn read_titled<R: Threads + Wait + Sync>(
         &mut self,
         rt: &R,

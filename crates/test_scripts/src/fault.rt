@@ -6,18 +6,14 @@ use std::fmt;
 pub(crate) enum Fault {
     /// This part, or a line of it, can't be read.
     Part,
-    /// The status is another one, or isn't 0 and isn't asked for.
+    /// The status is another one, or isn't 0 and no part asks for it.
     Status,
-    /// Something else was printed, or something is printed and nothing asks for it.
+    /// What was printed isn't as the part says, or something was printed and no part asks for it.
     Output,
-    /// Something else was told, or something is told and nothing asks for it.
+    /// Something else was told, or something was told and no part asks for it.
     Errors,
     /// Some of the input was read.
     Read,
-    /// `sigtool check` doesn't say yes.
-    Unchecked,
-    /// The record tells other ends.
-    Ended,
     /// Memory is wanting.
     Memory,
 }
@@ -30,8 +26,6 @@ impl fmt::Display for Fault {
             Fault::Output => "another output",
             Fault::Errors => "other errors",
             Fault::Read => "input was read",
-            Fault::Unchecked => "the check doesn't say yes",
-            Fault::Ended => "other ends",
             Fault::Memory => "memory is wanting",
         };
         f.write_str(text)

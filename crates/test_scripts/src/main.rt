@@ -79,7 +79,9 @@ fn report(alloc: Global, case: &Case, parts: &str, fault: Fault) -> Result<Strin
     let out = String::from_utf8_lossy(alloc, case.out.as_slice())?;
     let err = String::from_utf8_lossy(alloc, case.err.as_slice())?;
     let [line, status] = [case.line, case.status as u64];
-    format!(in alloc; "line {line}: {name}: {fault}\nexpected:\n{expected}\nstatus {status}, output:\n{out}\nerrors:\n{err}\n")
+    format!(in alloc;
+        "line {line}: {name}: {fault}\nexpected:\n{expected}\nstatus {status}, output:\n{out}\nerrors:\n{err}\n"
+    )
 }
 
 /// Holds a case. What is said of it, if it doesn't hold.

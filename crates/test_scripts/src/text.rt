@@ -19,12 +19,7 @@ fn byte_of(digits: &str) -> Result<u8, Fault> {
 }
 
 /// Appends the number that this round has: the first one, and a step more for each round before.
-fn push_counted(
-    alloc: Global,
-    text: &mut Vec<u8>,
-    numbers: &str,
-    round: u64,
-) -> Result<(), Fault> {
+fn push_counted(alloc: Global, text: &mut Vec<u8>, numbers: &str, round: u64) -> Result<(), Fault> {
     let (first, step) = numbers.split_once('+').ok_or(Fault::Part)?;
     let counted = number(first)?.wrapping_add(number(step)?.wrapping_mul(round));
     let digits = format!(in alloc; "{counted}")?;
@@ -139,7 +134,7 @@ pub(crate) fn count(text: &[u8], piece: &[u8]) -> u64 {
 /// Appends what a line of a record tells of how a process ended, as `sigview outcomes` prints it: without
 /// arrival numbers, numbers and stamps.
 fn push_end(ends: &mut Vec<u8>, line: &str) -> Result<(), Fault> {
-    let (word, rest) = line.split_once(' ').ok_or(Fault::Ended)?;
+    let (word, rest) = line.split_once(' ').ok_or(Fault::Output)?;
     let (first, behind) = rest.split_once(' ').unwrap_or((rest, ""));
     match word {
         "process" | "state" => ends.extend_from_slice(line.as_bytes())?,
@@ -151,7 +146,7 @@ fn push_end(ends: &mut Vec<u8>, line: &str) -> Result<(), Fault> {
             ends.extend_from_slice(b"queued ")?;
             ends.extend_from_slice(first.as_bytes())?;
             ends.extend_from_slice(b" ")?;
-            let kind = behind.splitn(3, ' ').nth(2).ok_or(Fault::Ended)?;
+            let kind = behind.splitn(3, ' ').nth(2).ok_or(Fault::Output)?;
             ends.extend_from_slice(kind.as_bytes())?;
         }
         _ => return Ok(()),
