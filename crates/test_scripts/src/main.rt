@@ -80,7 +80,7 @@ fn report(alloc: Global, case: &Case, parts: &str, fault: Fault) -> Result<Strin
     let err = String::from_utf8_lossy(alloc, case.err.as_slice())?;
     let [line, status] = [case.line, case.status as u64];
     format!(in alloc;
-        "line {line}: {name}: {fault}\nexpected:\n{expected}\nstatus {status}, output:\n{out}\nerrors:\n{err}\n"
+        "line {line}: {name}: {fault}\nexpected:\n{expected}status {status}, output:\n{out}errors:\n{err}"
     )
 }
 
@@ -112,6 +112,7 @@ fn hold_all<R: Threads + Wait + Sync>(
     held: &mut Held,
 ) -> Result<Option<String>, AllocError> {
     let mut is_case = false;
+    let text = text.strip_suffix('\n').unwrap_or(text);
     for parts in text.split("\n=== ") {
         if is_case {
             let said = hold(rt, alloc, parts, held)?;
