@@ -1,12 +1,30 @@
 //! The codes with which the viewer exits.
 
-use crate::charts::{TURNING, push_record};
 use sig_view::program;
 use std::alloc::{AllocError, Global};
 use std::process::ExitCode;
 use std::time::Clock;
 use test_shared::{Exit, Input, ONE_MESSAGE, ONE_MESSAGE_RECORD, Output, WRONG_RECORD};
 
+/// A process that turns in a loop until it has made 2,001 events, one more than a chart may have.
+const TURNING: &[u8] = b"sigscript 1\nturns 2001\nprocess a\nlabel again\ngoto again\n";
+
+/// Appends the event of the loop with this stamp.
+fn push_event(alloc: Global, told: &mut Vec<u8>, stamp: u64) -> Result<(), AllocError> {
+    let line = format!(in alloc; "{stamp} exec 1 done\n")?;
+    let pushed = told.extend_from_slice(line.as_bytes());
+    drop(line);
+    pushed
+}
+
+/// Appends its record: each event of the loop is done, and the process is cut.
+fn push_record(alloc: Global, told: &mut Vec<u8>) -> Result<(), AllocError> {
+    told.extend_from_slice(b"sigrecord 1\nprocess 0 a\n")?;
+    for stamp in 1..2002u64 {
+        push_event(alloc, told, stamp)?;
+    }
+    told.extend_from_slice(b"state cut\n")
+}
 /// A chart, which is written.
 const DONE: Exit<'static> = Exit {
     line: b"sigview chart",
