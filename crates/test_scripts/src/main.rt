@@ -19,9 +19,10 @@
 //! - `--- ended`: how the processes ended, as `sigview outcomes` prints it of the record that is printed.
 //! - `--- unread`: nothing of the input was read.
 //!
-//! Each line of a text ends with a line feed, but for one that ends with `\`. In a line, and in words, `\n`, `\r`
-//! and `\t` stand for their bytes, and `\x80` for any byte, a backslash too. A line `\*N LINE` stands for N of LINE,
-//! in each of which `\{F+S}` is a number, first F and then S more each time. So a last word `\` is an empty one.
+//! Each line of a text ends with a line feed, but for one that ends with a backslash. In a line, and in a word of a
+//! call, `\n`, `\r` and `\t` stand for their bytes, and `\x80` for any byte, a backslash too; a word `\` alone is the
+//! empty one. A line `\*N LINE` stands for N of LINE, in each of which `\{F+S}` is a number, first F and then S more
+//! each time.
 #![tactic(auto)]
 
 mod calls;
@@ -37,11 +38,14 @@ use std::process::ExitCode;
 use std::sync::Wait;
 use std::thread::Threads;
 
-/// How many cases and calls held.
+/// How far the text is held.
 #[derive(Clone, Copy)]
 struct Held {
+    /// How many cases were held.
     cases: u64,
+    /// How many calls they made.
     calls: u64,
+    /// The line on which the next one begins.
     line: u64,
 }
 
