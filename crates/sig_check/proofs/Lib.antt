@@ -8,3 +8,4 @@ pub mod RestLemmas
 pub mod GoingLemmas
 pub mod CheckLemmas
 pub mod ReplayLemmas
+pub mod OneReplay

@@ -74,3 +74,11 @@ IsReplay script reports (Replayed crew origins) = IsReplayed script reports (run
 abbrev pub GivesAgain : List Report → Replaying → Type 0
 GivesAgain reports (Stopped event) = ⊥
 GivesAgain reports (Replayed crew origins) = record_of (runnings_of crew) ≡ reports
+
+-- they stop at the same event; or both come to the same machine, their crews have the same record, and the origins are the same
+abbrev pub IsSameReplay : Program → Replaying → Replaying → Type 0
+IsSameReplay script (Stopped event) (Stopped other) = event ≡ other
+IsSameReplay script (Replayed crew origins) (Replayed other others) =
+    (machine_of script (runnings_of crew) ≡ machine_of script (runnings_of other))
+    × (record_of (runnings_of crew) ≡ record_of (runnings_of other)) × (origins ≡ others)
+IsSameReplay script _ _ = ⊥

@@ -6,10 +6,11 @@ ghost use Rattle.sig_program.specs.Scripts.{Program};
 ghost use Rattle.sig_model.specs.Still.{IsStillCrew};
 ghost use Rattle.sig_model.specs.CrewLaw.{IsLawfulCrew};
 ghost use Rattle.sig_record.specs.RecordOf.{record_of};
+ghost use Rattle.sig_record.specs.RunRecord.{IsOfSettledRun};
 ghost use Rattle.sig_players.specs.Players.{crew_of, AreReady};
 ghost use Rattle.sig_choices.specs.Choosing.{AreEmptied};
 ghost use Rattle.sig_check.specs.Going.{SomeCanGo};
-ghost use Rattle.sig_check.specs.Verdicts.{IsOfSettledRun, IsVerdict};
+ghost use Rattle.sig_check.specs.Verdicts.{IsVerdict};
 
 use crate::following::follow;
 use crate::opening::{close, open};

@@ -11,7 +11,7 @@ mod verdict;
 
 pub use checking::check;
 pub use opening::{close, open};
-pub use replaying::{Replaying, replay};
+pub use replaying::{Replaying, a_record_has_one_replay, replay};
 pub use resting::a_crew_rests_where_none_can_go;
 pub use retracing::a_retraced_crew_has_the_record;
 pub use verdict::{Verdict, a_record_has_one_verdict};

@@ -1,11 +1,13 @@
 //! A record's choices, made once more.
 
-ghost use Rattle.std.specs.Prelude.{◌≡◌, ◌<◌, IfOk};
+ghost use Rattle.std.specs.Prelude.{◌≡◌, ◌<◌, IfOk, List};
 ghost use Rattle.sig_kinds.specs.declared.signal.Signal.{Signal};
+ghost use Rattle.sig_program.specs.Scripts.{Program};
 ghost use Rattle.sig_runs.specs.Machine.{Machine};
 ghost use Rattle.sig_model.specs.ProcessState.{ProcessState};
+ghost use Rattle.sig_record.specs.declared.report.Report.{Report};
 ghost use Rattle.sig_record.specs.RunRecord.{IsRecordOfRun};
-ghost use Rattle.sig_check.specs.Replays.{IsReplay, GivesAgain};
+ghost use Rattle.sig_check.specs.Replays.{IsReplay, IsSameReplay, GivesAgain};
 
 use crate::opening::{close, open};
 use crate::retracing::retrace;
@@ -28,6 +30,14 @@ pub enum Replaying {
     /// signals that were sent.
     Replayed { crew: Crew, origins: Origins },
 }
+
+/// A script and a record determine what a replay returns: where one replay stops, each stops at the same
+/// event; else each has the same record, the same origins in the same order, and the same machine at its end
+/// (the state of each process, and the signals of each sender that wait for it).
+pub fn a_record_has_one_replay()
+    ensures { (script : Program) (reports : List Report) (a b : Replaying) →
+        IsReplay script reports a → IsReplay script reports b → IsSameReplay script a b }
+{}
 
 /// Makes the choices of the record's events in their order, with the steps counted from this blank.
 /// The error is want of memory.

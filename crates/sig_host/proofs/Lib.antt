@@ -8,3 +8,4 @@ pub mod GivenLemmas
 pub mod WordsLemmas
 pub mod PlainLemmas
 pub mod AnswerLemmas
+pub mod RecordLemmas

@@ -5,16 +5,13 @@ use Rattle.sig_tokens.specs.declared.fault.FaultKind.TheVariants.{TooLong}
 use Rattle.sig_edge.specs.Streams.{IsFine, IsReadToEnd, IsRefused, IsUnread, IsUnwritten, Reading, Spells, Writing}
 use Rattle.sig_program.specs.Scripts.{Program}
 use Rattle.sig_reader.specs.Grammar.{script_of}
-use Rattle.sig_kinds.specs.declared.signal.Signal.{Signal}
-use Rattle.sig_runs.specs.Machine.{Machine}
-use Rattle.sig_runs.specs.Settled.{IsSettled}
-use Rattle.sig_model.specs.ProcessState.{ProcessState}
 use Rattle.sig_model.specs.Running.{Running}
 use Rattle.sig_model.specs.OneWorker.{RunsTo, opened_crew}
 use Rattle.sig_record.specs.declared.report.Report.{Report}
 use Rattle.sig_record.specs.RecordOf.{record_of}
-use Rattle.sig_record.specs.RunRecord.{whole_rules, IsRecordOfRun}
+use Rattle.sig_record.specs.RunRecord.{IsOfSettledRun}
 use Rattle.sig_record.specs.RecordText.{record_text}
+use Rattle.sig_record.specs.ReadableRecord.{IsReadableRecord}
 use Rattle.sig_canon.specs.Generated.{generated}
 use Rattle.sig_record.specs.Summarizing.{summary_of}
 use Rattle.sig_host.specs.declared.settings.Settings.{Settings}
@@ -31,12 +28,12 @@ IsRecordAlone script reports = (last : List Running) × RunsTo (opened_crew scri
 -- The reports are the record of a run of the plain machine on the script: its events, in the order of their stamps, are possible
 -- one after another from the opening, each receive looks at all messages, each signal was handled once, in the order of its sender,
 -- or is reported as queued, and the machine has come to rest (Erlang Reference Manual, Processes, Delivery of Signals;
--- Expressions, Receive). With one worker it is the record of the run of one worker.
+-- Expressions, Receive). With one worker it is the record of the run of one worker. A reader takes its text, which is that of this
+-- record alone.
 pub record IsRecordOf (workers : ℕ) (script : Program) (reports : List Report) : Type 0 where
-  pub machine : Machine ProcessState Signal
-  pub run : IsRecordOfRun script machine reports
-  pub settled : IsSettled (whole_rules script) machine
+  pub run : IsOfSettledRun script reports
   pub alone : workers ≡ 1 → IsRecordAlone script reports
+  pub readable : IsReadableRecord reports
 
 -- the text of the summary of these reports, where one is asked for
 abbrev pub summary_for : Bool → List Report → Option (List ℕ)

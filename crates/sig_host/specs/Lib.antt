@@ -1,3 +1,4 @@
 pub mod Words
 pub mod Told
 pub mod Answers
+pub mod ReadBack

@@ -1,10 +1,14 @@
-ghost use Rattle.std.specs.Prelude.{◌≡◌, ◌≢◌, ◌+◌, ◌≤◌, ◌⊎◌, ℕ, Bool, true, List, [], map, string_bytes, IfOk, Option, Some};
+ghost use Rattle.std.specs.Prelude.{◌≡◌, ◌≢◌, ◌+◌, ◌≤◌, ◌⊎◌, ℕ, Bool, true, List, [], map, string_bytes, IfOk, OnOk, Option, Some};
 ghost use Rattle.sig_base.specs.Flow.{Rose, Adds};
 ghost use Rattle.sig_edge.specs.Streams.{IsReadWithin, reading, writing};
 ghost use Rattle.sig_edge.specs.Told.{AddsBeginning};
 ghost use Rattle.sig_program.specs.Scripts.{Program, IsScriptWithin};
+ghost use Rattle.sig_program.specs.ScriptNames.{AreNames};
 ghost use Rattle.sig_canon.specs.Generated.{generated};
+ghost use Rattle.sig_record.specs.RunRecord.{IsOfSettledRun};
 ghost use Rattle.sig_record.specs.RecordText.{record_text};
+ghost use Rattle.sig_record.specs.ReadableRecord.{CanBeReread};
+ghost use Rattle.sig_record.specs.SizedRecord.{IsSizedRecord};
 ghost use Rattle.sig_model.specs.OneWorker.{IsClear, RunsTo};
 ghost use Rattle.sig_model.specs.CrewLaw.{IsLawfulCrew};
 ghost use Rattle.sig_process.specs.Standing.{runnings_of};
@@ -12,7 +16,7 @@ ghost use Rattle.sig_workers.specs.Rounds.{HasSettled};
 ghost use Rattle.sig_host.specs.Answers.{
   AreTexts,
   IsAnswer,
-  IsRecordOf,
+  IsRecordAlone,
   IsRun,
   IsScriptRun,
   IsSourceRead,
@@ -36,8 +40,13 @@ use sig_base::{Gate, ReadAll, Sink, Source, Written, read_all, write_whole};
 use sig_model::lawful_crew_comes_to_rest;
 use sig_process::Crew;
 use sig_program::{MOST_PROCESSES, Script};
-use sig_record::{Record, a_lawful_crew_tells_a_run, summarize};
-use sig_script::{FaultKind, MOST_BYTES, MOST_CALLS, ScriptError, generate, read_script};
+use sig_record::{
+    Record, a_lawful_crew_tells_a_readable_record, a_lawful_crew_tells_a_run, summarize,
+};
+use sig_script::{
+    FaultKind, MOST_BYTES, MOST_CALLS, ScriptError, generate, names_of_scripts_are_name_tokens,
+    read_script,
+};
 use sig_workers::{run_one, run_rounds};
 use std::alloc::{AllocError, Global};
 use std::mem;
@@ -48,7 +57,9 @@ use std::thread::Threads;
 fn read_bytes(alloc: Global, bytes: &[u8]) -> Result<Script, Status>
     ensures read { IsSourceRead (reading (Some bytes.now) (Some []) 0 0) result }
     ensures no_fault { result ≢ Err Status.ReadFault }
+    ensures names { IfOk result AreNames }
 {
+    names_of_scripts_are_name_tokens();
     match read_script(alloc, bytes) {
         Ok(script) => Ok(script),
         Err(ScriptError::Fault { line, kind }) => Err(Status::BadScript { line, kind }),
@@ -63,6 +74,7 @@ fn read_source<S: Source>(alloc: Global, source: &mut S) -> Result<Script, Statu
     ensures taken { IsReadWithin (MOST_BYTES + 1)
         (reading (S.left source.old) (S.left source.new) (S.faults source.old) (S.faults source.new)) }
     ensures count { S.faults source.old ≤ S.faults source.new }
+    ensures names { IfOk result AreNames }
 {
     let mut bytes = Vec::new(alloc);
     match read_all(source, MOST_BYTES, &mut bytes) {
@@ -116,13 +128,17 @@ fn run_record<R: Threads + Wait + Sync, G: Gate>(
     script: Script,
     gate: &G,
 ) -> Result<Record, AllocError>
-    requires { IsInRange settings }
-    ensures { IfOk result (IsRecordOf settings.workers script) }
+    requires range { IsInRange settings }
+    requires names { AreNames script }
+    ensures run { IfOk result (IsOfSettledRun script) }
+    ensures alone { settings.workers ≡ 1 → IfOk result (IsRecordAlone script) }
+    ensures sized { IfOk result IsSizedRecord }
 {
     prove!(script.count() as usize <= MOST_PROCESSES);
     let crew = Crew::start(alloc, script)?;
     let crew = run_crew(rt, alloc, settings, crew, gate)?;
     a_lawful_crew_tells_a_run();
+    a_lawful_crew_tells_a_readable_record();
     let given = Record::gather_at_end(alloc, crew)?;
     Ok(given)
 }
@@ -147,6 +163,7 @@ fn texts_of<R: Threads + Sync>(
 ) -> Result<Texts, AllocError>
     ensures record { IfOk result (λ texts. texts.record.items ≡ record_text given.now) }
     ensures summary { IfOk result (λ texts. text_in texts.summary ≡ summary_for asked given.now) }
+    ensures readable { OnOk result (CanBeReread given.now) }
 {
     let summary = summary_of(alloc, given, asked)?;
     let record = print_apart(rt, alloc, given, threads)?;
@@ -164,7 +181,8 @@ fn run_texts<R: Threads + Wait + Sync, G: Gate>(
     asked: bool,
     gate: &G,
 ) -> Result<Texts, AllocError>
-    requires { IsInRange settings }
+    requires range { IsInRange settings }
+    requires names { AreNames script }
     ensures { IfOk result (AreTexts settings.workers script asked) }
 {
     let given = run_record(rt, alloc, settings, script, gate)?;
@@ -199,7 +217,8 @@ fn run_script<R: Threads + Wait + Sync, O: Sink, G: Gate>(
     out: &mut O,
     gate: &G,
 ) -> Ending
-    requires { IsInRange settings }
+    requires range { IsInRange settings }
+    requires names { AreNames script }
     ensures { IsScriptRun settings.workers script asked (writing (O.held out.old) (O.held out.new) (O.faults out.old) (O.faults out.new))
         result.status (text_in result.summary) }
 {
@@ -225,6 +244,7 @@ fn run_generated<R: Threads + Wait + Sync, O: Sink, G: Gate>(
         (writing (O.held out.old) (O.held out.new) (O.faults out.old) (O.faults out.new))
         result.status (text_in result.summary) }
 {
+    names_of_scripts_are_name_tokens();
     match generate(alloc, calls) {
         Ok(script) => run_script(rt, alloc, settings, script, true, out, gate),
         Err(_) => Ending::short(Status::Memory),

@@ -6,6 +6,7 @@ mod ending;
 mod host;
 mod option_values;
 mod printing;
+mod reading_back;
 mod settings;
 mod standard;
 mod status;
@@ -16,6 +17,7 @@ mod words_error;
 
 pub use command_line::words;
 pub use host::run;
+pub use reading_back::what_run_wrote_is_read_back;
 pub use settings::{MOST_CHURN, MOST_QUOTA, MOST_WORKERS, Settings, the_limits_of_settings};
 pub use standard::program;
 pub use status::Status;

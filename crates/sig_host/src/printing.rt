@@ -1,8 +1,10 @@
 //! A record's text, made by several threads.
 
-ghost use Rattle.std.specs.Prelude.{◌≡◌, ◌++◌, ◌≤◌, length, IfOk, IfSome};
+ghost use Rattle.std.specs.Prelude.{◌≡◌, ◌++◌, ◌≤◌, length, IfOk, IfSome, OnOk};
 ghost use Rattle.std.specs.Thread.{IsSync};
 ghost use Rattle.sig_record.specs.RecordText.{reports_text, record_text};
+ghost use Rattle.sig_record.specs.ReadableRecord.{CanBeReread};
+ghost use Rattle.sig_record.specs.StoredRecord.{IsStoredRecord};
 
 use sig_record::{Record, Report, print_header, print_record, print_reports};
 use std::alloc::{AllocError, Global};
@@ -45,7 +47,8 @@ fn cut(reports: &[Report], threads: u32) -> Option<usize>
 
 /// The text, and behind it what the record tells of these processes.
 fn add_alone(mut text: Vec<u8>, reports: &[Report]) -> Result<Vec<u8>, AllocError>
-    ensures { IfOk result (λ whole. whole.items ≡ text.items ++ reports_text reports.now) }
+    ensures text { IfOk result (λ whole. whole.items ≡ text.items ++ reports_text reports.now) }
+    ensures stored { OnOk result (IsStoredRecord reports.now) }
 {
     print_reports(reports, &mut text)?;
     Ok(text)
@@ -62,7 +65,8 @@ fn add_apart<R: Threads + Sync>(
     reports: &[Report],
     threads: u32,
 ) -> Result<Vec<u8>, AllocError>
-    ensures { IfOk result (λ whole. whole.items ≡ text.items ++ reports_text reports.now) }
+    ensures text { IfOk result (λ whole. whole.items ≡ text.items ++ reports_text reports.now) }
+    ensures stored { OnOk result (IsStoredRecord reports.now) }
 {
     let Some(at) = cut(reports, threads) else {
         return add_alone(text, reports);
@@ -73,11 +77,13 @@ fn add_apart<R: Threads + Sync>(
     let rest = Vec::new(alloc);
     let behind = move || -> Result<Vec<u8>, AllocError>
         requires { IsSync R.row }
-        ensures { IfOk result (λ whole. whole.items ≡ rest.items ++ reports_text back.entry.now) }
+        ensures text { IfOk result (λ whole. whole.items ≡ rest.items ++ reports_text back.entry.now) }
+        ensures stored { OnOk result (IsStoredRecord back.entry.now) }
     { add_apart(rt, alloc, rest, back, half) };
     let before = move || -> Result<Vec<u8>, AllocError>
         requires { IsSync R.row }
-        ensures { IfOk result (λ whole. whole.items ≡ text.items ++ reports_text front.entry.now) }
+        ensures text { IfOk result (λ whole. whole.items ≡ text.items ++ reports_text front.entry.now) }
+        ensures stored { OnOk result (IsStoredRecord front.entry.now) }
     { add_apart(rt, alloc, text, front, others) };
     let (behind, before) = join(rt, behind, before);
     let mut whole = before?;
@@ -85,15 +91,16 @@ fn add_apart<R: Threads + Sync>(
     Ok(whole)
 }
 
-/// The record's text, made by so many threads, where it is long enough for them. The error is want of
-/// memory.
+/// The record's text, made by so many threads, where it is long enough for them. It can be read back, where
+/// the record's names are name tokens and its terms no larger than what is read. The error is want of memory.
 pub fn print_apart<R: Threads + Sync>(
     rt: &R,
     alloc: Global,
     given: &Record,
     threads: u32,
 ) -> Result<Vec<u8>, AllocError>
-    ensures { IfOk result (λ text. text.items ≡ record_text given.now) }
+    ensures text { IfOk result (λ text. text.items ≡ record_text given.now) }
+    ensures readable { OnOk result (CanBeReread given.now) }
 {
     let mut text = Vec::new(alloc);
     if threads < 2 {

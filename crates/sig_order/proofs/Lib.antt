@@ -13,3 +13,4 @@ pub mod RunTraces
 pub mod TracedRuns
 pub mod OriginsTraced
 pub mod Spans
+pub mod OneSpan

@@ -11,5 +11,5 @@ mod traced;
 
 pub use at::At;
 pub use happened::Happened;
-pub use span::Span;
+pub use span::{Span, each_process_has_one_span};
 pub use traced::origins_of_a_run_are_traced;

@@ -10,6 +10,7 @@ use Rattle.sig_runs.specs.Machine.{Machine, At, IsRun}
 use Rattle.sig_runs.specs.Crew.{opening_machine}
 use Rattle.sig_runs.specs.Marks.{by_whole}
 use Rattle.sig_runs.specs.Order.{events_by}
+use Rattle.sig_runs.specs.Settled.{IsSettled}
 use Rattle.sig_model.specs.declared.event.Event.{Event}
 use Rattle.sig_model.specs.ProcessState.{ProcessState, is_cut}
 use Rattle.sig_model.specs.Machine.{rules_of, opening_of}
@@ -62,3 +63,9 @@ pub record IsRecordOfRun (script : Program) (machine : Machine ProcessState Sign
   pub merged : IsMerged reports order
   pub run : IsRun (whole_rules script) (opening_machine (opening_of script)) (events_listed reports order) machine
   pub told : reports ≡ record_of_run script (events_listed reports order) machine
+
+-- the record is that of a run of the script's plain machine, in which a receive looks at all messages, and the run has come to rest
+pub record IsOfSettledRun (script : Program) (reports : List Report) : Type 0 where
+  pub machine : Machine ProcessState Signal
+  pub run : IsRecordOfRun script machine reports
+  pub settled : IsSettled (whole_rules script) machine

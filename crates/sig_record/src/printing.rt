@@ -411,10 +411,12 @@ pub fn print_header(into: &mut Vec<u8>) -> Result<(), AllocError>
 
 /// Appends what a record's text tells of these processes. The texts of a record's reports, cut into
 /// parts anywhere and one behind the other, are behind its header the text of the record, as
-/// `a_records_text_is_that_of_its_parts` says. Where memory is refused, `into` is as before.
+/// `a_records_text_is_that_of_its_parts` says. What was printed lies in memory (`stored`). Where memory is
+/// refused, `into` is as before.
 pub fn print_reports(reports: &[Report], into: &mut Vec<u8>) -> Result<(), AllocError>
     ensures text { OnOk result (into.new.items ≡ into.old.items ++ reports_text reports.now) }
     ensures err { OnErr result (into.new.items ≡ into.old.items) }
+    ensures stored { OnOk result (IsStoredRecord reports.now) }
 {
     let before = into.len();
     let appended = put_each(into, reports);

@@ -8,11 +8,10 @@ use Rattle.sig_model.specs.declared.origin.Origin.{Origin}
 use Rattle.sig_process.specs.Standing.{Standing, runnings_of}
 use Rattle.sig_record.specs.declared.report.Report.{Report}
 use Rattle.sig_record.specs.RecordOf.{record_of}
-use Rattle.sig_record.specs.RunRecord.{IsRecordOfRun}
+use Rattle.sig_record.specs.RunRecord.{IsRecordOfRun, IsOfSettledRun}
 use Rattle.sig_check.specs.declared.replaying.Replaying.{Replaying}
 use Rattle.sig_check.specs.declared.replaying.Replaying.TheVariants.{Stopped, Replayed}
 use Rattle.sig_check.specs.Replays.{GivesAgain, IsReplay, IsReplayed}
-use Rattle.sig_check.specs.Verdicts.{IsOfSettledRun}
 
 pub replayed_so : (script : Program) (reports : List Report) (v : Replaying) (crew : List Standing) (origins : List Origin) → v ≡ Replayed crew origins
     → IsReplay script reports v → IsReplayed script reports (runnings_of crew) origins

@@ -7,6 +7,7 @@ use Rattle.sig_reader.specs.Grammar.{script_of}
 use Rattle.sig_record.specs.declared.report.Report.{Report}
 use Rattle.sig_record.proofs.OneFault.{one_fault}
 use Rattle.sig_record.proofs.RecordLaws.{one_record}
+use Rattle.sig_record.specs.RunRecord.{IsOfSettledRun}
 use Rattle.sig_check.specs.declared.verdict.Verdict.{Verdict}
 use Rattle.sig_check.specs.declared.verdict.Verdict.TheVariants as verdict
 use Rattle.sig_check.specs.Verdicts.{IsVerdict}
@@ -14,7 +15,6 @@ use Rattle.sig_check.proofs.OneVerdict.{one_verdict}
 use Rattle.sig_edge.specs.Streams.{IsRefused}
 use Rattle.sig_tool.specs.declared.status.ToolStatus.{ToolStatus}
 use Rattle.sig_tool.specs.declared.status.ToolStatus.TheVariants.{Done, BadScript, Usage, ReadFault, WriteFault, Memory, No, BadRecord, TooLong, NoEvent, BadCall}
-use Rattle.sig_check.specs.Verdicts.{IsOfSettledRun}
 use Rattle.sig_tool.specs.declared.command.Command.{Command}
 use Rattle.sig_tool.specs.declared.command.Command.TheVariants.{Check, Replay, Links, Before, Expand}
 use Rattle.sig_tool.specs.Commands.{HasEvents, LacksEvent}

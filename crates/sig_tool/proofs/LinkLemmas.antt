@@ -23,10 +23,9 @@ use Rattle.sig_record.specs.declared.report.Report.{Report}
 use Rattle.sig_record.specs.declared.merging.MergedAt.{MergedAt}
 use Rattle.sig_record.specs.Merging.{IsMerged}
 use Rattle.sig_record.specs.RecordOf.{record_of}
-use Rattle.sig_record.specs.RunRecord.{events_listed}
+use Rattle.sig_record.specs.RunRecord.{events_listed, IsOfSettledRun}
 use Rattle.sig_record.proofs.RunLemmas.{all_within}
 use Rattle.sig_check.specs.Replays.{HasRetraced}
-use Rattle.sig_check.specs.Verdicts.{IsOfSettledRun}
 use Rattle.sig_check.proofs.ReplayLemmas.{makes_same, its_run}
 use Rattle.sig_check.proofs.RestLemmas.{settled_marked}
 use Rattle.sig_linklaw.specs.declared.pair.Pair.{Pair}

@@ -10,9 +10,8 @@ use Rattle.sig_model.specs.Running.{Running}
 use Rattle.sig_choices.specs.Origins.{origins_of}
 use Rattle.sig_record.specs.declared.report.Report.{Report}
 use Rattle.sig_record.specs.declared.merging.MergedAt.{MergedAt}
-use Rattle.sig_record.specs.RunRecord.{events_listed}
+use Rattle.sig_record.specs.RunRecord.{events_listed, IsOfSettledRun}
 use Rattle.sig_record.proofs.RunLemmas.{all_within}
-use Rattle.sig_check.specs.Verdicts.{IsOfSettledRun}
 use Rattle.sig_check.specs.Replays.{IsReplayed}
 use Rattle.sig_check.proofs.Orders.{one_order}
 use Rattle.sig_order.specs.declared.at.At.{At}

@@ -26,7 +26,7 @@ use Rattle.sig_reader.specs.Grammar.{body, header_of, line_taken, located, scrip
 use Rattle.sig_record.specs.declared.report.Report.{Report}
 use Rattle.sig_record.specs.RecordText.{record_text, report_text}
 use Rattle.sig_record.specs.ReadableRecord.{IsReadableRecord}
-use Rattle.sig_check.specs.Verdicts.{IsOfSettledRun}
+use Rattle.sig_record.specs.RunRecord.{IsOfSettledRun}
 use Rattle.sig_tool.specs.declared.given.TheConstants.{MOST_INPUT}
 use Rattle.sig_tool.specs.declared.status.ToolStatus.TheVariants.{Done}
 use Rattle.sig_tool.specs.declared.command.Command.{Command}

@@ -10,8 +10,9 @@ use Rattle.sig_record.specs.declared.report.Report.{Report}
 use Rattle.sig_record.specs.FaultLine.{IsFaultLine}
 use Rattle.sig_record.specs.ReadableRecord.{IsReadableRecord}
 use Rattle.sig_record.specs.RecordText.{record_text}
+use Rattle.sig_record.specs.RunRecord.{IsOfSettledRun}
 use Rattle.sig_check.specs.declared.verdict.Verdict.TheVariants as verdict
-use Rattle.sig_check.specs.Verdicts.{IsOfSettledRun, IsVerdict}
+use Rattle.sig_check.specs.Verdicts.{IsVerdict}
 use Rattle.sig_tool.specs.declared.command.Command.{Command}
 use Rattle.sig_tool.specs.declared.given.Given.{Given}
 use Rattle.sig_tool.specs.declared.given.TheConstants.{MOST_INPUT}

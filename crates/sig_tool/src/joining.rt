@@ -6,7 +6,7 @@ ghost use Rattle.sig_reader.specs.Grammar.{script_of};
 ghost use Rattle.sig_record.specs.declared.report.Report.{Report};
 ghost use Rattle.sig_record.specs.ReadableRecord.{IsReadableRecord};
 ghost use Rattle.sig_record.specs.RecordText.{record_text};
-ghost use Rattle.sig_check.specs.Verdicts.{IsOfSettledRun};
+ghost use Rattle.sig_record.specs.RunRecord.{IsOfSettledRun};
 ghost use Rattle.sig_tool.specs.declared.command.Command.{Command as Asked};
 ghost use Rattle.sig_tool.specs.declared.command.Command.TheVariants.{Expand};
 ghost use Rattle.sig_tool.specs.declared.given.TheConstants.{MOST_INPUT};

@@ -4,6 +4,7 @@
 
 mod checking;
 mod command;
+mod due;
 mod expanding;
 mod given;
 mod input;
@@ -21,6 +22,7 @@ mod telling;
 mod top;
 
 pub use command::Command;
+pub use due::one_status_is_due;
 pub use given::{Given, MOST_INPUT, read_checked, the_limits_of_inputs};
 pub use joining::a_record_is_cut_from_its_script;
 pub use numbers::{event_named, number_in};

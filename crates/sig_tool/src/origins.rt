@@ -1,8 +1,8 @@
 //! Which event sent each signal of a record.
 
 ghost use Rattle.std.specs.Prelude.{IfOk};
-ghost use Rattle.sig_check.specs.Verdicts.{IsOfSettledRun};
 ghost use Rattle.sig_order.specs.Happening.{IsTraced};
+ghost use Rattle.sig_record.specs.RunRecord.{IsOfSettledRun};
 ghost use Rattle.sig_tool.specs.Origins.{AreOrigins};
 
 use crate::given::Given;

@@ -3,10 +3,10 @@
 ghost use Rattle.std.specs.Prelude.{◌≡◌, ◌+◌, IfOk};
 ghost use Rattle.sig_edge.specs.Streams.{IsReadWithin, reading};
 ghost use Rattle.sig_check.specs.Replays.{IsReplayed};
-ghost use Rattle.sig_check.specs.Verdicts.{IsOfSettledRun};
 ghost use Rattle.sig_process.specs.Standing.{runnings_of};
 ghost use Rattle.sig_record.specs.RecordOf.{record_of};
 ghost use Rattle.sig_record.specs.RecordText.{record_text};
+ghost use Rattle.sig_record.specs.RunRecord.{IsOfSettledRun};
 ghost use Rattle.sig_tool.specs.declared.command.Command.TheVariants.{Replay};
 ghost use Rattle.sig_tool.specs.declared.given.TheConstants.{MOST_INPUT};
 ghost use Rattle.sig_tool.specs.Texts.{IsTextRead};

@@ -10,7 +10,7 @@ use Rattle.sig_reader.specs.Grammar.{script_of}
 use Rattle.sig_record.specs.declared.report.Report.{Report}
 use Rattle.sig_record.proofs.RecordLaws.{one_record}
 use Rattle.sig_record.specs.declared.merging.MergedAt.{MergedAt}
-use Rattle.sig_check.specs.Verdicts.{IsOfSettledRun}
+use Rattle.sig_record.specs.RunRecord.{IsOfSettledRun}
 use Rattle.sig_check.proofs.Orders.{one_order}
 use Rattle.sig_chart.specs.Shown.{is_shown}
 use Rattle.sig_tool.specs.declared.command.Command.TheVariants.{Check}

@@ -26,9 +26,8 @@ use Rattle.sig_program.specs.ScriptNames.{AreNames}
 use Rattle.sig_record.specs.ReadableRecord.{CanBeReread}
 use Rattle.sig_record.specs.SizedRecord.{IsSizedRecord}
 use Rattle.sig_record.specs.RecordText.{head_text, record_text, state_text}
-use Rattle.sig_record.specs.RunRecord.{events_listed, record_of_run, run_report, run_reports}
+use Rattle.sig_record.specs.RunRecord.{events_listed, record_of_run, run_report, run_reports, IsOfSettledRun}
 use Rattle.sig_record.specs.StoredEnds.{AreStoredEnds}
-use Rattle.sig_check.specs.Verdicts.{IsOfSettledRun}
 use Rattle.sig_view.specs.declared.status.ViewStatus.{ViewStatus}
 use Rattle.sig_view.specs.declared.status.ViewStatus.TheVariants.{Done, BadScript, Usage, ReadFault, WriteFault, Memory, No, BadRecord, TooLong, NoEvent, TooManyEvents, NoOutcome, NotFound, Unfinished}
 use Rattle.sig_view.proofs.OrderLemmas.{elements_ascend, pairs_rearranged, strictly_before}

@@ -4,7 +4,7 @@ use Rattle.sig_base.specs.Flow.{Rose, Adds}
 use Rattle.sig_edge.specs.Streams.{IsUnread, IsUnwritten, Reading, Writing}
 use Rattle.sig_program.specs.Scripts.{Program}
 use Rattle.sig_record.specs.declared.report.Report.{Report}
-use Rattle.sig_check.specs.Verdicts.{IsOfSettledRun}
+use Rattle.sig_record.specs.RunRecord.{IsOfSettledRun}
 use Rattle.sig_tool.specs.declared.given.TheConstants.{MOST_INPUT}
 use Rattle.sig_tool.specs.declared.status.ToolStatus.TheVariants as tool
 use Rattle.sig_tool.specs.Inputs.{IsFault, IsPair}

@@ -13,7 +13,7 @@ use Rattle.sig_record.specs.declared.report.Report.{Report}
 use Rattle.sig_record.specs.ReadableRecord.{CanBeReread, IsReadableRecord}
 use Rattle.sig_record.specs.RecordText.{record_text}
 use Rattle.sig_record.specs.SizedRecord.{IsSizedRecord}
-use Rattle.sig_check.specs.Verdicts.{IsOfSettledRun}
+use Rattle.sig_record.specs.RunRecord.{IsOfSettledRun}
 use Rattle.sig_explore.specs.Endings.{AreAllOutcomes}
 use Rattle.sig_explore.specs.Seen.{HaveSeen}
 use Rattle.sig_tool.specs.declared.given.TheConstants.{MOST_INPUT}

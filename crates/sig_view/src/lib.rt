@@ -6,6 +6,7 @@
 mod charting;
 mod command;
 mod concurrency;
+mod due;
 mod laws;
 mod ordering;
 mod outcome_text;
@@ -19,6 +20,7 @@ mod text;
 mod top;
 
 pub use command::Command;
+pub use due::one_status_is_due;
 pub use laws::{a_whole_list_is_told_by_the_script, queued_signals_of_a_run_are_drawn};
 pub use progress::Progress;
 pub use standard::program;

@@ -1,5 +1,5 @@
 //! Tests of the calls of sig_process and of the crates below it: those that memory can be refused, their
-//! limits, and processes step by step; and threads over a shared queue.
+//! limits, and processes step by step; threads over a shared queue; and the search.
 #![tactic(auto)]
 
 #[cfg(test)]
@@ -30,6 +30,8 @@ mod processes;
 mod putting;
 #[cfg(test)]
 mod relay;
+#[cfg(test)]
+mod search;
 #[cfg(test)]
 mod shared;
 #[cfg(test)]

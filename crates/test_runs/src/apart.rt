@@ -1,8 +1,8 @@
 //! Records whose text several threads make, through the top call.
 
-use crate::processes::text_of_processes;
 use crate::whole::Ran;
 use crate::workers::count;
+use itoa::Buffer;
 use sig_base::OpenGate;
 use sig_host::Status;
 use std::alloc::{AllocError, Global};
@@ -27,6 +27,36 @@ const WORKERS: [&[&str]; 3] = [
     &["--workers", "4"],
     &["--workers", "16"],
 ];
+
+/// Appends the lines of the processes of these numbers, each with these lines.
+fn push_processes(
+    text: &mut Vec<u8>,
+    first: u32,
+    end: u32,
+    lines: &[u8],
+) -> Result<(), AllocError> {
+    let mut digits = Buffer::new();
+    for number in first..end {
+        text.extend_from_slice(b"process p")?;
+        text.extend_from_slice(digits.format(number).as_bytes())?;
+        text.extend_from_slice(b"\n")?;
+        text.extend_from_slice(lines)?;
+    }
+    Ok(())
+}
+
+/// The text of this head, and of the processes of these numbers, each with these lines.
+fn text_of_processes(
+    alloc: Global,
+    head: &[u8],
+    first: u32,
+    end: u32,
+    lines: &[u8],
+) -> Result<Vec<u8>, AllocError> {
+    let mut text = Vec::from_slice(alloc, head)?;
+    push_processes(&mut text, first, end, lines)?;
+    Ok(text)
+}
 
 /// A run of this text.
 fn run_with<R: Threads + Wait + Sync>(

@@ -84,3 +84,46 @@ fn each_failing_call_ends_the_run(rt: HostRuntime) {
     let untold = is_usage_untold(&rt, rt.alloc());
     assert!(rt; untold == Ok(true));
 }
+
+/// Whether a run of one message with these streams answers, prints and tells so.
+fn tells<R: Threads + Wait + Sync>(
+    rt: &R,
+    alloc: Global,
+    setting: &Setting,
+    ending: (Status, &[u8], &[u8]),
+) -> Result<bool, AllocError> {
+    let (status, record, told) = ending;
+    let ran = Ran::of(rt, alloc, setting, &[(ONE_MESSAGE, 1)], &OpenGate)?;
+    let is_so = ran.status == status && ran.out.held() == record && ran.err.held() == told;
+    drop(ran);
+    Ok(is_so)
+}
+
+/// The numbers of the reads and of the writes that fail in a run of one message, and what it answers,
+/// writes and tells.
+const FAULTS: [(&[u64], &[u64], Status, &[u8], &[u8]); 2] = [
+    (&[2], &[], Status::ReadFault, b"", b"sigrun: read fault\n"),
+    (
+        &[],
+        &[2],
+        Status::WriteFault,
+        b"sigrecord ",
+        b"sigrun: write fault\n",
+    ),
+];
+
+#[test]
+fn faults_end_a_run(rt: HostRuntime) {
+    for (failing_reads, failing_writes, status, record, told) in FAULTS {
+        let setting = Setting {
+            piece: 10,
+            failing_reads,
+            failing_writes,
+            ..PLAIN
+        };
+        let ends = tells(&rt, rt.alloc(), &setting, (status, record, told));
+        assert!(rt; ends == Ok(true), "{status:?}");
+    }
+    assert!(rt; Status::ReadFault.number() == 3 && Status::WriteFault.number() == 4);
+    assert_eq!(rt; Status::Memory.number(), 5);
+}

@@ -1,5 +1,6 @@
-//! Tests of the calls of sig_host and of what it stands on, through whole runs: scripts with their records,
-//! texts that are refused, arguments, records that are read back, and runs with several workers.
+//! Tests of the calls of sig_host and of what it stands on, through whole runs, that are no cases of test_scripts:
+//! the settings that arguments give, streams that fail, gates at which workers are held, records as values, and
+//! runs that are compared with each other.
 #![tactic(auto)]
 
 #[cfg(test)]
@@ -7,11 +8,9 @@ mod apart;
 #[cfg(test)]
 mod arguments;
 #[cfg(test)]
-mod calls;
-#[cfg(test)]
 mod crossing;
 #[cfg(test)]
-mod documents;
+mod exit_codes;
 #[cfg(test)]
 mod exits;
 #[cfg(test)]
@@ -19,31 +18,13 @@ mod failing;
 #[cfg(test)]
 mod gates;
 #[cfg(test)]
-mod guards;
-#[cfg(test)]
-mod large;
-#[cfg(test)]
-mod links;
-#[cfg(test)]
-mod markers;
-#[cfg(test)]
-mod matches;
-#[cfg(test)]
-mod processes;
+mod origins;
 #[cfg(test)]
 mod records;
-#[cfg(test)]
-mod refusals;
 #[cfg(test)]
 mod runs;
 #[cfg(test)]
 mod scripts;
-#[cfg(test)]
-mod texts;
-#[cfg(test)]
-mod verdicts;
-#[cfg(test)]
-mod watches;
 #[cfg(test)]
 mod whole;
 #[cfg(test)]

@@ -1,8 +1,5 @@
-//! Records: merged, sorted, and read back.
+//! Records as values: merged, sorted, and read back.
 
-use crate::markers::MARKERS;
-use crate::runs::LINES;
-use crate::whole::text_of;
 use crate::workers::count;
 use sig_process::Crew;
 use sig_record::{MergedAt, Record, RecordError, print_record, read_record, reread};
@@ -10,18 +7,6 @@ use sig_script::{ScriptError, read_script};
 use sig_workers::run_one;
 use std::alloc::{AllocError, Global};
 use test_shared::{ONE_MESSAGE, ONE_MESSAGE_RECORD};
-
-/// `01` where `1` has to stand.
-const PADDED_PID: &[u8] =
-    b"sigrecord 1\nprocess 0 a\n1 exec 1 sent <01> hi\n2 exec 2 ended normal\nstate ended normal\n\
-      process 1 b\n2 from 0 1 kept hi\n3 exec 1 took 1 1 hi\n4 exec 2 ended normal\nstate ended normal\n";
-
-/// A process's name begins with a small letter.
-const LARGE_NAME: &[u8] = b"sigrecord 1\nprocess 0 A\nstate waiting\n";
-
-/// The second signal has a lower number than the first.
-const OUT_OF_ORDER: &[u8] =
-    b"sigrecord 1\nprocess 0 a\nqueued 1 2 1 link\nqueued 1 1 1 link\nstate cut\n";
 
 /// The record of the script's run of one worker.
 fn record_of(alloc: Global, text: &[u8]) -> Result<Record, ScriptError> {
@@ -84,15 +69,10 @@ fn printed(alloc: Global, record: &Record) -> Result<Vec<u8>, AllocError> {
     Ok(text)
 }
 
-/// Whether the record's text is this one behind its front.
-pub(crate) fn prints(
-    alloc: Global,
-    record: &Record,
-    front: &[u8],
-    rest: &[u8],
-) -> Result<bool, AllocError> {
+/// Whether this is the record's text.
+fn prints(alloc: Global, record: &Record, expected: &[u8]) -> Result<bool, AllocError> {
     let text = printed(alloc, record)?;
-    let is_so = text.as_slice().strip_prefix(front) == Some(rest);
+    let is_so = text.as_slice() == expected;
     drop(text);
     Ok(is_so)
 }
@@ -118,7 +98,7 @@ fn is_merged(alloc: Global, record: &Record) -> Result<bool, AllocError> {
 /// Whether they are, and their record is settled and printed so.
 fn is_one_message(alloc: Global, record: &Record) -> Result<bool, AllocError> {
     let merged = is_merged(alloc, record)?;
-    Ok(merged && record.settled() && prints(alloc, record, b"", ONE_MESSAGE_RECORD)?)
+    Ok(merged && record.settled() && prints(alloc, record, ONE_MESSAGE_RECORD)?)
 }
 
 /// The same of a run of it.
@@ -127,22 +107,6 @@ fn one_message_is_merged(alloc: Global) -> Result<bool, ScriptError> {
     let merged = is_one_message(alloc, &record);
     drop(record);
     Ok(merged?)
-}
-
-/// The record of the script of these lines, without its first line.
-fn record_of_lines(alloc: Global, lines: &[u8]) -> Result<Record, ScriptError> {
-    let script = text_of(alloc, &[(LINES.head, 1), (lines, 1)])?;
-    let record = record_of(alloc, script.as_slice());
-    drop(script);
-    record
-}
-
-/// Whether the script of these lines has this record, each without its first line.
-fn has_record(alloc: Global, lines: &[u8], expected: &[u8]) -> Result<bool, ScriptError> {
-    let record = record_of_lines(alloc, lines)?;
-    let prints = prints(alloc, &record, b"sigrecord 1\n", expected);
-    drop(record);
-    Ok(prints?)
 }
 
 /// The place of the first signal in the queue of process 1 that isn't the only one of the sender of
@@ -174,28 +138,16 @@ fn first_other_of_many(alloc: Global) -> Result<Option<usize>, ScriptError> {
 fn records_are_merged_and_sorted(rt: HostRuntime) {
     let merges = one_message_is_merged(rt.alloc());
     assert!(rt; matches!(merges, Ok(true)), "{merges:?}");
-    for (lines, record) in &MARKERS {
-        let has = has_record(rt.alloc(), lines, record);
-        assert!(rt; matches!(has, Ok(true)), "{lines:?}");
-    }
     let place = first_other_of_many(rt.alloc());
     assert!(rt; matches!(place, Ok(Some(27))), "{place:?}");
-}
-
-/// The line at which the bytes are no record's text, where they are none.
-fn refused_line(alloc: Global, bytes: &[u8]) -> Option<u64> {
-    match read_record(alloc, bytes) {
-        Err(RecordError::BadRecord { line }) => Some(line),
-        _ => None,
-    }
 }
 
 /// Whether the record is printed so, and so is the one that is read of its text.
 fn both_print(alloc: Global, record: &Record, bytes: &[u8]) -> Result<bool, RecordError> {
     let again = reread(alloc, record)?;
-    let printed = prints(alloc, &again, b"", bytes);
+    let printed = prints(alloc, &again, bytes);
     drop(again);
-    Ok(printed? && prints(alloc, record, b"", bytes)?)
+    Ok(printed? && prints(alloc, record, bytes)?)
 }
 
 /// The same of a record and its text.
@@ -207,13 +159,9 @@ fn is_printed_again(alloc: Global, bytes: &[u8]) -> Result<bool, RecordError> {
 }
 
 #[test]
-fn records_and_no_other_texts_are_read(rt: HostRuntime) {
-    let alloc = rt.alloc();
-    let printed = is_printed_again(alloc, ONE_MESSAGE_RECORD);
+fn a_record_is_read_again(rt: HostRuntime) {
+    let printed = is_printed_again(rt.alloc(), ONE_MESSAGE_RECORD);
     assert!(rt; matches!(printed, Ok(true)), "{printed:?}");
-    for (text, line) in [(PADDED_PID, 3), (LARGE_NAME, 2), (OUT_OF_ORDER, 4)] {
-        assert!(rt; refused_line(alloc, text) == Some(line), "{text:?}");
-    }
 }
 
 /// Whether the front of the record of one message that has this length is told as it is: as the text of a

@@ -1,23 +1,22 @@
 //! Whole runs, through the top call: what they are given, and what they answer, write and tell.
 
-use sig_base::{FailingSink, FailingSource, Gate, MemorySink};
+use sig_base::{FailingSink, Gate, MemorySink};
 use sig_host::{Status, run};
 use std::alloc::{AllocError, Global};
 use std::sync::Wait;
 use std::thread::Threads;
 use test_shared::{Setting, streams_of, texts_of};
 
-/// A run: its answer, what is left of its script, and what it has written and told.
+/// A run: its answer, and what it has written and told.
 #[derive(Drop)]
 pub(crate) struct Ran {
     pub status: Status,
-    pub script: FailingSource,
     pub out: FailingSink,
     pub err: MemorySink,
 }
 
 /// Appends these pieces, each so many times.
-pub(crate) fn push_pieces(text: &mut Vec<u8>, pieces: &[(&[u8], usize)]) -> Result<(), AllocError> {
+fn push_pieces(text: &mut Vec<u8>, pieces: &[(&[u8], usize)]) -> Result<(), AllocError> {
     for (piece, times) in pieces {
         for _ in 0..*times {
             text.extend_from_slice(piece)?;
@@ -55,11 +54,6 @@ impl Ran {
             gate,
         );
         drop(words);
-        Ok(Ran {
-            status,
-            script,
-            out,
-            err,
-        })
+        Ok(Ran { status, out, err })
     }
 }

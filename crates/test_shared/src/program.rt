@@ -15,17 +15,11 @@ pub trait Program {
     /// The status after a write that failed.
     const WRITE_FAULT: Self::Status;
 
-    /// The status where the words are no command.
-    const USAGE: Self::Status;
-
     /// What is told of a read that failed.
     const READ_TOLD: &'static [u8];
 
     /// What is told of a write that failed.
     const WRITE_TOLD: &'static [u8];
-
-    /// What is told where the words are no command.
-    const USAGE_TOLD: &'static [u8];
 
     /// The top call.
     fn call(

@@ -17,13 +17,9 @@ impl Program for Tool {
 
     const WRITE_FAULT: ToolStatus = ToolStatus::WriteFault;
 
-    const USAGE: ToolStatus = ToolStatus::Usage;
-
     const READ_TOLD: &'static [u8] = b"sigtool: read fault\n";
 
     const WRITE_TOLD: &'static [u8] = b"sigtool: write fault\n";
-
-    const USAGE_TOLD: &'static [u8] = b"usage: sigtool check|replay|links|before P I Q J|expand\n";
 
     fn call(
         alloc: Global,

@@ -1,22 +1,14 @@
-//! Tests of the tool through its top call: scripts with records behind them and texts of calls, what is
-//! answered and written, inputs and arguments that are refused, and streams that fail.
+//! Tests of the tool through its top call that are no cases of test_scripts: streams that fail, an input of as many
+//! bytes as there may be, and the numbers of its statuses.
 #![tactic(auto)]
 
 #[cfg(test)]
 mod called;
 #[cfg(test)]
-mod calls;
-#[cfg(test)]
-mod documents;
+mod exit_codes;
 #[cfg(test)]
 mod failing;
 #[cfg(test)]
 mod inputs;
 #[cfg(test)]
 mod large;
-#[cfg(test)]
-mod links;
-#[cfg(test)]
-mod order;
-#[cfg(test)]
-mod rows;

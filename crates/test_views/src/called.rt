@@ -18,14 +18,9 @@ impl Program for Viewer {
 
     const WRITE_FAULT: ViewStatus = ViewStatus::WriteFault;
 
-    const USAGE: ViewStatus = ViewStatus::Usage;
-
     const READ_TOLD: &'static [u8] = b"sigview: read fault\n";
 
     const WRITE_TOLD: &'static [u8] = b"sigview: write fault\n";
-
-    const USAGE_TOLD: &'static [u8] =
-        b"usage: sigview chart [--from S] [--to T]|concurrent P I|outcomes [--states N] [--record K]\n";
 
     fn call(
         alloc: Global,

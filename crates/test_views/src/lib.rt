@@ -1,21 +1,15 @@
-//! Tests of the viewer through its top call: scripts with records behind them and scripts alone, what is
-//! answered and written, inputs and arguments that are refused, and streams that fail.
+//! Tests of the viewer through its top call that are no cases of test_scripts: streams that fail, searches that are
+//! cut off, what is told while one goes on, and the numbers of its statuses.
 #![tactic(auto)]
 
 #[cfg(test)]
 mod called;
 #[cfg(test)]
-mod charts;
-#[cfg(test)]
-mod concurrent;
-#[cfg(test)]
-mod documents;
+mod exit_codes;
 #[cfg(test)]
 mod failing;
 #[cfg(test)]
 mod inputs;
-#[cfg(test)]
-mod outcome_rows;
 #[cfg(test)]
 mod outcomes;
 #[cfg(test)]

@@ -1,10 +1,10 @@
 //! The records of runs that end in the outcomes of a list. `sigtool check` has to say yes to each.
 
-use crate::called::{Called, PLAIN, Viewer};
+use crate::called::{Called, PLAIN};
 use sig_record::{Record, print_ends, read_record};
 use sig_view::ViewStatus;
 use std::alloc::{AllocError, Global};
-use test_shared::{Ending, Setting, is_checked};
+use test_shared::{Setting, is_checked};
 
 /// What the record tells of how the processes ended.
 fn text_of_ends(alloc: Global, told: &Record) -> Result<Vec<u8>, AllocError> {
@@ -92,7 +92,7 @@ pub(crate) fn count_of(listed: &[u8]) -> usize {
 }
 
 /// Appends the first line of a list of so many outcomes, of which it says this.
-pub(crate) fn push_first(
+fn push_first(
     alloc: Global,
     text: &mut Vec<u8>,
     count: usize,
@@ -105,7 +105,7 @@ pub(crate) fn push_first(
 }
 
 /// Appends the outcome with this number.
-pub(crate) fn push_outcome(
+fn push_outcome(
     alloc: Global,
     text: &mut Vec<u8>,
     number: usize,
@@ -163,17 +163,4 @@ pub(crate) fn is_told_by_records(
     let mut text = Vec::new(alloc);
     push_list(alloc, &mut text, script, states, (count_of(listed), says))?;
     Ok(text.as_slice() == listed)
-}
-
-/// Whether the script's outcomes are listed so, and the records of runs that end in them tell the same.
-pub(crate) fn is_listed(alloc: Global, script: &[u8], listed: &[u8]) -> Result<bool, AllocError> {
-    let setting = Setting {
-        words: &["outcomes"],
-        ..PLAIN
-    };
-    let ending: Ending<Viewer> = (ViewStatus::Done, listed, b"");
-    Ok(
-        Called::ends_so(alloc, &setting, script, b"", ending)?
-            && is_told_by_records(alloc, script, None, listed, "all")?,
-    )
 }

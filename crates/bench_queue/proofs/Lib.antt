@@ -1,4 +1,0 @@
-mod Offers
-mod Splits
-mod Opens
-mod Counting
