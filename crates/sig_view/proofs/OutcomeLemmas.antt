@@ -240,7 +240,7 @@ module _ (script : Program) (most : ℕ) (old new : List (List Report)) (states 
     met = found.met;
     whole = λ is. record {
       each = λ outcome ends. told_still outcome ((found.whole is).each outcome ends);
-      told = λ machine reports run few settled. told_still (outcome_told reports) ((found.whole is).told machine reports run few settled);
+      told = λ machine reports run settled. told_still (outcome_told reports) ((found.whole is).told machine reports run settled);
     };
   }
 

@@ -34,7 +34,7 @@ pub enum ViewStatus {
     /// its events have the stamps that `chart` is to draw.
     TooManyEvents,
     /// The script has no outcome of the number for whose record `outcomes` was asked: all outcomes of its
-    /// settled runs of fewer than 2^62 events are fewer than that. Or the number is 0.
+    /// settled runs are fewer than that. Or the number is 0.
     NoOutcome,
     /// No outcome of this number was found, but the search was cut off: it has met so many states, more
     /// than it may visit. There may be one.

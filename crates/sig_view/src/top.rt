@@ -100,7 +100,7 @@ fn run_words<S: Source, O: Sink, T: Teller>(
 /// Or the words are `outcomes`, and behind it `--states N`, `--record K` or both in either order: the input
 /// is a script alone, of which a search may visit N states (1 to 10,000,000; 200,000 without the option).
 /// It writes a list of outcomes in which settled runs of the script end, each once, by ascending text. In
-/// its first line `all` says that no settled run of fewer than 2^62 events ends otherwise, and `more` that
+/// its first line `all` says that no settled run ends otherwise, and `more` that
 /// more than N states were met, no two of them the same but for stamps and numbers of signals; then each of
 /// the first N that has no choice has its outcome listed. With `--record K` it writes the record of a settled
 /// run that ends in the outcome K of such a list.
@@ -115,7 +115,7 @@ fn run_words<S: Source, O: Sink, T: Teller>(
 /// - `TooManyEvents`: exactly where the record is that of a settled run, and more than
 ///   [`MOST_EVENTS`](sig_chart::MOST_EVENTS) of its events have the stamps of `chart`.
 /// - `NoOutcome`: only where the input spells a script, with `--record K`. All outcomes of its settled runs
-///   of fewer than 2^62 events are fewer than K, or K is 0.
+///   are fewer than K, or K is 0.
 /// - `NotFound`: only where the input spells a script, with `--record K`, of which the search met so many
 ///   states, more than N. K isn't 0, and the search found fewer outcomes than K; that it did is a clause of
 ///   the function that looks among them, and none here.
