@@ -9,7 +9,7 @@ use Rattle.std.proofs.lemmas.Bool.{false≢true}
 use Rattle.std.proofs.lemmas.List.{get_or-map, length-map}
 use Rattle.std.proofs.lemmas.List.Elements.{All-head, All-tail, All-map, All-weaker}
 use Rattle.std.proofs.lemmas.List.Folds.{flat_map-map}
-use Rattle.std.proofs.lemmas.List.Sorted.{All-permutation, Contains-permutation, IsPermutation-map}
+use Rattle.std.proofs.lemmas.List.Sorted.{All-permutation, Contains-permutation, IsPermutation-map, IsPermutation-sym}
 use Rattle.std.proofs.lemmas.Option.{slice_get-map, slice_get_cases, slice_get_within, get_or_from_slice_get}
 use Rattle.sig_program.specs.Scripts.{Declared, Program}
 use Rattle.sig_runs.specs.Machine.{At, Machine}
@@ -231,6 +231,11 @@ module _ (script : Program) (most : ℕ) (old new : List (List Report)) (states 
   told_still : (outcome : List Rest) → Contains (map outcome_told old) outcome → Contains (map outcome_told new) outcome
   told_still outcome = Contains-permutation (map outcome_told old) (map outcome_told new) outcome (IsPermutation-map outcome_told old new same)
 
+  told_before : (outcome : List Rest) → Contains (map outcome_told new) outcome → Contains (map outcome_told old) outcome
+  told_before outcome =
+      Contains-permutation (map outcome_told new) (map outcome_told old) outcome
+      (IsPermutation-sym (map outcome_told old) (map outcome_told new) (IsPermutation-map outcome_told old new same))
+
   pub found_still : AreFound script most old states all → AreFound script most new states all
   found_still found = record {
     each = All-permutation (IsOfSettledRun script) old new same found.each;
@@ -254,6 +259,7 @@ module _ (script : Program) (most : ℕ) (old new : List (List Report)) (states 
     once = seen.once;
     visited = seen.visited;
     told = λ crew there stuck. told_still (outcome_of script (machine_of_crew crew)) (seen.told crew there stuck);
+    only = λ outcome there. seen.only outcome (told_before outcome there);
   }
 
 -- ---- what a search says of what it has found

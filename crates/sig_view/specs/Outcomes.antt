@@ -30,8 +30,9 @@ abbrev pub IsTold : Program → List Rest → Type 0
 IsTold script outcome = (reports : List Report) × IsOfSettledRun script reports × (outcome ≡ outcome_told reports)
 
 -- What is listed where a search may visit so many states: outcomes of the script, by ascending text. So many states were met, and each of
--- them without a choice has its outcome here. As many of them as may be visited, or all, were: what enough choices at each lead to was met.
--- That these are all is said exactly where no more were met than may be visited, and then they are.
+-- them without a choice has its outcome here; no other outcome is here. As many of them as may be visited, or all, were: what enough choices
+-- at each lead to was met, and each state that was met is the opening or was led to by one of these. That these are all is said exactly where
+-- no more were met than may be visited, and then they are.
 pub record AreListed (script : Program) (most : ℕ) (outcomes : List (List Rest)) (states : ℕ) (all : Bool) : Type 0 where
   pub each : All (IsOutcome script) outcomes
   pub told : All (IsTold script) outcomes
@@ -94,7 +95,7 @@ pub record HasFewer (script : Program) (most : ℕ) (number : ℕ) : Type 0 wher
 abbrev pub HasNoOutcome : Program → ℕ → ℕ → Type 0
 HasNoOutcome script most number = (number ≡ 0) ⊎ HasFewer script most number
 
--- more states were met than may be visited, so the search was cut off, and what it listed is fewer outcomes than this number
+-- more states were met than may be visited, so a search of as many was cut off, and such a list of what it met doesn't come to this number
 pub record IsNotFound (script : Program) (most : ℕ) (number : ℕ) (states : ℕ) : Type 0 where
   pub over : most < states
   pub outcomes : List (List Rest)

@@ -74,7 +74,8 @@ fn meet_all(nodes: &mut Pool<Node>, edges: &[(u32, u32)], from: u32) -> Result<(
     Ok(())
 }
 
-// Contracts aren't told what a node leads to, to them it is enough that nothing is met: the tests look at what is met.
+// Contracts aren't told what a node leads to, nor what comes of it: to them it is enough that nothing is met, and any node may be. The
+// tests look at what is met.
 impl<'e> Space for Graph<'e> {
     ghost use Rattle.test_calls.specs.declared.search.graph.Node.{Node};
 
@@ -89,6 +90,8 @@ impl<'e> Space for Graph<'e> {
     ghost keeps = { λ _. Unit {0} };
 
     ghost leads = { λ _ node nexts. nexts ≡ [] };
+
+    ghost comes = { λ _ node next. Unit {0} };
 
     fn len(&self) -> usize {
         self.nodes.len()
