@@ -26,8 +26,8 @@ const PIECE: usize = 4096;
 ///
 /// - [`ReadAll::Whole`]: `into` holds all bytes that the source had, at most `limit`.
 /// - [`ReadAll::TooLong`]: `into` holds the first `limit + 1` bytes.
-/// - [`ReadAll::ReadFault`]: a read failed, so the source's count of faults rose. `into` holds what
-///   was taken before.
+/// - [`ReadAll::ReadFault`]: one read failed, which isn't made again: the source's count of faults rose by
+///   one. `into` holds what was taken.
 /// - [`ReadAll::Memory`]: `into` could not grow. It holds the front of what was taken.
 ///
 /// With any answer but [`ReadAll::ReadFault`] no read failed.

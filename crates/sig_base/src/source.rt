@@ -1,5 +1,5 @@
 ghost use Rattle.std.specs.Prelude.{ℕ, ◌<◌, ◌≤◌, ◌≡◌, List, length, Option, IfOk, OnOk, OnErr};
-ghost use Rattle.sig_base.specs.Flow.{Rose, Takes};
+ghost use Rattle.sig_base.specs.Flow.{Takes, one_more};
 
 /// A read or a write failed, and took nothing.
 #[derive(Clone, Copy, PartialEq, Eq)]
@@ -19,14 +19,14 @@ pub trait Source {
     ///
     /// # Errors
     ///
-    /// [`Failed`] only where the source's count of faults rose in this call. Nothing was taken then.
+    /// [`Failed`] only where the source's count of faults rose in this call, by one. Nothing was taken then.
     /// With any other answer the count is as before.
     fn read(&mut self, into: &mut [u8]) -> Result<usize, Failed>
         requires { 0 < length into.old }
         ensures within { IfOk result (λ n. n ≤ length into.old) }
         ensures takes { IfOk result (λ n. Takes (left self.old) (left self.new) into.new n) }
         ensures no_fault { OnOk result (faults self.new ≡ faults self.old) }
-        ensures failed { OnErr result (Rose (faults self.old) (faults self.new)) }
+        ensures once { OnErr result (faults self.new ≡ one_more (faults self.old)) }
         ensures kept { OnErr result (left self.new ≡ left self.old) }
         ensures count { faults self.old ≤ faults self.new };
 }

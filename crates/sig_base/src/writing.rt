@@ -18,9 +18,9 @@ pub enum Written {
 
 /// Writes all the bytes, in as many calls as it takes. With no bytes it makes no call.
 ///
-/// - [`Written::Whole`]: the sink holds what it held, followed by `bytes`.
-/// - [`Written::WriteFault`]: a write failed, so the sink's count of faults rose. The sink holds what
-///   it held, followed by the first `written` bytes.
+/// - [`Written::Whole`]: the sink holds what it held, followed by `bytes`. No write failed.
+/// - [`Written::WriteFault`]: one write failed, which isn't made again: the sink's count of faults rose by
+///   one. The sink holds what it held, followed by the first `written` bytes.
 pub fn write_whole<O: Sink>(sink: &mut O, bytes: &[u8]) -> Written
     ensures written { IsWritten (O.held sink.old) (O.held sink.new) (O.faults sink.old)
         (O.faults sink.new) bytes.now result }

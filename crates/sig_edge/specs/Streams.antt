@@ -41,9 +41,9 @@ IsReadToEnd r = IfSome r.left (λ bytes. r.rest ≡ Some [])
 abbrev pub IsReadWithin : ℕ → Reading → Type 0
 IsReadWithin most r = (bytes : List ℕ) × Took r.left r.rest bytes × (length bytes ≤ most)
 
--- nothing was written
+-- nothing was written, and no write failed
 abbrev pub IsUnwritten : Writing → Type 0
-IsUnwritten w = w.new ≡ w.held
+IsUnwritten w = (w.new ≡ w.held) × (w.after ≡ w.before)
 
 -- the bytes are no script: this line is the first that is refused, and this is why
 abbrev pub IsRefused : ℕ → FaultKind → List ℕ → Type 0

@@ -1,6 +1,6 @@
 -- What a program tells when it can't go on: one line, which begins with its name (the texts are this project's own).
-use Rattle.std.specs.Prelude.{ℕ, List, ◌++◌, take, codes, decimal, Option, Result, Ok, Err}
-use Rattle.sig_base.specs.Flow.{Rose, Adds}
+use Rattle.std.specs.Prelude.{◌≡◌, ◌⊎◌, ℕ, List, ◌++◌, take, codes, decimal, Option, Result, Ok, Err}
+use Rattle.sig_base.specs.Flow.{one_more, Rose, Adds}
 use Rattle.sig_tokens.specs.declared.fault.FaultKind.{FaultKind}
 use Rattle.sig_tokens.specs.FaultWords.{fault_text}
 use Rattle.sig_edge.specs.Streams.{Writing}
@@ -26,11 +26,15 @@ memory_text program = program ++ codes ": out of memory\n"
 abbrev pub AddsBeginning : Option (List ℕ) → Option (List ℕ) → List ℕ → Type 0
 AddsBeginning held new text = (n : ℕ) × Adds held new (take n text)
 
--- the text was written whole; or a write failed, and the beginning of the text was written
+-- the text was written whole, and no write failed; or one did, and the beginning of the text was written
 abbrev pub IsTold : {T E : Type 0} → Writing → List ℕ → Result T E → Type 0
-IsTold w text (Ok t) = Adds w.held w.new text
-IsTold w text (Err e) = Rose w.before w.after × AddsBeginning w.held w.new text
+IsTold w text (Ok t) = Adds w.held w.new text × (w.after ≡ w.before)
+IsTold w text (Err e) = (w.after ≡ one_more w.before) × AddsBeginning w.held w.new text
 
--- the text was written where no write failed, and else its beginning
+-- no write failed, or one did
+abbrev pub FailedOnceAtMost : Writing → Type 0
+FailedOnceAtMost w = (w.after ≡ w.before) ⊎ (w.after ≡ one_more w.before)
+
+-- the text was written where no write failed, and else its beginning; not more than one write failed
 abbrev pub IsSaid : Writing → List ℕ → Type 0
-IsSaid w text = ((Rose w.before w.after → ⊥) → Adds w.held w.new text) × AddsBeginning w.held w.new text
+IsSaid w text = ((Rose w.before w.after → ⊥) → Adds w.held w.new text) × AddsBeginning w.held w.new text × FailedOnceAtMost w

@@ -6,6 +6,7 @@ use Rattle.sig_tokens.specs.Faults.{Fault}
 use Rattle.sig_reader.specs.Grammar.{script_of}
 use Rattle.sig_tokens.specs.declared.fault.FaultKind.{FaultKind}
 use Rattle.sig_base.specs.Flow.{Rose}
+use Rattle.sig_base.proofs.Faults.{risen}
 use Rattle.sig_host.specs.declared.settings.Settings.{Settings}
 use Rattle.sig_host.specs.declared.status.Status.{Status}
 use Rattle.sig_host.specs.declared.status.Status.TheVariants.{Done, BadScript, Usage, ReadFault, WriteFault, Memory}
@@ -46,11 +47,11 @@ module _ (r : Reading) (w : Writing) (summary : Option (List ℕ)) where
 
   no_read_fault : (n : ℕ) (g : Option ℕ) → IsRun n g r w ReadFault summary → Rose r.before r.after
   no_read_fault n (Some calls) h = absurd h.1
-  no_read_fault n None h = h.0
+  no_read_fault n None h = risen r.before r.after h.0
 
   no_write_fault : (n : ℕ) (g : Option ℕ) → IsRun n g r w WriteFault summary → Rose w.before w.after
-  no_write_fault n (Some calls) h = h.1.0
-  no_write_fault n None h = h.1
+  no_write_fault n (Some calls) h = risen w.before w.after h.1.0
+  no_write_fault n None h = risen w.before w.after h.1
 
   not_refused : (line : ℕ) (kind : FaultKind) (bytes : List ℕ) (script : Program) (left : Option (List ℕ)) → left ≡ Some bytes → script_of bytes ≡ Ok script
       → IfSome left (IsRefused line kind) → ⊥

@@ -41,7 +41,7 @@ module _ (input output : List ℕ) (summary : Option (List ℕ)) where
 
   printed : (workers : ℕ) (script : Program) (asked : Bool) (w : Writing) → w.held ≡ Some [] → w.new ≡ Some output
       → IsPrinted workers script asked w summary → Printed workers script
-  printed workers script asked w held new (reports, run, added, _) =
+  printed workers script asked w held new (_, (reports, run, added, _)) =
       let all : Some output ≡ Some (record_text reports) = sym new ∙ subst (λ (h : Option (List ℕ)). Adds h w.new (record_text reports)) held added in
       (reports, run, cc)
 

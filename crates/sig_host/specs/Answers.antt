@@ -1,6 +1,6 @@
 -- What each answer of a run says of the bytes that were read and written.
 use Rattle.std.specs.Prelude.{◌≡◌, ◌≢◌, ℕ, ◌<◌, Bool, List, length, take, true, false, Option, Some, None, IfSome, Result, Ok, Err, ⊤}
-use Rattle.sig_base.specs.Flow.{Rose, Adds}
+use Rattle.sig_base.specs.Flow.{one_more, Rose, Adds}
 use Rattle.sig_tokens.specs.declared.fault.FaultKind.TheVariants.{TooLong}
 use Rattle.sig_edge.specs.Streams.{IsFine, IsReadToEnd, IsRefused, IsUnread, IsUnwritten, Reading, Spells, Writing}
 use Rattle.sig_program.specs.Scripts.{Program}
@@ -50,20 +50,22 @@ AreTexts workers script asked t =
 abbrev pub IsSourceRead : Reading → Result Program Status → Type 0
 IsSourceRead r (Ok script) = IfSome r.left (λ bytes. script_of bytes ≡ Ok script) × IsFine r × IsReadToEnd r
 IsSourceRead r (Err (BadScript line kind)) = IfSome r.left (IsRefused line kind) × IsFine r × (kind ≢ TooLong → IsReadToEnd r)
-IsSourceRead r (Err ReadFault) = Rose r.before r.after
+IsSourceRead r (Err ReadFault) = r.after ≡ one_more r.before
 IsSourceRead r (Err Memory) = IsFine r
 IsSourceRead r (Err _) = ⊥
 
--- the whole text of the record of a run of the script with so many workers was written; this text of its summary, if one is asked for,
--- is to be told
+-- the whole text of the record of a run of the script with so many workers was written, and no write failed; this text of its summary, if
+-- one is asked for, is to be told
 abbrev pub IsPrinted : ℕ → Program → Bool → Writing → Option (List ℕ) → Type 0
 IsPrinted workers script asked w summary =
-    (reports : List Report) × IsRecordOf workers script reports × Adds w.held w.new (record_text reports) × (summary ≡ summary_for asked reports)
+    (w.after ≡ w.before)
+    × ((reports : List Report) × IsRecordOf workers script reports × Adds w.held w.new (record_text reports) × (summary ≡ summary_for asked reports))
 
--- a write failed, and only the beginning of that text was written
+-- one write failed, and only the beginning of that text was written
 abbrev pub IsCutOff : ℕ → Program → Writing → Type 0
 IsCutOff workers script w =
-    Rose w.before w.after × ((reports : List Report) × (n : ℕ) × IsRecordOf workers script reports × (n < length (record_text reports)) × Adds w.held w.new (take n (record_text reports)))
+    (w.after ≡ one_more w.before)
+    × ((reports : List Report) × (n : ℕ) × IsRecordOf workers script reports × (n < length (record_text reports)) × Adds w.held w.new (take n (record_text reports)))
 
 -- running a script with so many workers and writing its record, and how that ended: with this text of a summary or none
 abbrev pub IsScriptRun : ℕ → Program → Bool → Writing → Status → Option (List ℕ) → Type 0
@@ -74,10 +76,11 @@ IsScriptRun workers script asked w _ summary = ⊥
 
 -- running the script that the source spells, with so many workers
 abbrev pub IsSourceRun : ℕ → Reading → Writing → Status → Option (List ℕ) → Type 0
-IsSourceRun workers r w Done summary = Spells r (λ script. IsPrinted workers script false w summary) × IsFine r × IsReadToEnd r × (summary ≡ None)
+IsSourceRun workers r w Done summary =
+    Spells r (λ script. IsPrinted workers script false w summary) × (w.after ≡ w.before) × IsFine r × IsReadToEnd r × (summary ≡ None)
 IsSourceRun workers r w (BadScript line kind) summary = IfSome r.left (IsRefused line kind) × IsFine r × (kind ≢ TooLong → IsReadToEnd r) × IsUnwritten w
-IsSourceRun workers r w ReadFault summary = Rose r.before r.after × IsUnwritten w
-IsSourceRun workers r w WriteFault summary = Spells r (λ script. IsCutOff workers script w) × Rose w.before w.after × IsFine r × IsReadToEnd r
+IsSourceRun workers r w ReadFault summary = (r.after ≡ one_more r.before) × IsUnwritten w
+IsSourceRun workers r w WriteFault summary = Spells r (λ script. IsCutOff workers script w) × (w.after ≡ one_more w.before) × IsFine r × IsReadToEnd r
 IsSourceRun workers r w Memory summary = IsFine r × IsUnwritten w
 IsSourceRun workers r w Usage summary = ⊥
 

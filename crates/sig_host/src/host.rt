@@ -1,7 +1,7 @@
 ghost use Rattle.std.specs.Prelude.{◌≡◌, ◌≢◌, ◌+◌, ◌≤◌, ◌⊎◌, ℕ, Bool, true, List, [], map, string_bytes, IfOk, OnOk, Option, Some};
 ghost use Rattle.sig_base.specs.Flow.{Rose, Adds};
 ghost use Rattle.sig_edge.specs.Streams.{IsReadWithin, reading, writing};
-ghost use Rattle.sig_edge.specs.Told.{AddsBeginning};
+ghost use Rattle.sig_edge.specs.Told.{AddsBeginning, FailedOnceAtMost};
 ghost use Rattle.sig_program.specs.Scripts.{Program, IsScriptWithin};
 ghost use Rattle.sig_program.specs.ScriptNames.{AreNames};
 ghost use Rattle.sig_canon.specs.Generated.{generated};
@@ -330,23 +330,23 @@ fn run_words<R: Threads + Wait + Sync, S: Source, O: Sink, G: Gate>(
 /// started. How many workers there are, what the gate is told and which threads are started, no clause
 /// says.
 ///
-/// - `Done`: `out` has taken the whole text. No read failed, and without `--generate` the source
+/// - `Done`: `out` has taken the whole text. No read and no write to `out` failed, and without `--generate` the source
 ///   has nothing left.
 /// - `BadScript`: only without `--generate`, where the bytes spell no script; with the first line
 ///   that is refused and why, or line 0 where they are more than [`MOST_BYTES`]. No read failed,
 ///   and the source has nothing left, but where they are more. Nothing was written to `out`.
 /// - `Usage`: exactly where [`words`] answers it, and so never on arguments in the plain form. The
 ///   source wasn't read, and nothing was written to `out`.
-/// - `ReadFault`: only without `--generate`, where a read failed. Nothing was written to `out`.
-/// - `WriteFault`: only where a write to `out` failed, which has taken the beginning of the text.
-///   No read failed, and without `--generate` the source has nothing left.
+/// - `ReadFault`: only without `--generate`, where a read failed, and no second one. Nothing was written to `out`.
+/// - `WriteFault`: only where a write to `out` failed, and no second one. It has taken the beginning of the
+///   text. No read failed, and without `--generate` the source has nothing left.
 /// - `Memory`: memory was wanting. No read failed, and nothing was written to `out`.
 ///
 /// What a status tells is written to `err` where no write to it fails, and else its beginning: with `Done`
-/// the summary of the record, if the script was made. A fault of `err` changes no status. Whatever the
-/// status, of the source at most [`MOST_BYTES`] bytes and one more are taken. Arguments in the plain form
-/// with a script, and no fault of the source and of `out`, give `Done` or `Memory`, if the call returns:
-/// with more than one worker it waits for threads.
+/// the summary of the record, if the script was made. A fault of `err` changes no status, and there is one
+/// at most. Whatever the status, of the source at most [`MOST_BYTES`] bytes and one more are taken.
+/// Arguments in the plain form with a script, and no fault of the source and of `out`, give `Done` or
+/// `Memory`, if the call returns: with more than one worker it waits for threads.
 pub fn run<R: Threads + Wait + Sync, S: Source, O: Sink, E: Sink, G: Gate>(
     rt: &R,
     alloc: Global,
@@ -362,6 +362,7 @@ pub fn run<R: Threads + Wait + Sync, S: Source, O: Sink, E: Sink, G: Gate>(
         result summary
         × ((Rose (E.faults err.old) (E.faults err.new) → ⊥) → Adds (E.held err.old) (E.held err.new) (told_text result summary))
         × AddsBeginning (E.held err.old) (E.held err.new) (told_text result summary) }
+    ensures once { FailedOnceAtMost (writing (E.held err.old) (E.held err.new) (E.faults err.old) (E.faults err.new)) }
     ensures complete { IsWellGiven (map string_bytes arguments.now)
         (reading (S.left script.old) (S.left script.new) (S.faults script.old) (S.faults script.new))
         (writing (O.held out.old) (O.held out.new) (O.faults out.old) (O.faults out.new))

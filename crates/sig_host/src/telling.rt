@@ -2,7 +2,7 @@
 
 ghost use Rattle.sig_base.specs.Flow.{Rose, Adds};
 ghost use Rattle.sig_edge.specs.Streams.{writing};
-ghost use Rattle.sig_edge.specs.Told.{AddsBeginning, IsTold};
+ghost use Rattle.sig_edge.specs.Told.{AddsBeginning, FailedOnceAtMost, IsTold};
 ghost use Rattle.sig_host.specs.Told.{text_in, text_or_none, told_text};
 
 use crate::ending::Ending;
@@ -49,6 +49,7 @@ pub fn tell<E: Sink>(err: &mut E, ending: &Ending)
         Adds (E.held err.old) (E.held err.new) (told_text ending.now.status (text_in ending.now.summary)) }
     ensures beginning { AddsBeginning (E.held err.old) (E.held err.new)
         (told_text ending.now.status (text_in ending.now.summary)) }
+    ensures once { FailedOnceAtMost (writing (E.held err.old) (E.held err.new) (E.faults err.old) (E.faults err.new)) }
 {
     let _ = tell_status(err, ending);
 }

@@ -1,7 +1,8 @@
 -- Where nothing fails, what is answered is due.
 use Rattle.std.proofs.Common.{◌≡◌, ◌⊎◌, ℕ, ◌<◌, List, length, length-append, Option, Some, inl, inr, refl, sym, ap, ◌∙◌, subst, arith}
 use Rattle.std.specs.Prelude.{IfSome}
-use Rattle.sig_base.specs.Flow.{Rose, Took}
+use Rattle.sig_base.specs.Flow.{one_more, Rose, Took}
+use Rattle.sig_base.proofs.Faults.{risen}
 use Rattle.sig_edge.specs.Streams.{IsUnwritten, Reading, Writing}
 use Rattle.sig_program.specs.Scripts.{Program}
 use Rattle.sig_reader.specs.declared.reader.TheConstants.{MOST_BYTES}
@@ -82,7 +83,7 @@ module _ (r : Reading) (bytes : List ℕ) (left : r.left ≡ Some bytes) where
 
   -- the status is due; or memory was wanting, or a read failed
   abbrev IsDueOr : Type 0 → ToolStatus → Type 0
-  IsDueOr P status = P ⊎ ((status ≡ Memory) ⊎ Rose r.before r.after)
+  IsDueOr P status = P ⊎ ((status ≡ Memory) ⊎ (r.after ≡ one_more r.before))
 
   missing_due : (command : Command) → HasNoSuchEvent command r → IsRecordDue command bytes NoEvent
   missing_due command h = subst (λ (bs : List ℕ). IsRecordDue command bs NoEvent) (read_all_of h.2.bytes h.2.whole) (h.0, h.1, h.2.pair, h.2.settled, h.3)
@@ -130,17 +131,17 @@ module _ (r : Reading) (bytes : List ℕ) (left : r.left ≡ Some bytes) where
     it_is : (status : ToolStatus) → IsDueOr (IsDue command bytes status) status → (status ≡ due) ⊎ (status ≡ Memory)
     it_is status (inl h) = inl (one_due command bytes status due h is_due)
     it_is status (inr (inl h)) = inr h
-    it_is status (inr (inr h)) = absurd (source h)
+    it_is status (inr (inr h)) = absurd (source (risen r.before r.after h))
 
     unfit : (status : ToolStatus) → IsUnfitFor command r status → (status ≡ due) ⊎ (status ≡ Memory)
     unfit status h = it_is status (unfit_due command status h)
 
     ran : (status : ToolStatus) → IsRanSo command r w status → (status ≡ due) ⊎ (status ≡ Memory)
-    ran Done h = inl (one_due command bytes Done due (text_due command h.0 h.1) is_due)
+    ran Done h = inl (one_due command bytes Done due (text_due command h.1.0 h.1.1) is_due)
     ran (BadScript line kind) h = unfit (BadScript line kind) h.0
     ran Usage h = unfit Usage h.0
     ran ReadFault h = unfit ReadFault h.0
-    ran WriteFault h = absurd (out (sym (one_due command bytes Done due (text_due command h.1.0 h.1.2) is_due)) h.0)
+    ran WriteFault h = absurd (out (sym (one_due command bytes Done due (text_due command h.1.0 h.1.2) is_due)) (risen w.before w.after h.0))
     ran Memory h = unfit Memory h.0
     ran (No event) h = unfit (No event) h.0
     ran (BadRecord line) h = unfit (BadRecord line) h.0

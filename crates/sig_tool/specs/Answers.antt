@@ -1,6 +1,6 @@
 -- What each answer of the tool says of the words, of what was read, and of what was written; and which is due.
 use Rattle.std.specs.Prelude.{◌≡◌, ℕ, ◌<◌, List, length, take, Option, Some, None}
-use Rattle.sig_base.specs.Flow.{Rose, Adds}
+use Rattle.sig_base.specs.Flow.{one_more, Rose, Adds}
 use Rattle.sig_edge.specs.Streams.{IsUnread, IsUnwritten, Reading, Writing}
 use Rattle.sig_program.specs.Scripts.{Program}
 use Rattle.sig_record.specs.declared.report.Report.{Report}
@@ -15,13 +15,14 @@ use Rattle.sig_tool.specs.Expanding.{IsCallsDue}
 use Rattle.sig_tool.specs.Inputs.{IsFault, IsPair}
 use Rattle.sig_tool.specs.Texts.{IsTextFor, IsUnfitFor}
 
--- the whole text of the command was written
+-- the whole text of the command was written, and no write failed
 abbrev pub IsPrinted : Command → Reading → Writing → Type 0
-IsPrinted command r w = (text : List ℕ) × IsTextFor command r text × Adds w.held w.new text
+IsPrinted command r w = (w.after ≡ w.before) × ((text : List ℕ) × IsTextFor command r text × Adds w.held w.new text)
 
--- a write failed, and only the beginning of that text was written
+-- one write failed, and only the beginning of that text was written
 abbrev pub IsCutOff : Command → Reading → Writing → Type 0
-IsCutOff command r w = Rose w.before w.after × ((text : List ℕ) × (n : ℕ) × IsTextFor command r text × (n < length text) × Adds w.held w.new (take n text))
+IsCutOff command r w =
+    (w.after ≡ one_more w.before) × ((text : List ℕ) × (n : ℕ) × IsTextFor command r text × (n < length text) × Adds w.held w.new (take n text))
 
 -- how the command ended: its text was written, or a part of it; or nothing, for this reason
 abbrev pub IsRanSo : Command → Reading → Writing → ToolStatus → Type 0

@@ -1,7 +1,7 @@
 -- What the command `expand` reads and writes: a text of calls, and the canonical text of the script that it spells (this project's own).
 use Rattle.std.specs.Prelude.{◌≡◌, ◌<◌, ℕ, List, length, Result, Ok, Err, Vec, ⊤}
 use Rattle.std.specs.Global.{Global}
-use Rattle.sig_base.specs.Flow.{Rose}
+use Rattle.sig_base.specs.Flow.{one_more}
 use Rattle.sig_edge.specs.Streams.{IsFine, Reading}
 use Rattle.sig_program.specs.Scripts.{Program}
 use Rattle.sig_reader.specs.declared.reader.TheConstants.{MOST_BYTES}
@@ -39,7 +39,7 @@ IsExpandedText r text = (bytes : List ℕ) × IsWhole r bytes × IsCallsText byt
 
 -- why there is none
 abbrev pub IsUnexpanded : Reading → ToolStatus → Type 0
-IsUnexpanded r ReadFault = Rose r.before r.after
+IsUnexpanded r ReadFault = r.after ≡ one_more r.before
 IsUnexpanded r Memory = IsFine r
 IsUnexpanded r TooLong = IsOver MOST_BYTES r × IsFine r
 IsUnexpanded r status = (bytes : List ℕ) × IsWhole r bytes × IsCallsFault bytes status

@@ -2,7 +2,7 @@
 -- is none.
 use Rattle.std.specs.Prelude.{◌≡◌, ◌≢◌, ℕ, ◌+◌, ◌≤◌, List, length, IfSome, Result, Ok, Err, Vec, ⊤}
 use Rattle.std.specs.Global.{Global}
-use Rattle.sig_base.specs.Flow.{Rose, Took}
+use Rattle.sig_base.specs.Flow.{one_more, Took}
 use Rattle.sig_edge.specs.Streams.{IsFine, IsReadToEnd, IsRefused, Reading}
 use Rattle.sig_program.specs.Scripts.{Program}
 use Rattle.sig_reader.specs.Grammar.{script_of}
@@ -66,7 +66,7 @@ IsOver most r = (taken : List ℕ) × Took r.left r.rest taken × (length taken 
 
 -- why the source gave no script with the record of a settled run of it behind it
 abbrev pub IsUnfit : Reading → ToolStatus → Type 0
-IsUnfit r ReadFault = Rose r.before r.after
+IsUnfit r ReadFault = r.after ≡ one_more r.before
 IsUnfit r Memory = IsFine r
 IsUnfit r TooLong = IsOver MOST_INPUT r × IsFine r
 IsUnfit r status = (bytes : List ℕ) × IsWhole r bytes × IsFault bytes status
@@ -76,7 +76,7 @@ IsUnfit r status = (bytes : List ℕ) × IsWhole r bytes × IsFault bytes status
 -- reading the input to its end, of at most so many bytes
 abbrev pub IsInput : ℕ → Reading → Result (Vec ℕ Global) ToolStatus → Type 0
 IsInput most r (Ok bytes) = IsWhole r bytes.items × (length bytes.items ≤ most)
-IsInput most r (Err ReadFault) = Rose r.before r.after
+IsInput most r (Err ReadFault) = r.after ≡ one_more r.before
 IsInput most r (Err Memory) = IsFine r
 IsInput most r (Err TooLong) = IsOver most r × IsFine r
 IsInput most r (Err _) = ⊥

@@ -2,7 +2,7 @@
 
 ghost use Rattle.sig_base.specs.Flow.{Rose, Adds};
 ghost use Rattle.sig_edge.specs.Streams.{writing};
-ghost use Rattle.sig_edge.specs.Told.{AddsBeginning, IsTold};
+ghost use Rattle.sig_edge.specs.Told.{AddsBeginning, FailedOnceAtMost, IsTold};
 ghost use Rattle.sig_tool.specs.Told.{call_refusal_text, told_text};
 
 use crate::status::ToolStatus;
@@ -50,6 +50,7 @@ fn tell_status<E: Sink>(err: &mut E, status: ToolStatus) -> Result<(), Untold>
 pub(crate) fn tell<E: Sink>(err: &mut E, status: ToolStatus)
     ensures told { (Rose (E.faults err.old) (E.faults err.new) → ⊥) → Adds (E.held err.old) (E.held err.new) (told_text status) }
     ensures beginning { AddsBeginning (E.held err.old) (E.held err.new) (told_text status) }
+    ensures once { FailedOnceAtMost (writing (E.held err.old) (E.held err.new) (E.faults err.old) (E.faults err.new)) }
 {
     let _ = tell_status(err, status);
 }

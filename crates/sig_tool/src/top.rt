@@ -1,7 +1,7 @@
 ghost use Rattle.std.specs.Prelude.{◌≡◌, ◌+◌, ◌⊎◌, ℕ, List, map, string_bytes};
 ghost use Rattle.sig_base.specs.Flow.{Rose, Adds};
 ghost use Rattle.sig_edge.specs.Streams.{IsReadWithin, reading, writing};
-ghost use Rattle.sig_edge.specs.Told.{AddsBeginning};
+ghost use Rattle.sig_edge.specs.Told.{AddsBeginning, FailedOnceAtMost};
 ghost use Rattle.sig_tool.specs.declared.command.Command.{Command as Asked};
 ghost use Rattle.sig_tool.specs.declared.given.TheConstants.{MOST_INPUT};
 ghost use Rattle.sig_tool.specs.declared.status.ToolStatus.{ToolStatus};
@@ -91,7 +91,7 @@ fn run_words<S: Source, O: Sink>(
 /// Of causes that stand together the first in this order is told:
 ///
 /// - `Usage`: exactly where the words are no command. The input wasn't read.
-/// - `ReadFault`: only where a read failed.
+/// - `ReadFault`: only where a read failed, and no second one.
 /// - `TooLong`: exactly where one byte more than [`MOST_INPUT`](crate::MOST_INPUT) was taken, and with
 ///   `expand` one more than [`MOST_BYTES`](sig_script::MOST_BYTES).
 /// - `BadCall`: exactly where the command is `expand`, and a line can't stand in a text of calls; with the
@@ -107,13 +107,15 @@ fn run_words<S: Source, O: Sink>(
 ///   all processes in the order of their stamps and counted from 1, with which the events are no run,
 ///   or one more than there are where they are one.
 /// - `NoEvent`: exactly where the record is that of a settled run, and lacks one of the two events.
-/// - `WriteFault`: only where a write to `out` failed, which has taken the beginning of the text.
+/// - `WriteFault`: only where a write to `out` failed, and no second one. It has taken the beginning of the
+///   text.
 /// - `Done`: `out` has taken the whole text.
 ///
 /// `Memory` may come in place of each but `Usage`, where memory was wanting. No read failed, but with
-/// `ReadFault`. Whatever the status, of the input at most [`MOST_INPUT`](crate::MOST_INPUT) bytes and one
-/// more are taken. Only `Done` and `WriteFault` have written to `out`. What a status tells is written to
-/// `err` where no write to it fails, and else its beginning; a fault of `err` changes no status.
+/// `ReadFault`, and no write to `out`, but with `WriteFault`. Whatever the status, of the input at most
+/// [`MOST_INPUT`](crate::MOST_INPUT) bytes and one more are taken. Only `Done` and `WriteFault` have
+/// written to `out`. What a status tells is written to `err` where no write to it fails, and else its
+/// beginning; a fault of `err` changes no status, and there is one at most.
 pub fn tool<S: Source, O: Sink, E: Sink>(
     alloc: Global,
     words: &[String],
@@ -126,6 +128,7 @@ pub fn tool<S: Source, O: Sink, E: Sink>(
         (writing (O.held out.old) (O.held out.new) (O.faults out.old) (O.faults out.new)) result }
     ensures told { (Rose (E.faults err.old) (E.faults err.new) → ⊥) → Adds (E.held err.old) (E.held err.new) (told_text result) }
     ensures beginning { AddsBeginning (E.held err.old) (E.held err.new) (told_text result) }
+    ensures once { FailedOnceAtMost (writing (E.held err.old) (E.held err.new) (E.faults err.old) (E.faults err.new)) }
     ensures taken { IsReadWithin (MOST_INPUT + 1)
         (reading (S.left input.old) (S.left input.new) (S.faults input.old) (S.faults input.new)) }
     // What is due for the input is answered, where nothing fails and there is memory.

@@ -1,7 +1,8 @@
 -- How a command ends, and that what is answered is due where nothing fails.
 use Rattle.std.proofs.Common.{◌≡◌, ◌⊎◌, ℕ, ◌<◌, Bool, true, false, List, length, length-append, Option, Some, inl, inr, refl, sym, ap, ◌∙◌, subst, arith}
 use Rattle.std.specs.Prelude.{IfSome}
-use Rattle.sig_base.specs.Flow.{Rose, Took, Adds}
+use Rattle.sig_base.specs.Flow.{one_more, Rose, Took, Adds}
+use Rattle.sig_base.proofs.Faults.{risen}
 use Rattle.sig_edge.specs.Streams.{IsUnwritten, Reading, Writing}
 use Rattle.sig_program.specs.Scripts.{Program}
 use Rattle.sig_record.specs.declared.report.Report.{Report}
@@ -75,12 +76,12 @@ text_ends (Outcomes most) r text end h = listed_ends h.2.all h.2.states end h.2.
 text_ends (OutcomeRecord states number) r text end h = inl h.0
 
 pub printed_ran : (command : Command) (r : Reading) (w : Writing) (text : List ℕ) (end : ViewStatus) → IsTextFor command r text end → Adds w.held w.new text
-    → IsRanSo command r w end
-printed_ran command r w text end h adds = by (text_ends command r text end h)
+    → w.after ≡ w.before → IsRanSo command r w end
+printed_ran command r w text end h adds same = by (text_ends command r text end h)
   where
     by : Ends end → IsRanSo command r w end
-    by (inl e) = subst (λ (s : ViewStatus). IsRanSo command r w s) (sym e) (text, subst (λ (s : ViewStatus). IsTextFor command r text s) e h, adds)
-    by (inr e) = subst (λ (s : ViewStatus). IsRanSo command r w s) (sym e.1) (text, subst (λ (s : ViewStatus). IsTextFor command r text s) e.1 h, adds)
+    by (inl e) = subst (λ (s : ViewStatus). IsRanSo command r w s) (sym e) (same, (text, subst (λ (s : ViewStatus). IsTextFor command r text s) e h, adds))
+    by (inr e) = subst (λ (s : ViewStatus). IsRanSo command r w s) (sym e.1) (same, (text, subst (λ (s : ViewStatus). IsTextFor command r text s) e.1 h, adds))
 
 ends_done : (end : ViewStatus) → Ends end → as_done end ≡ Done
 ends_done end (inl e) = ap as_done e
@@ -128,7 +129,7 @@ module _ (r : Reading) (bytes : List ℕ) (left : r.left ≡ Some bytes) where
 
   -- the status is due; or memory was wanting, or a read failed
   abbrev IsDueOr : Type 0 → ViewStatus → Type 0
-  IsDueOr P status = P ⊎ ((status ≡ Memory) ⊎ Rose r.before r.after)
+  IsDueOr P status = P ⊎ ((status ≡ Memory) ⊎ (r.after ≡ one_more r.before))
 
   record_due : (command : Command) (status : ViewStatus) → IsUnfitRecord command r status → IsDueOr (IsRecordDue command bytes status) status
   record_due command Done h = absurd h
@@ -212,7 +213,7 @@ module _ (r : Reading) (bytes : List ℕ) (left : r.left ≡ Some bytes) where
       → (status ≡ due) ⊎ (status ≡ Memory)
   plain command due status is_due source (inl h) = inl (one_due command bytes status due h is_due)
   plain command due status is_due source (inr (inl h)) = inr h
-  plain command due status is_due source (inr (inr h)) = absurd (source h)
+  plain command due status is_due source (inr (inr h)) = absurd (source (risen r.before r.after h))
 
   module _ (w : Writing) (command : Command) (due : ViewStatus) (is_due : IsDue command bytes due) (source : Rose r.before r.after → ⊥) (out : due ≡ Done → Rose w.before w.after → ⊥) where
     unfit : (status : ViewStatus) → IsUnfitFor command r status → (status ≡ due) ⊎ (status ≡ Memory)
@@ -222,11 +223,11 @@ module _ (r : Reading) (bytes : List ℕ) (left : r.left ≡ Some bytes) where
     printed text end h = ends_done end (text_ends command r text end h) ∙ text_due command due text end is_due h
 
     ran : (status : ViewStatus) → IsRanSo command r w status → (as_done status ≡ due) ⊎ (status ≡ Memory)
-    ran Done h = inl (printed h.0 Done h.1)
+    ran Done h = inl (printed h.1.0 Done h.1.1)
     ran (BadScript line kind) h = unfit (BadScript line kind) h.0
     ran Usage h = unfit Usage h.0
     ran ReadFault h = unfit ReadFault h.0
-    ran WriteFault h = absurd (out (sym (text_due command due h.1.0 h.1.1 is_due h.1.3)) h.0)
+    ran WriteFault h = absurd (out (sym (text_due command due h.1.0 h.1.1 is_due h.1.3)) (risen w.before w.after h.0))
     ran Memory h = inr refl
     ran (No event) h = unfit (No event) h.0
     ran (BadRecord line) h = unfit (BadRecord line) h.0
@@ -235,7 +236,7 @@ module _ (r : Reading) (bytes : List ℕ) (left : r.left ≡ Some bytes) where
     ran TooManyEvents h = unfit TooManyEvents h.0
     ran NoOutcome h = unfit NoOutcome h.0
     ran (NotFound met) h = unfit (NotFound met) h.0
-    ran (Unfinished states) h = inl (printed h.0 (Unfinished states) h.1)
+    ran (Unfinished states) h = inl (printed h.1.0 (Unfinished states) h.1.1)
 
 pub complete : (command : Command) (words : List (List ℕ)) (bytes : List ℕ) (due status : ViewStatus) (r : Reading) (w : Writing) → IsDue command bytes due
     → IsWellGiven command words bytes due r w → IsAnswer words r w status → (as_done status ≡ due) ⊎ (status ≡ Memory)

@@ -1,6 +1,6 @@
 -- What each answer of the viewer says of the words, of what was read, and of what was written; and which is due.
 use Rattle.std.specs.Prelude.{◌≡◌, ℕ, ◌<◌, List, length, take, Option, Some, None}
-use Rattle.sig_base.specs.Flow.{Rose, Adds}
+use Rattle.sig_base.specs.Flow.{one_more, Rose, Adds}
 use Rattle.sig_edge.specs.Streams.{IsUnread, IsUnwritten, Reading, Writing}
 use Rattle.sig_program.specs.Scripts.{Program}
 use Rattle.sig_record.specs.declared.report.Report.{Report}
@@ -16,14 +16,15 @@ use Rattle.sig_view.specs.Commands.{AskFor, IsAsked, IsFit, IsRefusal}
 use Rattle.sig_view.specs.Outcomes.{IsNoScript, IsSpelled}
 use Rattle.sig_view.specs.Texts.{IsTextFor, IsUnfitFor}
 
--- the whole text of the command was written, with which the call ends so
+-- the whole text of the command was written, with which the call ends so, and no write failed
 abbrev pub IsPrinted : Command → Reading → Writing → ViewStatus → Type 0
-IsPrinted command r w end = (text : List ℕ) × IsTextFor command r text end × Adds w.held w.new text
+IsPrinted command r w end = (w.after ≡ w.before) × ((text : List ℕ) × IsTextFor command r text end × Adds w.held w.new text)
 
--- a write failed, and only the beginning of that text was written
+-- one write failed, and only the beginning of that text was written
 abbrev pub IsCutOff : Command → Reading → Writing → Type 0
 IsCutOff command r w =
-    Rose w.before w.after × ((text : List ℕ) × (end : ViewStatus) × (n : ℕ) × IsTextFor command r text end × (n < length text) × Adds w.held w.new (take n text))
+    (w.after ≡ one_more w.before)
+    × ((text : List ℕ) × (end : ViewStatus) × (n : ℕ) × IsTextFor command r text end × (n < length text) × Adds w.held w.new (take n text))
 
 -- how the command ended: its text was written, or a part of it; or nothing, for this reason
 abbrev pub IsRanSo : Command → Reading → Writing → ViewStatus → Type 0

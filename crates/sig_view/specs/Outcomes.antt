@@ -1,7 +1,7 @@
 -- What the commands of a script alone read, and what they write of the outcomes that a search finds (this project's own).
 use Rattle.std.specs.Prelude.{◌≡◌, ◌≢◌, ◌⊎◌, ◌↔◌, ℕ, zero, suc, ◌<◌, ◌≤◌, Bool, true, false, IsTrue, List, map, length, All, AllPairs, Option, Some, None, slice_get, Result, Ok, Err, Vec, ⊤}
 use Rattle.std.specs.Global.{Global}
-use Rattle.sig_base.specs.Flow.{Rose}
+use Rattle.sig_base.specs.Flow.{one_more}
 use Rattle.sig_edge.specs.Streams.{IsFine, IsRefused, Reading}
 use Rattle.sig_program.specs.Scripts.{Program}
 use Rattle.sig_program.specs.ScriptNames.{AreNames}
@@ -122,7 +122,7 @@ IsNoScript bytes _ = ⊥
 -- why the source gave no script
 abbrev pub LacksScript : Reading → ViewStatus → Type 0
 LacksScript r (BadScript line kind) = (bytes : List ℕ) × IsWhole r bytes × IsNoScript bytes (BadScript line kind)
-LacksScript r ReadFault = Rose r.before r.after
+LacksScript r ReadFault = r.after ≡ one_more r.before
 LacksScript r Memory = IsFine r
 LacksScript r TooLong = IsOver MOST_INPUT r × IsFine r
 LacksScript r _ = ⊥
@@ -130,7 +130,7 @@ LacksScript r _ = ⊥
 -- the bytes of the source
 abbrev pub AreBytes : Reading → Result (Vec ℕ Global) ViewStatus → Type 0
 AreBytes r (Ok bytes) = IsWhole r bytes.items × IsShort bytes.items
-AreBytes r (Err ReadFault) = Rose r.before r.after
+AreBytes r (Err ReadFault) = r.after ≡ one_more r.before
 AreBytes r (Err Memory) = IsFine r
 AreBytes r (Err TooLong) = IsOver MOST_INPUT r × IsFine r
 AreBytes r (Err _) = ⊥

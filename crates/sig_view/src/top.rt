@@ -1,7 +1,7 @@
 ghost use Rattle.std.specs.Prelude.{◌≡◌, ◌+◌, ◌⊎◌, ℕ, List, map, string_bytes};
 ghost use Rattle.sig_base.specs.Flow.{Rose, Adds};
 ghost use Rattle.sig_edge.specs.Streams.{IsReadWithin, reading, writing};
-ghost use Rattle.sig_edge.specs.Told.{AddsBeginning};
+ghost use Rattle.sig_edge.specs.Told.{AddsBeginning, FailedOnceAtMost};
 ghost use Rattle.sig_tool.specs.declared.given.TheConstants.{MOST_INPUT};
 ghost use Rattle.sig_view.specs.declared.command.Command.{Command as Asked};
 ghost use Rattle.sig_view.specs.declared.status.ViewStatus.{ViewStatus};
@@ -119,16 +119,18 @@ fn run_words<S: Source, O: Sink, T: Teller>(
 /// - `NotFound`: only where the input spells a script, with `--record K`, of which the search met so many
 ///   states, more than N. K isn't 0, and the search found fewer outcomes than K; that it did is a clause of
 ///   the function that looks among them, and none here.
-/// - `WriteFault`: only where a write to `out` failed, which has taken the beginning of the text.
+/// - `WriteFault`: only where a write to `out` failed, and no second one. It has taken the beginning of the
+///   text.
 /// - `Done` or `Unfinished`: `out` has taken the whole text. It is `Unfinished` exactly where that lists
 ///   outcomes with the word `more`: so many states were met, more than N.
 ///
 /// `Memory` may come in place of each but `Usage`, where memory was wanting. No read failed, but with
-/// `ReadFault`. Whatever the status, of the input at most [`MOST_INPUT`](sig_tool::MOST_INPUT) bytes and one
-/// more are taken. Only `Done`, `Unfinished` and `WriteFault` have written to `out`. What a status tells is
-/// written to `err` where no write to it fails, and else its beginning; a fault of `err` changes no status.
-/// While a search goes on the teller is told before each visit how many states were visited and how many
-/// were met; no clause says so.
+/// `ReadFault`, and no write to `out`, but with `WriteFault`. Whatever the status, of the input at most
+/// [`MOST_INPUT`](sig_tool::MOST_INPUT) bytes and one more are taken. Only `Done`, `Unfinished` and
+/// `WriteFault` have written to `out`. What a status tells is written to `err` where no write to it fails,
+/// and else its beginning; a fault of `err` changes no status, and there is one at most. While a search
+/// goes on the teller is told before each visit how many states were visited and how many were met; no
+/// clause says so.
 pub fn view<S: Source, O: Sink, E: Sink, T: Teller>(
     alloc: Global,
     words: &[String],
@@ -142,6 +144,7 @@ pub fn view<S: Source, O: Sink, E: Sink, T: Teller>(
         (writing (O.held out.old) (O.held out.new) (O.faults out.old) (O.faults out.new)) result }
     ensures told { (Rose (E.faults err.old) (E.faults err.new) → ⊥) → Adds (E.held err.old) (E.held err.new) (told_text result) }
     ensures beginning { AddsBeginning (E.held err.old) (E.held err.new) (told_text result) }
+    ensures once { FailedOnceAtMost (writing (E.held err.old) (E.held err.new) (E.faults err.old) (E.faults err.new)) }
     ensures taken { IsReadWithin (MOST_INPUT + 1)
         (reading (S.left input.old) (S.left input.new) (S.faults input.old) (S.faults input.new)) }
     // What is due for the input is answered, where nothing fails and there is memory.

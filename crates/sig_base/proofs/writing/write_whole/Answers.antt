@@ -1,4 +1,4 @@
-use Rattle.std.proofs.Common.{◌≡◌, ◌-◌, arith, take, drop, length, subst, List, ℕ, ap}
+use Rattle.std.proofs.Common.{◌≡◌, ◌∙◌, ◌-◌, arith, take, drop, length, subst, List, ℕ, ap}
 use Rattle.std.proofs.lemmas.Grind.{common_steps}
 use Rattle.sig_base.specs.Flow.{Adds}
 use Rattle.sig_base.proofs.Pieces.{Adds-take}
@@ -13,6 +13,6 @@ loop-at-preserved g c =
     record {
       within = omega (arith, c.in-Ok.ensures.within);
       added = Adds-take _ _ _ bytes c.loop-at.at c.in-Ok.n c.loop-at.invariant.added added;
-      count = omega arith;
+      count = c.in-Ok.ensures.no_fault ∙ c.loop-at.invariant.count;
       empty = λ none. absurd (omega (arith, ap (λ (xs : List ℕ). length xs) none));
     }

@@ -10,7 +10,7 @@ invariant-loop-at g l =
     record {
       within : l.at ≤ length l.bytes;
       added : Adds (held l.fn.sink) (held l.sink) (take l.at l.bytes);
-      count : faults l.fn.sink ≤ faults l.sink;
+      count : faults l.sink ≡ faults l.fn.sink;
       empty : l.bytes ≡ [] → l.sink ≡ l.fn.sink;
     }
 
