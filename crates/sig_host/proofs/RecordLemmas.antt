@@ -1,5 +1,5 @@
 -- What is printed of a run can be read back.
-use Rattle.std.proofs.Common.{◌≡◌, ◌∙◌, ◌++◌, ℕ, List, [], Bool, true, false, Option, Some, None, Result, Ok, Err, refl, sym, ap, subst}
+use Rattle.std.proofs.Common.{◌≡◌, ◌∙◌, ℕ, List, [], Bool, true, false, Option, Some, None, Result, Ok, Err, refl, sym, subst}
 use Rattle.std.specs.Prelude.{IfOk, OnOk}
 use Rattle.std.specs.declared.alloc.AllocError.{AllocError}
 use Rattle.sig_base.specs.Flow.{Adds}
@@ -15,11 +15,9 @@ use Rattle.sig_record.specs.ReadableRecord.{CanBeReread, IsReadableRecord}
 use Rattle.sig_record.specs.SizedRecord.{IsSizedRecord}
 use Rattle.sig_record.proofs.RecordLaws.{one_record, record_again}
 use Rattle.sig_record.proofs.SizedReads.{readable_by}
-use Rattle.sig_host.specs.declared.settings.Settings.{Settings}
 use Rattle.sig_host.specs.declared.status.Status.TheVariants.{Done}
 use Rattle.sig_host.specs.declared.texts.Texts.{Texts}
 use Rattle.sig_host.specs.Told.{text_in}
-use Rattle.sig_host.specs.Words.{AreSettings}
 use Rattle.sig_host.specs.Answers.{AreTexts, IsAnswer, IsPrinted, IsRecordAlone, IsRecordOf, IsRun, summary_for}
 use Rattle.sig_host.specs.ReadBack.{IsReadBack, IsScriptOf}
 

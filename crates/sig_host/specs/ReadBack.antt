@@ -1,5 +1,5 @@
 -- What a run wrote is the text of one record, which a reader gives back (this project's own).
-use Rattle.std.specs.Prelude.{◌≡◌, ℕ, List, [], Option, Some, None, Ok}
+use Rattle.std.specs.Prelude.{◌≡◌, ℕ, List, Option, Some, None, Ok}
 use Rattle.sig_program.specs.Scripts.{Program}
 use Rattle.sig_reader.specs.Grammar.{script_of}
 use Rattle.sig_canon.specs.Generated.{generated}
