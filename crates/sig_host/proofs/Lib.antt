@@ -9,3 +9,4 @@ pub mod WordsLemmas
 pub mod PlainLemmas
 pub mod AnswerLemmas
 pub mod RecordLemmas
+pub mod RunLemmas

@@ -28,8 +28,8 @@ IsRecordAlone script reports = (last : List Running) × RunsTo (opened_crew scri
 -- The reports are the record of a run of the plain machine on the script: its events, in the order of their stamps, are possible
 -- one after another from the opening, each receive looks at all messages, each signal was handled once, in the order of its sender,
 -- or is reported as queued, and the machine has come to rest (Erlang Reference Manual, Processes, Delivery of Signals;
--- Expressions, Receive). With one worker it is the record of the run of one worker. A reader takes its text, which is that of this
--- record alone.
+-- Expressions, Receive). With one worker it is the record of the run of one worker. It can be read, so its text is that of no other
+-- record that can be read (`texts_tell_records_apart` of sig_record).
 pub record IsRecordOf (workers : ℕ) (script : Program) (reports : List Report) : Type 0 where
   pub run : IsOfSettledRun script reports
   pub alone : workers ≡ 1 → IsRecordAlone script reports
@@ -53,6 +53,18 @@ IsSourceRead r (Err (BadScript line kind)) = IfSome r.left (IsRefused line kind)
 IsSourceRead r (Err ReadFault) = r.after ≡ one_more r.before
 IsSourceRead r (Err Memory) = IsFine r
 IsSourceRead r (Err _) = ⊥
+
+-- making generated work of so many calls: it is that script, or there was no memory
+abbrev pub IsMade : ℕ → Result Program Status → Type 0
+IsMade calls (Ok script) = script ≡ generated calls
+IsMade calls (Err Memory) = ⊤
+IsMade calls (Err _) = ⊥
+
+-- the script that is to be run, or why there is none: generated work of so many calls, for which the source isn't read, or what the
+-- source spells
+abbrev pub IsScriptFor : Option ℕ → Reading → Result Program Status → Type 0
+IsScriptFor (Some calls) r result = IsUnread r × IsMade calls result
+IsScriptFor None r result = IsSourceRead r result
 
 -- the whole text of the record of a run of the script with so many workers was written, and no write failed; this text of its summary, if
 -- one is asked for, is to be told

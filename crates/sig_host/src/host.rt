@@ -1,95 +1,44 @@
-ghost use Rattle.std.specs.Prelude.{◌≡◌, ◌≢◌, ◌+◌, ◌≤◌, ◌⊎◌, ℕ, Bool, true, List, [], map, string_bytes, IfOk, OnOk, Option, Some};
+ghost use Rattle.std.specs.Prelude.{◌≡◌, ◌+◌, ◌≤◌, ◌⊎◌, ℕ, List, map, string_bytes, IfOk, OnOk, Option};
 ghost use Rattle.sig_base.specs.Flow.{Rose, Adds};
 ghost use Rattle.sig_edge.specs.Streams.{IsReadWithin, reading, writing};
 ghost use Rattle.sig_edge.specs.Told.{AddsBeginning, FailedOnceAtMost};
 ghost use Rattle.sig_program.specs.Scripts.{Program, IsScriptWithin};
 ghost use Rattle.sig_program.specs.ScriptNames.{AreNames};
-ghost use Rattle.sig_canon.specs.Generated.{generated};
+ghost use Rattle.sig_model.specs.OneWorker.{IsClear};
+ghost use Rattle.sig_model.specs.CrewLaw.{IsLawfulCrew};
+ghost use Rattle.sig_process.specs.Standing.{runnings_of};
+ghost use Rattle.sig_workers.specs.Rounds.{HasSettled};
 ghost use Rattle.sig_record.specs.RunRecord.{IsOfSettledRun};
 ghost use Rattle.sig_record.specs.RecordText.{record_text};
 ghost use Rattle.sig_record.specs.ReadableRecord.{CanBeReread};
 ghost use Rattle.sig_record.specs.SizedRecord.{IsSizedRecord};
-ghost use Rattle.sig_model.specs.OneWorker.{IsClear, RunsTo};
-ghost use Rattle.sig_model.specs.CrewLaw.{IsLawfulCrew};
-ghost use Rattle.sig_process.specs.Standing.{runnings_of};
-ghost use Rattle.sig_workers.specs.Rounds.{HasSettled};
-ghost use Rattle.sig_host.specs.Answers.{
-  AreTexts,
-  IsAnswer,
-  IsRecordAlone,
-  IsRun,
-  IsScriptRun,
-  IsSourceRead,
-  IsSourceRun,
-  IsWellGiven,
-  summary_for,
-};
+ghost use Rattle.sig_host.specs.Answers.{AreTexts, IsAnswer, IsRun, IsWellGiven, summary_for};
 ghost use Rattle.sig_host.specs.Told.{told_text, text_in};
 ghost use Rattle.sig_host.specs.Words.{IsInRange};
 
-use crate::command_line::words;
+use crate::alone::end_alone;
 use crate::ending::Ending;
+use crate::gathering::{record_of, summary_of};
 use crate::printing::print_apart;
+use crate::scripts::script_for;
 use crate::settings::Settings;
 use crate::status::Status;
-use crate::summing::summary_text;
 use crate::telling::tell;
 use crate::texts::Texts;
-use crate::words_error::WordsError;
-use sig_base::{Gate, ReadAll, Sink, Source, Written, read_all, write_whole};
-use sig_model::lawful_crew_comes_to_rest;
+use crate::writing::write_run;
+use sig_base::{Gate, Sink, Source};
 use sig_process::Crew;
 use sig_program::{MOST_PROCESSES, Script};
-use sig_record::{
-    Record, a_lawful_crew_tells_a_readable_record, a_lawful_crew_tells_a_run, summarize,
-};
-use sig_script::{
-    FaultKind, MOST_BYTES, MOST_CALLS, ScriptError, generate, names_of_scripts_are_name_tokens,
-    read_script,
-};
-use sig_workers::{run_one, run_rounds};
+use sig_record::Record;
+use sig_script::MOST_BYTES;
+use sig_workers::run_rounds;
 use std::alloc::{AllocError, Global};
 use std::mem;
 use std::sync::Wait;
 use std::thread::Threads;
 
-/// Reads the script that these bytes spell.
-fn read_bytes(alloc: Global, bytes: &[u8]) -> Result<Script, Status>
-    ensures read { IsSourceRead (reading (Some bytes.now) (Some []) 0 0) result }
-    ensures no_fault { result ≢ Err Status.ReadFault }
-    ensures names { IfOk result AreNames }
-{
-    names_of_scripts_are_name_tokens();
-    match read_script(alloc, bytes) {
-        Ok(script) => Ok(script),
-        Err(ScriptError::Fault { line, kind }) => Err(Status::BadScript { line, kind }),
-        Err(ScriptError::Memory) => Err(Status::Memory),
-    }
-}
-
-/// Reads the source to its end, but no further than one byte behind [`MOST_BYTES`], and the script that
-/// it spells.
-fn read_source<S: Source>(alloc: Global, source: &mut S) -> Result<Script, Status>
-    ensures read { IsSourceRead (reading (S.left source.old) (S.left source.new) (S.faults source.old) (S.faults source.new)) result }
-    ensures taken { IsReadWithin (MOST_BYTES + 1)
-        (reading (S.left source.old) (S.left source.new) (S.faults source.old) (S.faults source.new)) }
-    ensures count { S.faults source.old ≤ S.faults source.new }
-    ensures names { IfOk result AreNames }
-{
-    let mut bytes = Vec::new(alloc);
-    match read_all(source, MOST_BYTES, &mut bytes) {
-        ReadAll::Whole => read_bytes(alloc, bytes.as_slice()),
-        ReadAll::TooLong => Err(Status::BadScript {
-            line: 0,
-            kind: FaultKind::TooLong,
-        }),
-        ReadAll::ReadFault => Err(Status::ReadFault),
-        ReadAll::Memory => Err(Status::Memory),
-    }
-}
-
-/// Runs the crew of a script until it has come to rest: with one worker by passes over its processes,
-/// with more by rounds of the workers, under the policy and the quota of the settings.
+/// Runs the crew of a script until it has come to rest, by rounds of the workers of the settings, under their
+/// quota and policy.
 fn run_crew<R: Threads + Wait + Sync, G: Gate>(
     rt: &R,
     alloc: Global,
@@ -103,12 +52,7 @@ fn run_crew<R: Threads + Wait + Sync, G: Gate>(
     ensures lawful { (script : Program) → IsLawfulCrew script (runnings_of crew) → IfOk result (λ c. IsLawfulCrew script (runnings_of c)) }
     ensures clear { IfOk result (λ c. IsClear (runnings_of c)) }
     ensures settled { (script : Program) → IsLawfulCrew script (runnings_of crew) → IfOk result (λ c. HasSettled script (runnings_of c)) }
-    ensures alone { settings.workers ≡ 1 → IfOk result (λ c. RunsTo (runnings_of crew) (runnings_of c)) }
 {
-    if settings.workers == 1 {
-        lawful_crew_comes_to_rest();
-        return run_one(crew);
-    }
     let Settings {
         workers,
         quota,
@@ -119,9 +63,8 @@ fn run_crew<R: Threads + Wait + Sync, G: Gate>(
     Ok(last)
 }
 
-/// The record of a run of the script by the workers of the settings, which is a settled run of its
-/// machine; with one worker it is that of the one-worker run.
-fn run_record<R: Threads + Wait + Sync, G: Gate>(
+/// The record of a run of the script by the workers of the settings, which are several.
+fn record_by_several<R: Threads + Wait + Sync, G: Gate>(
     rt: &R,
     alloc: Global,
     settings: Settings,
@@ -131,26 +74,12 @@ fn run_record<R: Threads + Wait + Sync, G: Gate>(
     requires range { IsInRange settings }
     requires names { AreNames script }
     ensures run { IfOk result (IsOfSettledRun script) }
-    ensures alone { settings.workers ≡ 1 → IfOk result (IsRecordAlone script) }
     ensures sized { IfOk result IsSizedRecord }
 {
     prove!(script.count() as usize <= MOST_PROCESSES);
     let crew = Crew::start(alloc, script)?;
     let crew = run_crew(rt, alloc, settings, crew, gate)?;
-    a_lawful_crew_tells_a_run();
-    a_lawful_crew_tells_a_readable_record();
-    let given = Record::gather_at_end(alloc, crew)?;
-    Ok(given)
-}
-
-/// The text of the record's summary, where one is asked for.
-fn summary_of(alloc: Global, given: &Record, asked: bool) -> Result<Option<Vec<u8>>, AllocError>
-    ensures { IfOk result (λ summary. text_in summary ≡ summary_for asked given.now) }
-{
-    if !asked {
-        return Ok(None);
-    }
-    summary_text(alloc, &summarize(given)).map(Some)
+    record_of(alloc, crew)
 }
 
 /// The texts of the record, made by so many threads, and of its summary where one is asked for.
@@ -170,10 +99,10 @@ fn texts_of<R: Threads + Sync>(
     Ok(Texts { record, summary })
 }
 
-/// Runs the script. The texts of its record, and of the summary where one is asked for. The record
-/// itself is left as it lies in memory, which isn't given back: that would take a tenth of a run, and
-/// more where several workers have made it.
-fn run_texts<R: Threads + Wait + Sync, G: Gate>(
+/// Runs the script with several workers. The texts of its record, and of the summary where one is asked for.
+/// The record itself is left as it lies in memory, which isn't given back: that would take more than a tenth
+/// of a run, where several workers have made it.
+fn texts_by_several<R: Threads + Wait + Sync, G: Gate>(
     rt: &R,
     alloc: Global,
     settings: Settings,
@@ -182,77 +111,18 @@ fn run_texts<R: Threads + Wait + Sync, G: Gate>(
     gate: &G,
 ) -> Result<Texts, AllocError>
     requires range { IsInRange settings }
+    requires several { 2 ≤ settings.workers }
     requires names { AreNames script }
     ensures { IfOk result (AreTexts settings.workers script asked) }
 {
-    let given = run_record(rt, alloc, settings, script, gate)?;
+    let given = record_by_several(rt, alloc, settings, script, gate)?;
     let texts = texts_of(rt, alloc, &given, asked, settings.workers);
     mem::forget(given);
     texts
 }
 
-/// Writes the record. The summary is told once it is written.
-fn write_record<O: Sink>(texts: Texts, out: &mut O) -> Ending
-    ensures run { (workers : ℕ) → (script : Program) → (asked : Bool) → AreTexts workers script asked texts
-        → IsScriptRun workers script asked
-        (writing (O.held out.old) (O.held out.new) (O.faults out.old) (O.faults out.new))
-        result.status (text_in result.summary) }
-{
-    match write_whole(out, texts.record.as_slice()) {
-        Written::Whole => Ending {
-            status: Status::Done,
-            summary: texts.summary,
-        },
-        Written::WriteFault { written: _ } => Ending::short(Status::WriteFault),
-    }
-}
-
-/// Runs the script, and writes the record. The texts are made whole before the first write.
-fn run_script<R: Threads + Wait + Sync, O: Sink, G: Gate>(
-    rt: &R,
-    alloc: Global,
-    settings: Settings,
-    script: Script,
-    asked: bool,
-    out: &mut O,
-    gate: &G,
-) -> Ending
-    requires range { IsInRange settings }
-    requires names { AreNames script }
-    ensures { IsScriptRun settings.workers script asked (writing (O.held out.old) (O.held out.new) (O.faults out.old) (O.faults out.new))
-        result.status (text_in result.summary) }
-{
-    match run_texts(rt, alloc, settings, script, asked, gate) {
-        Ok(texts) => write_record(texts, out),
-        Err(_) => Ending::short(Status::Memory),
-    }
-}
-
-/// Makes work of so many calls for each client, runs it, and writes the record.
-fn run_generated<R: Threads + Wait + Sync, O: Sink, G: Gate>(
-    rt: &R,
-    alloc: Global,
-    settings: Settings,
-    calls: u32,
-    out: &mut O,
-    gate: &G,
-) -> Ending
-    requires range { IsInRange settings }
-    requires least { 1 ≤ calls }
-    requires most { calls ≤ MOST_CALLS }
-    ensures { IsScriptRun settings.workers (generated calls) true
-        (writing (O.held out.old) (O.held out.new) (O.faults out.old) (O.faults out.new))
-        result.status (text_in result.summary) }
-{
-    names_of_scripts_are_name_tokens();
-    match generate(alloc, calls) {
-        Ok(script) => run_script(rt, alloc, settings, script, true, out, gate),
-        Err(_) => Ending::short(Status::Memory),
-    }
-}
-
-/// Reads the script, runs it, and writes the record.
-fn run_source<R: Threads + Wait + Sync, S: Source, O: Sink, G: Gate>(
+/// Runs what the settings ask for with their several workers, and writes the record.
+fn run_several<R: Threads + Wait + Sync, S: Source, O: Sink, G: Gate>(
     rt: &R,
     alloc: Global,
     settings: Settings,
@@ -260,31 +130,8 @@ fn run_source<R: Threads + Wait + Sync, S: Source, O: Sink, G: Gate>(
     out: &mut O,
     gate: &G,
 ) -> Ending
-    requires { IsInRange settings }
-    ensures run { IsSourceRun settings.workers
-        (reading (S.left script.old) (S.left script.new) (S.faults script.old) (S.faults script.new))
-        (writing (O.held out.old) (O.held out.new) (O.faults out.old) (O.faults out.new))
-        result.status (text_in result.summary) }
-    ensures taken { IsReadWithin (MOST_BYTES + 1)
-        (reading (S.left script.old) (S.left script.new) (S.faults script.old) (S.faults script.new)) }
-{
-    match read_source(alloc, script) {
-        Ok(script) => run_script(rt, alloc, settings, script, false, out, gate),
-        Err(status) => Ending::short(status),
-    }
-}
-
-/// Runs what the settings ask for, and writes the record.
-#[tactic(auto, using(sig_edge::proofs::TakenLemmas::none_taken))]
-fn run_settings<R: Threads + Wait + Sync, S: Source, O: Sink, G: Gate>(
-    rt: &R,
-    alloc: Global,
-    settings: Settings,
-    script: &mut S,
-    out: &mut O,
-    gate: &G,
-) -> Ending
-    requires { IsInRange settings }
+    requires range { IsInRange settings }
+    requires several { 2 ≤ settings.workers }
     ensures run { IsRun settings.workers settings.generate
         (reading (S.left script.old) (S.left script.new) (S.faults script.old) (S.faults script.new))
         (writing (O.held out.old) (O.held out.new) (O.faults out.old) (O.faults out.new))
@@ -292,14 +139,18 @@ fn run_settings<R: Threads + Wait + Sync, S: Source, O: Sink, G: Gate>(
     ensures taken { IsReadWithin (MOST_BYTES + 1)
         (reading (S.left script.old) (S.left script.new) (S.faults script.old) (S.faults script.new)) }
 {
-    match settings.generate {
-        Some(calls) => run_generated(rt, alloc, settings, calls, out, gate),
-        None => run_source(rt, alloc, settings, script, out, gate),
+    let asked = settings.generate.is_some();
+    match script_for(alloc, settings.generate, script) {
+        Ok(script) => write_run(
+            texts_by_several(rt, alloc, settings, script, asked, gate),
+            out,
+        ),
+        Err(status) => Ending::short(status),
     }
 }
 
-/// Reads the arguments, runs what they ask for, and writes the record.
-#[tactic(auto, using(sig_edge::proofs::TakenLemmas::none_taken))]
+/// Reads the arguments, runs what they ask for, and writes the record: without threads, but where they ask for
+/// several workers.
 fn run_words<R: Threads + Wait + Sync, S: Source, O: Sink, G: Gate>(
     rt: &R,
     alloc: Global,
@@ -315,10 +166,9 @@ fn run_words<R: Threads + Wait + Sync, S: Source, O: Sink, G: Gate>(
     ensures taken { IsReadWithin (MOST_BYTES + 1)
         (reading (S.left script.old) (S.left script.new) (S.faults script.old) (S.faults script.new)) }
 {
-    match words(alloc, arguments) {
-        Ok(settings) => run_settings(rt, alloc, settings, script, out, gate),
-        Err(WordsError::Usage) => Ending::short(Status::Usage),
-        Err(WordsError::Memory) => Ending::short(Status::Memory),
+    match end_alone(alloc, arguments, script, out) {
+        Ok(ending) => ending,
+        Err(settings) => run_several(rt, alloc, settings, script, out, gate),
     }
 }
 
@@ -326,9 +176,9 @@ fn run_words<R: Threads + Wait + Sync, S: Source, O: Sink, G: Gate>(
 /// with as many workers as they ask for; and writes the text of the record to `out`. What the record
 /// tells is a settled run of the script's machine, however many workers there are and whatever the
 /// policy of buffers; with one worker it is the one-worker run, of which a script has one. With
-/// `--generate` the source isn't read. With one worker the gate is told of nothing, and no thread is
-/// started. How many workers there are, what the gate is told and which threads are started, no clause
-/// says.
+/// `--generate` the source isn't read. It begins as [`run_alone`](crate::run_alone) does, and tells the gate and
+/// starts threads only where that answers `None`. How many workers there are, what the gate is told and which
+/// threads are started, no clause says.
 ///
 /// - `Done`: `out` has taken the whole text. No read and no write to `out` failed, and without `--generate` the source
 ///   has nothing left.
@@ -346,7 +196,8 @@ fn run_words<R: Threads + Wait + Sync, S: Source, O: Sink, G: Gate>(
 /// the summary of the record, if the script was made. A fault of `err` changes no status, and there is one
 /// at most. Whatever the status, of the source at most [`MOST_BYTES`] bytes and one more are taken.
 /// Arguments in the plain form with a script, and no fault of the source and of `out`, give `Done` or
-/// `Memory`, if the call returns: with more than one worker it waits for threads.
+/// `Memory`, if the call returns. No clause says that it does, since it may wait for threads: who asks for one
+/// worker and needs a proof of that calls `run_alone`.
 pub fn run<R: Threads + Wait + Sync, S: Source, O: Sink, E: Sink, G: Gate>(
     rt: &R,
     alloc: Global,

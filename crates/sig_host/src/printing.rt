@@ -1,4 +1,4 @@
-//! A record's text, made by several threads.
+//! A record's text, made by one thread or by several.
 
 ghost use Rattle.std.specs.Prelude.{◌≡◌, ◌++◌, ◌≤◌, length, IfOk, IfSome, OnOk};
 ghost use Rattle.std.specs.Thread.{IsSync};
@@ -91,6 +91,17 @@ fn add_apart<R: Threads + Sync>(
     Ok(whole)
 }
 
+/// The record's text, made without threads. It can be read back, where the record's names are name tokens and
+/// its terms no larger than what is read. The error is want of memory.
+pub fn print_alone(alloc: Global, given: &Record) -> Result<Vec<u8>, AllocError>
+    ensures text { IfOk result (λ text. text.items ≡ record_text given.now) }
+    ensures readable { OnOk result (CanBeReread given.now) }
+{
+    let mut text = Vec::new(alloc);
+    print_record(given, &mut text)?;
+    Ok(text)
+}
+
 /// The record's text, made by so many threads, where it is long enough for them. It can be read back, where
 /// the record's names are name tokens and its terms no larger than what is read. The error is want of memory.
 pub fn print_apart<R: Threads + Sync>(
@@ -103,10 +114,6 @@ pub fn print_apart<R: Threads + Sync>(
     ensures readable { OnOk result (CanBeReread given.now) }
 {
     let mut text = Vec::new(alloc);
-    if threads < 2 {
-        print_record(given, &mut text)?;
-        return Ok(text);
-    }
     print_header(&mut text)?;
     add_apart(rt, alloc, text, given.reports(), threads)
 }

@@ -57,7 +57,7 @@ fn ended<R: Threads + Wait + Sync, S: Source, O: Sink, E: Sink>(
 /// that holds nobody. Where the arguments can't be had, for want of memory or since one is no text, it
 /// tells so as `run` does of a want of memory or of arguments that the command doesn't take. The exit
 /// code is the number of a status; that it is the number of the one that `run` gives, the body says, which
-/// calls `ended`, and no clause.
+/// calls `ended`, and no clause. As `run`, it may wait for threads, and no clause says that it returns.
 pub fn program<R, I, O, E>(rt: &R, stdin: I, stdout: O, stderr: E) -> ExitCode
 where
     R: Threads + Wait + Sync + Env + Alloc<A = Global>,

@@ -6,7 +6,7 @@ use Rattle.sig_edge.proofs.TakenLemmas.{taken}
 use Rattle.sig_host.specs.Answers.{IsSourceRead}
 use Rattle.sig_host.proofs.ReadLemmas.{read_whole}
 use Rattle.sig_host.proofs.TooLong.{too_long}
-use Rattle.sig_host.proofs.host.read_source.Goals as goal
+use Rattle.sig_host.proofs.scripts.read_source.Goals as goal
 
 pub returns-in-Whole-clause-read : goal.returns-in-Whole-clause-read
 returns-in-Whole-clause-read g c =
