@@ -12,6 +12,7 @@ mod handling;
 mod history;
 mod idle;
 mod keeping;
+mod looking;
 mod next_numbers;
 mod parts;
 mod peers;

@@ -187,7 +187,7 @@ impl Process {
 
     /// Whether the process is cut: it isn't ended and has executed its turns, or its last stamp is
     /// at least 2^62.
-    pub(crate) fn is_cut(&self) -> bool
+    pub fn is_cut(&self) -> bool
         ensures { result ≡ is_cut self.now.running.turns self.now.running.state }
     {
         let counts = &self.progress.counts;

@@ -27,6 +27,13 @@ impl Process {
         self.progress.taken_in.len()
     }
 
+    /// How many signals it has sent to others that were not fetched yet.
+    pub fn outbox_count(&self) -> usize
+        ensures { result ≡ length self.now.running.outbox }
+    {
+        self.progress.outbox.len()
+    }
+
     /// The number that the next signal to this process will have; 0 where there is no such process.
     pub fn next_number(&self, to: Pid) -> u64
         ensures { result ≡ slice_index self.now.running.state.counts.next_numbers to.0 }

@@ -257,6 +257,7 @@ module _ (script : Program) (most : ℕ) (old new : List (List Report)) (states 
     taken = seen.taken;
     met = seen.met;
     once = seen.once;
+    assumed = seen.assumed;
     visited = seen.visited;
     told = λ crew there stuck. told_still (outcome_of script (machine_of_crew crew)) (seen.told crew there stuck);
     only = λ outcome there. seen.only outcome (told_before outcome there);

@@ -30,8 +30,8 @@ abbrev pub IsTold : Program → List Rest → Type 0
 IsTold script outcome = (reports : List Report) × IsOfSettledRun script reports × (outcome ≡ outcome_told reports)
 
 -- What is listed where a search may visit so many states: outcomes of the script, by ascending text. So many states were met, and each of
--- them without a choice has its outcome here; no other outcome is here. As many of them as may be visited, or all, were: what enough choices
--- at each lead to was met, and each state that was met is the opening or was led to by one of these. That these are all is said exactly where
+-- them without a choice has its outcome here; no other outcome is here. As many of them as may be visited, or all, were: what the choices
+-- lead to was met that were made first at each, and each state that was met is the opening or was led to by one of these. That these are all is said exactly where
 -- no more were met than may be visited, and then they are.
 pub record AreListed (script : Program) (most : ℕ) (outcomes : List (List Rest)) (states : ℕ) (all : Bool) : Type 0 where
   pub each : All (IsOutcome script) outcomes

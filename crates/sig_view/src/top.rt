@@ -101,9 +101,9 @@ fn run_words<S: Source, O: Sink, T: Teller>(
 /// is a script alone, of which a search may visit N states (1 to 10,000,000; 200,000 without the option).
 /// It writes a list of outcomes in which settled runs of the script end, each once, by ascending text. In
 /// its first line `all` says that no settled run ends otherwise, and `more` that
-/// more than N states were met, no two of them the same but for stamps and numbers of signals; then each of
-/// the first N that has no choice has its outcome listed. With `--record K` it writes the record of a settled
-/// run that ends in the outcome K of such a list.
+/// more than N states were met, no two of them the same but for stamps, numbers of signals and the order
+/// between the monitors of different watchers; then each of the first N that has no choice has its outcome
+/// listed. With `--record K` it writes the record of a settled run that ends in the outcome K of such a list.
 ///
 /// Of causes that stand together the first in this order is told:
 ///

@@ -1,6 +1,6 @@
-//! A graph of numbers, as a space to search.
+//! A graph of numbers, as a space to search, where one of them may make a search wrong.
 
-ghost use Rattle.std.specs.Prelude.{ℕ, ◌≡◌, ◌%◌, []};
+ghost use Rattle.std.specs.Prelude.{ℕ, ◌≡◌, ◌%◌, [], false, IfOk};
 ghost use Rattle.std.specs.Hash as fed;
 ghost use Rattle.sig_search.specs.Growing.{Grows};
 
@@ -37,20 +37,33 @@ impl Plain for Node {
 pub struct Graph<'e> {
     /// Each edge leads from its first node to its second one.
     pub edges: &'e [(u32, u32)],
+    /// The node of which a visit makes the search wrong, where there is one.
+    pub refuted: Option<u32>,
+    /// Whether it was visited.
+    pub wrong: bool,
     /// The nodes met.
     pub nodes: Pool<Node>,
 }
 
 impl<'e> Graph<'e> {
-    /// The graph with these edges, of which this node was met.
+    /// The graph with these edges, of which this node was met. A visit of the refuted node, where there is one, makes the
+    /// search wrong.
     pub fn begun(
         alloc: Global,
         edges: &'e [(u32, u32)],
+        refuted: Option<u32>,
         first: u32,
-    ) -> Result<Graph<'e>, AllocError> {
+    ) -> Result<Graph<'e>, AllocError>
+        ensures { IfOk result (λ g. g.wrong ≡ false) }
+    {
         let mut nodes = Pool::new(alloc);
         nodes.number(Node { number: first })?;
-        Ok(Graph { edges, nodes })
+        Ok(Graph {
+            edges,
+            refuted,
+            wrong: false,
+            nodes,
+        })
     }
 }
 
@@ -93,8 +106,14 @@ impl<'e> Space for Graph<'e> {
 
     ghost comes = { λ _ node next. Unit {0} };
 
+    ghost wrong = { λ g. g.wrong };
+
     fn len(&self) -> usize {
         self.nodes.len()
+    }
+
+    fn is_wrong(&self) -> bool {
+        self.wrong
     }
 
     fn visit(&mut self, at: usize) -> Result<(), AllocError> {
@@ -102,6 +121,7 @@ impl<'e> Space for Graph<'e> {
             return Ok(());
         };
         let from = node.number;
+        self.wrong = self.refuted == Some(from);
         meet_all(&mut self.nodes, self.edges, from)
     }
 }
