@@ -9,6 +9,7 @@ use Rattle.sig_runs.specs.Crew.{opening_machine, crew_machine}
 use Rattle.sig_runs.specs.Marks.{AllMarksSound}
 use Rattle.sig_runs.specs.Settled.{IsSettled}
 use Rattle.sig_model.specs.declared.event.Event.{Event}
+use Rattle.sig_model.specs.declared.origin.Origin.{Origin}
 use Rattle.sig_model.specs.ProcessState.{ProcessState}
 use Rattle.sig_model.specs.Machine.{rules_of, opening_of}
 use Rattle.sig_model.specs.Marking.{marking}
@@ -25,7 +26,7 @@ use Rattle.sig_record.specs.Merging.{IsMerged}
 use Rattle.sig_record.specs.RecordOf.{record_of}
 use Rattle.sig_record.specs.RunRecord.{events_listed, IsOfSettledRun}
 use Rattle.sig_record.proofs.RunLemmas.{all_within}
-use Rattle.sig_check.specs.Replays.{HasRetraced}
+use Rattle.sig_check.specs.Replays.{HasRetraced, IsReplayed}
 use Rattle.sig_check.proofs.ReplayLemmas.{makes_same, its_run}
 use Rattle.sig_check.proofs.RestLemmas.{settled_marked}
 use Rattle.sig_linklaw.specs.declared.pair.Pair.{Pair}
@@ -68,7 +69,16 @@ module _ (script : Program) (reports : List Report) (crew : List Running) (order
     settled = subst (λ m. IsSettled (rules_of script) m) same (settled_marked script within w.machine sound w.settled);
   }
 
-  pub text_so : {E : Type 0} (pairs : List Pair) (result : Result (Vec ℕ Global) E) → record_of crew ≡ reports → pairs ≡ linked_pairs crew →
-      IfOk result (λ text. text.items ≡ link_lines pairs) → IfOk result (λ text. IsLinksText script reports text.items)
-  text_so pairs (Ok text) again equal h = (crew, comes_to_rest, again, h ∙ ap link_lines equal)
-  text_so pairs (Err e) again equal h = tt
+-- the text of the links of a replay's crew
+pub text_so : {E : Type 0} (script : Program) (reports : List Report) (crew : List Running) (origins : List Origin) → IsReplayed script reports crew origins → IsOfSettledRun script reports →
+    (pairs : List Pair) (result : Result (Vec ℕ Global) E) → record_of crew ≡ reports → pairs ≡ linked_pairs crew →
+    IfOk result (λ text. text.items ≡ link_lines pairs) → IfOk result (λ text. IsLinksText script reports text.items)
+text_so script reports crew origins w run pairs (Ok text) again equal h = record {
+  crew = crew;
+  origins = origins;
+  replayed = w;
+  rests = comes_to_rest script reports crew w.order w.merged w.retraced w.clear run;
+  again = again;
+  is = h ∙ ap link_lines equal;
+}
+text_so script reports crew origins w run pairs (Err e) again equal h = tt

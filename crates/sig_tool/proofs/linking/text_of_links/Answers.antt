@@ -10,8 +10,7 @@ report-requires c =
 
 pub returns : goal.returns
 returns c =
-    let w = c.in_ok-made.ensures.made in
-    text_so c.args.given.now.script c.args.given.now.told (runnings_of c.in_ok-made.made.0) w.order w.merged w.retraced w.clear c.requires c.as_slice.result.now c.lines_of.result
+    text_so c.args.given.now.script c.args.given.now.told (runnings_of c.in_ok-made.made.0) c.in_ok-made.made.1 c.in_ok-made.ensures.made c.requires c.as_slice.result.now c.lines_of.result
     c.in_ok-made.ensures.again
     (c.as_slice.ensures ∙ c.in_ok-pairs.ensures.pairs)
     c.lines_of.ensures
