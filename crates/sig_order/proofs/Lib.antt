@@ -14,3 +14,4 @@ pub mod TracedRuns
 pub mod OriginsTraced
 pub mod Spans
 pub mod OneSpan
+pub mod SameChoices
