@@ -19,7 +19,7 @@ use Rattle.sig_patterns.specs.declared.expression.Expr.{Expr}
 use Rattle.sig_patterns.specs.Building.{value_of, is_small}
 use Rattle.sig_program.specs.declared.instruction.Instr.TheVariants.{Monitor}
 use Rattle.sig_program.specs.Scripts.{Declared, Program}
-use Rattle.sig_runs.specs.Rules.{Effect}
+use Rattle.sig_runs.specs.Rules.{Effect, Rules}
 use Rattle.sig_runs.specs.Machine.{Machine, At, Applied, apply, choice, IsRun}
 use Rattle.sig_runs.specs.Crew.{opening_machine}
 use Rattle.sig_runs.proofs.Lists.{slice_get-set_same}
@@ -39,7 +39,7 @@ use Rattle.sig_model.proofs.Lookups.{mapped_tells}
 use Rattle.sig_model.proofs.BodyLemmas.{IsWatching, IsRewatched}
 use Rattle.sig_model.proofs.ExecutingLemmas.{next_body, IsMaking, next_watch}
 use Rattle.sig_model.proofs.MarkerLemmas.{opened_state}
-use Rattle.sig_call.specs.CallLaw.{is_kept, handles_answer, enters, entries, MakesCall, EnterOnce, CallsEnterOnce}
+use Rattle.sig_call.specs.CallLaw.{is_kept, handles_answer, enters, entries, HasEntered, MakesCall, EnterOnce, CallsEnterOnce}
 use Rattle.sig_call.proofs.CallTables.{bit, IsCall, IsClear, inserted_here}
 use Rattle.sig_call.proofs.CallAnswers.{Fell, fell, fell_making, Answered, answered, handled_fell}
 use Rattle.sig_call.proofs.CallMoves.{execution_by, rules_by, rules, Moves, MakerStep, maker_step}
@@ -289,6 +289,13 @@ module _ (r : Ref) where
         let rest : Joined earlier later first.0 middle end first.2 second = joined earlier later first.0 middle end first.2 second in
         record { run = (first.0, first.1, rest.run); sum = omega (arith, rest.sum) }
 
+-- an answer that has entered with some message is counted
+entered_counts : (by : Rules ProcessState Signal Event) (r : Ref) (message : Term) (m : Machine ProcessState Signal) (es : List (At Event)) (end : Machine ProcessState Signal) (run : IsRun by m es end) →
+    HasEntered by r message m es end run → 1 ≤ entries by r m es end run
+entered_counts by r message m [] end run h = absurd h
+entered_counts by r message m (a ∷ later) end run (inl e) = let one : bit (enters r m a) ≡ 1 = ap bit e.0 in omega (arith, one)
+entered_counts by r message m (a ∷ later) end run (inr h) = omega (arith, entered_counts by r message run.0 later end run.2 h)
+
 -- the opening of a script whose process makes a call
 module _ (begin : ℕ → ℕ) (script : Program) where
   abbrev opened : Machine ProcessState Signal
@@ -303,12 +310,18 @@ module _ (begin : ℕ → ℕ) (script : Program) where
       (subst (λ (z : ProcessState). Unmade r z.counts.next_serial z.tables.watch) (opened_state script r.owner.0 o.0 o.1) (λ low. clear))
       (made_in r begin script events a h k)
 
+  behind : (earlier later : List (At Event)) (middle end : Machine ProcessState Signal) (first : IsRun (rules_by begin script) opened earlier middle) (second : IsRun (rules_by begin script) middle later end)
+      (r : Ref) (a : At Event) → Contains (earlier ++ later) a → MakesCall script r a → entries (rules_by begin script) r opened earlier middle first + entries (rules_by begin script) r middle later end second ≤ 1
+  behind earlier later middle end first second r a h k =
+      let j : Joined r begin script earlier later opened middle end first second = joined r begin script earlier later opened middle end first second in
+      omega (arith, j.sum, once (earlier ++ later) end j.run r a h k)
+
   enter_once : EnterOnce script (rules_by begin script)
   enter_once = record {
     once = once;
-    behind = λ earlier later middle end first second r a h k.
-        let j : Joined r begin script earlier later opened middle end first second = joined r begin script earlier later opened middle end first second in
-        omega (arith, j.sum, once (earlier ++ later) end j.run r a h k);
+    behind = behind;
+    taken = λ earlier later middle end t first second r a h k message entered took.
+        omega (arith, entered_counts (rules_by begin script) r message opened earlier middle first entered, behind earlier (t ∷ later) middle end first second r a h k);
   }
 
 -- in the runs that look at all messages, and in those that look from the marks on

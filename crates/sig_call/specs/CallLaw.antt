@@ -1,8 +1,9 @@
 -- The call law: of the messages through the alias of one monitor made with `reply_demonitor`, and its down, at most one enters the
 -- mailbox of its maker (Erlang Reference Manual, Processes, Process Aliases; module `erlang`, `monitor/3`).
-use Rattle.std.specs.Prelude.{◌≡◌, ℕ, ◌+◌, ◌-◌, ◌≤◌, ◌==◌, ◌&&◌, Bool, true, false, List, [], ◌∷◌, ◌++◌, Some, slice_get, if◌then◌else◌}
+use Rattle.std.specs.Prelude.{◌≡◌, ◌⊎◌, ℕ, ◌+◌, ◌-◌, ◌≤◌, ◌==◌, ◌&&◌, Bool, true, false, List, [], ◌∷◌, ◌++◌, Some, slice_get, if◌then◌else◌}
 use Rattle.std.specs.List.{Contains}
 use Rattle.sig_terms.specs.declared.reference.Ref.{Ref}
+use Rattle.sig_terms.specs.declared.term.Term.{Term}
 use Rattle.sig_terms.specs.declared.term.Term.TheVariants as term
 use Rattle.sig_terms.specs.Nodes.{same_ref}
 use Rattle.sig_kinds.specs.declared.alias_mode.AliasMode.TheVariants.{ReplyDemonitor}
@@ -21,7 +22,7 @@ use Rattle.sig_model.specs.declared.event.Event.{Event}
 use Rattle.sig_model.specs.declared.event.Did.{Did}
 use Rattle.sig_model.specs.declared.event.Did.TheVariants.{Exec, From}
 use Rattle.sig_model.specs.declared.event.Outcome.{Outcome}
-use Rattle.sig_model.specs.declared.event.Outcome.TheVariants.{Set, Kept}
+use Rattle.sig_model.specs.declared.event.Outcome.TheVariants.{Set, Took, Kept}
 use Rattle.sig_model.specs.ProcessState.{ProcessState}
 use Rattle.sig_model.specs.Machine.{rules_of, opening_of}
 use Rattle.sig_model.specs.Marking.{whole_of}
@@ -57,6 +58,19 @@ module _ (rules : Rules ProcessState Signal Event) (r : Ref) where
   entries m [] end run = 0
   entries m (a ∷ later) end run = (if enters r m a then 1 else 0) + entries run.0 later end run.2
 
+-- by one of these events an answer of r entered with this message
+module _ (rules : Rules ProcessState Signal Event) (r : Ref) (message : Term) where
+  abbrev pub HasEntered : (m : Machine ProcessState Signal) (events : List (At Event)) (end : Machine ProcessState Signal) → IsRun rules m events end → Type 0
+  HasEntered m [] end run = ⊥
+  HasEntered m (a ∷ later) end run = ((enters r m a ≡ true) × (a.event.outcome ≡ Kept message)) ⊎ HasEntered run.0 later end run.2
+
+-- by the event a receive of the process that made r took this message (Expressions, Receive)
+pub record TakesMessage (r : Ref) (message : Term) (a : At Event) : Type 0 where
+  pub clause : ℕ
+  pub looked : ℕ
+  pub taker : a.pid ≡ r.owner.0
+  pub took : a.event.outcome ≡ Took clause looked message
+
 -- the event made r by `monitor` with `reply_demonitor`
 pub record MakesCall (script : Program) (r : Ref) (a : At Event) : Type 0 where
   pub process : Declared
@@ -81,6 +95,12 @@ pub record EnterOnce (script : Program) (rules : Rules ProcessState Signal Event
       (first : IsRun rules (opening_machine (opening_of script)) earlier middle) (second : IsRun rules middle later end)
       (r : Ref) (a : At Event) → Contains (earlier ++ later) a → MakesCall script r a →
       entries rules r (opening_machine (opening_of script)) earlier middle first + entries rules r middle later end second ≤ 1
+  -- Where the event t takes a message with which an answer had entered, none enters by t or behind it.
+  pub taken : (earlier later : List (At Event)) (middle end : Machine ProcessState Signal) (t : At Event)
+      (first : IsRun rules (opening_machine (opening_of script)) earlier middle) (second : IsRun rules middle (t ∷ later) end)
+      (r : Ref) (a : At Event) → Contains (earlier ++ t ∷ later) a → MakesCall script r a →
+      (message : Term) → HasEntered rules r message (opening_machine (opening_of script)) earlier middle first → TakesMessage r message t →
+      entries rules r middle (t ∷ later) end second ≡ 0
 
 -- In each run of the script, by the receive that looks at all messages, of the answers of each call at most one enters.
 abbrev pub CallsEnterOnce : Program → Type 0
