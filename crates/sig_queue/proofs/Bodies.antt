@@ -148,7 +148,7 @@ near f = filter (λ n. starts_with n "atomic_table::" || is_own n) (names f.body
 abbrev pub OneStep : Fn → Type 0
 OneStep f = (filter (λ n. not (is_in steps n)) (near f) ≡ []) × (length (near f) ≡ 1) × (loops f.body ≡ [])
 
--- A function there that takes two: it names these two functions of the table and of this crate, once each.
+-- A function there that takes two, or the one of another: it names these functions of the table and of this crate, once each.
 abbrev pub TwoSteps : List String → Fn → Type 0
 TwoSteps both f = (near f ≡ both) × (loops f.body ≡ [])
 

@@ -17,7 +17,7 @@ use Rattle.sig_queue.specs.declared.fetch_find.Caught.{Caught}
 use Rattle.sig_queue.specs.declared.fetch.Fetch.{Fetch}
 use Rattle.sig_queue.specs.declared.fetch.Fetch.TheVariants as fetch
 use Rattle.sig_queue.specs.declared.fetch_settle.Taken.{Taken}
-use Rattle.sig_queue.specs.Tied.{Held, FreshBut, TookCarried}
+use Rattle.sig_queue.specs.Tied.{Held, FoundOuter, FreshBut, TookCarried}
 use Rattle.sig_queue.specs.Seats.{Keeps, IsSeat}
 use Rattle.sig_queue.specs.Parts.{tried}
 use Rattle.sig_queue.specs.Fetching.{all_of, journal_of, numbers, picked, same_number, each_try, EachOwn, kept_of, Finding, Standing, Emptying, Leaving}
@@ -90,7 +90,7 @@ module _ (z : Setup) (before now : List Signal) (v taking u w : Knows) (bits : �
   tried_as = ((λ c bit. foreign_as taking v (f.values c) (sym (ap (λ (k : Knows). k.senders) took)) (sym (ap (λ (k : Knows). k.role) took)) (f.others c bit)), f.free)
 
   module _ (still : v.fetching ≡ false) (free : v.parts ≡ []) (mask : v.mask ≡ []) (back : v.back ≡ 0) (moved : v.moved ≡ 0) (saw : v.saw_off ≡ false) where
-    pub fetched_all : (t : Taken) → Settled z before now u (Some t) w → FetchedAs z before now v t.count t.due found.skipped w
+    pub fetched_all : (t : Taken) → Settled z before now u (Some t) w → FetchedAs z before now v (signals_of v.held) t.count t.due found.skipped w
     fetched_all t s =
         let bits_are : w.bits ≡ bits = bits_taken (ap (λ (k : Knows). k.bits) s.2.0) in
         let parts_are : w.emptied ≡ u.parts = ap (λ (k : Knows). k.emptied) s.2.0 ∙ ap (λ (k : Knows). k.emptied ++ u.parts) found_as in (
@@ -104,8 +104,7 @@ module _ (z : Setup) (before now : List Signal) (v taking u w : Knows) (bits : �
           subst (λ (n : ℕ). FreshBut n w) (ap (λ (k : Knows). k.back) same ∙ f.back) s.2.1,
           s.2.2,
           record {
-            outer = signals_of u.held;
-            is = ap (λ (ps : List HeldBuffer). signals_of u.held ++ all_of ps) (sym parts_are);
+            is = ap (λ (k : Knows). signals_of k.held ++ all_of u.parts) found_as ∙ ap (λ (ps : List HeldBuffer). signals_of v.held ++ all_of ps) (sym parts_are);
             ascending = ap numbers (parts_are ∙ ap (λ (k : Knows). k.parts) same) ∙ (f.numbers_are ∙ (picked_same same_number same_number (filled_at found.held) (kept_of bits found.skipped) 0 64 (λ c _. refl) (λ c h. f.parted c (omega (arith, h))) ∙ ap (λ (n : ℕ). picked same_number (kept_of n found.skipped) 0 64) (sym bits_are)));
             own = subst EachOwn (sym (parts_are ∙ ap (λ (k : Knows). k.parts) same)) f.own;
             had = λ c bit. ap (λ (n : ℕ). filled_at n c) bits_are ∙ f.had c bit;
@@ -129,10 +128,10 @@ module _ (z : Setup) (before now : List Signal) (v w : Knows) (o : Outer) where
   same_tries : (skipped : ℕ) (values : ℕ → ℕ) → TriedAs (holding v o) skipped values → TriedAs (tried v 0 0) skipped values
   same_tries skipped values h = ((λ c bit. foreign_as (holding v o) (tried v 0 0) (values c) refl refl (h.0 c bit)), h.1)
 
-  pub fetched_by : (r : Fetch) → FetchedHeld z before now (holding v o) r w → Fetched z before now v r w
-  fetched_by (fetch.Took count due bits) h = (h.0, h.1, h.2, h.3, h.4, same_tries bits h.1 h.5, h.6, h.7, h.8)
-  fetched_by (fetch.Busy n) h = absurd h
-  fetched_by fetch.Memory h = (h.0, (h.1.0, h.1.1, h.1.2, same_tries h.1.0 h.1.1 h.1.3))
+  pub fetched_by : (r : Fetch) → FoundOuter z v o → FetchedHeld z before now (holding v o) r w → Fetched z before now v r w
+  fetched_by (fetch.Took count due bits) f h = record { outer = o; found = f; fetched = (h.0, h.1, h.2, h.3, h.4, same_tries bits h.1 h.5, h.6, h.7, h.8) }
+  fetched_by (fetch.Busy n) f h = absurd h
+  fetched_by fetch.Memory f h = (h.0, (h.1.0, h.1.1, h.1.2, same_tries h.1.0 h.1.1 h.1.3))
 
   module _ (i : Idle v) (kept : Kept) (h : Keeps v kept) (xs : List (ℕ × Slot)) (free : xs ≡ []) where
     seat_after : (taken : List Signal) (fetches : ℕ) (due : Bool) (tries : List (ℕ × ℕ)) (emptied : List HeldBuffer) → w ≡ record v { held = None; taken = taken; fetches = fetches; due = due; tries = tries; bits = w.bits; emptied = emptied } → IsSeat (w, xs) (record kept { due = due })

@@ -44,7 +44,7 @@ use Rattle.sig_queue.proofs.Taking.{took_carried}
 use Rattle.sig_layout.proofs.Carrying.{carried}
 use Rattle.sig_layout.proofs.Stepping.{same_setup}
 use Rattle.sig_layout.proofs.Steadying.{steady}
-use Rattle.sig_queue.specs.Tied.{HasTaken, apart, home, cell_home, words_of, homes_of, shown, Tied, Held, Foreign, tried_outer, tried_buffer, loaded_mode, loaded_under, loaded_filled, bit_set, bits_taken, bit_back, stored_on, stored_off, left_put, left_same, left_fetch, left_remove, left_buffer_put, left_buffer, left_part, left_passed, looked_only}
+use Rattle.sig_queue.specs.Tied.{HasTaken, FoundOuter, apart, home, cell_home, words_of, homes_of, shown, Tied, Held, Foreign, tried_outer, tried_buffer, loaded_mode, loaded_under, loaded_filled, bit_set, bits_taken, bit_back, stored_on, stored_off, left_put, left_same, left_fetch, left_remove, left_buffer_put, left_buffer, left_part, left_passed, looked_only}
 
 -- a list whose place is set to what was found there
 set_found : (xs : List ℕ) (i : ℕ) → set xs i (get_or xs i 0) ≡ xs
@@ -161,9 +161,9 @@ module _ (z : Setup) where
       (allows slots id (me.0, x ∷ rest me.1) i f (told (me.0, x ∷ rest me.1)) (each (rest me.1)))
 
   -- the outer turn
-  pub takes_outer : (slots id my_word : ℕ) (me : Held) → me.0.held ≡ None → IsSomebody me.0 → my_word ≡ number me.0 + 1
-      → Allows (Tied z) slots id me 0 (λ n. either (n == 0) my_word n) (tried_outer (step slots 0 0 my_word none) me)
-  takes_outer slots id my_word me idle somebody is = allows slots id me 0 (λ n. either (n == 0) my_word n) (tried_outer (step slots 0 0 my_word none) me) (λ q st at. let v : Knows = me.0 in dite (ℕ_discrete q.turn 0)
+  pub takes_outer : (slots id my_word : ℕ) (me : Held) (y : Setup) → y ≡ z → me.0.held ≡ None → IsSomebody me.0 → my_word ≡ number me.0 + 1
+      → Allows (Tied z) slots id me 0 (λ n. either (n == 0) my_word n) (tried_outer y (step slots 0 0 my_word none) me)
+  takes_outer slots id my_word me y picked idle somebody is = allows slots id me 0 (λ n. either (n == 0) my_word n) (tried_outer y (step slots 0 0 my_word none) me) (λ q st at. let v : Knows = me.0 in dite (ℕ_discrete q.turn 0)
       (λ free. let word : either (q.turn == 0) my_word q.turn ≡ suc (number v) = ap (λ (b : Bool). either b my_word q.turn) (eq-eqb q.turn 0 free) ∙ (omega arith) in let q' : QState = core.take_outer q id v in (
         holding v q.outer,
         takes 0 (slot.Outer q.outer),
@@ -174,7 +174,11 @@ module _ (z : Setup) where
           is = λ k. record { words = T (word k) (mode_word q.mode) q.filled (table_from 0 64 (λ c. (q.cells c).word)); homes = homes_of q'; views = q'.seats };
           proper = st.proper;
         },
-        ((λ e. (q.outer, refl)), (λ n. absurd (n free))),
+        (
+          (λ e. (q.outer, refl)),
+          (λ n. absurd (n free)),
+          (λ e. subst (λ (x : Setup). FoundOuter x v q.outer) (sym picked) (record { core = q; reached = st.reached; seat = id; seen = at; free = free; outer_is = refl })),
+        ),
       ))
       (λ n. let word : either (q.turn == 0) my_word q.turn ≡ q.turn = ap (λ (b : Bool). either b my_word q.turn) (ne_eqb q.turn 0 n) in let q' : QState = core.refuse_outer q id v in (
         turned_away v q.turn,
@@ -186,7 +190,11 @@ module _ (z : Setup) where
           is = λ k. record { words = T (word k) (mode_word q.mode) q.filled (table_from 0 64 (λ c. (q.cells c).word)); homes = homes_of q'; views = q'.seats };
           proper = st.proper;
         },
-        ((λ e. absurd (n e)), (λ _. (refl, foreign q st.lists id v at q.turn q.holder HasOuter st.agrees.turn (not_outer v idle) n))),
+        (
+          (λ e. absurd (n e)),
+          (λ _. (refl, foreign q st.lists id v at q.turn q.holder HasOuter st.agrees.turn (not_outer v idle) n)),
+          (λ e. absurd (n e)),
+        ),
       )))
 
   pub puts : (slots id : ℕ) (me : Held) (o : Outer) (x : Signal) → me.0.held ≡ Some o → me.0.fetching ≡ false → me.0.removing ≡ false → me.0.switched ≡ is_install (due_at z.policy (o.journal ++ Direct (some_refused me.0.refused) ∷ [])) → me.0.saw_off ≡ true → has me.0.senders x.from.0 ≡ true → IsNext z me.0.put x

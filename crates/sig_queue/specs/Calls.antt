@@ -25,7 +25,7 @@ use Rattle.sig_queue.specs.declared.fetch_settle.Taken.{Taken}
 use Rattle.sig_layout.specs.Views.{filled_at, signals_of, buffer_in}
 use Rattle.sig_layout.specs.Core.{buffer_of}
 use Rattle.sig_queue.specs.Fetching.{each_try, all_of, numbers, picked, same_number, EachOwn, kept_of}
-use Rattle.sig_queue.specs.Tied.{Foreign, FreshBut, TookCarried}
+use Rattle.sig_queue.specs.Tied.{Foreign, FoundOuter, FreshBut, TookCarried}
 use Rattle.sig_queue.specs.Parts.{item, looked, tried, went, looks_off, tries_off}
 
 -- under the turn of a buffer
@@ -122,10 +122,9 @@ abbrev pub Settled : Setup → List Signal → List Signal → Knows → Option 
 Settled z before now u (Some t) w = (now ≡ before ++ taken_by u) × (t.count ≡ length (taken_by u)) × Finished z u t w
 Settled z before now u None w = (now ≡ before) × (w ≡ bare u)
 
--- first the outer list, and then what lay in the buffers that were emptied, by ascending number: those whose bits were taken, but
+-- first this outer list, and then what lay in the buffers that were emptied, by ascending number: those whose bits were taken, but
 -- for the skipped ones. In each lay signals of its own senders alone
-pub record InOrder (new : List Signal) (skipped : ℕ) (w : Knows) : Type 0 where
-  pub outer : List Signal
+pub record InOrder (new outer : List Signal) (skipped : ℕ) (w : Knows) : Type 0 where
   pub is : new ≡ outer ++ all_of w.emptied
   pub ascending : numbers w.emptied ≡ picked same_number (kept_of w.bits skipped) 0 BUFFERS
   pub own : EachOwn w.emptied
@@ -136,8 +135,9 @@ abbrev pub TriedAs : Knows → ℕ → (ℕ → ℕ) → Type 0
 TriedAs v skipped values = ((c : ℕ) → filled_at skipped c ≡ true → Foreign v (values c))
     × ((c : ℕ) → filled_at skipped c ≡ false → values c ≡ 0)
 
-abbrev pub FetchedAs : Setup → List Signal → List Signal → Knows → ℕ → Bool → ℕ → Knows → Type 0
-FetchedAs z before now v count due skipped w = (new : List Signal) × (values : ℕ → ℕ) × (now ≡ before ++ new) × (count ≡ length new)
+-- a fetch that took this outer list, and then those of buffers
+abbrev pub FetchedAs : Setup → List Signal → List Signal → Knows → List Signal → ℕ → Bool → ℕ → Knows → Type 0
+FetchedAs z before now v outer count due skipped w = (new : List Signal) × (values : ℕ → ℕ) × (now ≡ before ++ new) × (count ≡ length new)
     × (w ≡ record v {
       held = None;
       taken = v.taken ++ new;
@@ -148,7 +148,7 @@ FetchedAs z before now v count due skipped w = (new : List Signal) × (values : 
       bits = w.bits;
       emptied = w.emptied;
     })
-    × TriedAs v skipped values × FreshBut skipped w × TookCarried z w × InOrder new skipped w
+    × TriedAs v skipped values × FreshBut skipped w × TookCarried z w × InOrder new outer skipped w
 
 abbrev pub Left : List Signal → List Signal → Knows → Knows → Type 0
 Left before now v w = (now ≡ before)
@@ -162,15 +162,21 @@ Left before now v w = (now ≡ before)
 
 -- under the outer turn
 abbrev pub FetchedHeld : Setup → List Signal → List Signal → Knows → Fetch → Knows → Type 0
-FetchedHeld z before now v (fetch.Took count due skipped) w = FetchedAs z before now v count due skipped w
+FetchedHeld z before now v (fetch.Took count due skipped) w = FetchedAs z before now v (signals_of v.held) count due skipped w
 FetchedHeld z before now v (fetch.Busy n) w = ⊥
 FetchedHeld z before now v fetch.Memory w = Left before now v w
+
+-- the outer list is all that lay in the outer value that the seat found
+pub record TookAs (z : Setup) (before now : List Signal) (v : Knows) (count : ℕ) (due : Bool) (skipped : ℕ) (w : Knows) : Type 0 where
+  pub outer : Outer
+  pub found : FoundOuter z v outer
+  pub fetched : FetchedAs z before now (tried v 0 0) outer.signals count due skipped w
 
 -- The signals that came into the caller's list are those that the seat took. All that the seat put and was told of was taken, but of
 -- senders whose buffers are in `skipped`. The outer turn was tried once, and where it was free the turn of each buffer whose bit was
 -- taken, by ascending number
 abbrev pub Fetched : Setup → List Signal → List Signal → Knows → Fetch → Knows → Type 0
-Fetched z before now v (fetch.Took count due skipped) w = FetchedAs z before now (tried v 0 0) count due skipped w
+Fetched z before now v (fetch.Took count due skipped) w = TookAs z before now v count due skipped w
 Fetched z before now v (fetch.Busy n) w = (now ≡ before) × (w ≡ record (tried v 0 n) { refused = v.refused + 1 }) × Foreign v n
 Fetched z before now v fetch.Memory w = Left before now (tried v 0 0) w
 

@@ -2,6 +2,7 @@
 use Rattle.std.specs.Prelude.{◌≡◌, ◌≢◌, ℕ, zero, suc, ◌+◌, ◌*◌, Bool, true, false, List, [], ◌∷◌, All, Some}
 use mathlib.Core.Option as maybe
 use mathlib.Core.Option.{none, some}
+use lib.ListN.{get_elem?}
 use Rattle.atomic_table.specs.Table.{State, Me, Step, rest}
 use Rattle.sig_kinds.specs.declared.queue_data.QueueData.TheVariants.{OffHeap}
 use Rattle.sig_kinds.specs.declared.signal.Signal.{Signal}
@@ -105,13 +106,24 @@ no_setup = record {
   opening = record { receiver = record { 0 = 0 }; count = 0; first = [] };
 }
 
+-- Where the seat had the view v and found the outer turn free, the core was in a state that it reaches from the opening z, and this
+-- is the outer value that lay there
+pub record FoundOuter (z : Setup) (v : Knows) (o : Outer) : Type 0 where
+  pub core : QState
+  pub reached : Reached z core
+  pub seat : ℕ
+  pub seen : get_elem? core.seats seat ≡ some v
+  pub free : core.turn ≡ 0
+  pub outer_is : o ≡ core.outer
+
 -- what each step tells
 abbrev pub Tells : Type 1
 Tells = Step Slot → Held → ℕ → Held → Type 0
 
-abbrev pub tried_outer : Tells
-tried_outer st m n m' = (n ≡ 0 → (o : Outer) × (m' ≡ (holding m.0 o, (0, slot.Outer o) ∷ m.1)))
+abbrev pub tried_outer : Setup → Tells
+tried_outer z st m n m' = (n ≡ 0 → (o : Outer) × (m' ≡ (holding m.0 o, (0, slot.Outer o) ∷ m.1)))
     × (n ≢ 0 → (m' ≡ (turned_away m.0 n, m.1)) × Foreign m.0 n)
+    × (n ≡ 0 → FoundOuter z m.0 (outer_in m'.1))
 
 abbrev pub tried_buffer : Tells
 tried_buffer st m n m' = (b : ℕ) → st.word ≡ 8 * (b + 3)

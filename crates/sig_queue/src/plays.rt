@@ -14,10 +14,21 @@ use atomic_table::{Join, Play, Split};
 use sig_layout::Knows;
 use std::marker::{Brand, PhantomData};
 
-pub(crate) struct TryOuter;
+/// What the queue was opened with. The caller's proof picks it.
+pub(crate) trait Opened {
+    ghost setup: { Setup };
+}
 
-impl Play<Slot, Knows> for TryOuter {
-    ghost then = { tried_outer };
+impl Opened for Brand {
+    ghost setup = { no_setup };
+}
+
+pub(crate) struct TryOuter<G> {
+    opened: PhantomData<G>,
+}
+
+impl<G: Opened> Play<Slot, Knows> for TryOuter<G> {
+    ghost then = { tried_outer G.setup };
 }
 
 pub(crate) struct TryBuffer;

@@ -41,8 +41,8 @@ removed_fetched q v u w now e f = record {
   counted = λ s asks. subst (λ (z : List Signal). IsCounting (first_of q.setup s + length (coming_from s z)) (coming_from s now)) e.taken (f.counted s asks);
 }
 
-took_fetched : (q : Queue) (v w : Seated) (before now : List Signal) (count : ℕ) (due : Bool) (skipped : ℕ) → before ≡ [] → w.queue ≡ v.queue → FetchedAs q.setup before now (tried v.knows 0 0) count due skipped w.knows → IsFetched q v now w
-took_fetched q v w before now count due skipped empty own h =
+took_fetched : (q : Queue) (v w : Seated) (before now outer : List Signal) (count : ℕ) (due : Bool) (skipped : ℕ) → before ≡ [] → w.queue ≡ v.queue → FetchedAs q.setup before now (tried v.knows 0 0) outer count due skipped w.knows → IsFetched q v now w
+took_fetched q v w before now outer count due skipped empty own h =
     let new : List Signal = h.0 in
     let same : now ≡ new = h.2 ∙ ap (λ z. z ++ new) empty in
     let taken : w.knows.taken ≡ v.knows.taken ++ new = ap (λ (z : Knows). z.taken) h.4 in
@@ -73,7 +73,7 @@ busy_fetched q v w found before now empty own h =
     }
 
 pub any_fetched : (q : Queue) (v u w : Seated) (before now : List Signal) (f : Fetch) → IsRemoved v u → before ≡ [] → w.queue ≡ u.queue → Fetched q.setup before now u.knows f w.knows → (f ≡ fetch.Memory → ⊥) → IsFetched q v now w
-any_fetched q v u w before now (fetch.Took count due skipped) e empty own h not_memory = removed_fetched q v u w now e (took_fetched q u w before now count due skipped empty own h)
+any_fetched q v u w before now (fetch.Took count due skipped) e empty own h not_memory = removed_fetched q v u w now e (took_fetched q u w before now h.outer.signals count due skipped empty own h.fetched)
 any_fetched q v u w before now (fetch.Busy found) e empty own h not_memory = removed_fetched q v u w now e (busy_fetched q u w found before now empty own h)
 any_fetched q v u w before now fetch.Memory e empty own h not_memory = absurd (not_memory refl)
 

@@ -15,20 +15,37 @@ ghost use Rattle.sig_layout.specs.Views.{number, IsSomebody, flag, holding, turn
 ghost use Rattle.sig_layout.specs.Views.{after_put, after_same, after_fetch, after_remove};
 ghost use Rattle.sig_layout.specs.Views.{switched_on, switched_off, with_bits, given_back};
 ghost use Rattle.sig_layout.specs.Outers.{added, emptied, removed};
-ghost use Rattle.sig_queue.specs.Tied.{Foreign, FreshBut, TookCarried, outer_in};
+ghost use Rattle.sig_queue.specs.Tied.{Foreign, FoundOuter, FreshBut, TookCarried, outer_in};
 ghost use Rattle.sig_queue.specs.Parts.{first_part, IsOne};
 ghost use Rattle.sig_queue.specs.SeatWords.{IsOf, IsBufferOf, IsSameSeat, key_of, table_of};
 
 use super::Words;
 use crate::outer_box::OuterBox;
 use crate::plays::{
-    LeaveFetch, LeavePut, LeaveRemove, LeaveSame, Leaves, LoadFilled, LoadMode, LoadUnder, Ruled,
-    SetBack, SetBit, StoreOff, StoreOn, TakeBits, TryOuter, Which,
+    LeaveFetch, LeavePut, LeaveRemove, LeaveSame, Leaves, LoadFilled, LoadMode, LoadUnder, Opened,
+    Ruled, SetBack, SetBit, StoreOff, StoreOn, TakeBits, TryOuter, Which,
 };
 use crate::rule::SeatAt;
 use crate::slot::Slot;
 use sig_kinds::Signal;
 use sig_layout::{FILLED, MODE, OUTER, Policy};
+use std::marker::Brand;
+
+// The step of a try of the outer turn. The proof picks `G` by the queue's opening.
+fn step_outer<G: Opened>(words: &Words, place: &mut SeatAt, my_word: u64) -> u64
+    requires table { IsOf place.old words.now }
+    requires picked { G.setup ≡ key_of words.now }
+    requires idle { (place.old.me.0.held ≡ None) × IsSomebody place.old.me.0 × (my_word ≡ number place.old.me.0 + 1) }
+    ensures same { IsSameSeat place.new place.old }
+    ensures took { result ≡ 0 → (o : Outer) × (place.new.me ≡ (holding place.old.me.0 o, (0, Slot.Outer o) ∷ place.old.me.1)) }
+    ensures refused { result ≢ 0 → (place.new.me ≡ (turned_away place.old.me.0 result, place.old.me.1)) × Foreign place.old.me.0 result }
+    ensures found { result ≡ 0 → FoundOuter (key_of words.now) place.old.me.0 (outer_in place.new.me.1) }
+{
+    words
+        .table
+        .shared
+        .compare_exchange::<TryOuter<G>>(place, OUTER, 0, my_word)
+}
 
 // Tries the outer turn once.
 pub(crate) fn try_outer(words: &Words, place: &mut SeatAt, my_word: u64) -> u64
@@ -37,11 +54,9 @@ pub(crate) fn try_outer(words: &Words, place: &mut SeatAt, my_word: u64) -> u64
     ensures same { IsSameSeat place.new place.old }
     ensures took { result ≡ 0 → (o : Outer) × (place.new.me ≡ (holding place.old.me.0 o, (0, Slot.Outer o) ∷ place.old.me.1)) }
     ensures refused { result ≢ 0 → (place.new.me ≡ (turned_away place.old.me.0 result, place.old.me.1)) × Foreign place.old.me.0 result }
+    ensures found { result ≡ 0 → FoundOuter (key_of words.now) place.old.me.0 (outer_in place.new.me.1) }
 {
-    words
-        .table
-        .shared
-        .compare_exchange::<TryOuter>(place, OUTER, 0, my_word)
+    step_outer::<Brand>(words, place, my_word)
 }
 
 // The outer value out.
