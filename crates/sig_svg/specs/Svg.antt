@@ -228,6 +228,31 @@ chart_text c =
     head_text c.count c.rows ++ flat_map row_text c.marks ++ flat_map (lane_text c.rows) c.lanes ++ flat_map arrow_text c.arrows
     ++ flat_map stub_text c.stubs ++ flat_map mark_text c.marks ++ foot_text c.rows
 
--- the text is that of pieces: what isn't one of the texts of src/markup.rt or a number is escaped
-abbrev pub IsOfPieces : List ℕ → Type 0
-IsOfPieces text = (pieces : List Piece) × (text ≡ text_of pieces)
+-- ---- the pieces of all of this, in the order in which they stand
+
+abbrev pub name_pieces : ℕ → List ℕ → List Piece
+name_pieces pid name = title_pieces name ++ name_front pid ++ short lane_bytes name ++ end_pieces
+
+abbrev pub state_pieces : ℕ → ℕ → List ℕ → List Piece
+state_pieces rows pid state = title_pieces state ++ state_front rows pid ++ short lane_bytes state ++ end_pieces
+
+abbrev pub lane_pieces : ℕ → Lane → List Piece
+lane_pieces rows l = line_pieces rows l.pid ++ name_pieces l.pid l.name ++ pid_pieces l.pid ++ state_pieces rows l.pid l.state
+
+abbrev pub label_pieces : Mark → List Piece
+label_pieces m = label_front m ++ short event_bytes m.text ++ end_pieces
+
+abbrev pub mark_pieces : Mark → List Piece
+mark_pieces m = event_title_pieces m ++ sign_pieces m ++ label_pieces m
+
+abbrev pub arrow_pieces : Arrow → List Piece
+arrow_pieces a = about_pieces a ++ start_pieces a ++ way_pieces a ++ word_pieces a
+
+abbrev pub stub_pieces : Stub → List Piece
+stub_pieces s = queued_title_pieces s.text ++ stub_start_pieces s ++ stub_way_pieces s ++ whom_at_pieces s ++ whom_pieces s
+
+-- of each event the line through its row, each process's lane, each signal's arrow, and of each event its sign and its text
+abbrev pub chart_pieces : Chart → List Piece
+chart_pieces c =
+    head_pieces c.count c.rows ++ flat_map row_pieces c.marks ++ flat_map (lane_pieces c.rows) c.lanes ++ flat_map arrow_pieces c.arrows
+    ++ flat_map stub_pieces c.stubs ++ flat_map mark_pieces c.marks ++ foot_pieces c.rows
