@@ -7,6 +7,7 @@ pub mod RestReads
 pub mod OneList
 pub mod WholeLists
 pub mod OutcomeLemmas
+pub mod ListReads
 pub mod DueLemmas
 pub mod AnswerLemmas
 pub mod QueuedLemmas

@@ -97,7 +97,7 @@ module _ (script : Program) where
   no_more count turns events m pid (d ∷ ds) (s ∷ ss) =
       let g : length (run_reports count turns events m (pid + 1) ds ss) ≤ length ds = no_more count turns events m (pid + 1) ds ss in omega (arith, g)
 
-  few_told : (reports : List Report) → IsOfSettledRun script reports → length (outcome_told reports) ≤ length (names_of script)
+  pub few_told : (reports : List Report) → IsOfSettledRun script reports → length (outcome_told reports) ≤ length (names_of script)
   few_told reports h =
       let told : length (outcome_told reports) ≡ length reports = length-map reports rest_told in
       let named : length (names_of script) ≡ length script.procs = length-map script.procs (λ (d : Declared). d.name) in
@@ -124,10 +124,13 @@ module _ (script : Program) where
     strictly : AllPairs (λ a b. IsBefore (ends_text a) (ends_text b)) endings
     strictly i j d less lt = strictly_before (ends_text (get_or endings i d)) (ends_text (get_or endings j d)) (ascending i j d less lt) (differ i j d less lt)
 
+    told_at : (k : ℕ) (d : List Report) → k < length endings → IsTold script (outcome_told (get_or endings k d))
+    told_at k d lt = record { reports = get_or endings k d; settled = found.each k d lt; stored = stored k d lt; sized = found.sized names k d lt; told = refl }
+
     are_listed : AreListed script most (map outcome_told endings) states all
     are_listed = record {
       each = All-map (IsOutcome script) outcome_told endings found.outcomes;
-      told = All-map (IsTold script) outcome_told endings (λ k d lt. (get_or endings k d, found.each k d lt, refl));
+      told = All-map (IsTold script) outcome_told endings told_at;
       ascending = elements_ascend IsBefore outcome_told ends_text (rests_text 0 (names_of script)) endings
           (λ k d lt. ends_of_settled (get_or endings k d) (found.each k d lt)) strictly;
       met = found.met;

@@ -2,6 +2,8 @@
 use Rattle.std.proofs.Common.{◌≡◌, ◌≢◌, ℕ, ◌+◌, ◌≤◌, true, false, List, [], ◌∷◌, ◌++◌, length, get_or, Option, Some, None, refl, sym, ap, ◌∙◌, subst, arith, append_assoc}
 use Rattle.std.specs.Prelude.{All, codes, decimal}
 use Rattle.std.specs.List.{flat_map}
+use Rattle.std.proofs.lemmas.Bool.{false≢true}
+use Rattle.std.proofs.lemmas.List.{append-nil}
 use Rattle.std.proofs.lemmas.List.Elements.{All-head, All-map, All-tail}
 use Rattle.std.proofs.lemmas.Option.{same_Some}
 use Rattle.sig_terms.specs.declared.term.Term.{Term}
@@ -131,7 +133,7 @@ one_rest r s more other k l same =
 
 -- ---- outcomes
 
-behind_alike : (xs more other : List ℕ) → xs ++ more ≡ xs ++ other → more ≡ other
+pub behind_alike : (xs more other : List ℕ) → xs ++ more ≡ xs ++ other → more ≡ other
 behind_alike [] more other same = same
 behind_alike (x ∷ xs) more other same = behind_alike xs more other (ap tail_of same)
   where
@@ -139,30 +141,46 @@ behind_alike (x ∷ xs) more other same = behind_alike xs more other (ap tail_of
     tail_of [] = []
     tail_of (y ∷ ys) = ys
 
-not_nothing : (pid : ℕ) (name more : List ℕ) → [] ≡ head_text pid name ++ more → ⊥
-not_nothing pid name more same = absurd cc
+-- no process begins here
+abbrev pub NoProcess : List ℕ → Type 0
+NoProcess more = begins_by (codes "process ") more ≡ false
+
+not_process : (pid : ℕ) (name rest rests more other : List ℕ) → NoProcess more → more ≡ (head_text pid name ++ rest ++ rests) ++ other → ⊥
+not_process pid name rest rests more other none same =
+    let begins : begins_by (codes "process ") more ≡ true = ap (begins_by (codes "process ")) same in
+    false≢true (sym none ∙ begins)
+
+opened : (head rest rests more : List ℕ) → (head ++ rest ++ rests) ++ more ≡ head ++ (rest ++ (rests ++ more))
+opened head rest rests more = append_assoc (head ++ rest) rests more ∙ append_assoc head rest (rests ++ more)
+
+-- where two texts begin by outcomes, behind which no process begins, these are one, where the processes have these names, and the texts go on alike
+pub one_front : (pid : ℕ) (names : List (List ℕ)) (a b : List Rest) (more other : List ℕ) → length a ≤ length names → length b ≤ length names
+    → All IsReadableRest a → All IsReadableRest b → NoProcess more → NoProcess other → rests_text pid names a ++ more ≡ rests_text pid names b ++ other → (a ≡ b) × (more ≡ other)
+one_front pid [] [] [] more other la lb ra rb na nb same = (refl, same)
+one_front pid [] (r ∷ rs) b more other la lb ra rb na nb same = absurd (let f : ⊥ = omega (arith, la) in f)
+one_front pid [] [] (s ∷ ss) more other la lb ra rb na nb same = absurd (let f : ⊥ = omega (arith, lb) in f)
+one_front pid (name ∷ names) [] [] more other la lb ra rb na nb same = (refl, same)
+one_front pid (name ∷ names) [] (s ∷ ss) more other la lb ra rb na nb same =
+    absurd (not_process pid name (rest_text s) (rests_text (pid + 1) names ss) more other na same)
+one_front pid (name ∷ names) (r ∷ rs) [] more other la lb ra rb na nb same =
+    absurd (not_process pid name (rest_text r) (rests_text (pid + 1) names rs) other more nb (sym same))
+one_front pid (name ∷ names) (r ∷ rs) (s ∷ ss) more other la lb ra rb na nb same =
+    let head : List ℕ = head_text pid name in
+    let rests : List ℕ = rests_text (pid + 1) names rs in
+    let others : List ℕ = rests_text (pid + 1) names ss in
+    let behind_heads : rest_text r ++ (rests ++ more) ≡ rest_text s ++ (others ++ other) =
+    behind_alike head (rest_text r ++ (rests ++ more)) (rest_text s ++ (others ++ other)) (sym (opened head (rest_text r) rests more) ∙ same ∙ opened head (rest_text s) others other) in
+    let both : (r ≡ s) × (rests ++ more ≡ others ++ other) =
+    one_rest r s (rests ++ more) (others ++ other) (All-head IsReadableRest r rs ra) (All-head IsReadableRest s ss rb) behind_heads in
+    let later : (rs ≡ ss) × (more ≡ other) =
+    one_front (pid + 1) names rs ss more other (omega (arith, la)) (omega (arith, lb)) (All-tail IsReadableRest r rs ra) (All-tail IsReadableRest s ss rb) na nb both.1 in
+    (ap (λ (x : Rest). x ∷ rs) both.0 ∙ ap (λ (xs : List Rest). s ∷ xs) later.0, later.1)
 
 -- outcomes with one text are one, where the processes have these names
 pub one_outcome : (pid : ℕ) (names : List (List ℕ)) (a b : List Rest) → length a ≤ length names → length b ≤ length names → All IsReadableRest a → All IsReadableRest b
     → rests_text pid names a ≡ rests_text pid names b → a ≡ b
-one_outcome pid [] [] [] la lb ra rb same = refl
-one_outcome pid [] (r ∷ rs) b la lb ra rb same = absurd (let f : ⊥ = omega (arith, la) in f)
-one_outcome pid [] [] (s ∷ ss) la lb ra rb same = absurd (let f : ⊥ = omega (arith, lb) in f)
-one_outcome pid (name ∷ names) [] [] la lb ra rb same = refl
-one_outcome pid (name ∷ names) [] (s ∷ ss) la lb ra rb same =
-    absurd (not_nothing pid name (rest_text s ++ rests_text (pid + 1) names ss) (same ∙ append_assoc (head_text pid name) (rest_text s) (rests_text (pid + 1) names ss)))
-one_outcome pid (name ∷ names) (r ∷ rs) [] la lb ra rb same =
-    absurd (not_nothing pid name (rest_text r ++ rests_text (pid + 1) names rs) (sym same ∙ append_assoc (head_text pid name) (rest_text r) (rests_text (pid + 1) names rs)))
-one_outcome pid (name ∷ names) (r ∷ rs) (s ∷ ss) la lb ra rb same =
-    let head : List ℕ = head_text pid name in
-    let more : List ℕ = rests_text (pid + 1) names rs in
-    let other : List ℕ = rests_text (pid + 1) names ss in
-    let behind_heads : rest_text r ++ more ≡ rest_text s ++ other =
-    behind_alike head (rest_text r ++ more) (rest_text s ++ other) (sym (append_assoc head (rest_text r) more) ∙ same ∙ append_assoc head (rest_text s) other) in
-    let both : (r ≡ s) × (more ≡ other) = one_rest r s more other (All-head IsReadableRest r rs ra) (All-head IsReadableRest s ss rb) behind_heads in
-    let later : rs ≡ ss =
-    one_outcome (pid + 1) names rs ss (omega (arith, la)) (omega (arith, lb)) (All-tail IsReadableRest r rs ra) (All-tail IsReadableRest s ss rb) both.1 in
-    ap (λ (x : Rest). x ∷ rs) both.0 ∙ ap (λ (xs : List Rest). s ∷ xs) later
+one_outcome pid names a b la lb ra rb same =
+    (one_front pid names a b [] [] la lb ra rb refl refl (append-nil (rests_text pid names a) ∙ same ∙ sym (append-nil (rests_text pid names b)))).0
 
 -- ---- records
 

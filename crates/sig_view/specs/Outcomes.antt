@@ -14,6 +14,7 @@ use Rattle.sig_record.specs.ReadableRecord.{CanBeReread, IsReadableRecord}
 use Rattle.sig_record.specs.RecordText.{record_text}
 use Rattle.sig_record.specs.SizedRecord.{IsSizedRecord}
 use Rattle.sig_record.specs.RunRecord.{IsOfSettledRun}
+use Rattle.sig_record.specs.StoredEnds.{AreStoredEnds}
 use Rattle.sig_explore.specs.Endings.{AreAllOutcomes}
 use Rattle.sig_explore.specs.Seen.{HaveSeen}
 use Rattle.sig_tool.specs.declared.given.TheConstants.{MOST_INPUT}
@@ -25,9 +26,13 @@ use Rattle.sig_view.specs.OutcomeText.{AreInTextOrder, names_of, outcomes_text}
 
 -- ---- outcomes of a script
 
--- the record of a settled run of the script tells this outcome
-abbrev pub IsTold : Program → List Rest → Type 0
-IsTold script outcome = (reports : List Report) × IsOfSettledRun script reports × (outcome ≡ outcome_told reports)
+-- the record of a settled run of the script tells this outcome: one whose ends can lie in memory, and which is no larger than what is read
+pub record IsTold (script : Program) (outcome : List Rest) : Type 0 where
+  pub reports : List Report
+  pub settled : IsOfSettledRun script reports
+  pub stored : AreStoredEnds reports
+  pub sized : IsSizedRecord reports
+  pub told : outcome ≡ outcome_told reports
 
 -- What is listed where a search may visit so many states: outcomes of the script, by ascending text. So many states were met, and each of
 -- them without a choice has its outcome here; no other outcome is here. As many of them as may be visited, or all, were: what the choices

@@ -21,7 +21,10 @@ mod top;
 
 pub use command::Command;
 pub use due::one_status_is_due;
-pub use laws::{a_whole_list_is_told_by_the_script, queued_signals_of_a_run_are_drawn};
+pub use laws::{
+    a_list_is_told_by_its_text, a_whole_list_is_told_by_the_script,
+    queued_signals_of_a_run_are_drawn,
+};
 pub use progress::Progress;
 pub use standard::program;
 pub use status::ViewStatus;
