@@ -73,7 +73,7 @@ text_ends : (command : Command) (r : Reading) (text : List ℕ) (end : ViewStatu
 text_ends (Chart window) r text end h = inl h.0
 text_ends (Concurrent event) r text end h = inl h.0
 text_ends (Outcomes most) r text end h = listed_ends h.2.all h.2.states end h.2.ends
-text_ends (OutcomeRecord states number) r text end h = inl h.0
+text_ends (OutcomeRecord most number) r text end h = listed_ends h.2.all h.2.states end h.2.ends
 
 pub printed_ran : (command : Command) (r : Reading) (w : Writing) (text : List ℕ) (end : ViewStatus) → IsTextFor command r text end → Adds w.held w.new text
     → w.after ≡ w.before → IsRanSo command r w end
@@ -206,7 +206,7 @@ module _ (r : Reading) (bytes : List ℕ) (left : r.left ≡ Some bytes) where
   text_due (Chart window) due text end is_due h = one_due (Chart window) bytes Done due (record_text_due (Chart window) text h.1) is_due
   text_due (Concurrent event) due text end is_due h = one_due (Concurrent event) bytes Done due (record_text_due (Concurrent event) text h.1) is_due
   text_due (Outcomes states) due text end is_due h = one_due (Outcomes states) bytes Done due (h.0, spelled_by h.0 h.1) is_due
-  text_due (OutcomeRecord states number) due text end is_due h = absurd (spelled_once bytes h.1.0 due (spelled_by h.1.0 h.1.1) is_due)
+  text_due (OutcomeRecord states number) due text end is_due h = absurd (spelled_once bytes h.0 due (spelled_by h.0 h.1) is_due)
 
   -- no command is unfit with a status of its own
   plain : (command : Command) (due status : ViewStatus) → IsDue command bytes due → (Rose r.before r.after → ⊥) → IsDueOr (IsDue command bytes status) status

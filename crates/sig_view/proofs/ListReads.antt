@@ -1,12 +1,10 @@
 -- Lists of outcomes with one text are one, with `all` or with `more`.
-use Rattle.std.proofs.Common.{◌≡◌, ℕ, zero, suc, ◌+◌, ◌/◌, ◌%◌, ◌<◌, ◌≤◌, Bool, true, false, List, [], ◌∷◌, ◌++◌, length, if◌then◌else◌, refl, sym, ap, ◌∙◌, subst, arith, append_assoc}
+use Rattle.std.proofs.Common.{◌≡◌, ℕ, zero, suc, ◌+◌, ◌/◌, ◌%◌, ◌≤◌, Bool, true, false, List, [], ◌∷◌, ◌++◌, length, if◌then◌else◌, refl, sym, ap, ◌∙◌, subst, arith, append_assoc}
 use Rattle.std.specs.Prelude.{All, codes, decimal, ◌==◌, nat_lt}
 use Rattle.std.specs.Fmt.{digit_glyph, digits, digits_onto}
-use Rattle.std.proofs.lemmas.Bool.{false≢true}
 use Rattle.std.proofs.lemmas.List.Elements.{All-head, All-tail, All-weaker}
 use Rattle.sig_program.specs.Scripts.{Program}
 use Rattle.sig_outcomes.specs.Outcomes.{Rest}
-use Rattle.sig_outcomelaw.specs.Told.{outcome_told}
 use Rattle.sig_view.specs.Outcomes.{AreListed, IsTold}
 use Rattle.sig_view.specs.OutcomeText.{extent_text, first_line, names_of, number_line, outcomes_from, outcomes_text, rests_text}
 use Rattle.sig_view.proofs.RestReads.{behind_alike, IsReadableRest, NoProcess, one_front, readable_told}

@@ -29,6 +29,7 @@ use Rattle.sig_record.specs.RecordText.{head_text, record_text, state_text}
 use Rattle.sig_record.specs.RunRecord.{events_listed, record_of_run, run_report, run_reports, IsOfSettledRun}
 use Rattle.sig_record.specs.StoredEnds.{AreStoredEnds}
 use Rattle.sig_view.specs.declared.status.ViewStatus.{ViewStatus}
+use Rattle.sig_view.specs.declared.text.Text.{Text}
 use Rattle.sig_view.specs.declared.status.ViewStatus.TheVariants.{Done, BadScript, Usage, ReadFault, WriteFault, Memory, No, BadRecord, TooLong, NoEvent, TooManyEvents, NoOutcome, NotFound, Unfinished}
 use Rattle.sig_view.proofs.OrderLemmas.{elements_ascend, pairs_rearranged, strictly_before}
 use Rattle.sig_view.proofs.RestReads.{IsReadableRest, one_outcome, readable_told}
@@ -162,10 +163,10 @@ module _ (script : Program) where
     sized_at (suc place) reports is =
         subst IsSizedRecord (get_or_from_slice_get endings place reports reports is) (found.sized names place reports (slice_get_within endings place reports is))
 
-    listed_record : (number : ℕ) (reports : List Report) (text : List ℕ) → numbered number endings ≡ Some reports → text ≡ record_text reports → CanBeReread reports
-        → IsOutcomeRecord script most number text
+    listed_record : (number : ℕ) (reports : List Report) (text : List ℕ) (end : ViewStatus) → numbered number endings ≡ Some reports → text ≡ record_text reports
+        → CanBeReread reports → end ≡ end_with all states → IsOutcomeRecord script most number text end
     unfolding CanBeReread
-    listed_record number reports text is printed can = record {
+    listed_record number reports text end is printed can ends = record {
       outcomes = map outcome_told endings;
       states = states;
       all = all;
@@ -175,6 +176,7 @@ module _ (script : Program) where
       readable = can (sized_at number reports is);
       there = numbered_told number ∙ ap (λ (o : Option (List Report)). option_map outcome_told o) is;
       printed = printed;
+      ends = ends;
     }
 
     -- where none has this number there are fewer
@@ -210,9 +212,9 @@ module _ (script : Program) where
         }
 
     -- what was found of this number, as it is said of the script
-    pub found_is : (number : ℕ) (result : Result (Vec ℕ Global) ViewStatus) → number ≢ 0 → IsFoundText endings states all number result
+    pub found_is : (number : ℕ) (result : Result Text ViewStatus) → number ≢ 0 → IsFoundText endings states all number result
         → IsNumberedText script most number result
-    found_is number (Ok text) some h = listed_record number h.0 text.items h.1 h.2 h.3
+    found_is number (Ok text) some h = listed_record number h.0 text.bytes.items text.end h.1 h.2 h.3 h.4
     found_is number (Err Done) some h = absurd h
     found_is number (Err (BadScript line kind)) some h = absurd h
     found_is number (Err Usage) some h = absurd h

@@ -1,13 +1,14 @@
 -- Two lists of all outcomes of a script are one.
-use Rattle.std.proofs.Common.{◌≡◌, ℕ, ◌<◌, Bool, true, false, List, get_or, length, refl, sym, ap, ◌∙◌, subst}
+use Rattle.std.proofs.Common.{◌≡◌, ℕ, ◌<◌, Bool, true, false, List, Some, get_or, length, refl, sym, ap, ◌∙◌, subst}
 use Rattle.std.specs.Prelude.{All}
 use Rattle.std.specs.List.{Contains}
 use Rattle.sig_program.specs.Scripts.{Program}
 use Rattle.sig_outcomes.specs.Outcomes.{Rest}
 use Rattle.sig_outcomelaw.specs.SettledOutcomes.{IsOutcome}
+use Rattle.sig_outcomelaw.specs.Told.{outcome_told}
 use Rattle.sig_view.specs.declared.status.ViewStatus.{ViewStatus}
 use Rattle.sig_view.specs.declared.status.ViewStatus.TheVariants.{Done, Unfinished}
-use Rattle.sig_view.specs.Outcomes.{AreListed, end_with, IsOutcomesText}
+use Rattle.sig_view.specs.Outcomes.{AreListed, end_with, IsOutcomeRecord, IsOutcomesText, numbered}
 use Rattle.sig_view.specs.OutcomeText.{IsBefore, names_of, outcomes_text, rests_text}
 use Rattle.sig_view.proofs.OneList.{one_before, one_list}
 
@@ -36,3 +37,12 @@ module _ (script : Program) where
       one_whole_list most other h.outcomes k.outcomes h.states k.states (subst (AreListed script most h.outcomes h.states) all h.listed) (subst (AreListed script other k.outcomes k.states) both k.listed) in
       h.lines ∙ ap (λ (os : List (List Rest)). outcomes_text (names_of script) os h.all) same
       ∙ ap (λ (b : Bool). outcomes_text (names_of script) k.outcomes b) (all ∙ sym both) ∙ sym k.lines
+
+  pub record_of_whole : (most other number : ℕ) (text written : List ℕ) (list : IsOutcomesText script most text Done) (told : IsOutcomeRecord script other number written Done)
+      → numbered number list.outcomes ≡ Some (outcome_told told.reports)
+  record_of_whole most other number text written list told =
+      let all : list.all ≡ true = done_is_all list.all list.states list.ends in
+      let both : told.all ≡ true = done_is_all told.all told.states told.ends in
+      let same : list.outcomes ≡ told.outcomes =
+      one_whole_list most other list.outcomes told.outcomes list.states told.states (subst (AreListed script most list.outcomes list.states) all list.listed) (subst (AreListed script other told.outcomes told.states) both told.listed) in
+      ap (λ (os : List (List Rest)). numbered number os) same ∙ told.there

@@ -77,8 +77,9 @@ pub record IsOutcomesText (script : Program) (most : ℕ) (text : List ℕ) (end
   pub lines : text ≡ outcomes_text (names_of script) outcomes all
   pub ends : end ≡ end_with all states
 
--- the text is that of the record of a settled run, which can be read, that ends in the outcome of this number of such a list
-pub record IsOutcomeRecord (script : Program) (most : ℕ) (number : ℕ) (text : List ℕ) : Type 0 where
+-- The text is that of the record of a settled run, which can be read, that ends in the outcome of this number of such a list; and the call
+-- ends as one that has written the list.
+pub record IsOutcomeRecord (script : Program) (most : ℕ) (number : ℕ) (text : List ℕ) (end : ViewStatus) : Type 0 where
   pub outcomes : List (List Rest)
   pub states : ℕ
   pub all : Bool
@@ -88,6 +89,7 @@ pub record IsOutcomeRecord (script : Program) (most : ℕ) (number : ℕ) (text 
   pub readable : IsReadableRecord reports
   pub there : numbered number outcomes ≡ Some (outcome_told reports)
   pub printed : text ≡ record_text reports
+  pub ends : end ≡ end_with all states
 
 -- such a list of all outcomes of the script doesn't come to this number
 pub record HasFewer (script : Program) (most : ℕ) (number : ℕ) : Type 0 where
@@ -158,8 +160,8 @@ abbrev pub IsOutcomesFor : ℕ → Reading → List ℕ → ViewStatus → Type 
 IsOutcomesFor most r text end = (script : Program) × IsScript r script × IsOutcomesText script most text end
 
 -- this text is that of the record of a run which ends in the outcome of this number, of those that such a search lists
-abbrev pub IsOutcomeRecordFor : ℕ → ℕ → Reading → List ℕ → Type 0
-IsOutcomeRecordFor most number r text = (script : Program) × IsScript r script × IsOutcomeRecord script most number text
+abbrev pub IsOutcomeRecordFor : ℕ → ℕ → Reading → List ℕ → ViewStatus → Type 0
+IsOutcomeRecordFor most number r text end = (script : Program) × IsScript r script × IsOutcomeRecord script most number text end
 
 -- why there is none: the script has no such outcome, or a search that visits at most so many states didn't find it
 abbrev pub IsNoOutcomeFor : ℕ → ℕ → Reading → ViewStatus → Type 0
@@ -176,23 +178,19 @@ IsListText script most (Err Memory) = ⊤
 IsListText script most (Err _) = ⊥
 
 -- the text of the record of this number among these; or none has it, and these are all, or so many states were met by a search that was cut off
-abbrev pub IsFoundText : List (List Report) → ℕ → Bool → ℕ → Result (Vec ℕ Global) ViewStatus → Type 0
+abbrev pub IsFoundText : List (List Report) → ℕ → Bool → ℕ → Result Text ViewStatus → Type 0
 IsFoundText endings states all number (Ok text) =
-    (reports : List Report) × (numbered number endings ≡ Some reports) × (text.items ≡ record_text reports) × CanBeReread reports
+    (reports : List Report) × (numbered number endings ≡ Some reports) × (text.bytes.items ≡ record_text reports) × CanBeReread reports
+    × (text.end ≡ end_with all states)
 IsFoundText endings states all number (Err NoOutcome) = (numbered number endings ≡ None) × (all ≡ true)
 IsFoundText endings states all number (Err (NotFound met)) = (numbered number endings ≡ None) × (all ≡ false) × (met ≡ states)
 IsFoundText endings states all number (Err Memory) = ⊤
 IsFoundText endings states all number (Err _) = ⊥
 
 -- the same of the script
-abbrev pub IsNumberedText : Program → ℕ → ℕ → Result (Vec ℕ Global) ViewStatus → Type 0
-IsNumberedText script most number (Ok text) = IsOutcomeRecord script most number text.items
+abbrev pub IsNumberedText : Program → ℕ → ℕ → Result Text ViewStatus → Type 0
+IsNumberedText script most number (Ok text) = IsOutcomeRecord script most number text.bytes.items text.end
 IsNumberedText script most number (Err NoOutcome) = HasNoOutcome script most number
 IsNumberedText script most number (Err (NotFound states)) = IsNotFound script most number states
 IsNumberedText script most number (Err Memory) = ⊤
 IsNumberedText script most number (Err _) = ⊥
-
--- the same of the script that the source spells
-abbrev pub IsRecordFound : ℕ → ℕ → Reading → Result (Vec ℕ Global) ViewStatus → Type 0
-IsRecordFound most number r (Ok text) = IsOutcomeRecordFor most number r text.items
-IsRecordFound most number r (Err status) = IsNoOutcomeFor most number r status

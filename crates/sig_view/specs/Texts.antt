@@ -12,7 +12,7 @@ use Rattle.sig_view.specs.Outcomes.{IsNoOutcomeFor, IsOutcomeRecordFor, IsOutcom
 -- this is what the command writes, of a script alone or with a record behind it, and how the call ends when it is written
 abbrev pub IsTextFor : Command → Reading → List ℕ → ViewStatus → Type 0
 IsTextFor (Outcomes states) r text end = IsOutcomesFor states r text end
-IsTextFor (OutcomeRecord states number) r text end = (end ≡ Done) × IsOutcomeRecordFor states number r text
+IsTextFor (OutcomeRecord states number) r text end = IsOutcomeRecordFor states number r text end
 IsTextFor command r text end = (end ≡ Done) × IsRecordText command r text
 
 -- why there is nothing that it could write

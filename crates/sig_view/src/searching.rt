@@ -10,8 +10,8 @@ ghost use Rattle.sig_record.specs.StoredEnds.{AreStoredEnds};
 ghost use Rattle.sig_outcomelaw.specs.Told.{outcome_told};
 ghost use Rattle.sig_explore.specs.Seen.{HaveSeen};
 ghost use Rattle.sig_tool.specs.declared.given.TheConstants.{MOST_INPUT};
-ghost use Rattle.sig_view.specs.declared.command.Command.TheVariants.{Outcomes as Listing};
-ghost use Rattle.sig_view.specs.Outcomes.{AreFound, end_with, IsFoundText, IsListText, IsNumberedText, IsRecordFound, numbered};
+ghost use Rattle.sig_view.specs.declared.command.Command.TheVariants.{OutcomeRecord, Outcomes as Listing};
+ghost use Rattle.sig_view.specs.Outcomes.{AreFound, end_with, IsFoundText, IsListText, IsNumberedText, numbered};
 ghost use Rattle.sig_view.specs.OutcomeText.{AreEndingsInTextOrder};
 ghost use Rattle.sig_view.specs.Texts.{IsTextRead};
 
@@ -127,15 +127,16 @@ fn text_of(alloc: Global, told: &Record) -> Result<Vec<u8>, AllocError>
     Ok(text)
 }
 
-/// The text of the record of this number, counted from 1, among those that were found. Where there is
-/// none it is `NoOutcome` if these are all, and else `NotFound`.
-fn found_text(alloc: Global, found: &Outcomes, number: u64) -> Result<Vec<u8>, ViewStatus>
+/// The text of the record of this number, counted from 1, among those that were found; with it the call ends
+/// as with their list. Where there is none it is `NoOutcome` if these are all, and else `NotFound`.
+fn found_text(alloc: Global, found: &Outcomes, number: u64) -> Result<Text, ViewStatus>
     ensures { IsFoundText found.now.endings.items found.now.states found.now.all number result }
 {
     match numbered(found.endings.as_slice(), number) {
         Some(ending) => {
-            let text = text_of(alloc, ending)?;
-            Ok(text)
+            let bytes = text_of(alloc, ending)?;
+            let end = end_of(found);
+            Ok(Text { bytes, end })
         }
         None if found.all => Err(ViewStatus::NoOutcome),
         None => Err(ViewStatus::NotFound {
@@ -152,7 +153,7 @@ fn numbered_text<T: Teller>(
     states: u64,
     number: u64,
     teller: &mut T,
-) -> Result<Vec<u8>, ViewStatus>
+) -> Result<Text, ViewStatus>
     ensures { AreNames script.now → IsNumberedText script.now states number result }
 {
     if number == 0 {
@@ -170,8 +171,8 @@ pub(crate) fn outcome_record_text<S: Source, T: Teller>(
     number: u64,
     input: &mut S,
     teller: &mut T,
-) -> Result<Vec<u8>, ViewStatus>
-    ensures text { IsRecordFound states number
+) -> Result<Text, ViewStatus>
+    ensures text { IsTextRead (OutcomeRecord states number)
         (reading (S.left input.old) (S.left input.new) (S.faults input.old) (S.faults input.new)) result }
     ensures taken { IsReadWithin (MOST_INPUT + 1)
         (reading (S.left input.old) (S.left input.new) (S.faults input.old) (S.faults input.new)) }

@@ -39,8 +39,8 @@ pub enum ViewStatus {
     /// No outcome of this number was found, but the search was cut off: it has met so many states, more
     /// than it may visit. There may be one.
     NotFound { states: u64 },
-    /// The outcomes that the search found were written whole. It was cut off: it has met so many states,
-    /// more than it may visit, and there may be more outcomes.
+    /// The outcomes that the search found were written whole, or the record of a run that ends in one of them.
+    /// It was cut off: it has met so many states, more than it may visit, and there may be more outcomes.
     Unfinished { states: u64 },
 }
 

@@ -36,8 +36,7 @@ fn text_of<S: Source, T: Teller>(
         Command::Concurrent { event } => Ok(Text::whole(concurrent_text(alloc, event, input)?)),
         Command::Outcomes { states } => outcomes_text(alloc, states, input, teller),
         Command::OutcomeRecord { states, number } => {
-            let text = outcome_record_text(alloc, states, number, input, teller)?;
-            Ok(Text::whole(text))
+            outcome_record_text(alloc, states, number, input, teller)
         }
     }
 }
@@ -117,12 +116,13 @@ fn run_words<S: Source, O: Sink, T: Teller>(
 /// - `NoOutcome`: only where the input spells a script, with `--record K`. All outcomes of its settled runs
 ///   are fewer than K, or K is 0.
 /// - `NotFound`: only where the input spells a script, with `--record K`, of which the search met so many
-///   states, more than N. K isn't 0, and the search found fewer outcomes than K; that it did is a clause of
-///   the function that looks among them, and none here.
+///   states, more than N. K isn't 0, and a list of what such a search meets, with `more`, has fewer outcomes
+///   than K.
 /// - `WriteFault`: only where a write to `out` failed, and no second one. It has taken the beginning of the
 ///   text.
 /// - `Done` or `Unfinished`: `out` has taken the whole text. It is `Unfinished` exactly where that lists
-///   outcomes with the word `more`: so many states were met, more than N.
+///   outcomes with the word `more`, or is the record that ends in one of such a list: so many states were
+///   met, more than N.
 ///
 /// `Memory` may come in place of each but `Usage`, where memory was wanting. No read failed, but with
 /// `ReadFault`, and no write to `out`, but with `WriteFault`. Whatever the status, of the input at most

@@ -63,7 +63,11 @@ fn ends_written(
     called: &Called,
 ) -> Result<Option<Vec<u8>>, AllocError> {
     let told = called.out.held();
-    if called.status == ViewStatus::Done && is_checked(alloc, script, told)? {
+    let is_written = matches!(
+        called.status,
+        ViewStatus::Done | ViewStatus::Unfinished { .. }
+    );
+    if is_written && is_checked(alloc, script, told)? {
         ends_of(alloc, told)
     } else {
         Ok(None)
