@@ -109,11 +109,20 @@ module _ (P : ℕ → Type 0) where
   pub pid_pids : (n : ℕ) → P n → OfExpr (expr.Pid (record { 0 = n }))
   pid_pids n h = All-same P (pids_of (expr.Pid (record { 0 = n }))) (n ∷ []) (pids_of-Pid n) (All-cons P n [] h (All-nil P))
 
+  pub pid_tells : (n : ℕ) → OfExpr (expr.Pid (record { 0 = n })) → P n
+  pid_tells n h = All-head P n [] (All-same P (n ∷ []) (pids_of (expr.Pid (record { 0 = n }))) (sym (pids_of-Pid n)) h)
+
   pub tuple_pids : (es : List Expr) → All OfExpr es → OfExpr (expr.Tuple es)
   tuple_pids es h = All-same P (pids_of (expr.Tuple es)) (concat (map pids_of es)) (pids_of-Tuple es) (concat_all pids_of es h)
 
   pub list_pids : (es : List Expr) → All OfExpr es → OfExpr (expr.List es)
   list_pids es h = All-same P (pids_of (expr.List es)) (concat (map pids_of es)) (pids_of-List es) (concat_all pids_of es h)
+
+  pub tuple_tells : (es : List Expr) → OfExpr (expr.Tuple es) → All OfExpr es
+  tuple_tells es h = each_all pids_of es (All-same P (concat (map pids_of es)) (pids_of (expr.Tuple es)) (sym (pids_of-Tuple es)) h)
+
+  pub list_tells : (es : List Expr) → OfExpr (expr.List es) → All OfExpr es
+  list_tells es h = each_all pids_of es (All-same P (concat (map pids_of es)) (pids_of (expr.List es)) (sym (pids_of-List es)) h)
 
   -- of the pids of a pattern
   abbrev pub OfPattern : Pattern → Type 0

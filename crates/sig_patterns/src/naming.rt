@@ -1,6 +1,6 @@
 //! Whether the processes that an expression names are known.
 
-ghost use Rattle.std.specs.Prelude.{◌≡◌, true, All};
+ghost use Rattle.std.specs.Prelude.{◌↔◌, IsTrue, All};
 ghost use Rattle.sig_patterns.specs.Pids.{IsExprAmong};
 
 use crate::expression::Expr;
@@ -8,7 +8,7 @@ use crate::expression::Expr;
 /// Whether the expressions name known processes alone.
 #[cycle(names_only)]
 fn all_name_only(items: &[Expr], known: &[bool]) -> bool
-    ensures { result ≡ true → All (IsExprAmong known.now) items.now }
+    ensures { IsTrue result ↔ All (IsExprAmong known.now) items.now }
 {
     for item in items {
         if !item.names_only(known) {
@@ -19,11 +19,10 @@ fn all_name_only(items: &[Expr], known: &[bool]) -> bool
 }
 
 impl Expr {
-    /// True only where each process that stands in the expression is known: `known` is true at its
-    /// place.
+    /// Whether each process that stands in the expression is known: `known` is true at its place.
     #[cycle(names_only)]
     pub fn names_only(&self, known: &[bool]) -> bool
-        ensures { result ≡ true → IsExprAmong known.now self.now }
+        ensures { IsTrue result ↔ IsExprAmong known.now self.now }
     {
         match self {
             Expr::Int(_) | Expr::Atom(_) | Expr::Var(_) => true,

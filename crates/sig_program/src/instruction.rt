@@ -1,4 +1,4 @@
-ghost use Rattle.std.specs.Prelude.{◌≡◌, [], ◌∷◌, true, IfOk};
+ghost use Rattle.std.specs.Prelude.{◌≡◌, [], ◌∷◌, ◌↔◌, IsTrue, IfOk};
 ghost use Rattle.sig_program.specs.Instructions.{word_of};
 ghost use Rattle.sig_program.specs.Parts.{exprs_of, vars_of, IsInstrAmong};
 ghost use Rattle.sig_program.specs.declared.instruction.Instr.TheVariants as instr;
@@ -283,10 +283,10 @@ impl Instr {
         }
     }
 
-    /// True only where each process that stands in an expression of the instruction is known: `known`
-    /// is true at its place.
+    /// Whether each process that stands in an expression of the instruction is known: `known` is true at
+    /// its place.
     pub fn names_only(&self, known: &[bool]) -> bool
-        ensures { result ≡ true → IsInstrAmong known.now self.now }
+        ensures { IsTrue result ↔ IsInstrAmong known.now self.now }
     {
         match self {
             Instr::Send {

@@ -7,7 +7,8 @@ ghost use Rattle.std.specs.Prelude.{
   ◌^◌,
   length,
   slice_get,
-  true,
+  ◌↔◌,
+  IsTrue,
   All,
   IfOk,
   IfSome,
@@ -104,10 +105,10 @@ impl Proc {
         })
     }
 
-    /// True only where each process that stands in an expression of its instructions is known:
-    /// `known` is true at its place.
+    /// Whether each process that stands in an expression of its instructions is known: `known` is true at its
+    /// place.
     pub fn names_only(&self, known: &[bool]) -> bool
-        ensures { result ≡ true → All (IsInstrAmong known.now) self.now.instrs }
+        ensures { IsTrue result ↔ All (IsInstrAmong known.now) self.now.instrs }
     {
         for instr in self.instrs.as_slice() {
             if !instr.names_only(known) {

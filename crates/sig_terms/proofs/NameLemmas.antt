@@ -86,6 +86,12 @@ module _ (P : Named → Type 0) where
   pub list_names : (ts : List Term) → All (AllNames P) ts → AllNames P (term.List ts)
   list_names ts h = All-same P (names_of (term.List ts)) (names_of_each ts) (names_of_list ts) (all_of_each ts h)
 
+  pub tuple_tells : (ts : List Term) → AllNames P (term.Tuple ts) → All (AllNames P) ts
+  tuple_tells ts h = each_of_all ts (All-same P (names_of_each ts) (names_of (term.Tuple ts)) (sym (names_of_tuple ts)) h)
+
+  pub list_tells : (ts : List Term) → AllNames P (term.List ts) → All (AllNames P) ts
+  list_tells ts h = each_of_all ts (All-same P (names_of_each ts) (names_of (term.List ts)) (sym (names_of_list ts)) h)
+
   -- the elements of a tuple or a list, by the layer of a term
   abbrev pub AllOfLayer : Term-F Term → Type 0
   AllOfLayer (layer.Tuple ts) = All (AllNames P) ts

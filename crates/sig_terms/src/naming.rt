@@ -1,6 +1,6 @@
 //! Whether the processes that something names are known.
 
-ghost use Rattle.std.specs.Prelude.{◌≡◌, ◌↔◌, IsTrue, true, All};
+ghost use Rattle.std.specs.Prelude.{◌↔◌, IsTrue, All};
 ghost use Rattle.sig_terms.specs.Names.{process, AllNames, IsAmong};
 
 use crate::pid::Pid;
@@ -18,10 +18,10 @@ impl Pid {
     }
 }
 
-/// True only where the terms name known processes alone.
+/// Whether the terms name known processes alone.
 #[cycle(names_only)]
 fn all_name_only(items: &[Term], known: &[bool]) -> bool
-    ensures { result ≡ true → All (AllNames (IsAmong known.now)) items.now }
+    ensures { IsTrue result ↔ All (AllNames (IsAmong known.now)) items.now }
 {
     for item in items {
         if !item.names_only(known) {
@@ -32,11 +32,11 @@ fn all_name_only(items: &[Term], known: &[bool]) -> bool
 }
 
 impl Term {
-    /// True only where each process that the term names is known, also each owner of a reference:
-    /// `known` is true at its place.
+    /// Whether each process that the term names is known, also each owner of a reference: `known` is true
+    /// at its place.
     #[cycle(names_only)]
     pub fn names_only(&self, known: &[bool]) -> bool
-        ensures { result ≡ true → AllNames (IsAmong known.now) self.now }
+        ensures { IsTrue result ↔ AllNames (IsAmong known.now) self.now }
     {
         match self {
             Term::Int(_) => true,
