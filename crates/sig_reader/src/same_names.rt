@@ -1,6 +1,6 @@
 //! Whether two scripts have the same names of processes and labels.
 
-ghost use Rattle.std.specs.Prelude.{◌≡◌, IsTrue};
+ghost use Rattle.std.specs.Prelude.{◌≡◌, ◌↔◌, IsTrue};
 ghost use Rattle.sig_reader.specs.SameNames.{label_names, named, names_within, AreItsNames};
 
 use sig_program::Label;
@@ -8,7 +8,7 @@ use sig_terms::bytes::equal_bytes;
 use sig_tokens::{DraftProc, DraftScript, Known};
 
 fn same_labels(labels: &[Label], others: &[Label]) -> bool
-    ensures { IsTrue result → label_names labels.now ≡ label_names others.now }
+    ensures { IsTrue result ↔ (label_names labels.now ≡ label_names others.now) }
 {
     let mut left = labels;
     let mut right = others;
@@ -26,14 +26,14 @@ fn same_labels(labels: &[Label], others: &[Label]) -> bool
 
 /// Whether both have the same name, and labels of the same names.
 fn is_named_so(proc: &DraftProc, other: &DraftProc) -> bool
-    ensures { IsTrue result → named proc.now ≡ named other.now }
+    ensures { IsTrue result ↔ (named proc.now ≡ named other.now) }
 {
     equal_bytes(proc.name.bytes(), other.name.bytes())
         && same_labels(proc.labels.labels(), other.labels.labels())
 }
 
 fn same_procs(procs: &[DraftProc], others: &[DraftProc]) -> bool
-    ensures { IsTrue result → names_within procs.now ≡ names_within others.now }
+    ensures { IsTrue result ↔ (names_within procs.now ≡ names_within others.now) }
 {
     let mut left = procs;
     let mut right = others;
@@ -51,7 +51,7 @@ fn same_procs(procs: &[DraftProc], others: &[DraftProc]) -> bool
 
 /// Whether the names that are known are those of the script.
 pub fn are_its_names(known: &Known, script: &DraftScript) -> bool
-    ensures { IsTrue result → AreItsNames known.now script.now }
+    ensures { IsTrue result ↔ AreItsNames known.now script.now }
 {
     match known {
         Known::Any => false,
