@@ -8,9 +8,7 @@ ghost use Rattle.sig_host.specs.declared.status.Status.TheVariants.{Done};
 
 /// What [`run`](crate::run) wrote with `Done`, of an input that shows its bytes to an output that was empty, is the text of the
 /// record of a settled run of the script, and of no other record that can be read; and a reader of the definition gives this
-/// record back, as `read_record` of sig_record does where there is memory. Where the input is the text of the script and ends
-/// with a line feed, and it and the output have at most 67,108,864 bytes together, `sigtool check` is due `Done` for the two, as
-/// `a_record_is_cut_from_its_script` of sig_tool says of each such record.
+/// record back, as `read_record` of sig_record does where there is memory.
 pub fn what_run_wrote_is_read_back()
     ensures { (words : List (List ℕ)) (r : Reading) (w : Writing) (summary : Option (List ℕ)) (input output : List ℕ) →
         IsAnswer words r w Done summary → r.left ≡ Some input → w.held ≡ Some [] → w.new ≡ Some output → IsReadBack words input output }
