@@ -1,6 +1,8 @@
 ghost use Rattle.std.specs.Prelude.{◌≡◌, ◌<◌, ◌≤◌, ◌↔◌, length, min, Some, IfOk, OnErr, IsErr, Contains};
-ghost use Rattle.sig_base.specs.Flow.{Takes, faults_after, one_more};
+ghost use Rattle.sig_base.specs.declared.end.End.TheVariants.{Ahead};
+ghost use Rattle.sig_base.specs.Flow.{Takes, end_after, faults_after, is_last, one_more};
 
+use crate::end::End;
 use crate::memory_source::MemorySource;
 use crate::source::{Failed, Source};
 use std::marker::Model;
@@ -17,6 +19,8 @@ pub struct FailingSource {
     calls: u64,
     /// How many of them failed.
     faults: u64,
+    /// How the reads stand to the end.
+    end: End,
 }
 
 impl Model for FailingSource {
@@ -30,6 +34,7 @@ impl Model for FailingSource {
       fails = s.fails.items;
       calls = s.calls;
       faults = s.faults;
+      end = s.end;
     } };
 }
 
@@ -46,6 +51,7 @@ impl FailingSource {
           fails = fails.items;
           calls = 0;
           faults = 0;
+          end = Ahead;
         } }
     {
         FailingSource {
@@ -53,6 +59,7 @@ impl FailingSource {
             fails,
             calls: 0,
             faults: 0,
+            end: End::Ahead,
         }
     }
 }
@@ -61,6 +68,8 @@ impl Source for FailingSource {
     ghost left = { λ s. Some s.left };
 
     ghost faults = { λ s. s.faults };
+
+    ghost end = { λ s. s.end };
 
     fn read(&mut self, into: &mut [u8]) -> Result<usize, Failed>
         requires { 0 < length into.old }
@@ -72,14 +81,18 @@ impl Source for FailingSource {
             n ≡ min self.old.piece (min (length into.old) (length self.old.left))) }
         ensures kept { OnErr result (self.new.left ≡ self.old.left) }
         ensures faults { self.new.faults ≡ faults_after result self.old.faults }
+        ensures end { self.new.end ≡ end_after (is_last result) self.old.end }
         ensures count { self.old.faults ≤ self.new.faults }
         ensures same { (self.new.piece ≡ self.old.piece) × (self.new.fails ≡ self.old.fails) }
     {
         self.calls = self.calls.saturating_add(1);
         if self.fails.contains(&self.calls) {
             self.faults = self.faults.saturating_add(1);
+            self.end = self.end.after(true);
             return Err(Failed);
         }
-        self.source.read(into)
+        let n = self.source.read(into)?;
+        self.end = self.end.after(n == 0);
+        Ok(n)
     }
 }

@@ -7,6 +7,7 @@
 //! writers.
 #![tactic(auto)]
 
+mod end;
 mod failing_sink;
 mod failing_source;
 mod gate;
@@ -20,6 +21,7 @@ mod std_source;
 mod steps;
 mod writing;
 
+pub use end::End;
 pub use failing_sink::FailingSink;
 pub use failing_source::FailingSource;
 pub use gate::{Gate, OpenGate, Point};

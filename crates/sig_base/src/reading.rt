@@ -1,4 +1,5 @@
 ghost use Rattle.std.specs.Prelude.{◌<◌, ◌≤◌, ◌≡◌, []};
+ghost use Rattle.sig_base.specs.Flow.{IsNotPassed};
 ghost use Rattle.sig_base.specs.Reading.{IsRead};
 
 use crate::source::{Failed, Source};
@@ -20,14 +21,14 @@ pub enum ReadAll {
 const PIECE: usize = 4096;
 
 /// Reads the source to its end into `into`. Whatever the answer, at most `limit` bytes and one more
-/// are taken from the source.
+/// are taken from the source, and no read is made behind the first one that gave no bytes or failed, if none
+/// was before the call.
 ///
 /// Asks that `into` is empty, and that `limit` is below [`usize::MAX`].
 ///
 /// - [`ReadAll::Whole`]: `into` holds all bytes that the source had, at most `limit`.
 /// - [`ReadAll::TooLong`]: `into` holds the first `limit + 1` bytes.
-/// - [`ReadAll::ReadFault`]: one read failed, which isn't made again: the source's count of faults rose by
-///   one. `into` holds what was taken.
+/// - [`ReadAll::ReadFault`]: one read failed: the source's count of faults rose by one. `into` holds what was taken.
 /// - [`ReadAll::Memory`]: `into` could not grow. It holds the front of what was taken.
 ///
 /// With any answer but [`ReadAll::ReadFault`] no read failed.
@@ -36,6 +37,7 @@ pub fn read_all<S: Source>(source: &mut S, limit: usize, into: &mut Vec<u8>) -> 
     requires empty { into.old.items ≡ [] }
     ensures read { IsRead (S.left source.old) (S.left source.new) (S.faults source.old)
         (S.faults source.new) limit into.new.items result }
+    ensures behind { IsNotPassed (S.end source.old) (S.end source.new) }
     ensures count { S.faults source.old ≤ S.faults source.new }
 {
     let mut piece = [0; PIECE];

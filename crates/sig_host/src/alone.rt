@@ -1,7 +1,7 @@
 //! The top call where one worker runs the script: it needs no threads, and returns.
 
 ghost use Rattle.std.specs.Prelude.{◌≡◌, ◌+◌, ◌≤◌, ◌⊎◌, ℕ, List, map, string_bytes, IfErr, IfNone, IfOk, IfSome, OnOk, Option};
-ghost use Rattle.sig_base.specs.Flow.{Rose, Adds};
+ghost use Rattle.sig_base.specs.Flow.{Rose, Adds, IsNotPassed};
 ghost use Rattle.sig_edge.specs.Streams.{IsReadWithin, IsUnread, IsUnwritten, reading, writing};
 ghost use Rattle.sig_edge.specs.Told.{AddsBeginning, FailedOnceAtMost};
 ghost use Rattle.sig_program.specs.Scripts.{Program};
@@ -102,6 +102,7 @@ fn run_settings<S: Source, O: Sink>(
         result.status (text_in result.summary) }
     ensures taken { IsReadWithin (MOST_BYTES + 1)
         (reading (S.left script.old) (S.left script.new) (S.faults script.old) (S.faults script.new)) }
+    ensures behind { IsNotPassed (S.end script.old) (S.end script.new) }
 {
     match script_for(alloc, settings.generate, script) {
         Ok(script) => write_run(texts_alone(alloc, script, settings.generate.is_some()), out),
@@ -125,10 +126,12 @@ pub(crate) fn end_alone<S: Source, O: Sink>(
     ensures one { IfOk result (λ ending. IsOfOne (map string_bytes arguments.now)
         (reading (S.left script.old) (S.left script.new) (S.faults script.old) (S.faults script.new)) ending.status) }
     ensures settings { IfErr result (λ settings. AreSettings (map string_bytes arguments.now) settings × IsInRange settings × (2 ≤ settings.workers)) }
+    ensures same { IfErr result (λ _. script.new ≡ script.old) }
     ensures unread { IfErr result (λ _. IsUnread (reading (S.left script.old) (S.left script.new) (S.faults script.old) (S.faults script.new))) }
     ensures unwritten { IfErr result (λ _. IsUnwritten (writing (O.held out.old) (O.held out.new) (O.faults out.old) (O.faults out.new))) }
     ensures taken { IsReadWithin (MOST_BYTES + 1)
         (reading (S.left script.old) (S.left script.new) (S.faults script.old) (S.faults script.new)) }
+    ensures behind { IsNotPassed (S.end script.old) (S.end script.new) }
 {
     match words(alloc, arguments) {
         Ok(settings) => {
@@ -147,7 +150,7 @@ pub(crate) fn end_alone<S: Source, O: Sink>(
 /// nobody, so it is proved to return, if its source and its sinks do.
 ///
 /// It answers `None` exactly where the arguments have settings, by [`words`], that ask for two workers or more,
-/// but where memory was wanting to read them. Then nothing was read, and nothing written to `out` or to `err`.
+/// but where memory was wanting to read them. Then the source is what it was, and nothing was written to `out` or to `err`.
 /// Else it answers a status, of which all holds that `run` says of it: each comes for the same cause, and leaves
 /// the source, `out` and `err` so. Settings of the arguments then ask for one worker, or the status is `Memory`
 /// and the source wasn't read. So with `Done` the record is that of the one-worker run.
@@ -170,6 +173,7 @@ pub fn run_alone<S: Source, O: Sink, E: Sink>(
     ensures one { IfSome result (λ status. IsOfOne (map string_bytes arguments.now)
         (reading (S.left script.old) (S.left script.new) (S.faults script.old) (S.faults script.new)) status) }
     ensures several { IfNone result (AskForSeveral (map string_bytes arguments.now)) }
+    ensures same { IfNone result (script.new ≡ script.old) }
     ensures unread { IfNone result (IsUnread (reading (S.left script.old) (S.left script.new) (S.faults script.old) (S.faults script.new))) }
     ensures unwritten { IfNone result (IsUnwritten (writing (O.held out.old) (O.held out.new) (O.faults out.old) (O.faults out.new))) }
     ensures untold { IfNone result (IsUnwritten (writing (E.held err.old) (E.held err.new) (E.faults err.old) (E.faults err.new))) }
@@ -180,6 +184,7 @@ pub fn run_alone<S: Source, O: Sink, E: Sink>(
         → (status ≡ Status.Done) ⊎ (status ≡ Status.Memory)) }
     ensures taken { IsReadWithin (MOST_BYTES + 1)
         (reading (S.left script.old) (S.left script.new) (S.faults script.old) (S.faults script.new)) }
+    ensures behind { IsNotPassed (S.end script.old) (S.end script.new) }
 {
     match end_alone(alloc, arguments, script, out) {
         Ok(ending) => {

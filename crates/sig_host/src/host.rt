@@ -1,5 +1,5 @@
 ghost use Rattle.std.specs.Prelude.{◌≡◌, ◌+◌, ◌≤◌, ◌⊎◌, ℕ, List, map, string_bytes, IfOk, OnOk, Option};
-ghost use Rattle.sig_base.specs.Flow.{Rose, Adds};
+ghost use Rattle.sig_base.specs.Flow.{Rose, Adds, IsNotPassed};
 ghost use Rattle.sig_edge.specs.Streams.{IsReadWithin, reading, writing};
 ghost use Rattle.sig_edge.specs.Told.{AddsBeginning, FailedOnceAtMost};
 ghost use Rattle.sig_program.specs.Scripts.{Program, IsScriptWithin};
@@ -138,6 +138,7 @@ fn run_several<R: Threads + Wait + Sync, S: Source, O: Sink, G: Gate>(
         result.status (text_in result.summary) }
     ensures taken { IsReadWithin (MOST_BYTES + 1)
         (reading (S.left script.old) (S.left script.new) (S.faults script.old) (S.faults script.new)) }
+    ensures behind { IsNotPassed (S.end script.old) (S.end script.new) }
 {
     let asked = settings.generate.is_some();
     match script_for(alloc, settings.generate, script) {
@@ -165,6 +166,7 @@ fn run_words<R: Threads + Wait + Sync, S: Source, O: Sink, G: Gate>(
         result.status (text_in result.summary) }
     ensures taken { IsReadWithin (MOST_BYTES + 1)
         (reading (S.left script.old) (S.left script.new) (S.faults script.old) (S.faults script.new)) }
+    ensures behind { IsNotPassed (S.end script.old) (S.end script.new) }
 {
     match end_alone(alloc, arguments, script, out) {
         Ok(ending) => ending,
@@ -194,7 +196,8 @@ fn run_words<R: Threads + Wait + Sync, S: Source, O: Sink, G: Gate>(
 ///
 /// What a status tells is written to `err` where no write to it fails, and else its beginning: with `Done`
 /// the summary of the record, if the script was made. A fault of `err` changes no status, and there is one
-/// at most. Whatever the status, of the source at most [`MOST_BYTES`] bytes and one more are taken.
+/// at most. Whatever the status, of the source at most [`MOST_BYTES`] bytes and one more are taken, and it isn't
+/// read behind its end or behind a failed read, if it wasn't before.
 /// Arguments in the plain form with a script, and no fault of the source and of `out`, give `Done` or
 /// `Memory`, if the call returns. No clause says that it does, since it may wait for threads: who asks for one
 /// worker and needs a proof of that calls `run_alone`.
@@ -220,6 +223,7 @@ pub fn run<R: Threads + Wait + Sync, S: Source, O: Sink, E: Sink, G: Gate>(
         → (result ≡ Status.Done) ⊎ (result ≡ Status.Memory) }
     ensures taken { IsReadWithin (MOST_BYTES + 1)
         (reading (S.left script.old) (S.left script.new) (S.faults script.old) (S.faults script.new)) }
+    ensures behind { IsNotPassed (S.end script.old) (S.end script.new) }
 {
     let ending = run_words(rt, alloc, arguments, script, out, gate);
     tell(err, &ending);

@@ -1,6 +1,7 @@
 //! Where the script that is run comes from.
 
 ghost use Rattle.std.specs.Prelude.{◌≢◌, ◌+◌, ◌≤◌, [], IfOk, IfSome, Err, Some};
+ghost use Rattle.sig_base.specs.Flow.{IsNotPassed};
 ghost use Rattle.sig_program.specs.ScriptNames.{AreNames};
 ghost use Rattle.sig_edge.specs.Streams.{IsReadWithin, reading};
 ghost use Rattle.sig_host.specs.Answers.{IsMade, IsScriptFor, IsSourceRead};
@@ -34,6 +35,7 @@ fn read_source<S: Source>(alloc: Global, source: &mut S) -> Result<Script, Statu
     ensures read { IsSourceRead (reading (S.left source.old) (S.left source.new) (S.faults source.old) (S.faults source.new)) result }
     ensures taken { IsReadWithin (MOST_BYTES + 1)
         (reading (S.left source.old) (S.left source.new) (S.faults source.old) (S.faults source.new)) }
+    ensures behind { IsNotPassed (S.end source.old) (S.end source.new) }
     ensures count { S.faults source.old ≤ S.faults source.new }
     ensures names { IfOk result AreNames }
 {
@@ -75,6 +77,7 @@ pub(crate) fn script_for<S: Source>(
     ensures script { IsScriptFor calls (reading (S.left source.old) (S.left source.new) (S.faults source.old) (S.faults source.new)) result }
     ensures taken { IsReadWithin (MOST_BYTES + 1)
         (reading (S.left source.old) (S.left source.new) (S.faults source.old) (S.faults source.new)) }
+    ensures behind { IsNotPassed (S.end source.old) (S.end source.new) }
     ensures names { IfOk result AreNames }
 {
     match calls {

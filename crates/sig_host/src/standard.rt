@@ -1,4 +1,5 @@
 ghost use Rattle.std.specs.Prelude.{◌≡◌, ◌+◌, ℕ, List, Option};
+ghost use Rattle.sig_base.specs.Flow.{IsNotPassed};
 ghost use Rattle.sig_edge.specs.Ends.{EndsWith, IsEnd};
 ghost use Rattle.sig_edge.specs.Streams.{IsReadWithin, reading, writing};
 ghost use Rattle.sig_reader.specs.declared.reader.TheConstants.{MOST_BYTES};
@@ -39,6 +40,7 @@ fn ended<R: Threads + Wait + Sync, S: Source, O: Sink, E: Sink>(
         (writing (E.held err.old) (E.held err.new) (E.faults err.old) (E.faults err.new)) result.status }
     ensures taken { IsReadWithin (MOST_BYTES + 1)
         (reading (S.left script.old) (S.left script.new) (S.faults script.old) (S.faults script.new)) }
+    ensures behind { IsNotPassed (S.end script.old) (S.end script.new) }
 {
     match arguments {
         Ok(words) => {

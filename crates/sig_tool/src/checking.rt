@@ -1,6 +1,7 @@
 //! The command `check`.
 
 ghost use Rattle.std.specs.Prelude.{◌+◌};
+ghost use Rattle.sig_base.specs.Flow.{IsNotPassed};
 ghost use Rattle.sig_edge.specs.Streams.{IsReadWithin, reading};
 ghost use Rattle.sig_tool.specs.declared.command.Command.TheVariants.{Check};
 ghost use Rattle.sig_tool.specs.declared.given.TheConstants.{MOST_INPUT};
@@ -19,6 +20,7 @@ pub(crate) fn check_text<S: Source>(alloc: Global, input: &mut S) -> Result<Vec<
     ensures text { IsTextRead Check (reading (S.left input.old) (S.left input.new) (S.faults input.old) (S.faults input.new)) result }
     ensures taken { IsReadWithin (MOST_INPUT + 1)
         (reading (S.left input.old) (S.left input.new) (S.faults input.old) (S.faults input.new)) }
+    ensures behind { IsNotPassed (S.end input.old) (S.end input.new) }
 {
     let _ = read_checked(alloc, input)?;
     let text = Vec::from_slice(alloc, YES)?;

@@ -1,6 +1,7 @@
 //! The command `expand`.
 
 ghost use Rattle.std.specs.Prelude.{◌+◌, ◌≤◌, length};
+ghost use Rattle.sig_base.specs.Flow.{IsNotPassed};
 ghost use Rattle.sig_edge.specs.Streams.{IsReadWithin, reading};
 ghost use Rattle.sig_tool.specs.declared.command.Command.TheVariants.{Expand};
 ghost use Rattle.sig_tool.specs.Expanding.{IsExpandedOf};
@@ -29,6 +30,7 @@ pub(crate) fn expand_text<S: Source>(alloc: Global, input: &mut S) -> Result<Vec
     ensures text { IsTextRead Expand (reading (S.left input.old) (S.left input.new) (S.faults input.old) (S.faults input.new)) result }
     ensures taken { IsReadWithin (MOST_BYTES + 1)
         (reading (S.left input.old) (S.left input.new) (S.faults input.old) (S.faults input.new)) }
+    ensures behind { IsNotPassed (S.end input.old) (S.end input.new) }
 {
     let bytes = read_input(alloc, MOST_BYTES, input)?;
     expanded_text(alloc, bytes.as_slice())

@@ -1,6 +1,7 @@
 //! The input: a script, and behind it a record, which is that of a settled run of the script.
 
 ghost use Rattle.std.specs.Prelude.{◌≡◌, ◌+◌, ◌≤◌, length};
+ghost use Rattle.sig_base.specs.Flow.{IsNotPassed};
 ghost use Rattle.sig_edge.specs.Streams.{IsReadWithin, reading};
 ghost use Rattle.sig_tool.specs.declared.given.TheConstants.{MOST_INPUT};
 ghost use Rattle.sig_tool.specs.Inputs.{ArePartsOf, IsApproved, IsChecked, IsPair};
@@ -50,11 +51,13 @@ fn approved(alloc: Global, given: Given) -> Result<Given, ToolStatus>
 /// Reads the input to its end, and the script and the record that it spells, where the record is that
 /// of a settled run of the script. Why there is none is told as `tool` tells it, and in the same order:
 /// `ReadFault`, `TooLong`, `BadScript`, `BadRecord` or `No`; or `Memory`, where memory was wanting. Whatever
-/// comes of it, of the input at most [`MOST_INPUT`] bytes and one more are taken.
+/// comes of it, of the input at most [`MOST_INPUT`] bytes and one more are taken, and it isn't read behind its
+/// end or behind a failed read, if it wasn't before.
 pub fn read_checked<S: Source>(alloc: Global, input: &mut S) -> Result<Given, ToolStatus>
     ensures checked { IsChecked (reading (S.left input.old) (S.left input.new) (S.faults input.old) (S.faults input.new)) result }
     ensures taken { IsReadWithin (MOST_INPUT + 1)
         (reading (S.left input.old) (S.left input.new) (S.faults input.old) (S.faults input.new)) }
+    ensures behind { IsNotPassed (S.end input.old) (S.end input.new) }
 {
     let bytes = read_input(alloc, MOST_INPUT, input)?;
     let given = parts_of(alloc, bytes.as_slice())?;

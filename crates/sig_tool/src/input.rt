@@ -1,6 +1,7 @@
 //! The bytes of the input.
 
 ghost use Rattle.std.specs.Prelude.{◌+◌, ◌<◌};
+ghost use Rattle.sig_base.specs.Flow.{IsNotPassed};
 ghost use Rattle.sig_edge.specs.Streams.{IsReadWithin, reading};
 ghost use Rattle.sig_tool.specs.Inputs.{IsInput};
 
@@ -18,6 +19,7 @@ pub(crate) fn read_input<S: Source>(
     ensures input { IsInput most (reading (S.left input.old) (S.left input.new) (S.faults input.old) (S.faults input.new)) result }
     ensures taken { IsReadWithin (most + 1)
         (reading (S.left input.old) (S.left input.new) (S.faults input.old) (S.faults input.new)) }
+    ensures behind { IsNotPassed (S.end input.old) (S.end input.new) }
 {
     let mut bytes = Vec::new(alloc);
     match read_all(input, most, &mut bytes) {

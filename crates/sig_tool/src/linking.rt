@@ -1,6 +1,7 @@
 //! The command `links`.
 
 ghost use Rattle.std.specs.Prelude.{◌≡◌, ◌+◌, ◌++◌, IfOk, OnOk, decimal};
+ghost use Rattle.sig_base.specs.Flow.{IsNotPassed};
 ghost use Rattle.sig_edge.specs.Streams.{IsReadWithin, reading};
 ghost use Rattle.sig_record.specs.RunRecord.{IsOfSettledRun};
 ghost use Rattle.sig_tool.specs.declared.command.Command.TheVariants.{Links};
@@ -61,6 +62,7 @@ pub(crate) fn links_text<S: Source>(alloc: Global, input: &mut S) -> Result<Vec<
     ensures text { IsTextRead Links (reading (S.left input.old) (S.left input.new) (S.faults input.old) (S.faults input.new)) result }
     ensures taken { IsReadWithin (MOST_INPUT + 1)
         (reading (S.left input.old) (S.left input.new) (S.faults input.old) (S.faults input.new)) }
+    ensures behind { IsNotPassed (S.end input.old) (S.end input.new) }
 {
     let given = read_checked(alloc, input)?;
     let text = text_of_links(alloc, &given)?;

@@ -1,6 +1,7 @@
 //! The command `replay`.
 
 ghost use Rattle.std.specs.Prelude.{◌≡◌, ◌+◌, IfOk};
+ghost use Rattle.sig_base.specs.Flow.{IsNotPassed};
 ghost use Rattle.sig_edge.specs.Streams.{IsReadWithin, reading};
 ghost use Rattle.sig_check.specs.Replays.{IsReplayed};
 ghost use Rattle.sig_process.specs.Standing.{runnings_of};
@@ -60,6 +61,7 @@ pub(crate) fn replay_text<S: Source>(alloc: Global, input: &mut S) -> Result<Vec
     ensures text { IsTextRead Replay (reading (S.left input.old) (S.left input.new) (S.faults input.old) (S.faults input.new)) result }
     ensures taken { IsReadWithin (MOST_INPUT + 1)
         (reading (S.left input.old) (S.left input.new) (S.faults input.old) (S.faults input.new)) }
+    ensures behind { IsNotPassed (S.end input.old) (S.end input.new) }
 {
     let given = read_checked(alloc, input)?;
     let text = text_again(alloc, &given)?;

@@ -2,7 +2,7 @@
 
 ghost use Rattle.std.specs.Prelude.{None};
 
-use sig_base::{Failed, MemorySink, Source};
+use sig_base::{End, Failed, MemorySink, Source};
 use sig_script::FaultKind;
 use sig_tool::{MOST_INPUT, ToolStatus, tool};
 use std::alloc::{AllocError, Global};
@@ -12,6 +12,7 @@ use test_shared::texts_of;
 #[derive(Drop)]
 struct Bytes {
     left: usize,
+    end: End,
 }
 
 impl Source for Bytes {
@@ -19,9 +20,12 @@ impl Source for Bytes {
 
     ghost faults = { λ _. 0 };
 
+    ghost end = { λ s. s.end };
+
     fn read(&mut self, into: &mut [u8]) -> Result<usize, Failed> {
         let n = self.left.min(into.len());
         self.left -= n;
+        self.end = self.end.after(n == 0);
         Ok(n)
     }
 }
@@ -34,7 +38,10 @@ fn answered(alloc: Global, count: usize, told: &[u8]) -> Result<Option<ToolStatu
     let status = tool(
         alloc,
         words.as_slice(),
-        &mut Bytes { left: count },
+        &mut Bytes {
+            left: count,
+            end: End::Ahead,
+        },
         &mut out,
         &mut err,
     );

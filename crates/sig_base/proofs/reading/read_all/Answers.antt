@@ -2,6 +2,7 @@ use Rattle.std.proofs.Common.{◌≡◌, ◌+◌, ◌≤◌, ◌++◌, arith, ta
 use Rattle.std.proofs.lemmas.Grind.{common_steps}
 use Rattle.std.proofs.lemmas.List.{take-append-le}
 use Rattle.sig_base.specs.Flow.{Took}
+use Rattle.sig_base.proofs.Ends.{still_ahead}
 use Rattle.sig_base.proofs.Pieces.{Took-more}
 use Rattle.sig_base.proofs.reading.read_all.Goals as goal
 
@@ -11,6 +12,7 @@ loop-piece-preserved g c =
     record {
       within = grind (arith, common_steps, c.in-Ok.ensures.within);
       took = subst (λ (xs : List ℕ). Took (g.S.Source.left c.args.source.now) (g.S.Source.left c.read.new.self) xs) (sym e) (Took-more _ _ _ _ _ _ c.loop-piece.invariant.took c.in-Ok.ensures.takes);
+      ahead = λ h. still_ahead _ _ c.in-Ok.n c.in-Ok.n-test.1 c.in-Ok.ensures.ends (c.loop-piece.invariant.ahead h);
       count = c.in-Ok.ensures.no_fault ∙ c.loop-piece.invariant.count;
     }
 
