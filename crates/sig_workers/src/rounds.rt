@@ -86,8 +86,9 @@ pub fn round<R: Threads + Wait + Sync, G: Gate>(
 /// Rounds until one has no event. The quota is that of the first round; that of each later one is
 /// twice that of the round before, up to 1,000,000, and never below what was given. So long runs have
 /// few rounds. Gives the crew, which has settled and of which no process can do anything, and for each
-/// process the receipt of all that was put for it, by pid. It ends, since each round but the last
-/// raises the sum of the processes' stamps, and no stamp is above 2^62. As of [`round`], no clause speaks
+/// process the receipt of all that was put for it, by pid. Each round but the last raises the sum of
+/// the processes' stamps, and no stamp is above 2^62: so this code makes finitely many, which is proved of it
+/// and said by no clause, as those say only what holds if the call returns. As of [`round`], no clause speaks
 /// of the workers or of the quota. The error is want of memory.
 ///
 /// Asks what [`round`] asks.
