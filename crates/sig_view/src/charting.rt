@@ -1,6 +1,7 @@
 //! The command `chart`.
 
 ghost use Rattle.std.specs.Prelude.{◌+◌};
+ghost use Rattle.sig_base.specs.Flow.{IsNotPassed};
 ghost use Rattle.sig_edge.specs.Streams.{IsReadWithin, reading};
 ghost use Rattle.sig_tool.specs.declared.given.TheConstants.{MOST_INPUT};
 ghost use Rattle.sig_view.specs.declared.command.Command.TheVariants.{Chart};
@@ -42,6 +43,7 @@ pub(crate) fn chart_text<S: Source>(
         (reading (S.left input.old) (S.left input.new) (S.faults input.old) (S.faults input.new)) result }
     ensures taken { IsReadWithin (MOST_INPUT + 1)
         (reading (S.left input.old) (S.left input.new) (S.faults input.old) (S.faults input.new)) }
+    ensures behind { IsNotPassed (S.end input.old) (S.end input.new) }
 {
     let given = read_settled(alloc, input)?;
     let origins = origins_of(alloc, &given)?;

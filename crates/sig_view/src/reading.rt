@@ -1,6 +1,7 @@
 //! The input: a script; or one with a record behind it, which is that of a settled run of the script.
 
 ghost use Rattle.std.specs.Prelude.{◌+◌};
+ghost use Rattle.sig_base.specs.Flow.{IsNotPassed};
 ghost use Rattle.sig_edge.specs.Streams.{IsReadWithin, reading};
 ghost use Rattle.sig_tool.specs.declared.given.TheConstants.{MOST_INPUT};
 ghost use Rattle.sig_view.specs.Inputs.{IsSettledRead};
@@ -18,6 +19,7 @@ pub(crate) fn read_settled<S: Source>(alloc: Global, input: &mut S) -> Result<Gi
     ensures settled { IsSettledRead (reading (S.left input.old) (S.left input.new) (S.faults input.old) (S.faults input.new)) result }
     ensures taken { IsReadWithin (MOST_INPUT + 1)
         (reading (S.left input.old) (S.left input.new) (S.faults input.old) (S.faults input.new)) }
+    ensures behind { IsNotPassed (S.end input.old) (S.end input.new) }
 {
     match read_checked(alloc, input) {
         Ok(given) => Ok(given),
@@ -30,6 +32,7 @@ fn read_bytes<S: Source>(alloc: Global, input: &mut S) -> Result<Vec<u8>, ViewSt
     ensures bytes { AreBytes (reading (S.left input.old) (S.left input.new) (S.faults input.old) (S.faults input.new)) result }
     ensures taken { IsReadWithin (MOST_INPUT + 1)
         (reading (S.left input.old) (S.left input.new) (S.faults input.old) (S.faults input.new)) }
+    ensures behind { IsNotPassed (S.end input.old) (S.end input.new) }
 {
     let mut bytes = Vec::new(alloc);
     match read_all(input, MOST_INPUT, &mut bytes) {
@@ -53,6 +56,7 @@ pub(crate) fn read_alone<S: Source>(alloc: Global, input: &mut S) -> Result<Scri
     ensures script { IsScriptRead (reading (S.left input.old) (S.left input.new) (S.faults input.old) (S.faults input.new)) result }
     ensures taken { IsReadWithin (MOST_INPUT + 1)
         (reading (S.left input.old) (S.left input.new) (S.faults input.old) (S.faults input.new)) }
+    ensures behind { IsNotPassed (S.end input.old) (S.end input.new) }
 {
     let bytes = read_bytes(alloc, input)?;
     script_of(alloc, bytes.as_slice())

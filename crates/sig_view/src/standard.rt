@@ -1,4 +1,5 @@
 ghost use Rattle.std.specs.Prelude.{◌≡◌, ◌+◌};
+ghost use Rattle.sig_base.specs.Flow.{IsNotPassed};
 ghost use Rattle.sig_edge.specs.Ends.{EndsWith, IsEnd};
 ghost use Rattle.sig_edge.specs.Streams.{IsReadWithin, reading, writing};
 ghost use Rattle.sig_tool.specs.declared.given.TheConstants.{MOST_INPUT};
@@ -39,6 +40,7 @@ fn ended<S: Source, O: Sink, E: Sink, T: Teller>(
         (writing (E.held err.old) (E.held err.new) (E.faults err.old) (E.faults err.new)) result.status }
     ensures taken { IsReadWithin (MOST_INPUT + 1)
         (reading (S.left input.old) (S.left input.new) (S.faults input.old) (S.faults input.new)) }
+    ensures behind { IsNotPassed (S.end input.old) (S.end input.new) }
 {
     match arguments {
         Ok(words) => {

@@ -1,5 +1,5 @@
 ghost use Rattle.std.specs.Prelude.{◌≡◌, ◌+◌, ◌⊎◌, ℕ, List, map, string_bytes};
-ghost use Rattle.sig_base.specs.Flow.{Rose, Adds};
+ghost use Rattle.sig_base.specs.Flow.{Rose, Adds, IsNotPassed};
 ghost use Rattle.sig_edge.specs.Streams.{IsReadWithin, reading, writing};
 ghost use Rattle.sig_edge.specs.Told.{AddsBeginning, FailedOnceAtMost};
 ghost use Rattle.sig_tool.specs.declared.given.TheConstants.{MOST_INPUT};
@@ -30,6 +30,7 @@ fn text_of<S: Source, T: Teller>(
     ensures text { IsTextRead command (reading (S.left input.old) (S.left input.new) (S.faults input.old) (S.faults input.new)) result }
     ensures taken { IsReadWithin (MOST_INPUT + 1)
         (reading (S.left input.old) (S.left input.new) (S.faults input.old) (S.faults input.new)) }
+    ensures behind { IsNotPassed (S.end input.old) (S.end input.new) }
 {
     match command {
         Command::Chart { window } => Ok(Text::whole(chart_text(alloc, window, input)?)),
@@ -54,6 +55,7 @@ fn run_command<S: Source, O: Sink, T: Teller>(
         (writing (O.held out.old) (O.held out.new) (O.faults out.old) (O.faults out.new)) result }
     ensures taken { IsReadWithin (MOST_INPUT + 1)
         (reading (S.left input.old) (S.left input.new) (S.faults input.old) (S.faults input.new)) }
+    ensures behind { IsNotPassed (S.end input.old) (S.end input.new) }
 {
     match text_of(alloc, command, input, teller) {
         Ok(text) => match write_whole(out, text.bytes.as_slice()) {
@@ -78,6 +80,7 @@ fn run_words<S: Source, O: Sink, T: Teller>(
         (writing (O.held out.old) (O.held out.new) (O.faults out.old) (O.faults out.new)) result }
     ensures taken { IsReadWithin (MOST_INPUT + 1)
         (reading (S.left input.old) (S.left input.new) (S.faults input.old) (S.faults input.new)) }
+    ensures behind { IsNotPassed (S.end input.old) (S.end input.new) }
 {
     match Command::of(words) {
         Some(command) => run_command(alloc, command, input, out, teller),
@@ -126,11 +129,11 @@ fn run_words<S: Source, O: Sink, T: Teller>(
 ///
 /// `Memory` may come in place of each but `Usage`, where memory was wanting. No read failed, but with
 /// `ReadFault`, and no write to `out`, but with `WriteFault`. Whatever the status, of the input at most
-/// [`MOST_INPUT`](sig_tool::MOST_INPUT) bytes and one more are taken. Only `Done`, `Unfinished` and
-/// `WriteFault` have written to `out`. What a status tells is written to `err` where no write to it fails,
-/// and else its beginning; a fault of `err` changes no status, and there is one at most. While a search
-/// goes on the teller is told before each visit how many states were visited and how many were met; no
-/// clause says so.
+/// [`MOST_INPUT`](sig_tool::MOST_INPUT) bytes and one more are taken, and it isn't read behind its end or
+/// behind a failed read, if it wasn't before. Only `Done`, `Unfinished` and `WriteFault` have written to `out`.
+/// What a status tells is written to `err` where no write to it fails, and else its beginning; a fault of `err`
+/// changes no status, and there is one at most. While a search goes on the teller is told before each visit how
+/// many states were visited and how many were met; no clause says so.
 pub fn view<S: Source, O: Sink, E: Sink, T: Teller>(
     alloc: Global,
     words: &[String],
@@ -147,6 +150,7 @@ pub fn view<S: Source, O: Sink, E: Sink, T: Teller>(
     ensures once { FailedOnceAtMost (writing (E.held err.old) (E.held err.new) (E.faults err.old) (E.faults err.new)) }
     ensures taken { IsReadWithin (MOST_INPUT + 1)
         (reading (S.left input.old) (S.left input.new) (S.faults input.old) (S.faults input.new)) }
+    ensures behind { IsNotPassed (S.end input.old) (S.end input.new) }
     // What is due for the input is answered, where nothing fails and there is memory.
     ensures complete { (command : Asked) (bytes : List ℕ) (due : ViewStatus) → IsDue command bytes due →
         IsWellGiven command (map string_bytes words.now) bytes due
